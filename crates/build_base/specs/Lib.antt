@@ -1,0 +1,16 @@
+pub mod Path
+pub mod Outside
+pub mod FaultText
+pub mod Keeping
+pub mod Guid
+pub mod First
+pub mod Answer
+pub mod Spelling
+pub mod MemoryTree
+pub mod MemorySink
+pub mod SinkState
+pub mod FaultNames
+pub mod Pieces
+pub mod Least
+pub mod World
+pub mod GivesPiece

@@ -1,0 +1,97 @@
+//! A keeper in memory that never fails.
+ghost use Rattle.std.specs.Prelude.{◌≡◌, ◌≤◌, IfOk, IfSome, Some, None, length, vec_capacity};
+ghost use Rattle.std.specs.Option.{option_map};
+ghost use Rattle.build_base.specs.Keeping.{KeeperState};
+
+use crate::outside::{Keeper, KeeperFailed};
+use crate::text::{Text, WantOfMemory};
+use std::alloc::Global;
+use std::marker::Model;
+
+/// Keeps one text of up to a number of bytes, for which its memory is taken at the start. It tells
+/// what it keeps until it is given a longer one.
+#[derive(Drop)]
+pub struct SureKeeper {
+    alloc: Global,
+    there: bool,
+    tells: bool,
+    store: Vec<u8>,
+}
+
+impl Model for SureKeeper {
+    ghost use Rattle.std.specs.Prelude.{Option, Some, None, if◌then◌else◌, vec_capacity};
+    ghost use Rattle.build_base.specs.Keeping.{KeeperState};
+
+    ghost Value = { KeeperState };
+
+    ghost view = { λ k. record {
+      kept = if k.tells then Some (if k.there then Some k.store.items else None) else None;
+      room = vec_capacity k.store;
+    } };
+}
+
+impl SureKeeper {
+    /// A keeper of this text, with room for `room` bytes.
+    pub fn new(alloc: Global, kept: Option<Text>, room: u64) -> Result<SureKeeper, WantOfMemory>
+        ensures kept { IfOk result (λ k. k.kept ≡ Some kept) }
+        ensures room { IfOk result (λ k. room ≤ k.room) }
+    {
+        let mut store = Vec::with_capacity(alloc, room as usize)?;
+        let there = kept.is_some();
+        if let Some(text) = &kept {
+            store.extend_from_slice(text.bytes())?;
+        }
+        Ok(SureKeeper {
+            alloc,
+            there,
+            tells: true,
+            store,
+        })
+    }
+
+    /// What it keeps.
+    pub fn kept(&self) -> Option<&[u8]>
+        ensures { IfSome self.now.kept (λ there. option_map (λ bytes. bytes.now) result ≡ there) }
+    {
+        if self.there {
+            Some(self.store.as_slice())
+        } else {
+            None
+        }
+    }
+}
+
+// Puts other bytes in the place of those that are there, where there is room.
+fn fill(store: &mut Vec<u8>, bytes: &[u8])
+    requires { length bytes.now ≤ vec_capacity store.old }
+    ensures { store.new.items ≡ bytes.now }
+{
+    store.clear();
+    let _ = store.extend_from_slice(bytes);
+}
+
+impl Keeper for SureKeeper {
+    ghost kept = { λ k. k.kept };
+
+    ghost faults = { λ k. 0 };
+
+    fn load(&mut self) -> Result<Option<Text>, KeeperFailed> {
+        if !self.there {
+            return Ok(None);
+        }
+        match Text::of(self.alloc, self.store.as_slice()) {
+            Ok(text) => Ok(Some(text)),
+            Err(_) => Err(KeeperFailed::WantOfMemory),
+        }
+    }
+
+    fn store(&mut self, bytes: &[u8]) -> Result<(), KeeperFailed> {
+        if bytes.len() <= self.store.capacity() {
+            fill(&mut self.store, bytes);
+            self.there = true;
+        } else {
+            self.tells = false;
+        }
+        Ok(())
+    }
+}
