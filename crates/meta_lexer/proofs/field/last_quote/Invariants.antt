@@ -1,0 +1,9 @@
+use Rattle.std.proofs.Common.{◌≡◌, ◌+◌, ◌≤◌, length, take, not, ◌==◌}
+use Rattle.std.specs.List.{suffix_len}
+use Rattle.meta_lexer.proofs.field.last_quote.Given as goal
+
+abbrev pub invariant-loop-n : goal.invariant-loop-n
+invariant-loop-n l = (l.n ≤ length l.text) × (l.n + suffix_len (λ b. not (b == 34)) l.text ≡ length l.text + suffix_len (λ b. not (b == 34)) (take l.n l.text))
+
+abbrev pub decreases-loop-n : goal.decreases-loop-n
+decreases-loop-n l = l.n

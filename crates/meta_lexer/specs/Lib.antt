@@ -1,0 +1,7 @@
+pub mod Faults
+pub mod Lines
+pub mod Numbers
+pub mod Fields
+pub mod Heads
+pub mod Words
+pub mod Tokens

@@ -1,0 +1,20 @@
+//! Lines, numbers, fields and section heads of the text files of a platform.
+#![tactic(auto)]
+
+pub mod field;
+pub mod head;
+pub mod line;
+pub mod numbers;
+pub mod refusal;
+pub mod token;
+pub mod words;
+
+pub use field::{Span, fields};
+pub use head::{Head, section_head};
+pub use line::{Line, lines};
+pub use numbers::number;
+pub use refusal::LexRefusal;
+pub use token::{Token, TokenKind, quoted, tokens};
+
+#[cfg(test)]
+mod tests;

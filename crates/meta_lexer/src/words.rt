@@ -1,0 +1,54 @@
+//! Words, pairs around a mark, and uses of macros.
+ghost use Rattle.std.specs.Prelude.{◌≡◌, ◌≤◌, ◌==◌, length};
+ghost use Rattle.std.specs.Option.{option_map};
+ghost use Rattle.std.specs.List.{position_or_len};
+ghost use Rattle.meta_lexer.specs.Words.{same_word, halves, holds_macro};
+
+use crate::line::trim;
+
+/// Whether two words are the same without regard to ASCII case.
+#[tactic(auto, unfolding(crate::specs::Words::same_word))]
+pub fn same_word(ours: &[u8], other: &[u8]) -> bool
+    ensures { result ≡ same_word ours.now other.now }
+{
+    ours.eq_ignore_ascii_case(other)
+}
+
+// Where the mark stands first, or the length.
+fn place(mark: u8, text: &[u8]) -> usize
+    ensures at { result ≡ position_or_len (λ b. b == mark) text.now }
+    ensures within { result ≤ length text.now }
+{
+    for (i, b) in text.iter().enumerate() {
+        if *b == mark {
+            return i;
+        }
+    }
+    text.len()
+}
+
+/// The texts before and after the first mark, without their outer blanks.
+#[tactic(auto, unfolding(crate::specs::Words::halves))]
+pub fn halves(mark: u8, text: &[u8]) -> Option<(&[u8], &[u8])>
+    ensures { option_map (λ p. (p.0.now, p.1.now)) result ≡ halves mark text.now }
+{
+    let i = place(mark, text);
+    if i < text.len() {
+        Some((trim(&text[..i]), trim(&text[i + 1..])))
+    } else {
+        None
+    }
+}
+
+/// Whether `$(` stands in a text.
+#[tactic(auto, unfolding(crate::specs::Words::holds_macro))]
+pub fn holds_macro(text: &[u8]) -> bool
+    ensures { result ≡ holds_macro text.now }
+{
+    for (i, b) in text.iter().enumerate() {
+        if *b == b'$' && i + 1 < text.len() && text[i + 1] == b'(' {
+            return true;
+        }
+    }
+    false
+}
