@@ -1,0 +1,12 @@
+use Rattle.std.proofs.Common.{◌≡◌, ◌-◌, ◌≤◌, ◌++◌, length, drop}
+use Rattle.macro_conditions.specs.Macros.{replaced, scope_of}
+use Rattle.macro_conditions.proofs.macros.replace.Given as goal
+
+abbrev pub invariant-loop-i : goal.invariant-loop-i
+invariant-loop-i l = record {
+  within : l.i ≤ length l.text;
+  so_far : l.out.items ++ replaced l.undefined (scope_of l.scope) (drop l.i l.text) ≡ replaced l.undefined (scope_of l.scope) l.text;
+}
+
+abbrev pub decreases-loop-i : goal.decreases-loop-i
+decreases-loop-i l = length l.text - l.i

@@ -1,0 +1,17 @@
+pub mod Reading
+pub mod Readable
+pub mod Macros
+pub mod Values
+pub mod ExpressionTree
+pub mod ExpressionMachine
+pub mod ExpressionState
+pub mod Expressions
+pub mod Directives
+pub mod LineTree
+pub mod LineMeaning
+pub mod LineStack
+pub mod Sources
+pub mod Expansion
+pub mod Work
+pub mod Worlds
+pub mod Counting

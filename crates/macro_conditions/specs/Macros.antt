@@ -1,0 +1,65 @@
+-- Macros and their uses in a text.
+use Rattle.std.specs.Prelude.{ℕ, zero, suc, ◌+◌, Bool, ◌&&◌, not, nat_lt, nat_le, nat_eq, ◌==◌, if◌then◌else◌, List, [], ◌∷◌, ◌++◌, length, take, drop, slice_index, Option, Some, None, unwrap_or}
+use Rattle.std.specs.List.{list_all}
+use Rattle.std.specs.Cmp.Lexicographic.{pointwise}
+use Rattle.build_base.specs.declared.lines.Macro.{Macro}
+use Rattle.meta_lexer.specs.Tokens.{is_word_byte, word_size}
+use Rattle.macro_conditions.specs.declared.macros.Undefined.{Undefined}
+use Rattle.macro_conditions.specs.declared.macros.Undefined.TheVariants.{Kept, Zero}
+use Rattle.macro_conditions.specs.declared.macros.Scope.{Scope}
+
+-- the same bytes
+abbrev pub same_text : List ℕ → List ℕ → Bool
+same_text xs ys = pointwise nat_eq xs ys
+
+abbrev pub begins_with_digit : List ℕ → Bool
+begins_with_digit xs = nat_le 48 (slice_index xs 0) && nat_le (slice_index xs 0) 57
+
+-- 1 to 64 letters, digits and `_`, the first no digit
+unfoldable pub is_macro_name : List ℕ → Bool
+is_macro_name xs = nat_lt 0 (length xs) && nat_le (length xs) 64 && list_all is_word_byte xs && not (begins_with_digit xs)
+
+-- the word after `$(`
+abbrev pub used_name : List ℕ → List ℕ
+used_name xs = take (word_size (drop 2 xs)) (drop 2 xs)
+
+-- the text begins with `$(NAME)`, whose name has this length
+unfoldable pub use_at : List ℕ → Option ℕ
+use_at xs =
+    let n = word_size (drop 2 xs) in
+    if (slice_index xs 0 == 36) && (slice_index xs 1 == 40) && nat_lt (n + 2) (length xs) && (slice_index xs (n + 2) == 41) && is_macro_name (used_name xs)
+    then Some n else None
+
+-- the value of the last macro of the name
+unfoldable pub value_from : Option (List ℕ) → List ℕ → List Macro → Option (List ℕ)
+value_from found name [] = found
+value_from found name (m ∷ ms) = value_from (if same_text m.name name then Some m.value else found) name ms
+
+abbrev pub value_of : List ℕ → List Macro → Option (List ℕ)
+value_of name ms = value_from None name ms
+
+-- the macros of the files, and then the fixed ones, which hold above them
+abbrev pub scope_of : Scope → List Macro
+scope_of scope = scope.files.now ++ scope.fixed.now
+
+-- what stands for the use of a macro that isn't defined
+abbrev pub undefined : Undefined → ℕ → List ℕ → List ℕ
+undefined Kept n xs = take (n + 3) xs
+undefined Zero n xs = 48 ∷ []
+
+-- what stands for the use of a name of n bytes
+abbrev pub meaning : Undefined → List Macro → ℕ → List ℕ → List ℕ
+meaning u ms n xs = unwrap_or (value_of (take n (drop 2 xs)) ms) (undefined u n xs)
+
+abbrev pub used : Undefined → List Macro → Option ℕ → List ℕ → ℕ → List ℕ → (ℕ → List ℕ) → List ℕ
+used u ms None xs b plain after = b ∷ plain
+used u ms (Some n) xs b plain after = meaning u ms n xs ++ after n
+
+-- the text with its macros replaced once from left to right, but for its first k bytes, which have been
+unfoldable pub replaced_after : Undefined → List Macro → ℕ → List ℕ → List ℕ
+replaced_after u ms k [] = []
+replaced_after u ms (suc k) (b ∷ bs) = replaced_after u ms k bs
+replaced_after u ms zero (b ∷ bs) = used u ms (use_at (b ∷ bs)) (b ∷ bs) b (replaced_after u ms 0 bs) (λ n. replaced_after u ms (n + 2) bs)
+
+abbrev pub replaced : Undefined → List Macro → List ℕ → List ℕ
+replaced u ms xs = replaced_after u ms 0 xs

@@ -1,0 +1,168 @@
+//! The stack of open conditionals.
+ghost use Rattle.std.specs.Prelude.{◌≡◌, ◌++◌, ◌∷◌, [], None, Some, OnOk, IfErr};
+ghost use Rattle.macro_conditions.specs.declared.directive.Kind.TheVariants.{If, Elseif, Else, Endif};
+ghost use Rattle.macro_conditions.specs.LineMeaning.{at_end};
+ghost use Rattle.macro_conditions.specs.LineStack.{active, mode_by, outermost, open_frame, next_mode, turned, shut, step_by};
+ghost use Rattle.macro_conditions.specs.Expansion.{Env, acts, unbalanced, bad};
+ghost use Rattle.macro_conditions.specs.Work.{source_view, mode_view, frames_of, env_of, state_of, idle, Halts, Agrees};
+
+use crate::directive::directive_word;
+use crate::work::{Frame, Mode, SourceLine, Stopped, Work, bad, test};
+use build_base::Macro;
+use std::alloc::Global;
+
+// Whether lines are taken here.
+pub(crate) fn active(frames: &Vec<Frame<'_>>) -> bool
+    ensures { result ≡ active (frames_of frames.now.items) }
+{
+    match frames.last() {
+        None => true,
+        Some(frame) => matches!(&frame.mode, Mode::Taking),
+    }
+}
+
+fn mode_by(holds: bool) -> Mode
+    ensures { mode_view result ≡ mode_by holds }
+{
+    if holds { Mode::Taking } else { Mode::Waiting }
+}
+
+fn mode_of_test(
+    alloc: Global,
+    fixed: &[Macro],
+    work: &Work,
+    line: SourceLine<'_>,
+) -> Result<Mode, Stopped>
+    ensures { Agrees mode_view result (open_frame (acts fixed.now idle) [] (source_view line.entry) (env_of work.now)) }
+{
+    match test(alloc, fixed, work, line) {
+        Ok(holds) => Ok(mode_by(holds)),
+        Err(stopped) => Err(stopped),
+    }
+}
+
+fn opened(
+    alloc: Global,
+    fixed: &[Macro],
+    work: &Work,
+    frames: &Vec<Frame<'_>>,
+    line: SourceLine<'_>,
+) -> Result<Mode, Stopped>
+    ensures { Agrees mode_view result (open_frame (acts fixed.now idle) (frames_of frames.now.items) (source_view line.entry) (env_of work.now)) }
+{
+    if active(frames) {
+        mode_of_test(alloc, fixed, work, line)
+    } else {
+        Ok(Mode::Passing)
+    }
+}
+
+fn turned(
+    alloc: Global,
+    fixed: &[Macro],
+    work: &Work,
+    mode: Mode,
+    line: SourceLine<'_>,
+) -> Result<Mode, Stopped>
+    ensures { Agrees mode_view result (next_mode (acts fixed.now idle) (mode_view mode) (source_view line.entry) (env_of work.now)) }
+{
+    match mode {
+        Mode::Taking | Mode::Passing => Ok(Mode::Passing),
+        Mode::Waiting => mode_of_test(alloc, fixed, work, line),
+    }
+}
+
+fn stray(alloc: Global, line: SourceLine<'_>) -> Stopped
+    ensures { Halts result (Some (bad (unbalanced (source_view line.entry)))) }
+{
+    bad(alloc, 120, line, directive_word(line.text))
+}
+
+fn push<'a>(frames: &mut Vec<Frame<'a>>, frame: Frame<'a>) -> Result<(), Stopped>
+    ensures frames { OnOk result (frames.new.items ≡ frames.old.items ++ frame.entry ∷ []) }
+    ensures cause { IfErr result (λ e. e ≡ Stopped.WantOfMemory) }
+{
+    match frames.push(frame) {
+        Ok(()) => Ok(()),
+        Err(_) => Err(Stopped::WantOfMemory),
+    }
+}
+
+/// An `!if`, `!ifdef` or `!ifndef`.
+pub(crate) fn open<'a>(
+    alloc: Global,
+    fixed: &[Macro],
+    work: &Work,
+    frames: &mut Vec<Frame<'a>>,
+    line: SourceLine<'a>,
+) -> Result<(), Stopped>
+    ensures { Agrees (λ u. state_of frames.new work.now) result (step_by (acts fixed.now idle) If (frames_of frames.old.items) (env_of work.now) (source_view line.entry)) }
+{
+    match opened(alloc, fixed, work, frames, line) {
+        Ok(mode) => {
+            let frame = Frame {
+                opener: line,
+                mode,
+                last: false,
+            };
+            push(frames, frame)
+        }
+        Err(stopped) => Err(stopped),
+    }
+}
+
+/// An `!elseif`, or an `!else`, which is the last.
+pub(crate) fn turn<'a>(
+    alloc: Global,
+    fixed: &[Macro],
+    work: &Work,
+    frames: &mut Vec<Frame<'a>>,
+    last: bool,
+    line: SourceLine<'a>,
+) -> Result<(), Stopped>
+    ensures { Agrees (λ u. state_of frames.new work.now) result (turned (acts fixed.now idle) last (frames_of frames.old.items) (env_of work.now) (source_view line.entry)) }
+{
+    let Some(frame) = frames.pop() else {
+        return Err(stray(alloc, line));
+    };
+    if frame.last {
+        return Err(stray(alloc, line));
+    }
+    match turned(alloc, fixed, work, frame.mode, line) {
+        Ok(mode) => {
+            let turned = Frame {
+                opener: frame.opener,
+                mode,
+                last,
+            };
+            push(frames, turned)
+        }
+        Err(stopped) => Err(stopped),
+    }
+}
+
+/// An `!endif`.
+pub(crate) fn close<'a>(
+    alloc: Global,
+    fixed: &[Macro],
+    work: &Work,
+    frames: &mut Vec<Frame<'a>>,
+    line: SourceLine<'a>,
+) -> Result<(), Stopped>
+    ensures { Agrees (λ u. state_of frames.new work.now) result (shut (acts fixed.now idle) (frames_of frames.old.items) (env_of work.now) (source_view line.entry)) }
+{
+    match frames.pop() {
+        Some(_) => Ok(()),
+        None => Err(stray(alloc, line)),
+    }
+}
+
+/// The end of a file, where no conditional may be open.
+pub(crate) fn end(alloc: Global, fixed: &[Macro], frames: &Vec<Frame<'_>>) -> Result<(), Stopped>
+    ensures { (e : Env) → Agrees (λ u. e) result (at_end (acts fixed.now idle) (outermost (frames_of frames.now.items) None) e) }
+{
+    match frames.first() {
+        None => Ok(()),
+        Some(frame) => Err(stray(alloc, frame.opener)),
+    }
+}

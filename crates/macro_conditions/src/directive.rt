@@ -1,0 +1,140 @@
+//! Directives and definitions, by the first word of a line.
+ghost use Rattle.std.specs.Prelude.{◌≡◌, ◌≤◌, ◌+◌, length, codes, slice_index, drop, Some};
+ghost use Rattle.std.specs.Option.{option_map};
+ghost use Rattle.macro_conditions.specs.Directives.{first_word, after_word, is_directive, directive_word, directive_rest, begins_choice, kind_by, kind_of, is_include, is_definition, named, definition_of, macro_named};
+
+use crate::macros::{is_macro_name, use_at};
+use meta_lexer::line::trim;
+use meta_lexer::token::word_size;
+use meta_lexer::words::{halves, same_word};
+
+/// What a line does to the conditionals. A line that acts is any but their directives.
+#[derive(Clone, Copy, Debug, PartialEq, Eq)]
+pub enum Kind {
+    Act,
+    If,
+    Elseif,
+    Else,
+    Endif,
+}
+
+fn first_word(text: &[u8]) -> &[u8]
+    ensures { result.now ≡ first_word text.now }
+{
+    &text[..word_size(text)]
+}
+
+fn after_word(text: &[u8]) -> &[u8]
+    ensures { result.now ≡ after_word text.now }
+{
+    trim(&text[word_size(text)..])
+}
+
+/// Whether a line is a directive.
+pub fn is_directive(text: &[u8]) -> bool
+    ensures { result ≡ is_directive text.now }
+{
+    !text.is_empty() && text[0] == b'!'
+}
+
+// The text without its first byte.
+fn behind_mark(text: &[u8]) -> &[u8]
+    ensures { result.now ≡ drop 1 text.now }
+{
+    if text.is_empty() { text } else { &text[1..] }
+}
+
+/// The word after the `!` of a directive.
+#[tactic(auto, unfolding(crate::specs::Directives::directive_word))]
+pub fn directive_word(text: &[u8]) -> &[u8]
+    ensures { result.now ≡ directive_word text.now }
+{
+    first_word(behind_mark(text))
+}
+
+/// What follows the word of a directive.
+#[tactic(auto, unfolding(crate::specs::Directives::directive_rest))]
+pub fn directive_rest(text: &[u8]) -> &[u8]
+    ensures { result.now ≡ directive_rest text.now }
+{
+    after_word(behind_mark(text))
+}
+
+fn begins_choice(word: &[u8]) -> bool
+    ensures { result ≡ begins_choice word.now }
+{
+    same_word(word, b"if".as_slice())
+        || same_word(word, b"ifdef".as_slice())
+        || same_word(word, b"ifndef".as_slice())
+}
+
+#[tactic(auto, unfolding(crate::specs::Directives::kind_by))]
+fn kind_by(word: &[u8]) -> Kind
+    ensures { result ≡ kind_by word.now }
+{
+    if begins_choice(word) {
+        Kind::If
+    } else if same_word(word, b"elseif".as_slice()) {
+        Kind::Elseif
+    } else if same_word(word, b"else".as_slice()) {
+        Kind::Else
+    } else if same_word(word, b"endif".as_slice()) {
+        Kind::Endif
+    } else {
+        Kind::Act
+    }
+}
+
+/// What a line does to the conditionals.
+#[tactic(auto, unfolding(crate::specs::Directives::kind_of))]
+pub fn kind_of(text: &[u8]) -> Kind
+    ensures { result ≡ kind_of text.now }
+{
+    if is_directive(text) {
+        kind_by(directive_word(text))
+    } else {
+        Kind::Act
+    }
+}
+
+/// Whether a line is an `!include`.
+#[tactic(auto, unfolding(crate::specs::Directives::is_include))]
+pub fn is_include(text: &[u8]) -> bool
+    ensures { result ≡ is_include text.now }
+{
+    is_directive(text) && same_word(directive_word(text), b"include".as_slice())
+}
+
+/// Whether a line is a `DEFINE` or an `EDK_GLOBAL`.
+#[tactic(auto, unfolding(crate::specs::Directives::is_definition))]
+pub fn is_definition(text: &[u8]) -> bool
+    ensures { result ≡ is_definition text.now }
+{
+    same_word(first_word(text), b"DEFINE".as_slice())
+        || same_word(first_word(text), b"EDK_GLOBAL".as_slice())
+}
+
+/// The name and the value of a definition, where it has its form.
+#[tactic(auto, unfolding(crate::specs::Directives::definition_of))]
+pub fn definition_of(text: &[u8]) -> Option<(&[u8], &[u8])>
+    ensures { option_map (λ p. (p.0.now, p.1.now)) result ≡ definition_of text.now }
+{
+    match halves(b'=', after_word(text)) {
+        Some((name, value)) if is_macro_name(name) => Some((name, value)),
+        _ => None,
+    }
+}
+
+/// The macro that is named as `NAME` or `$(NAME)`.
+#[tactic(auto, unfolding(crate::specs::Directives::macro_named))]
+pub fn macro_named(text: &[u8]) -> Option<&[u8]>
+    ensures { option_map (λ t. t.now) result ≡ macro_named text.now }
+{
+    if is_macro_name(text) {
+        return Some(text);
+    }
+    match use_at(text) {
+        Some(n) if n + 3 == text.len() => Some(&text[2..n + 2]),
+        _ => None,
+    }
+}

@@ -1,0 +1,161 @@
+//! Macros and their uses in a text.
+ghost use Rattle.std.specs.Prelude.{◌≡◌, ◌≤◌, ◌+◌, ◌-◌, ◌<◌, length, IfOk, IfSome, OnOk, ◌++◌, None, drop, List, ℕ};
+ghost use Rattle.std.specs.Option.{option_map};
+ghost use Rattle.std.specs.List.{list_all};
+ghost use Rattle.meta_lexer.specs.Tokens.{is_word_byte};
+ghost use Rattle.macro_conditions.specs.Macros.{begins_with_digit, is_macro_name, use_at, value_from, value_of, scope_of, undefined, meaning, replaced};
+
+use build_base::{Macro, WantOfMemory};
+use meta_lexer::token::{is_word_byte, word_size};
+use std::alloc::Global;
+
+/// What stands in a text for the use of a macro that isn't defined: the use as written, or `0`.
+#[derive(Clone, Copy, Debug, PartialEq, Eq)]
+pub enum Undefined {
+    Kept,
+    Zero,
+}
+
+/// The macros of the files, and the fixed ones, which hold above them.
+#[derive(Clone, Copy, Debug)]
+pub struct Scope<'a> {
+    pub files: &'a [Macro],
+    pub fixed: &'a [Macro],
+}
+
+fn has_word_bytes_alone(text: &[u8]) -> bool
+    ensures { result ≡ list_all is_word_byte text.now }
+{
+    text.iter().all(|b| is_word_byte(*b))
+}
+
+fn begins_with_digit(text: &[u8]) -> bool
+    requires { 0 < length text.now }
+    ensures { result ≡ begins_with_digit text.now }
+{
+    text[0] >= b'0' && text[0] <= b'9'
+}
+
+/// Whether a text is the name of a macro.
+#[tactic(auto, unfolding(crate::specs::Macros::is_macro_name))]
+pub fn is_macro_name(text: &[u8]) -> bool
+    ensures { result ≡ is_macro_name text.now }
+{
+    !text.is_empty() && text.len() <= 64 && has_word_bytes_alone(text) && !begins_with_digit(text)
+}
+
+/// The length of the name, where the text begins with the use of a macro.
+#[tactic(auto, unfolding(crate::specs::Macros::use_at))]
+pub fn use_at(text: &[u8]) -> Option<usize>
+    ensures at { result ≡ use_at text.now }
+    ensures within { IfSome result (λ n. n + 3 ≤ length text.now) }
+{
+    if text.len() < 2 || text[0] != b'$' || text[1] != b'(' {
+        return None;
+    }
+    let n = word_size(&text[2..]);
+    if n + 2 < text.len() && text[n + 2] == b')' && is_macro_name(&text[2..n + 2]) {
+        Some(n)
+    } else {
+        None
+    }
+}
+
+// The value of the last macro of the name, else what was found before.
+#[tactic(auto, unfolding(crate::specs::Macros::value_from))]
+pub(crate) fn value_from<'a>(
+    found: Option<&'a [u8]>,
+    name: &[u8],
+    macros: &'a [Macro],
+) -> Option<&'a [u8]>
+    ensures { option_map (λ v. v.now) result ≡ value_from (option_map (λ v. v.now) found.entry) name.now macros.now }
+{
+    let mut last = found;
+    for m in macros {
+        if m.name.bytes() == name {
+            last = Some(m.value.bytes());
+        }
+    }
+    last
+}
+
+impl<'a> Scope<'a> {
+    /// The value of a macro, if it is defined.
+    #[tactic(auto, using(crate::proofs::MacroFronts::value_from_two))]
+    pub fn value_of(self, name: &[u8]) -> Option<&'a [u8]>
+        ensures { option_map (λ v. v.now) result ≡ value_of name.now (scope_of self.entry) }
+    {
+        let found = value_from(None, name, self.files);
+        value_from(found, name, self.fixed)
+    }
+}
+
+fn push_bytes(out: &mut Vec<u8>, bytes: &[u8]) -> Result<(), WantOfMemory>
+    ensures { OnOk result (out.new.items ≡ out.old.items ++ bytes.now) }
+{
+    match out.extend_from_slice(bytes) {
+        Ok(()) => Ok(()),
+        Err(_) => Err(WantOfMemory),
+    }
+}
+
+// Writes what stands for the use of a macro at the front.
+fn write_use(
+    out: &mut Vec<u8>,
+    undefined: Undefined,
+    scope: Scope<'_>,
+    n: usize,
+    rest: &[u8],
+) -> Result<(), WantOfMemory>
+    requires { n + 3 ≤ length rest.now }
+    ensures { OnOk result (out.new.items ≡ out.old.items ++ meaning undefined (scope_of scope.entry) n rest.now) }
+{
+    match scope.value_of(&rest[2..n + 2]) {
+        Some(value) => push_bytes(out, value),
+        None => match undefined {
+            Undefined::Kept => push_bytes(out, &rest[..n + 3]),
+            Undefined::Zero => push_bytes(out, b"0".as_slice()),
+        },
+    }
+}
+
+// Writes what the front of the text comes to, and answers how many bytes that was.
+fn write_front(
+    out: &mut Vec<u8>,
+    undefined: Undefined,
+    scope: Scope<'_>,
+    rest: &[u8],
+) -> Result<usize, WantOfMemory>
+    requires { 0 < length rest.now }
+    ensures some { IfOk result (λ k. 0 < k) }
+    ensures within { IfOk result (λ k. k ≤ length rest.now) }
+    ensures text { IfOk result (λ k. out.new.items ++ replaced undefined (scope_of scope.entry) (drop k rest.now) ≡ out.old.items ++ replaced undefined (scope_of scope.entry) rest.now) }
+{
+    match use_at(rest) {
+        Some(n) => {
+            write_use(out, undefined, scope, n, rest)?;
+            Ok(n + 3)
+        }
+        None => {
+            push_bytes(out, &rest[..1])?;
+            Ok(1)
+        }
+    }
+}
+
+/// The text with its macros replaced, once, from left to right.
+pub fn replace(
+    alloc: Global,
+    undefined: Undefined,
+    scope: Scope<'_>,
+    text: &[u8],
+) -> Result<Vec<u8>, WantOfMemory>
+    ensures { IfOk result (λ v. v.items ≡ replaced undefined (scope_of scope.entry) text.now) }
+{
+    let mut out = Vec::new(alloc);
+    let mut i = 0;
+    while i < text.len() {
+        i += write_front(&mut out, undefined, scope, &text[i..])?;
+    }
+    Ok(out)
+}
