@@ -1,0 +1,89 @@
+//! A flash description (EDK II FDF specification).
+use crate::volume::VolumePlan;
+use build_base::{Place, Rows, Same, Text, WantOfMemory, all_same, copied};
+use std::alloc::Global;
+
+/// What fills a region: nothing, bytes that the FDF file gives, or the volume of a number, from 0.
+#[derive(Debug, Drop)]
+pub enum RegionKind {
+    Empty,
+    Bytes(Text),
+    Volume(u32),
+}
+
+/// A region of a device: `size` bytes from `offset` on.
+#[derive(Debug, Drop)]
+pub struct Region {
+    pub at: Place,
+    pub offset: u64,
+    pub size: u64,
+    pub kind: RegionKind,
+}
+
+/// A flash device of `size` bytes at the address `base`. `erase` is the erase polarity, 1 or 0.
+#[derive(Debug, Drop)]
+pub struct DevicePlan {
+    pub at: Place,
+    pub name: Text,
+    pub base: u64,
+    pub size: u64,
+    pub erase: u8,
+    pub regions: Rows<Region>,
+}
+
+/// What an FDF file says. The volumes stand in the order of their numbers.
+#[derive(Debug, Drop)]
+pub struct FlashDoc {
+    pub at: Place,
+    pub devices: Rows<DevicePlan>,
+    pub volumes: Rows<VolumePlan>,
+}
+
+impl Same for RegionKind {
+    fn copy(&self, alloc: Global) -> Result<RegionKind, WantOfMemory> {
+        match self {
+            RegionKind::Empty => Ok(RegionKind::Empty),
+            RegionKind::Bytes(text) => Ok(RegionKind::Bytes(text.copy(alloc)?)),
+            RegionKind::Volume(number) => Ok(RegionKind::Volume(*number)),
+        }
+    }
+
+    fn same(&self, other: &RegionKind) -> bool {
+        match (self, other) {
+            (RegionKind::Empty, RegionKind::Empty) => true,
+            (RegionKind::Bytes(text), RegionKind::Bytes(other)) => text.same(other),
+            (RegionKind::Volume(number), RegionKind::Volume(other)) => *number == *other,
+            _ => false,
+        }
+    }
+}
+
+impl Same for Region {
+    fn copy(&self, alloc: Global) -> Result<Region, WantOfMemory> {
+        copied!(Region, self, alloc; at, offset, size, kind)
+    }
+
+    fn same(&self, other: &Region) -> bool {
+        all_same!(self, other; at, offset, size, kind)
+    }
+}
+
+impl Same for DevicePlan {
+    fn copy(&self, alloc: Global) -> Result<DevicePlan, WantOfMemory> {
+        copied!(DevicePlan, self, alloc; at, name, base, size, erase, regions)
+    }
+
+    fn same(&self, other: &DevicePlan) -> bool {
+        all_same!(self, other; at, name, base, size, erase, regions)
+    }
+}
+
+impl Same for FlashDoc {
+    fn copy(&self, alloc: Global) -> Result<FlashDoc, WantOfMemory> {
+        copied!(FlashDoc, self, alloc; at, devices, volumes)
+    }
+
+    fn same(&self, other: &FlashDoc) -> bool {
+        all_same!(self, other; at, devices, volumes)
+    }
+}

@@ -1,0 +1,11 @@
+//! The documents and the plans that are read from them.
+#![tactic(auto)]
+
+pub mod arch;
+pub mod depex;
+pub mod flash;
+pub mod image;
+pub mod module_type;
+pub mod platform;
+pub mod volume;
+pub mod volume_head;
