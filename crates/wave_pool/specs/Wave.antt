@@ -1,0 +1,11 @@
+-- What a wave answers.
+use Rattle.std.specs.Prelude.{List, Result, Ok, All}
+use Rattle.std.specs.List.{AllZip}
+
+-- the work may be called on each item
+abbrev pub AreCallable : {F I : Type 0} → (F → I → Type 0) → F → List I → Type 0
+AreCallable pre work items = All (pre work) items
+
+-- result k is one that the work may answer for item k
+abbrev pub AreAnswers : {F I R E : Type 0} → (F → I → Result R E → Type 0) → F → List I → List R → Type 0
+AreAnswers post work items results = AllZip (λ i r. post work i (Ok r)) items results
