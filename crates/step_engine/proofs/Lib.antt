@@ -1,0 +1,11 @@
+pub mod Talks
+pub mod Moves
+pub mod Caches
+pub mod Loops
+pub mod Steps
+pub mod Putting
+pub mod Left
+pub mod Joining
+pub mod Keeping
+pub mod Building
+pub mod Noted

@@ -1,0 +1,10 @@
+pub mod Meaning
+pub mod Entries
+pub mod Needed
+pub mod Turns
+pub mod Caches
+pub mod Engine
+pub mod Reading
+pub mod Build
+pub mod SmallRules
+pub mod SmallLaws

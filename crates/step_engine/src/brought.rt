@@ -1,0 +1,128 @@
+//! A build: the outcome of a key, and the entries that serve the next build.
+ghost use Rattle.std.specs.Prelude.{◌≡◌, ◌≤◌, true, IfOk, OnOk, IsTrue, ◌↔◌};
+ghost use Rattle.step_engine.specs.Entries.{AreSound};
+ghost use Rattle.step_engine.specs.Needed.{IsBad};
+ghost use Rattle.step_engine.specs.Caches.{AreInOrder, PutsMissing, IsJoined};
+ghost use Rattle.step_engine.specs.Build.{setting, Counts, IsEntryOf, Ran, RanAll, HasRead, Built};
+
+use crate::cache::Cache;
+use crate::files::FilesRead;
+use crate::refusal::EngineRefusal;
+use crate::rules::{Rules, StepKey};
+use crate::settle::settle;
+use crate::talk::{Entry, Outcome};
+use build_base::book::Book;
+use build_base::outside::{Gate, Tree};
+use build_base::rows::Rows;
+use build_base::same::Same;
+use build_base::text::{Text, WantOfMemory};
+use std::alloc::Global;
+use std::thread::Threads;
+
+/// What a build gives: the outcome of its key, the cache that it leaves, and how many keys it needed.
+#[derive(Drop)]
+pub struct Brought<K: StepKey, O: Drop> {
+    pub result: Outcome<O>,
+    pub cache: Cache<K, O>,
+    pub needed: u64,
+}
+
+// Whether an outcome is a fault.
+fn is_bad<O>(outcome: &Outcome<O>) -> bool
+    ensures { IsTrue result ↔ IsBad outcome.now }
+{
+    match outcome {
+        Outcome::Good(_) => false,
+        Outcome::Bad(_) => true,
+    }
+}
+
+// Puts an entry where none has its key.
+fn put_missing<K: StepKey, O: Same + Drop>(
+    alloc: Global,
+    entry: &Entry<K, O>,
+    cache: &mut Cache<K, O>,
+) -> Result<(), WantOfMemory>
+    ensures { OnOk result (PutsMissing K.cmp entry.now cache.old cache.new) }
+{
+    if let Some(_found) = cache.get(&entry.key) {
+        return Ok(());
+    }
+    let entry = entry.copy(alloc)?;
+    cache.put(entry)
+}
+
+// The entries made, with those of other keys.
+fn joined<K: StepKey, O: Same + Drop>(
+    alloc: Global,
+    old: &Cache<K, O>,
+    fresh: Cache<K, O>,
+) -> Result<Cache<K, O>, WantOfMemory>
+    requires { AreInOrder K.cmp fresh }
+    ensures joined { IfOk result (IsJoined fresh old.now) }
+    ensures sorted { IfOk result (AreInOrder K.cmp) }
+{
+    let mut both = fresh;
+    for entry in old.entries() {
+        put_missing(alloc, entry, &mut both)?;
+    }
+    Ok(both)
+}
+
+/// The outcome of a key, from the entries that an earlier build left.
+///
+/// `job` has the fields of the job, `tree` its files. `book` grants the permit of each step that is
+/// run. `workers` is the most threads that work at a time, and `gate` is told of each of their
+/// pieces. Both refusals drop the cache.
+pub fn bring<H: Threads + Sync, R: Rules, T: Tree, G: Gate>(
+    rt: &H,
+    alloc: Global,
+    rules: &R,
+    top: R::Key,
+    job: &Rows<Text>,
+    cache: Cache<R::Key, R::Out>,
+    tree: &mut T,
+    book: &mut Book<R::Key>,
+    workers: u32,
+    gate: &G,
+) -> Result<Brought<R::Key, R::Out>, EngineRefusal>
+    requires job { R.means.is_job job.now ≡ true }
+    requires some { 1 ≤ workers }
+    requires most { workers ≤ 64 }
+
+    // The tree tells the same, and a read fault comes only where its count rose.
+    ensures held { T.held tree.new ≡ T.held tree.old }
+    ensures count { Counts (T.faults tree.old) (T.faults tree.new) result }
+
+    // For any tree.
+    ensures sound { AreSound R.means cache → IfOk result (λ b. AreSound R.means b.cache) }
+    ensures own { IfOk result (λ b. IsEntryOf top b.result b.cache) }
+
+    // Each step once, and only where wanted.
+    ensures ran { Ran (setting R.means (T.held tree.old) job.now cache) top book.old book.new }
+    ensures all { OnOk result (RanAll (setting R.means (T.held tree.old) job.now cache) top book.old book.new) }
+    ensures read { HasRead (setting R.means (T.held tree.old) job.now cache) top (T.reads tree.old) (T.reads tree.new) }
+
+    // Where the tree tells what it holds and the cache is sound.
+    ensures built { IfOk result (λ b. Built R.Key.cmp (setting R.means (T.held tree.old) job.now cache) top b.result b.cache b.needed) }
+{
+    let mut fresh = Cache::new(alloc);
+    let mut files = FilesRead::new(alloc);
+    let result = settle(
+        alloc, rules, job, &cache, &top, tree, book, &mut fresh, &mut files,
+    )?;
+    let needed = fresh.entries().len() as u64;
+    if is_bad(&result) {
+        let cache = joined(alloc, &cache, fresh)?;
+        return Ok(Brought {
+            result,
+            cache,
+            needed,
+        });
+    }
+    Ok(Brought {
+        result,
+        cache: fresh,
+        needed,
+    })
+}

@@ -1,0 +1,78 @@
+//! The entries of a build.
+ghost use Rattle.std.specs.Prelude.{◌≡◌, [], IfSome, IfNone, OnOk, OnErr, Contains};
+
+use crate::place::{keep_in, place, put_into};
+use crate::rules::StepKey;
+use crate::talk::Entry;
+use build_base::text::WantOfMemory;
+use std::alloc::Global;
+use std::marker::Model;
+
+/// At most one entry for a key, seen as the list of entries in ascending order of their keys.
+#[derive(Drop)]
+pub struct Cache<K: StepKey, O: Drop> {
+    store: Vec<Entry<K, O>>,
+}
+
+impl<K: StepKey, O: Drop> Model for Cache<K, O> {
+    ghost use Rattle.std.specs.Prelude.{List};
+    ghost use Rattle.step_engine.specs.declared.talk.Entry.{Entry};
+    ghost use Rattle.step_engine.specs.Caches.{AreInOrder};
+
+    ghost Value = { List (Entry K O) };
+
+    ghost view = { λ c. c.store.items };
+
+    ghost invariant = { λ c. AreInOrder K.cmp c.store.items };
+}
+
+impl<K: StepKey, O: Drop> Cache<K, O> {
+    ghost use Rattle.step_engine.specs.Caches.{put_entry, HasKey, AreInOrder, Keeps};
+    ghost use Rattle.std.specs.Fn.{FnReturnsAt};
+    ghost use Rattle.step_engine.specs.declared.talk.Entry.{Entry};
+
+    /// The empty cache.
+    pub fn new(alloc: Global) -> Cache<K, O>
+        ensures { result ≡ [] }
+    {
+        Cache {
+            store: Vec::new(alloc),
+        }
+    }
+
+    /// All entries.
+    pub fn entries(&self) -> &[Entry<K, O>]
+        ensures all { result.now ≡ self.now }
+        ensures sorted { AreInOrder K.cmp self.now }
+    {
+        &self.store
+    }
+
+    /// Adds an entry in its place, or puts it in place of the one with its key. A refusal drops it.
+    pub fn put(&mut self, entry: Entry<K, O>) -> Result<(), WantOfMemory>
+        ensures ok { OnOk result (self.new ≡ put_entry K.cmp entry self.old) }
+        ensures err { OnErr result (self.new ≡ self.old) }
+    {
+        put_into(&mut self.store, entry)
+    }
+
+    /// Leaves the entries for whose keys `wanted` answers true.
+    pub fn keep<F: Fn(&K) -> bool>(&mut self, wanted: &F)
+        requires { F.IsAlwaysCallable wanted.now }
+        ensures { Keeps (FnReturnsAt F.Fn wanted.now) self.old self.new }
+    {
+        keep_in(&mut self.store, wanted)
+    }
+
+    // The entry of a key.
+    pub(crate) fn get(&self, key: &K) -> Option<&Entry<K, O>>
+        ensures some { IfSome result (λ e. Contains self.now e.now × (e.now.key ≡ key.now)) }
+        ensures only { IfSome result (λ e. (d : Entry K O) → Contains self.now d → d.key ≡ key.now → d ≡ e.now) }
+        ensures none { IfNone result (HasKey self.now key.now → ⊥) }
+    {
+        match place(&self.store, key) {
+            Ok(at) => Some(&self.store[at]),
+            Err(_) => None,
+        }
+    }
+}
