@@ -1,0 +1,3 @@
+pub mod Pe
+pub mod Headers
+pub mod Te

@@ -1,0 +1,14 @@
+//! TE images of PE modules (UEFI PI specification, volume 1): the header, and what of the file stays.
+#![tactic(auto)]
+
+mod fault;
+mod number;
+mod pe;
+mod te;
+
+pub use fault::PeFault;
+pub use pe::section_alignment;
+pub use te::{TeHead, strip_at, te_header};
+
+#[cfg(test)]
+mod tests;
