@@ -1,0 +1,5 @@
+pub mod SumLemmas
+pub mod PadLemmas
+pub mod PartLemmas
+pub mod HeadLemmas
+pub mod ImageShape

@@ -1,0 +1,4 @@
+pub mod Sums
+pub mod Alignment
+pub mod Sections
+pub mod File
