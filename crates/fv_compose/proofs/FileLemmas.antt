@@ -1,0 +1,239 @@
+-- The files of a volume, one after another.
+use Rattle.std.proofs.Common.{◌≡◌, ℕ, ◌+◌, ◌-◌, ◌<◌, ◌≤◌, ◌⊎◌, List, [], ◌∷◌, ◌++◌, length, get_or, drop, None, Some, Option, not, cond, if◌then◌else◌, refl, ap, sym, ◌∙◌, arith, nat_lt, ◌==◌, true, false, subst, inl, inr, eq-eqb, length-append, append_assoc, replicate}
+use Rattle.std.proofs.lemmas.List.{drop_more, drop_all, length-replicate}
+use Rattle.std.proofs.lemmas.List.Elements.{All-tail, All-drop, All-filter}
+use Rattle.std.proofs.lemmas.Bool.{cases_eq, cases_lt, ne_eqb}
+use Rattle.std.proofs.lemmas.Bool.Decides.{nat_tests}
+use Rattle.build_base.specs.First.{or_else}
+use Rattle.build_base.specs.Pieces.{Piece, piece_end, put_pieces}
+use Rattle.build_base.proofs.PieceLemmas.{Laid, Laid-one, length_put, put_two, put_pieces-append}
+use Rattle.doc_types.specs.declared.image.FileImage.{FileImage}
+use Rattle.ffs_sections.specs.Alignment.{IsAlignment}
+use Rattle.ffs_sections.specs.File.{state_of}
+use Rattle.ffs_sections.proofs.HeadLemmas.{length_head}
+use Rattle.fv_compose.specs.Place.{start_of, up}
+use Rattle.fv_compose.specs.Files.{is_top, top_of, plain_files, end_of, file_end, pad_fault, pads_fault, AreAligned, placed_pieces, files_pieces, pad_bytes, free_byte, top_start}
+use Rattle.fv_compose.specs.Turns.{next_end, own_pad_fault, own_pieces}
+use Rattle.fv_compose.specs.Volume.{holds, taken_by}
+use Rattle.fv_compose.proofs.PlaceLemmas.{Known, known_alignment, start_near, start_is, up_after}
+use Rattle.fv_compose.proofs.LengthLemmas.{holds_room, holds_space}
+
+-- a turn: the file among the others, unless it is the top file
+plain_more : (files : List FileImage) (i : ℕ) (file : FileImage) → i < length files → file ≡ get_or files i file
+    → plain_files (drop i files) ≡ (if is_top file then plain_files (drop (i + 1) files) else file ∷ plain_files (drop (i + 1) files))
+unfolding plain_files
+plain_more files i file h e =
+    rw (drop_more files i file h, ← e)
+    (elim (is_top file) as (λ b. cond (not b) (file ∷ plain_files (drop (i + 1) files)) (plain_files (drop (i + 1) files)) ≡ (if b then plain_files (drop (i + 1) files) else file ∷ plain_files (drop (i + 1) files))) [
+      | true ↦ refl
+      | false ↦ refl
+    ])
+
+pub plain_all : (files : List FileImage) (i : ℕ) → length files ≤ i → plain_files (drop i files) ≡ []
+unfolding plain_files
+plain_all files i h = rw (drop_all i files h) refl
+
+pub end_more : (at : ℕ) (files : List FileImage) (i : ℕ) (file : FileImage) → i < length files → file ≡ get_or files i file → end_of at (plain_files (drop i files)) ≡ end_of (next_end at file) (plain_files (drop (i + 1) files))
+unfolding end_of
+end_more at files i file h e =
+    let rest : List FileImage = plain_files (drop (i + 1) files) in
+    rw (plain_more files i file h e)
+    (elim (is_top file) as (λ b. end_of at (if b then rest else file ∷ rest) ≡ end_of (if b then at else file_end at file) rest) [ true ↦ refl | false ↦ refl ])
+
+pub end_all : (at : ℕ) (files : List FileImage) (i : ℕ) → length files ≤ i → end_of at (plain_files (drop i files)) ≡ at
+unfolding end_of
+end_all at files i h = rw (plain_all files i h) refl
+
+pub pads_more : (at : ℕ) (files : List FileImage) (i : ℕ) (file : FileImage) → i < length files → file ≡ get_or files i file
+    → pads_fault at (plain_files (drop i files)) ≡ or_else (own_pad_fault at file) (pads_fault (next_end at file) (plain_files (drop (i + 1) files)))
+unfolding pads_fault
+pads_more at files i file h e =
+    let rest : List FileImage = plain_files (drop (i + 1) files) in
+    rw (plain_more files i file h e)
+    (elim (is_top file) as (λ b. pads_fault at (if b then rest else file ∷ rest) ≡ or_else (if b then None else pad_fault at (start_of at file.align) file) (pads_fault (if b then at else file_end at file) rest)) [
+      | true ↦ refl
+      | false ↦ refl
+    ])
+
+pub pads_all : (at : ℕ) (files : List FileImage) (i : ℕ) → length files ≤ i → pads_fault at (plain_files (drop i files)) ≡ None
+unfolding pads_fault
+pads_all at files i h = rw (plain_all files i h) refl
+
+pieces_more : (erase at : ℕ) (files : List FileImage) (i : ℕ) (file : FileImage) → i < length files → file ≡ get_or files i file
+    → files_pieces erase at (plain_files (drop i files)) ≡ own_pieces erase at file ++ files_pieces erase (next_end at file) (plain_files (drop (i + 1) files))
+unfolding files_pieces
+pieces_more erase at files i file h e =
+    let rest : List FileImage = plain_files (drop (i + 1) files) in
+    rw (plain_more files i file h e)
+    (elim (is_top file) as (λ b. files_pieces erase at (if b then rest else file ∷ rest) ≡ (if b then [] else placed_pieces erase at (start_of at file.align) file.bytes) ++ files_pieces erase (if b then at else file_end at file) rest) [
+      | true ↦ refl
+      | false ↦ refl
+    ])
+
+pieces_all : (erase at : ℕ) (files : List FileImage) (i : ℕ) → length files ≤ i → files_pieces erase at (plain_files (drop i files)) ≡ []
+unfolding files_pieces
+pieces_all erase at files i h = rw (plain_all files i h) refl
+
+pub aligned_plain : (files : List FileImage) → AreAligned files → AreAligned (plain_files files)
+unfolding plain_files AreAligned
+aligned_plain files a = All-filter (λ file. not (is_top file)) (λ file. IsAlignment file.align) files a
+
+pub alignment_at : (files : List FileImage) (i : ℕ) (file : FileImage) → AreAligned files → i < length files → file ≡ get_or files i file → IsAlignment file.align
+unfolding AreAligned
+alignment_at files i file a h e = let P : FileImage → Type 0 = λ f. IsAlignment f.align in subst P (sym e) (a i file h)
+
+pub end_after : (at : ℕ) (files : List FileImage) → AreAligned files → at ≤ end_of at files
+unfolding end_of AreAligned
+end_after at [] a = omega arith
+end_after at (file ∷ files) a =
+    let k : Known file.align = known_alignment file.align (a 0 file (omega arith)) in
+    let near = start_near at file.align k in
+    let first : at ≤ up 8 at = up_after 8 at (omega arith) in
+    let more : file_end at file ≤ end_of (file_end at file) files = end_after (file_end at file) files (All-tail (λ f. IsAlignment f.align) file files a) in
+    omega arith
+
+pub end_left : (at : ℕ) (files : List FileImage) (i : ℕ) → AreAligned files → at ≤ end_of at (plain_files (drop i files))
+unfolding AreAligned
+end_left at files i a = end_after at (plain_files (drop i files)) (aligned_plain (drop i files) (All-drop (λ f. IsAlignment f.align) i files a))
+
+pub length_pad : (erase size : ℕ) → 24 ≤ size → length (pad_bytes erase size) ≡ size
+unfolding pad_bytes
+length_pad erase size h =
+    simp length-append (let a = length_head (replicate 16 255) 170 240 0 size (state_of erase) in let b = length-replicate (size - 24) (free_byte erase) in omega arith)
+
+-- a start that leaves no space, or that of a pad file
+abbrev pub Spaced : ℕ → ℕ → Type 0
+Spaced at start = (start ≡ up 8 at) ⊎ (up 8 at + 24 ≤ start)
+
+-- where the pieces of a file at its start end
+pub length_placed : (free erase : ℕ) (out : List ℕ) (start : ℕ) (bytes : List ℕ) → Spaced (length out) start → length (put_pieces free out (placed_pieces erase (length out) start bytes)) ≡ start + length bytes
+unfolding placed_pieces
+length_placed free erase out start bytes s =
+    let at : ℕ = length out in
+    let first : at ≤ up 8 at = up_after 8 at (omega arith) in
+    let p : Piece = record { start = start; bytes = bytes } in
+    elim (cases_eq start (up 8 at)) [
+      | inl e ↦ let t : (start == up 8 at) ≡ true = eq-eqb start (up 8 at) e in rw t (length_put free out p (omega arith))
+      | inr n ↦
+          let t : (start == up 8 at) ≡ false = ne_eqb start (up 8 at) n in
+          let room : up 8 at + 24 ≤ start = elim s [ inl e ↦ absurd (n e) | inr h ↦ h ] in
+          let q : Piece = record { start = up 8 at; bytes = pad_bytes erase (start - up 8 at) } in
+          let l : length (pad_bytes erase (start - up 8 at)) ≡ start - up 8 at = length_pad erase (start - up 8 at) (omega arith) in
+          let one : length (put_pieces free out (q ∷ [])) ≡ start = length_put free out q first ∙ omega arith in
+          rw (t, put_two free out q p) (length_put free (put_pieces free out (q ∷ [])) p (omega arith))
+    ]
+
+-- they lie behind one another
+pub laid_placed : (erase at size start : ℕ) (bytes : List ℕ) (ps : List Piece) → Spaced at start → Laid (start + length bytes) size ps → Laid at size (placed_pieces erase at start bytes ++ ps)
+unfolding placed_pieces
+laid_placed erase at size start bytes ps s rest =
+    let first : at ≤ up 8 at = up_after 8 at (omega arith) in
+    let p : Piece = record { start = start; bytes = bytes } in
+    elim (cases_eq start (up 8 at)) [
+      | inl e ↦ let t : (start == up 8 at) ≡ true = eq-eqb start (up 8 at) e in rw t (Laid-one at size p ps (omega arith) rest)
+      | inr n ↦
+          let t : (start == up 8 at) ≡ false = ne_eqb start (up 8 at) n in
+          let room : up 8 at + 24 ≤ start = elim s [ inl e ↦ absurd (n e) | inr m ↦ m ] in
+          let q : Piece = record { start = up 8 at; bytes = pad_bytes erase (start - up 8 at) } in
+          let l : length (pad_bytes erase (start - up 8 at)) ≡ start - up 8 at = length_pad erase (start - up 8 at) (omega arith) in
+          rw t (Laid-one at size q (p ∷ ps) first (Laid-one (piece_end q) size p ps (omega arith) rest))
+    ]
+
+pub spaced_start : (at align : ℕ) → IsAlignment align → Spaced at (start_of at align)
+spaced_start at align a = (start_is at align (known_alignment align a)).pad
+
+pub laid_files : (erase at size : ℕ) (files : List FileImage) (ps : List Piece) → AreAligned files → Laid (end_of at files) size ps → Laid at size (files_pieces erase at files ++ ps)
+unfolding end_of files_pieces AreAligned
+laid_files erase at size [] ps a rest = rest
+laid_files erase at size (file ∷ files) ps a rest =
+    let more : Laid (file_end at file) size (files_pieces erase (file_end at file) files ++ ps) = laid_files erase (file_end at file) size files ps (All-tail (λ f. IsAlignment f.align) file files a) rest in
+    rw append_assoc (laid_placed erase at size (start_of at file.align) file.bytes (files_pieces erase (file_end at file) files ++ ps) (spaced_start at file.align (a 0 file (omega arith))) more)
+
+-- a pad without a fault is short
+pub pad_short : (at start : ℕ) (file : FileImage) → up 8 at ≤ start → pad_fault at start file ≡ None → start ≤ up 8 at + 16777215
+unfolding pad_fault
+pad_short at start file low n =
+    elim (cases_lt 16777215 (start - up 8 at)) [
+      | inl lt ↦ let t : nat_lt 16777215 (start - up 8 at) ≡ true = grind (arith, nat_tests) in absurd (let s = rw t at n in cc)
+      | inr le ↦ omega arith
+    ]
+
+-- what stands so far and the files that are left are the whole
+pub record Filed (whole : List ℕ) (last erase : ℕ) (out : List ℕ) (rest : List FileImage) : Type 0 where
+  pub items : whole ≡ put_pieces (free_byte erase) out (files_pieces erase (length out) rest)
+  pub last_is : last ≡ end_of (length out) rest
+  pub pads : pads_fault (length out) rest ≡ None
+
+length_own : (free erase : ℕ) (out : List ℕ) (file : FileImage) → IsAlignment file.align → length (put_pieces free out (own_pieces erase (length out) file)) ≡ next_end (length out) file
+unfolding put_pieces
+length_own free erase out file a =
+    elim (is_top file) as (λ b. length (put_pieces free out (if b then [] else placed_pieces erase (length out) (start_of (length out) file.align) file.bytes)) ≡ (if b then length out else file_end (length out) file)) [
+      | true ↦ refl
+      | false ↦ length_placed free erase out (start_of (length out) file.align) file.bytes (spaced_start (length out) file.align a)
+    ]
+
+or_else_none : {T : Type 0} (a b : Option T) → or_else a b ≡ None → (a ≡ None) × (b ≡ None)
+or_else_none None b h = (refl, h)
+or_else_none (Some x) b h = absurd cc
+
+-- the pad before the next file, and those after it
+pub pads_left : (at : ℕ) (files : List FileImage) (i : ℕ) (file : FileImage) → i < length files → file ≡ get_or files i file → pads_fault at (plain_files (drop i files)) ≡ None
+    → (own_pad_fault at file ≡ None) × (pads_fault (next_end at file) (plain_files (drop (i + 1) files)) ≡ None)
+pads_left at files i file h e n = or_else_none (own_pad_fault at file) (pads_fault (next_end at file) (plain_files (drop (i + 1) files))) (sym (pads_more at files i file h e) ∙ n)
+
+pub filed_more : (whole : List ℕ) (last erase : ℕ) (out next : List ℕ) (files : List FileImage) (i : ℕ) (file : FileImage) → Filed whole last erase out (plain_files (drop i files)) → IsAlignment file.align → i < length files → file ≡ get_or files i file
+    → next ≡ put_pieces (free_byte erase) out (own_pieces erase (length out) file) → Filed whole last erase next (plain_files (drop (i + 1) files))
+filed_more whole last erase out next files i file s a h e n =
+    let l : length next ≡ next_end (length out) file = ap length n ∙ length_own (free_byte erase) erase out file a in
+    record {
+      items =
+          rw (l, n)
+          (s.items ∙ ap (λ z. put_pieces (free_byte erase) out z) (pieces_more erase (length out) files i file h e)
+          ∙ put_pieces-append (free_byte erase) out (own_pieces erase (length out) file) (files_pieces erase (next_end (length out) file) (plain_files (drop (i + 1) files))));
+      last_is = rw l (s.last_is ∙ end_more (length out) files i file h e);
+      pads = rw l (pads_left (length out) files i file h e s.pads).1;
+    }
+
+pub filed_end : (whole : List ℕ) (last erase : ℕ) (out : List ℕ) (files : List FileImage) (i : ℕ) → Filed whole last erase out (plain_files (drop i files)) → length files ≤ i → (out ≡ whole) × (length out ≡ last)
+unfolding put_pieces
+filed_end whole last erase out files i s h =
+    (sym (s.items ∙ ap (λ z. put_pieces (free_byte erase) out z) (pieces_all erase (length out) files i h)), sym (s.last_is ∙ end_all (length out) files i h))
+
+-- the start of a top file in a length that holds it
+pub top_spaced : (at : ℕ) (file : FileImage) (size : ℕ) → holds true (taken_by at (Some file)) size ≡ true → (up 8 at ≤ top_start file size) × Spaced at (top_start file size)
+top_spaced at file size h =
+    let room : up 8 at + length file.bytes ≤ size = holds_room true (up 8 at + length file.bytes) size h in
+    (omega arith, elim (holds_space (up 8 at + length file.bytes) size h) [ inl e ↦ inl (omega arith) | inr m ↦ inr (omega arith) ])
+
+pub top_low : (at : ℕ) (file : FileImage) (size : ℕ) → holds true (taken_by at (Some file)) size ≡ true → at ≤ size
+top_low at file size h =
+    let room : up 8 at + length file.bytes ≤ size = holds_room true (up 8 at + length file.bytes) size h in
+    omega (arith, up_after 8 at (omega arith))
+
+-- the first top file, by turns
+pub top_here : (files : List FileImage) (i : ℕ) (file : FileImage) → i < length files → file ≡ get_or files i file → is_top file ≡ true → top_of (drop i files) ≡ Some file
+top_here files i file h e t = rw (drop_more files i file h, ← e, t) refl
+
+pub top_later : (files : List FileImage) (i : ℕ) (file : FileImage) → i < length files → file ≡ get_or files i file → is_top file ≡ false → top_of (drop i files) ≡ top_of (drop (i + 1) files)
+top_later files i file h e t = rw (drop_more files i file h, ← e, t) refl
+
+pub top_none : (files : List FileImage) (i : ℕ) → length files ≤ i → top_of (drop i files) ≡ None
+top_none files i h = rw (drop_all i files h) refl
+
+-- what a turn writes
+pub own_none : (free erase : ℕ) (out : List ℕ) (file : FileImage) → is_top file ≡ true → put_pieces free out (own_pieces erase (length out) file) ≡ out
+unfolding put_pieces
+own_none free erase out file t = rw t refl
+
+pub own_short : (at : ℕ) (file : FileImage) → is_top file ≡ false → IsAlignment file.align → own_pad_fault at file ≡ None → start_of at file.align ≤ up 8 at + 16777215
+own_short at file t a n =
+    let pad : pad_fault at (start_of at file.align) file ≡ None = rw t at n in
+    pad_short at (start_of at file.align) file (start_is at file.align (known_alignment file.align a)).after pad
+
+-- a top file ends at the volume's end
+pub length_top : (free erase : ℕ) (out next : List ℕ) (file : FileImage) (size : ℕ) → holds true (taken_by (length out) (Some file)) size ≡ true
+    → next ≡ put_pieces free out (placed_pieces erase (length out) (top_start file size) file.bytes) → length next ≡ size
+length_top free erase out next file size h e =
+    let room = holds_room true (taken_by (length out) (Some file)) size h in
+    let l = length_placed free erase out (top_start file size) file.bytes (top_spaced (length out) file size h).1 in
+    omega (arith, ap length e)

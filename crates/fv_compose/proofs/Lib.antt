@@ -1,0 +1,7 @@
+pub mod PlaceLemmas
+pub mod WordLemmas
+pub mod HeaderLemmas
+pub mod LengthLemmas
+pub mod FileLemmas
+pub mod TopLemmas
+pub mod ImageLemmas

@@ -1,0 +1,83 @@
+-- The files of a volume in their places, and the pad files between them.
+use Rattle.std.specs.Prelude.{ℕ, ◌+◌, ◌-◌, ◌==◌, Bool, not, nat_lt, if◌then◌else◌, List, [], ◌∷◌, ◌++◌, length, replicate, All, Option, Some, None}
+use Rattle.std.specs.List.{filter, find}
+use Rattle.std.specs.Str.{bytes_eq}
+use Rattle.build_base.specs.First.{first_holding, or_else}
+use Rattle.build_base.specs.Pieces.{Piece}
+use Rattle.build_base.specs.declared.fault.Fault.{Fault}
+use Rattle.doc_types.specs.declared.image.FileImage.{FileImage}
+use Rattle.ffs_sections.specs.Alignment.{IsAlignment}
+use Rattle.ffs_sections.specs.File.{file_head, state_of}
+use Rattle.ffs_sections.specs.Sections.{sized}
+use Rattle.fv_compose.specs.Place.{start_of, up}
+
+-- the byte of erased flash under an erase polarity
+abbrev pub free_byte : ℕ → ℕ
+free_byte erase = if erase == 0 then 0 else 255
+
+-- EFI_FFS_VOLUME_TOP_FILE_GUID, 1BA0062E-C779-4582-8566-336AE8F78F09
+abbrev pub top_name : List ℕ
+top_name = 46 ∷ 6 ∷ 160 ∷ 27 ∷ 121 ∷ 199 ∷ 130 ∷ 69 ∷ 133 ∷ 102 ∷ 51 ∷ 106 ∷ 232 ∷ 247 ∷ 143 ∷ 9 ∷ []
+
+-- whether a file is the volume top file
+unfoldable pub is_top : FileImage → Bool
+is_top file = bytes_eq file.guid.0 top_name
+
+abbrev pub top_files : List FileImage → List FileImage
+top_files files = filter is_top files
+
+-- the top file
+abbrev pub top_of : List FileImage → Option FileImage
+top_of files = find is_top files
+
+-- the files that stand one after another from the start on
+unfoldable pub plain_files : List FileImage → List FileImage
+plain_files files = filter (λ file. not (is_top file)) files
+
+-- a pad file of this size
+unfoldable pub pad_bytes : ℕ → ℕ → List ℕ
+pad_bytes erase size = file_head (replicate 16 255) 170 240 0 size (state_of erase) ++ replicate (size - 24) (free_byte erase)
+
+-- a file at its start, and between an end and it a pad file where there is space
+unfoldable pub placed_pieces : ℕ → ℕ → ℕ → List ℕ → List Piece
+placed_pieces erase at start bytes =
+    if start == up 8 at then record { start = start; bytes = bytes } ∷ []
+    else record { start = up 8 at; bytes = pad_bytes erase (start - up 8 at) } ∷ record { start = start; bytes = bytes } ∷ []
+
+abbrev pub file_end : ℕ → FileImage → ℕ
+file_end at file = start_of at file.align + length file.bytes
+
+-- files one after another from an end on, each at the least place that it may start at
+unfoldable pub files_pieces : ℕ → ℕ → List FileImage → List Piece
+files_pieces erase at [] = []
+files_pieces erase at (file ∷ files) =
+    placed_pieces erase at (start_of at file.align) file.bytes ++ files_pieces erase (file_end at file) files
+
+-- the end of the last of them
+unfoldable pub end_of : ℕ → List FileImage → ℕ
+end_of at [] = at
+end_of at (file ∷ files) = end_of (file_end at file) files
+
+-- the top file ends at the volume's last byte
+abbrev pub top_start : FileImage → ℕ → ℕ
+top_start file size = size - length file.bytes
+
+abbrev pub top_pieces : ℕ → ℕ → Option FileImage → ℕ → List Piece
+top_pieces erase at None size = []
+top_pieces erase at (Some file) size = placed_pieces erase at (top_start file size) file.bytes
+
+-- a pad between an end and a start that is too long for the size field of its header
+unfoldable pub pad_fault : ℕ → ℕ → FileImage → Option Fault
+pad_fault at start file = first_holding ((nat_lt 16777215 (start - up 8 at), sized 704 file.at (start - up 8 at)) ∷ [])
+
+-- the first such pad between files one after another
+unfoldable pub pads_fault : ℕ → List FileImage → Option Fault
+pads_fault at [] = None
+pads_fault at (file ∷ files) = or_else (pad_fault at (start_of at file.align) file) (pads_fault (file_end at file) files)
+
+abbrev pub top_pad_fault : ℕ → Option FileImage → ℕ → Option Fault
+top_pad_fault at None size = None
+top_pad_fault at (Some file) size = pad_fault at (top_start file size) file
+
+unfoldable pub AreAligned : List FileImage → Type 0
+AreAligned files = All (λ file. IsAlignment file.align) files

@@ -1,0 +1,5 @@
+pub mod Place
+pub mod Header
+pub mod Files
+pub mod Turns
+pub mod Volume

@@ -1,0 +1,225 @@
+//! The image of a volume: header, files, pads and free space.
+ghost use Rattle.std.specs.Prelude.{◌≡◌, ◌≤◌, ◌%◌, ◌+◌, ◌^◌, ◌↔◌, IsTrue, IfOk, IfSome, Some, None, is_some, true};
+ghost use Rattle.build_base.specs.Answer.{Answers, Checks};
+ghost use Rattle.ffs_sections.specs.Alignment.{IsAlignment};
+ghost use Rattle.fv_compose.specs.Header.{first_end};
+ghost use Rattle.fv_compose.specs.Files.{plain_files, top_of, AreAligned};
+ghost use Rattle.fv_compose.specs.Turns.{pointed};
+ghost use Rattle.fv_compose.specs.Volume.{last_end, taken_by, holds, named, twice_fault, start_fault, top_fault, place_fault, volume_image, with_length, length_of, volume_of, HasShape, IsLength};
+
+use crate::files::{
+    check_pads, check_top_pad, end_of, free_byte, is_top, put_files, put_top, taken_by, top_of,
+};
+use crate::header::{first_end, start_bytes};
+use crate::length::{full, length_for};
+use crate::volume::Volume;
+use build_base::bytes::fill;
+use build_base::{Fault, Permit, Place, Refusal, Rows, Same, Text, WantOfMemory};
+use doc_types::image::FileImage;
+use doc_types::volume_head::VolumeHead;
+use ffs_sections::alignment::is_alignment;
+use std::alloc::Global;
+
+/// Whether a stated size is a whole number of blocks and at most 256M.
+pub fn has_shape(plan: &VolumeHead) -> bool
+    ensures { IsTrue result ↔ HasShape plan.now }
+{
+    match plan.size {
+        None => true,
+        Some(size) => size <= 0x1000_0000 && is_multiple(size, plan.block_size),
+    }
+}
+
+// Whether a size is a multiple of a unit; of 0 there is the multiple 0 alone.
+fn is_multiple(size: u64, unit: u64) -> bool
+    ensures { IsTrue result ↔ (size % unit ≡ 0) }
+{
+    if unit == 0 {
+        size == 0
+    } else {
+        size % unit == 0
+    }
+}
+
+/// Whether each file has an alignment that a file's header can state.
+pub fn are_aligned(files: &Rows<FileImage>) -> bool
+    ensures { IsTrue result ↔ AreAligned files.now }
+{
+    all_aligned(files.items())
+}
+
+#[tactic(auto, unfolding(crate::specs::Files::AreAligned))]
+fn all_aligned(files: &[FileImage]) -> bool
+    ensures { IsTrue result ↔ AreAligned files.now }
+{
+    for file in files {
+        if !is_alignment(file.align) {
+            return false;
+        }
+    }
+    true
+}
+
+// The fault of this code, with the volume's name.
+fn named(alloc: Global, code: u16, place: &Place, plan: &VolumeHead) -> Result<Fault, WantOfMemory>
+    ensures { IfOk result (λ f. f ≡ named code place.now plan.now) }
+{
+    Ok(Fault {
+        code,
+        place: place.copy(alloc)?,
+        detail: plan.name.copy(alloc)?,
+    })
+}
+
+// A top file after another.
+fn check_tops(alloc: Global, plan: &VolumeHead, files: &[FileImage]) -> Result<(), Refusal>
+    ensures { Checks result (twice_fault plan.now files.now) }
+{
+    let mut found = false;
+    for file in files {
+        let top = is_top(file);
+        if found && top {
+            return Err(Refusal::Bad(named(alloc, 702, &file.at, plan)?));
+        }
+        found = found || top;
+    }
+    Ok(())
+}
+
+// A file that can't start here.
+fn check_start(
+    alloc: Global,
+    plan: &VolumeHead,
+    start: u64,
+    file: &FileImage,
+) -> Result<(), Refusal>
+    requires near { start ≤ 2 ^ 28 }
+    requires aligned { IsAlignment file.now.align }
+    ensures { Checks result (start_fault plan.now start file.now) }
+{
+    if start % 8 == 0 && (start + 24) % file.align as u64 == 0 {
+        return Ok(());
+    }
+    Err(Refusal::Bad(named(alloc, 703, &file.at, plan)?))
+}
+
+// A top file that can't end at the volume's last byte.
+fn check_top(
+    alloc: Global,
+    plan: &VolumeHead,
+    top: Option<&FileImage>,
+    end: u64,
+    size: u64,
+) -> Result<(), Refusal>
+    requires near { size ≤ 2 ^ 28 }
+    requires room { holds (is_some (pointed top)) (taken_by end (pointed top)) size ≡ true }
+    requires aligned { IfSome (pointed top) (λ file. IsAlignment file.align) }
+    ensures { Checks result (top_fault plan.now (pointed top.entry) size) }
+{
+    match top {
+        None => Ok(()),
+        Some(file) => check_start(alloc, plan, size - file.bytes.bytes().len() as u64, file),
+    }
+}
+
+// The first file that can't stand in its place in a volume of this length.
+fn check_places(
+    alloc: Global,
+    plan: &VolumeHead,
+    files: &[FileImage],
+    top: Option<&FileImage>,
+    end: u64,
+    size: u64,
+) -> Result<(), Refusal>
+    requires aligned { AreAligned files.now }
+    requires top { pointed top ≡ top_of files.now }
+    requires end { end ≡ last_end plan.now files.now }
+    requires length { IsLength plan.now.block_size (is_some (pointed top)) (taken_by end (pointed top)) size }
+    ensures { Checks result (place_fault plan.now files.now size) }
+{
+    check_top(alloc, plan, top, end, size)?;
+    check_pads(alloc, first_end(&plan.name_guid), files)?;
+    check_top_pad(alloc, end, top, size)?;
+    Ok(())
+}
+
+// The image of a volume of this length.
+fn image(
+    alloc: Global,
+    plan: &VolumeHead,
+    files: &[FileImage],
+    top: Option<&FileImage>,
+    size: u64,
+) -> Result<Volume, WantOfMemory>
+    requires aligned { AreAligned files.now }
+    requires top { pointed top ≡ top_of files.now }
+    requires length { IsLength plan.now.block_size (is_some (pointed top)) (taken_by (last_end plan.now files.now) (pointed top)) size }
+    requires places { place_fault plan.now files.now size ≡ None }
+    ensures { IfOk result (λ v. v ≡ volume_image plan.now files.now size) }
+{
+    let mut out = start_bytes(alloc, plan, size)?;
+    put_files(alloc, &mut out, files, plan.erase)?;
+    put_top(alloc, &mut out, top, size, plan.erase)?;
+    let len = out.len() as u64;
+    fill(&mut out, size - len, free_byte(plan.erase))?;
+    Ok(Volume::of(Text::from_vec(out)))
+}
+
+fn composed(
+    alloc: Global,
+    plan: &VolumeHead,
+    files: &[FileImage],
+    top: Option<&FileImage>,
+    end: u64,
+    size: u64,
+) -> Result<Volume, Refusal>
+    requires aligned { AreAligned files.now }
+    requires top { pointed top ≡ top_of files.now }
+    requires end { end ≡ last_end plan.now files.now }
+    requires length { IsLength plan.now.block_size (is_some (pointed top)) (taken_by end (pointed top)) size }
+    ensures { Answers result (with_length plan.now files.now (Some size)) }
+{
+    if let Err(refusal) = check_places(alloc, plan, files, top, end, size) {
+        return Err(refusal);
+    }
+    match image(alloc, plan, files, top, size) {
+        Ok(volume) => Ok(volume),
+        Err(_) => Err(Refusal::WantOfMemory),
+    }
+}
+
+// The volume of files of which at most one is a top file.
+fn volume(alloc: Global, plan: &VolumeHead, files: &[FileImage]) -> Result<Volume, Refusal>
+    requires shape { HasShape plan.now }
+    requires aligned { AreAligned files.now }
+    ensures { Answers result (with_length plan.now files.now (length_of plan.now files.now)) }
+{
+    let top = top_of(files);
+    let end = end_of(first_end(&plan.name_guid) as u128, files);
+    let taken = taken_by(end, top);
+    match length_for(plan.block_size, plan.size, top.is_some(), taken) {
+        Some(size) => composed(alloc, plan, files, top, end as u64, size),
+        None => Err(Refusal::Bad(full(alloc, plan, top.is_some(), taken)?)),
+    }
+}
+
+/// The volume of a head and its files, each at the least place that it may start at. The first fault is
+/// that of a second top file (702), of want of space (701), of the top file's place (703) or of a pad
+/// that is too long (704).
+#[tactic(auto, unfolding(crate::specs::Volume::volume_of))]
+pub fn compose(
+    alloc: Global,
+    permit: Permit,
+    plan: &VolumeHead,
+    files: &Rows<FileImage>,
+) -> Result<Volume, Refusal>
+    requires shape { HasShape plan.now }
+    requires aligned { AreAligned files.now }
+    ensures { Answers result (volume_of plan.now files.now) }
+{
+    let _spent = permit;
+    match check_tops(alloc, plan, files.items()) {
+        Ok(()) => volume(alloc, plan, files.items()),
+        Err(refusal) => Err(refusal),
+    }
+}
