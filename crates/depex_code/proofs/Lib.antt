@@ -1,0 +1,14 @@
+pub mod PostfixTurns
+pub mod PostfixSound
+pub mod PostfixReads
+pub mod PostfixBodies
+pub mod TermReads
+pub mod TermFinish
+pub mod TermTurns
+pub mod SizeLemmas
+pub mod PartLemmas
+pub mod JoinLoops
+pub mod JoinLemmas
+pub mod LimitLemmas
+pub mod PlainLemmas
+pub mod LawLemmas

@@ -1,0 +1,10 @@
+pub mod Tree
+pub mod Postfix
+pub mod Grammar
+pub mod Terms
+pub mod Sizes
+pub mod Kept
+pub mod Words
+pub mod Compiled
+pub mod SizedJoins
+pub mod Law

@@ -1,0 +1,60 @@
+-- The joins of parts and groups, with sizes in place of trees.
+use Rattle.std.specs.Prelude.{Bool, ℕ, List, [], ◌∷◌, ◌++◌, Option, Some, None, Result, Ok, if◌then◌else◌}
+use Rattle.std.specs.Option.{option_map}
+use Rattle.build_base.specs.declared.fault.Fault.{Fault}
+use Rattle.build_base.specs.declared.fault.Place.{Place}
+use Rattle.build_base.specs.First.{and_then}
+use Rattle.doc_types.specs.declared.depex.NamedGuid.{NamedGuid}
+use Rattle.doc_types.specs.declared.depex.DepexPart.{DepexPart}
+use Rattle.doc_types.specs.declared.depex.DepexGroup.{DepexGroup}
+use Rattle.depex_code.specs.declared.leave.Leave.{Leave}
+use Rattle.depex_code.specs.declared.token.Joiner.TheVariants.{And}
+use Rattle.build_base.specs.FaultText.{fault_of}
+use Rattle.build_base.specs.First.{or_fault}
+use Rattle.depex_code.specs.Compiled.{over, part_tree, no_leave, map_ok}
+use Rattle.depex_code.specs.Sizes.{Reach, Size, join_reach, prefix_reach, join_size, size_of}
+
+abbrev pub join_to_size : Option Size → Size → Size
+join_to_size None x = x
+join_to_size (Some a) x = if a.alone then a else join_size And a x
+
+abbrev pub join_to_reach : Option Size → Size → Reach
+join_to_reach None x = x.reach
+join_to_reach (Some a) x = if a.alone then a.reach else join_reach a.reach x.reach
+
+abbrev pub around_reach : Bool → Reach → Reach
+around_reach front r = if front then prefix_reach r else r
+
+abbrev pub with_group_size : Option Size → Option Size → Option Size
+with_group_size whole None = whole
+with_group_size whole (Some x) = Some (join_to_size whole x)
+
+abbrev pub reach_fault : Place → Reach → Option Fault
+reach_fault at r = option_map (fault_of 504 at) (over r.deep r.count)
+
+-- one more piece of a group
+abbrev pub next_piece : Bool → Option Size → Option Size → Place → Size → Result Size Fault
+next_piece front whole own at x =
+    or_fault (reach_fault at (around_reach front (join_to_reach whole (join_to_size own x)))) (Ok (join_to_size own x))
+
+abbrev pub next_size : Bool → List NamedGuid → Option Size → Leave → Option Size → DepexPart → Result Size Fault
+next_size front guids whole leave own part =
+    and_then (map_ok size_of (part_tree leave guids part)) (next_piece front whole own part.at)
+
+unfoldable pub parts_size : Bool → List NamedGuid → Option Size → Leave → Option Size → List DepexPart → Result (Option Size) Fault
+parts_size front guids whole leave own [] = Ok own
+parts_size front guids whole leave own (part ∷ parts) =
+    and_then (next_size front guids whole leave own part) (λ x. parts_size front guids whole no_leave (Some x) parts)
+
+unfoldable pub groups_size : Bool → Leave → Option Size → List DepexGroup → Result (Option Size) Fault
+groups_size front leave whole [] = Ok whole
+groups_size front leave whole (group ∷ groups) =
+    and_then (parts_size front group.guids whole leave None group.parts)
+    (λ own. groups_size front no_leave (with_group_size whole own) groups)
+
+abbrev pub front_bytes : Bool → List ℕ → List ℕ
+front_bytes front bytes = if front then 9 ∷ bytes else bytes
+
+abbrev pub final_bytes : Bool → Option Size → List ℕ
+final_bytes front None = []
+final_bytes front (Some x) = front_bytes front x.bytes ++ 8 ∷ []

@@ -1,0 +1,35 @@
+//! The words of an expression (EDK II INF specification, [Depex]).
+use build_base::Guid;
+
+/// What joins two operands.
+#[derive(Clone, Copy, Debug, PartialEq, Eq)]
+pub enum Joiner {
+    And,
+    Or,
+}
+
+/// What stands before an operand.
+#[derive(Clone, Copy, Debug, PartialEq, Eq)]
+pub enum Prefix {
+    Not,
+    Sor,
+}
+
+/// What stands before a GUID name.
+#[derive(Clone, Copy, Debug, PartialEq, Eq)]
+pub enum Edge {
+    Before,
+    After,
+}
+
+/// A term. A name has the GUID that is declared for it, or none.
+#[derive(Clone, Copy, Debug)]
+pub enum Token {
+    Name(Option<Guid>),
+    Constant(bool),
+    Edge(Edge),
+    Joiner(Joiner),
+    Prefix(Prefix),
+    Open,
+    Close,
+}
