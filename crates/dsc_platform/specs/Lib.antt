@@ -1,0 +1,4 @@
+pub mod Lines
+pub mod Keys
+pub mod Platform
+pub mod Reading
