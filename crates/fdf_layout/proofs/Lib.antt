@@ -1,0 +1,5 @@
+pub mod More
+pub mod Listed
+pub mod Scans
+pub mod ShapeLemmas
+pub mod Told

@@ -1,0 +1,57 @@
+-- One line more.
+use Rattle.std.proofs.Common.{◌≡◌, ℕ, ◌+◌, List, [], ◌∷◌, ◌++◌, Option, sym, ap, ◌∙◌}
+use Rattle.std.proofs.lemmas.List.Sums.{fold_push, fold-append}
+use Rattle.build_base.specs.declared.lines.Taken.{Taken}
+use Rattle.macro_conditions.specs.Reading.{each, last_or, last_of}
+use Rattle.macro_conditions.proofs.Turns.{each_push, last_push}
+use Rattle.fdf_layout.specs.declared.reading.FlashReader.{FlashReader}
+use Rattle.fdf_layout.specs.declared.context.FlashContext.{FlashContext}
+use Rattle.fdf_layout.specs.Lines.{flash_line}
+use Rattle.fdf_layout.specs.Contexts.{start, enter, after, context_below}
+use Rattle.fdf_layout.specs.Whole.{capped}
+use Rattle.fdf_layout.specs.Flash.{heads_at, base_at, size_at, erase_at, capped_sum, products_at, sizes_at, regions_at, volumes_at}
+use Rattle.fdf_layout.specs.Reading.{Holds}
+
+-- a list of what the lines give
+list_more : {R : Type 0} (gives : FlashContext → Taken → List R) (above : List Taken) (line : Taken) (context : FlashContext) (old new : List R)
+    → context ≡ context_below above → old ≡ each enter gives start above → new ≡ old ++ gives context line → new ≡ each enter gives start (above ++ line ∷ [])
+list_more gives above line context old new c o n =
+    n ∙ ap (λ rows. rows ++ gives context line) o ∙ ap (λ k. each enter gives start above ++ gives k line) c ∙ sym (each_push enter gives start above line)
+
+-- the last of what the lines give
+last_more : {R : Type 0} (gives : FlashContext → Taken → List R) (above : List Taken) (line : Taken) (context : FlashContext) (old new : Option R)
+    → context ≡ context_below above → old ≡ last_of (each enter gives start above) → new ≡ last_or old (gives context line) → new ≡ last_of (each enter gives start (above ++ line ∷ []))
+last_more gives above line context old new c o n =
+    n ∙ ap (λ r. last_or r (gives context line)) o ∙ ap (λ k. last_or (last_of (each enter gives start above)) (gives k line)) c ∙ sym (last_push enter gives start above line)
+
+sum_more : (gives : FlashContext → Taken → List ℕ) (above : List Taken) (line : Taken) (context : FlashContext) (old new : ℕ)
+    → context ≡ context_below above → old ≡ capped_sum 0 (each enter gives start above) → new ≡ capped_sum old (gives context line) → new ≡ capped_sum 0 (each enter gives start (above ++ line ∷ []))
+sum_more gives above line context old new c o n =
+    let step : ℕ → ℕ → ℕ = λ sum k. capped (sum + k) in
+    n ∙ ap (λ r. capped_sum r (gives context line)) o ∙ ap (λ k. capped_sum (capped_sum 0 (each enter gives start above)) (gives k line)) c
+    ∙ sym (ap (capped_sum 0) (each_push enter gives start above line) ∙ fold-append step 0 (each enter gives start above) (gives (context_below above) line))
+
+-- what a line does to a reader
+pub record Takes (line : Taken) (old new : FlashReader) : Type 0 where
+  pub context : new.context ≡ after old.context line.at (flash_line line.text)
+  pub heads : new.device.heads ≡ old.device.heads ++ heads_at line.at (flash_line line.text)
+  pub base : new.device.base ≡ last_or old.device.base (base_at (flash_line line.text))
+  pub size : new.device.size ≡ last_or old.device.size (size_at (flash_line line.text))
+  pub erase : new.device.erase ≡ last_or old.device.erase (erase_at (flash_line line.text))
+  pub blocks : new.device.blocks ≡ capped_sum old.device.blocks (products_at old.context (flash_line line.text))
+  pub sizes : new.device.sizes ≡ old.device.sizes ++ sizes_at old.context (flash_line line.text)
+  pub regions : new.regions ≡ old.regions ++ regions_at old.context (flash_line line.text)
+  pub volumes : new.volumes ≡ old.volumes ++ volumes_at old.context (flash_line line.text)
+
+pub holds_more : (above : List Taken) (line : Taken) (old new : FlashReader) → Holds above old → Takes line old new → Holds (above ++ line ∷ []) new
+holds_more above line old new h t = record {
+  context = t.context ∙ ap (λ c. enter c line) h.context ∙ sym (fold_push enter start above line);
+  heads = list_more (λ c l. heads_at l.at (flash_line l.text)) above line old.context old.device.heads new.device.heads h.context h.heads t.heads;
+  base = last_more (λ c l. base_at (flash_line l.text)) above line old.context old.device.base new.device.base h.context h.base t.base;
+  size = last_more (λ c l. size_at (flash_line l.text)) above line old.context old.device.size new.device.size h.context h.size t.size;
+  erase = last_more (λ c l. erase_at (flash_line l.text)) above line old.context old.device.erase new.device.erase h.context h.erase t.erase;
+  blocks = sum_more (λ c l. products_at c (flash_line l.text)) above line old.context old.device.blocks new.device.blocks h.context h.blocks t.blocks;
+  sizes = list_more (λ c l. sizes_at c (flash_line l.text)) above line old.context old.device.sizes new.device.sizes h.context h.sizes t.sizes;
+  regions = list_more (λ c l. regions_at c (flash_line l.text)) above line old.context old.regions new.regions h.context h.regions t.regions;
+  volumes = list_more (λ c l. volumes_at c (flash_line l.text)) above line old.context old.volumes new.volumes h.context h.volumes t.volumes;
+}

@@ -1,0 +1,9 @@
+pub mod Words
+pub mod Statements
+pub mod DataBytes
+pub mod Lines
+pub mod Contexts
+pub mod Whole
+pub mod Flash
+pub mod Reading
+pub mod Shape

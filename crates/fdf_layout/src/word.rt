@@ -1,0 +1,217 @@
+//! Words of a statement, alignments and options.
+ghost use Rattle.std.specs.Prelude.{◌≡◌, ◌≤◌, length};
+ghost use Rattle.std.specs.Option.{option_map};
+ghost use Rattle.std.specs.List.{list_all, position, position_or_len};
+ghost use Rattle.fdf_layout.specs.Words.{ends_word, word_of, after_word, after_equals, unit_of, digits_of, is_decimal, decimal_of, alignment_of, stated_align, option_named, is_unset, with_align, with_option, next_option, options_of};
+
+use doc_types::volume::Align;
+use meta_lexer::line::trim;
+use meta_lexer::numbers::number;
+use meta_lexer::words::same_word;
+
+/// A word that states an option of a file.
+#[derive(Clone, Copy, Debug, PartialEq, Eq)]
+pub enum FileOption {
+    Fixed,
+    Checksum,
+    Aligned,
+}
+
+/// The options of a file.
+#[derive(Clone, Copy, Debug, PartialEq, Eq)]
+pub struct Options {
+    pub fixed: bool,
+    pub checksum: bool,
+    pub align: Align,
+}
+
+fn ends_word(byte: u8) -> bool
+    ensures { result ≡ ends_word byte }
+{
+    byte == b'\t' || byte == b' ' || byte == b'='
+}
+
+// Where the first word ends.
+fn word_end(text: &[u8]) -> usize
+    ensures at { result ≡ position_or_len ends_word text.now }
+    ensures within { result ≤ length text.now }
+{
+    for (i, byte) in text.iter().enumerate() {
+        if ends_word(*byte) {
+            return i;
+        }
+    }
+    text.len()
+}
+
+/// The first word of a text, up to a blank or `=`, and what follows it.
+#[tactic(auto, unfolding(crate::specs::Words::word_of, crate::specs::Words::after_word))]
+pub fn first_word(text: &[u8]) -> (&[u8], &[u8])
+    ensures word { result.0.now ≡ word_of text.now }
+    ensures rest { result.1.now ≡ after_word text.now }
+{
+    let end = word_end(text);
+    (&text[..end], trim(&text[end..]))
+}
+
+/// What follows `=`.
+#[tactic(auto, unfolding(crate::specs::Words::after_equals))]
+pub fn after_equals(text: &[u8]) -> Option<&[u8]>
+    ensures { option_map (λ t. t.now) result ≡ after_equals text.now }
+{
+    if !text.is_empty() && text[0] == b'=' {
+        Some(trim(&text[1..]))
+    } else {
+        None
+    }
+}
+
+// A number's digits, and its unit.
+fn digits_and_unit(text: &[u8]) -> (&[u8], u64)
+    ensures digits { result.0.now ≡ digits_of text.now }
+    ensures unit { result.1 ≡ unit_of text.now }
+{
+    match text {
+        [digits @ .., b'K'] => (digits, 0x400),
+        [digits @ .., b'M'] => (digits, 0x10_0000),
+        _ => (text, 1),
+    }
+}
+
+fn has_decimals(text: &[u8]) -> bool
+    ensures { result ≡ list_all is_decimal text.now }
+{
+    text.iter().all(|byte| byte.is_ascii_digit())
+}
+
+#[tactic(auto, unfolding(crate::specs::Words::decimal_of))]
+fn decimal(text: &[u8]) -> Option<u64>
+    ensures { result ≡ decimal_of text.now }
+{
+    if has_decimals(text) {
+        number(text)
+    } else {
+        None
+    }
+}
+
+fn scaled(unit: u64, number: Option<u64>) -> Option<u32>
+    ensures { result ≡ Rattle.fdf_layout.specs.Words.scaled unit number }
+{
+    match number?.checked_mul(unit) {
+        Some(bytes) if bytes <= 0x8000_0000 => Some(bytes as u32),
+        _ => None,
+    }
+}
+
+#[tactic(auto, unfolding(crate::specs::Words::alignment_of))]
+fn alignment_of(text: &[u8]) -> Option<u32>
+    ensures { result ≡ alignment_of text.now }
+{
+    let (digits, unit) = digits_and_unit(text);
+    scaled(unit, decimal(digits))
+}
+
+/// The number of `= number`, and what follows it.
+#[tactic(auto, unfolding(crate::specs::Words::stated_align))]
+pub fn stated_align(text: &[u8]) -> Option<(u32, &[u8])>
+    ensures { option_map (λ p. (p.0, p.1.now)) result ≡ stated_align text.now }
+{
+    let text = after_equals(text)?;
+    let (word, rest) = first_word(text);
+    let bytes = alignment_of(word)?;
+    Some((bytes, rest))
+}
+
+/// The option that a word states.
+#[tactic(auto, unfolding(crate::specs::Words::option_named))]
+pub fn option_named(word: &[u8]) -> Option<FileOption>
+    ensures { result ≡ option_named word.now }
+{
+    if same_word(word, b"FIXED".as_slice()) {
+        return Some(FileOption::Fixed);
+    }
+    if same_word(word, b"CHECKSUM".as_slice()) {
+        return Some(FileOption::Checksum);
+    }
+    if same_word(word, b"Align".as_slice()) {
+        return Some(FileOption::Aligned);
+    }
+    None
+}
+
+fn with_align(options: Options, rest: &[u8]) -> Option<(Options, &[u8])>
+    ensures { option_map (λ p. (p.0, p.1.now)) result ≡ with_align options (stated_align rest.now) }
+{
+    let (bytes, rest) = stated_align(rest)?;
+    match options.align {
+        Align::Unset => Some((
+            Options {
+                fixed: options.fixed,
+                checksum: options.checksum,
+                align: Align::Bytes(bytes),
+            },
+            rest,
+        )),
+        Align::Bytes(_) => None,
+    }
+}
+
+fn with_fixed(options: Options) -> Options
+    ensures { result ≡ record options { fixed = Rattle.std.specs.Prelude.true } }
+{
+    Options {
+        fixed: true,
+        checksum: options.checksum,
+        align: options.align,
+    }
+}
+
+fn with_checksum(options: Options) -> Options
+    ensures { result ≡ record options { checksum = Rattle.std.specs.Prelude.true } }
+{
+    Options {
+        fixed: options.fixed,
+        checksum: true,
+        align: options.align,
+    }
+}
+
+fn with_option(options: Options, rest: &[u8], option: FileOption) -> Option<(Options, &[u8])>
+    ensures { option_map (λ p. (p.0, p.1.now)) result ≡ with_option options rest.now (Rattle.std.specs.Prelude.Some option) }
+{
+    match option {
+        FileOption::Fixed if !options.fixed => Some((with_fixed(options), rest)),
+        FileOption::Checksum if !options.checksum => Some((with_checksum(options), rest)),
+        FileOption::Aligned => with_align(options, rest),
+        _ => None,
+    }
+}
+
+#[tactic(auto, unfolding(crate::specs::Words::next_option))]
+fn next_option(options: Options, text: &[u8]) -> Option<(Options, &[u8])>
+    ensures { option_map (λ p. (p.0, p.1.now)) result ≡ next_option options text.now }
+{
+    if text.is_empty() {
+        return Some((options, text));
+    }
+    let (word, rest) = first_word(text);
+    let option = option_named(word)?;
+    with_option(options, rest, option)
+}
+
+/// The options of a file, in any order, each at most once.
+#[tactic(auto, unfolding(crate::specs::Words::options_of))]
+pub fn options_of(text: &[u8]) -> Option<Options>
+    ensures { result ≡ options_of text.now }
+{
+    let none = Options {
+        fixed: false,
+        checksum: false,
+        align: Align::Unset,
+    };
+    let (options, text) = next_option(none, text)?;
+    let (options, text) = next_option(options, text)?;
+    let (options, text) = next_option(options, text)?;
+    if text.is_empty() { Some(options) } else { None }
+}
