@@ -1,0 +1,11 @@
+pub mod FileLineLemmas
+pub mod AllOkLemmas
+pub mod ToldLemmas
+pub mod VolumeLemmas
+pub mod WriteLemmas
+pub mod ShapeLemmas
+pub mod AmongLemmas
+pub mod UnitLemmas
+pub mod OutputLemmas
+pub mod ValueLemmas
+pub mod CompleteLemmas

@@ -1,0 +1,13 @@
+use Rattle.std.specs.Prelude.{◌≡◌, All}
+use Rattle.ffs_sections.specs.File.{IsFileImage}
+use Rattle.edk_build.specs.FileValues.{item_value}
+use Rattle.edk_build.proofs.ToldLemmas.{SoFar}
+use Rattle.edk_build.proofs.volume_step.make_items.Given as goal
+
+abbrev pub invariant-loop-item : goal.invariant-loop-item
+invariant-loop-item g l = record {
+  so_far : SoFar (g.T.Tree.held l.fn.tree) (item_value l.erase) l.images l.items l.item-index;
+  shape : All IsFileImage l.images;
+  no_fault : g.T.Tree.faults l.tree ≡ g.T.Tree.faults l.fn.tree;
+  held : g.T.Tree.held l.tree ≡ g.T.Tree.held l.fn.tree;
+}

@@ -1,0 +1,9 @@
+pub mod Stops
+pub mod FileLines
+pub mod FilePair
+pub mod FileValues
+pub mod Words
+pub mod Values
+pub mod Outcome
+pub mod Statuses
+pub mod Outputs

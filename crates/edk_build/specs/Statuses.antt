@@ -1,0 +1,45 @@
+-- Facts for some of the answers of a run.
+use Rattle.std.specs.Prelude.{◌≡◌, ◌⊎◌, ℕ, List, [], ◌∷◌, Option, codes}
+use Rattle.build_base.specs.declared.outside.Target.TheVariants.{Err as ToErr}
+use Rattle.build_base.specs.Outside.{Emission, Grew, GrewCut, Rose}
+use Rattle.edk_build.specs.declared.status.Status.{Status}
+use Rattle.edk_build.specs.declared.status.Status.TheVariants.{Done, FileFault, Usage, ReadFault, WriteFault, WantOfMemory}
+
+-- where the run came to its end
+abbrev pub OnEnd : Status → Type 0 → Type 0
+OnEnd Done P = P
+OnEnd FileFault P = P
+OnEnd _ P = Unit {0}
+
+-- where it stopped before its first emission
+abbrev pub OnUnwritten : Status → Type 0 → Type 0
+OnUnwritten ReadFault P = P
+OnUnwritten WantOfMemory P = P
+OnUnwritten _ P = Unit {0}
+
+abbrev pub OnUsage : Status → Type 0 → Type 0
+OnUsage Usage P = P
+OnUsage _ P = Unit {0}
+
+abbrev pub OnReadFault : Status → Type 0 → Type 0
+OnReadFault ReadFault P = P
+OnReadFault _ P = Unit {0}
+
+abbrev pub OnWriteFault : Status → Type 0 → Type 0
+OnWriteFault WriteFault P = P
+OnWriteFault _ P = Unit {0}
+
+-- where the words were taken as a build
+abbrev pub OnBuild : Status → Type 0 → Type 0
+OnBuild Usage P = Unit {0}
+OnBuild WantOfMemory P = Unit {0}
+OnBuild _ P = P
+
+abbrev pub usage : List ℕ
+usage = codes "usage\n"
+
+-- The usage text went to standard error, or the sink failed and a part of it did.
+abbrev pub IsUsageTold : ℕ → ℕ → Option (List Emission) → Option (List Emission) → Type 0
+IsUsageTold before now old new =
+    ((now ≡ before) × Grew old new ((ToErr, usage) ∷ []))
+    ⊎ (Rose before now × GrewCut old new ToErr usage)

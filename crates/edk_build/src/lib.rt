@@ -1,0 +1,24 @@
+//! The build: from the words of the command line to the bytes of the images.
+#![tactic(auto)]
+
+pub mod building;
+pub mod device_step;
+pub mod file_lines;
+pub mod file_out;
+pub mod file_step;
+pub mod key;
+pub mod made;
+pub mod out_files;
+pub mod output_path;
+pub mod status;
+pub mod steps;
+pub mod stop;
+pub mod volume_step;
+pub mod words;
+
+pub use building::run;
+pub use key::Key;
+pub use status::Status;
+
+#[cfg(test)]
+mod tests;
