@@ -1,0 +1,63 @@
+//! The program: it hands the disk, the standard streams and the words of the command line to the build.
+#![tactic(auto)]
+
+use build_base::Book;
+use build_base::disk_sink::DiskSink;
+use build_base::disk_tree::DiskTree;
+use build_base::open_gate::OpenGate;
+use build_base::sure_keeper::SureKeeper;
+use edk_build::{Status, run};
+use std::process::ExitCode;
+use std::rt::Runtime;
+use std::thread::Threads;
+use std::{env, io};
+
+fn words_of<H: Runtime + AllocGlobal>(rt: &H) -> io::Result<Vec<String>> {
+    let mut words = Vec::new(rt.alloc());
+    for word in env::args(rt)?.skip(1) {
+        words.push(word)?;
+    }
+    Ok(words)
+}
+
+fn status_of<H: Runtime + AllocGlobal + Threads + Sync + Copy>(rt: &H, words: &[String]) -> Status {
+    let alloc = rt.alloc();
+    let mut keeper = match SureKeeper::new(alloc, None, 0) {
+        Ok(keeper) => keeper,
+        Err(_) => return Status::WantOfMemory,
+    };
+    let mut tree = DiskTree::new(*rt);
+    let mut sink = DiskSink::new(*rt);
+    let mut book = Book::new(alloc);
+    run(
+        rt,
+        alloc,
+        words,
+        &mut tree,
+        &mut sink,
+        &mut keeper,
+        &OpenGate,
+        &mut book,
+    )
+}
+
+fn tell<H: Runtime>(rt: &H, text: &str) {
+    let _ = rt.eprintln(text);
+}
+
+fn main(rt: HostRuntime) -> ExitCode {
+    let status = match words_of(&rt) {
+        Ok(words) => status_of(&rt, words.as_slice()),
+        Err(_) => {
+            tell(&rt, "usage");
+            Status::Usage
+        }
+    };
+    match status {
+        Status::ReadFault => tell(&rt, "read fault"),
+        Status::WriteFault => tell(&rt, "write fault"),
+        Status::WantOfMemory => tell(&rt, "want of memory"),
+        Status::Done | Status::FileFault | Status::Usage => {}
+    }
+    ExitCode::from(status as u8)
+}
