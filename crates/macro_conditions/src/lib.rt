@@ -13,6 +13,7 @@ pub mod operand;
 pub mod operator;
 pub mod readable;
 pub mod reader;
+pub mod value_fields;
 mod work;
 
 pub use expansion::{Turned, expand};

@@ -1,0 +1,54 @@
+-- The fields of a line that need a value, and the least of a line's faults.
+use Rattle.std.specs.Prelude.{ℕ, nat_lt, if◌then◌else◌, List, [], ◌∷◌, Option, Some, None, Result, Ok, Err, codes}
+use Rattle.build_base.specs.declared.fault.Fault.{Fault}
+use Rattle.build_base.specs.declared.fault.Place.{Place}
+use Rattle.build_base.specs.FaultText.{fault_of}
+use Rattle.build_base.specs.Path.{path_field}
+use Rattle.meta_lexer.specs.Fields.{ends_quoted}
+use Rattle.meta_lexer.specs.Words.{holds_macro}
+use Rattle.macro_conditions.specs.declared.expression.Value.{Value}
+use Rattle.macro_conditions.specs.declared.expression.Value.TheVariants.{Number, Word}
+use Rattle.macro_conditions.specs.Expressions.{evaluation}
+use Rattle.macro_conditions.specs.Sources.{without_workspace}
+
+-- of two faults that of the lesser code, of one code the first
+abbrev pub lesser : Option Fault → Option Fault → Option Fault
+lesser None second = second
+lesser (Some fault) None = Some fault
+lesser (Some fault) (Some other) = if nat_lt other.code fault.code then Some other else Some fault
+
+-- of all faults that of the least code, of one code the first
+abbrev pub least_of : List (Option Fault) → Option Fault
+least_of [] = None
+least_of (fault ∷ faults) = lesser fault (least_of faults)
+
+-- the fault of an outcome
+abbrev pub fault_in : {T : Type 0} → Result T Fault → Option Fault
+fault_in (Ok value) = None
+fault_in (Err fault) = Some fault
+
+-- `$(` that is left in a text: its macro isn't defined
+abbrev pub undefined_macro : Place → List ℕ → Option Fault
+undefined_macro at text = if holds_macro text then Some (fault_of 127 at text) else None
+
+-- a double quote that isn't closed
+abbrev pub open_quote : Place → List ℕ → Option Fault
+open_quote at text = if ends_quoted text then Some (fault_of 111 at (codes "\"")) else None
+
+-- a text is no number, and a number needs every macro of its field
+abbrev pub number_found : Place → List ℕ → Result Value Fault → Result ℕ Fault
+number_found at text (Ok (Number n)) = if holds_macro text then Err (fault_of 127 at text) else Ok n
+number_found at text (Ok (Word word)) = Err (fault_of 124 at text)
+number_found at text (Err fault) = Err fault
+
+-- a numeric field: an expression, in which a macro that isn't defined counts as 0 until the expression is judged
+unfoldable pub number_value : Place → List ℕ → Result ℕ Fault
+number_value at text = number_found at text (evaluation at text [])
+
+abbrev pub path_found : Place → List ℕ → Option (List ℕ) → Result (List ℕ) Fault
+path_found at text (Some path) = Ok path
+path_found at text None = Err (fault_of 101 at text)
+
+-- a path field, without `$(WORKSPACE)/` at its front
+unfoldable pub path_value : Place → List ℕ → Result (List ℕ) Fault
+path_value at text = path_found at text (path_field (without_workspace text))

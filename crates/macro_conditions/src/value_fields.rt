@@ -1,0 +1,79 @@
+//! The fields of a line that need a value, and the least of a line's faults.
+ghost use Rattle.std.specs.Prelude.{◌≡◌, Option};
+ghost use Rattle.build_base.specs.declared.fault.Fault.{Fault as Found};
+ghost use Rattle.build_base.specs.Answer.{Answers, Checks, Finds};
+ghost use Rattle.macro_conditions.specs.ValueFields.{lesser, undefined_macro, open_quote, number_value, path_value};
+
+use crate::expression::{Value, evaluate};
+use crate::known::without_workspace;
+use build_base::path::path_field;
+use build_base::{Path, Place, Refusal, Rows, Text, refuse};
+use meta_lexer::field::ends_quoted;
+use meta_lexer::words::holds_macro;
+use std::alloc::Global;
+
+/// Of two refusals of one line that of the lesser code, of one code the first.
+pub fn lesser_refusal(first: Refusal, second: Refusal) -> Refusal
+    ensures { (fault other : Option Found) → Finds first fault → Finds second other → Finds result (lesser fault other) }
+{
+    match (first, second) {
+        (Refusal::Bad(fault), Refusal::Bad(other)) => {
+            if other.code < fault.code {
+                Refusal::Bad(other)
+            } else {
+                Refusal::Bad(fault)
+            }
+        }
+        _ => Refusal::WantOfMemory,
+    }
+}
+
+/// Refuses a field in which a macro is left that isn't defined.
+pub fn undefined_macro(alloc: Global, at: &Place, text: &[u8]) -> Result<(), Refusal>
+    ensures { Checks result (undefined_macro at.now text.now) }
+{
+    if holds_macro(text) {
+        return Err(refuse(alloc, 127, at, text));
+    }
+    Ok(())
+}
+
+/// Refuses a line in which a quote stays open.
+pub fn open_quote(alloc: Global, at: &Place, text: &[u8]) -> Result<(), Refusal>
+    ensures { Checks result (open_quote at.now text.now) }
+{
+    if ends_quoted(text) {
+        return Err(refuse(alloc, 111, at, b"\"".as_slice()));
+    }
+    Ok(())
+}
+
+/// The number of a numeric field, which is an expression.
+#[tactic(auto, unfolding(crate::specs::ValueFields::number_value))]
+pub fn number_value(alloc: Global, at: &Place, text: &[u8]) -> Result<u64, Refusal>
+    ensures { Answers result (number_value at.now text.now) }
+{
+    let written = Text::of(alloc, text)?;
+    let none = Rows::new(alloc);
+    match evaluate(alloc, at, &written, &none) {
+        Ok(Value::Number(n)) => {
+            if holds_macro(text) {
+                return Err(refuse(alloc, 127, at, text));
+            }
+            Ok(n)
+        }
+        Ok(Value::Word(_)) => Err(refuse(alloc, 124, at, text)),
+        Err(refusal) => Err(refusal),
+    }
+}
+
+/// The path of a path field, without `$(WORKSPACE)/` at its front.
+#[tactic(auto, unfolding(crate::specs::ValueFields::path_value))]
+pub fn path_value(alloc: Global, at: &Place, text: &[u8]) -> Result<Path, Refusal>
+    ensures { Answers result (path_value at.now text.now) }
+{
+    match path_field(alloc, without_workspace(text))? {
+        Some(path) => Ok(path),
+        None => Err(refuse(alloc, 101, at, text)),
+    }
+}
