@@ -322,28 +322,87 @@ fn long_line(rt: &impl Abort, alloc: Global, length: u32) -> Rows<Known> {
     known
 }
 
+// One document that is this text.
+fn document(rt: &impl Abort, alloc: Global, text: &[u8]) -> Rows<Known> {
+    let mut known = Rows::new(alloc);
+    add_known(rt, alloc, &mut known, "P.dsc", text);
+    known
+}
+
+// A conditional whose expression is nested so deep.
+fn nested_condition(
+    rt: &impl Abort,
+    alloc: Global,
+    front: u8,
+    back: &[u8],
+    times: u32,
+) -> Rows<Known> {
+    let mut text = Vec::new(alloc);
+    text.extend_from_slice(b"!if ").ok().expect(rt, "memory");
+    let expression = nested(rt, alloc, front, back, times);
+    push_line(rt, &mut text, expression.as_slice());
+    push_line(rt, &mut text, b"taken");
+    push_line(rt, &mut text, b"!endif");
+    document(rt, alloc, text.as_slice())
+}
+
+// What the fault of a conditional nested one too deep says.
+fn too_nested(rt: &impl Abort, alloc: Global, front: u8, back: &[u8]) -> Vec<u8> {
+    let mut text = Vec::new(alloc);
+    text.extend_from_slice(b"P.dsc(1): error 124: BadExpression: ")
+        .ok()
+        .expect(rt, "memory");
+    let expression = nested(rt, alloc, front, back, 65);
+    push_line(rt, &mut text, expression.as_slice());
+    text
+}
+
+// P.dsc includes a.inc, that b.inc, and that a.inc again at its second line.
+fn circle(rt: &impl Abort, alloc: Global) -> Rows<Known> {
+    let mut known = document(rt, alloc, b"!include a.inc");
+    add_known(rt, alloc, &mut known, "a.inc", b"!include b.inc");
+    add_known(rt, alloc, &mut known, "b.inc", b"x\n!include a.inc");
+    known
+}
+
 #[test]
-fn limits(rt: HostRuntime) {
+fn hostile_documents(rt: HostRuntime) {
     let alloc = rt.alloc();
-    let cases: [(Rows<Known>, &str); 6] = [
-        (chain(&rt, alloc, 31), "end\n"),
+    let deep = too_nested(&rt, alloc, b'(', b")");
+    let long = too_nested(&rt, alloc, b'!', b"");
+    let cases: [(Rows<Known>, &[u8]); 11] = [
+        (
+            circle(&rt, alloc),
+            b"b.inc(2): error 123: IncludeLoop: a.inc\n",
+        ),
+        (chain(&rt, alloc, 31), b"end\n"),
         (
             chain(&rt, alloc, 32),
-            "i31.inc(1): error 122: IncludeTooDeep: i32.inc\n",
+            b"i31.inc(1): error 122: IncludeTooDeep: i32.inc\n",
         ),
-        (definitions(&rt, alloc, 4096), ""),
+        (nested_condition(&rt, alloc, b'(', b")", 64), b"taken\n"),
+        (
+            nested_condition(&rt, alloc, b'(', b")", 65),
+            deep.as_slice(),
+        ),
+        (nested_condition(&rt, alloc, b'!', b"", 65), long.as_slice()),
+        (definitions(&rt, alloc, 4096), b""),
         (
             definitions(&rt, alloc, 4097),
-            "P.dsc(4097): error 128: TooManyMacros: M4096\n",
+            b"P.dsc(4097): error 128: TooManyMacros: M4096\n",
         ),
-        (long_line(&rt, alloc, 8192), "\n"),
+        (long_line(&rt, alloc, 8192), b"\n"),
         (
             long_line(&rt, alloc, 8193),
-            "P.dsc(1): error 112: LineTooLong: 8193\n",
+            b"P.dsc(1): error 112: LineTooLong: 8193\n",
+        ),
+        (
+            document(&rt, alloc, b"a\n!if 1"),
+            b"P.dsc(2): error 120: Unbalanced: if\n",
         ),
     ];
     for (known, expected) in &cases {
         let found = outcome(&rt, alloc, known);
-        assert!(rt; found.as_slice() == expected.as_bytes(), "{expected}");
+        assert!(rt; found.as_slice() == *expected);
     }
 }
