@@ -11,3 +11,7 @@ file_at (entry ∷ entries) path = if pointwise nat_eq entry.path path then Some
 -- the files with another one at a path
 abbrev pub with_file : (List ℕ → Option (List ℕ)) → List ℕ → List ℕ → List ℕ → Option (List ℕ)
 with_file files path bytes other = if pointwise nat_eq path other then Some bytes else files other
+
+-- the files with none at a path
+abbrev pub without_file : (List ℕ → Option (List ℕ)) → List ℕ → List ℕ → Option (List ℕ)
+without_file files path other = if pointwise nat_eq path other then None else files other

@@ -1,7 +1,7 @@
 //! A tree in memory, which fails at the calls of a list.
 ghost use Rattle.std.specs.Prelude.{◌≡◌, [], Some, ◌++◌, ◌∷◌, IfOk, OnOk, OnErr};
 ghost use Rattle.build_base.specs.Outside.{got_of};
-ghost use Rattle.build_base.specs.MemoryTree.{file_at, with_file};
+ghost use Rattle.build_base.specs.MemoryTree.{file_at, with_file, without_file};
 ghost use Rattle.std.specs.Prelude.{IfSome, nat_eq};
 ghost use Rattle.std.specs.List.{position};
 ghost use Rattle.std.specs.Cmp.Lexicographic.{pointwise};
@@ -62,6 +62,16 @@ impl MemoryTree {
         put_in(&mut self.files, path, bytes)
     }
 
+    /// Takes the file at the path out, if there is one.
+    pub fn drop_file(&mut self, path: &Path)
+        ensures held { IfSome (⟦<MemoryTree as Tree>⟧.held self.old) (λ files.
+            ⟦<MemoryTree as Tree>⟧.held self.new ≡ Some (without_file files path.now)) }
+        ensures reads { ⟦<MemoryTree as Tree>⟧.reads self.new ≡ ⟦<MemoryTree as Tree>⟧.reads self.old }
+        ensures faults { ⟦<MemoryTree as Tree>⟧.faults self.new ≡ ⟦<MemoryTree as Tree>⟧.faults self.old }
+    {
+        drop_from(&mut self.files, path);
+    }
+
     /// The paths of the calls that answered, in order.
     pub fn reads(&self) -> &[Path]
         ensures { ⟦<MemoryTree as Tree>⟧.reads self.now ≡ Some result.now }
@@ -81,6 +91,12 @@ fn put_in(files: &mut Rows<Held>, path: Path, bytes: Text) -> Result<(), WantOfM
         }
         None => files.push(Held { path, bytes }),
     }
+}
+
+fn drop_from(files: &mut Rows<Held>, path: &Path)
+    ensures { file_at files.new ≡ without_file (file_at files.old) path.now }
+{
+    files.retain(|entry| entry.path != *path);
 }
 
 fn place_of(files: &[Held], path: &Path) -> Option<usize>
