@@ -21,6 +21,10 @@ IsWithin limit (File bytes) = length bytes ≤ limit
 IsWithin limit Absent = Unit {0}
 IsWithin limit TooLong = Unit {0}
 
+-- the number of the next call, the greatest of 64 bits standing for all that follow
+abbrev pub next_call : ℕ → ℕ
+next_call calls = min (calls + 1) (2 ^ 64 - 1)
+
 -- A count of faults rose, or stands at the last value of its type.
 pub record Rose (before now : ℕ) : Type 0 where
   pub later : before ≤ now

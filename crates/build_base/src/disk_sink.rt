@@ -1,5 +1,5 @@
 //! The files of the disk and the standard streams, to be written. It tells nothing of what was written.
-ghost use Rattle.std.specs.Prelude.{None};
+ghost use Rattle.std.specs.Prelude.{◌≡◌, None};
 
 use crate::outside::{Sink, SinkFailed, Target};
 use crate::path::Path;
@@ -17,7 +17,9 @@ pub struct DiskSink<R: Runtime + AllocGlobal> {
 
 impl<R: Runtime + AllocGlobal> DiskSink<R> {
     /// The sink of the current folder.
-    pub fn new(rt: R) -> DiskSink<R> {
+    pub fn new(rt: R) -> DiskSink<R>
+        ensures { ⟦<DiskSink<R> as Sink>⟧.faults result ≡ 0 }
+    {
         DiskSink { rt, faults: 0 }
     }
 }

@@ -1,5 +1,5 @@
 //! The files of the disk. It tells nothing of what it holds.
-ghost use Rattle.std.specs.Prelude.{None};
+ghost use Rattle.std.specs.Prelude.{◌≡◌, None};
 
 use crate::outside::{Got, Tree, TreeFailed};
 use crate::path::Path;
@@ -18,7 +18,9 @@ pub struct DiskTree<R: Runtime + AllocGlobal> {
 
 impl<R: Runtime + AllocGlobal> DiskTree<R> {
     /// The tree of the current folder.
-    pub fn new(rt: R) -> DiskTree<R> {
+    pub fn new(rt: R) -> DiskTree<R>
+        ensures { ⟦<DiskTree<R> as Tree>⟧.faults result ≡ 0 }
+    {
         DiskTree { rt, faults: 0 }
     }
 }

@@ -1,11 +1,11 @@
 //! A sink in memory, whose room is made before, and which fails at the calls of a list.
 ghost use Rattle.std.specs.Prelude.{◌≡◌, ◌+◌, ◌-◌, ◌≤◌, ◌<◌, ◌⊎◌, [], ◌∷◌, ◌++◌, length, Some, IfOk, vec_capacity, vec_len};
 ghost use Rattle.std.specs.Bool.{OnTrue, OnFalse};
-ghost use Rattle.build_base.specs.Outside.{Grew, Emits, Cause};
+ghost use Rattle.build_base.specs.Outside.{Grew, Emits, Cause, next_call};
 ghost use Rattle.std.specs.Prelude.{slice_get};
 ghost use Rattle.std.specs.Option.{option_map};
 ghost use Rattle.build_base.specs.MemorySink.{all_seen, seen, seen_emission, target_of, IsKept};
-ghost use Rattle.build_base.specs.SinkState.{path_of, TakesRoom};
+ghost use Rattle.build_base.specs.SinkState.{path_of, kept_at, TakesRoom, Writes};
 
 use crate::outside::{Sink, SinkFailed, Target};
 use crate::rows::Rows;
@@ -70,6 +70,8 @@ impl Model for MemorySink {
       faults = s.faults;
       calls_left = vec_capacity s.notes - vec_len s.notes;
       bytes_left = vec_capacity s.store - vec_len s.store;
+      fails = s.fails;
+      calls = s.calls;
     } };
 
     ghost invariant = { λ s. IsKept s.store.items s.notes.items };
@@ -78,7 +80,7 @@ impl Model for MemorySink {
 impl MemorySink {
     /// A sink with this room, whose memory is taken here.
     pub fn new(alloc: Global, room: Room, fails: Rows<SinkFail>) -> Result<MemorySink, WantOfMemory>
-        ensures { IfOk result (λ s. s ≡ record { kept = []; written = Some []; faults = 0; calls_left = room.calls; bytes_left = room.bytes }) }
+        ensures { IfOk result (λ s. s ≡ record { kept = []; written = Some []; faults = 0; calls_left = room.calls; bytes_left = room.bytes; fails = fails; calls = 0 }) }
     {
         let notes = Vec::with_capacity(alloc, room.calls as usize)?;
         let store = Vec::with_capacity(alloc, room.bytes as usize)?;
@@ -118,7 +120,8 @@ fn path_of(target: &Target) -> &[u8]
 // Adds both, where there is room.
 fn put(store: &mut Vec<u8>, path: &[u8], bytes: &[u8])
     requires { vec_len store.old + length path.now + length bytes.now ≤ vec_capacity store.old }
-    ensures { store.new.items ≡ (store.old.items ++ path.now) ++ bytes.now }
+    ensures items { store.new.items ≡ (store.old.items ++ path.now) ++ bytes.now }
+    ensures room { vec_capacity store.old - vec_len store.old ≤ vec_capacity store.new - vec_len store.new + (length path.now + length bytes.now) }
 {
     let _ = store.extend_from_slice(path);
     let _ = store.extend_from_slice(bytes);
@@ -130,6 +133,8 @@ fn keep(notes: &mut Vec<Note>, store: &mut Vec<u8>, kind: Kind, path: &[u8], byt
     requires { IsKept store.old.items notes.old.items }
     ensures kept { OnTrue result (all_seen store.new.items notes.new.items ≡ all_seen store.old.items notes.old.items ++ (target_of kind path.now, bytes.now) ∷ []) }
     ensures still { IsKept store.new.items notes.new.items }
+    ensures calls { vec_capacity notes.old - vec_len notes.old ≤ vec_capacity notes.new - vec_len notes.new + 1 }
+    ensures room { vec_capacity store.old - vec_len store.old ≤ vec_capacity store.new - vec_len store.new + (length path.now + length bytes.now) }
     ensures refused { OnFalse result ((vec_capacity notes.old ≤ vec_len notes.old) ⊎ (vec_capacity store.old < vec_len store.old + length path.now + length bytes.now)) }
 {
     let start = store.len();
@@ -148,7 +153,9 @@ fn keep(notes: &mut Vec<Note>, store: &mut Vec<u8>, kind: Kind, path: &[u8], byt
 }
 
 // How many bytes a call that fails keeps.
-fn kept_at(fails: &[SinkFail], call: u64) -> Option<u64> {
+fn kept_at(fails: &[SinkFail], call: u64) -> Option<u64>
+    ensures { result ≡ kept_at fails.now call }
+{
     for fail in fails {
         if fail.call == call {
             return Some(fail.kept);
@@ -161,6 +168,8 @@ impl MemorySink {
     fn note(&mut self, target: &Target, bytes: &[u8])
         ensures written { Grew self.old.written self.new.written ((target.now, bytes.now) ∷ []) }
         ensures faults { self.new.faults ≡ self.old.faults }
+        ensures fails { self.new.fails ≡ self.old.fails }
+        ensures calls { self.new.calls ≡ self.old.calls }
         ensures told { TakesRoom self.old self.new target.now bytes.now }
     {
         if self.tells {
@@ -237,6 +246,9 @@ impl Sink for MemorySink {
         ensures written { Emits self.old.written self.new.written target.now bytes.now result }
         ensures cause { Cause self.old.faults self.new.faults result }
         ensures told { TakesRoom self.old self.new target.now bytes.now }
+        ensures calls { self.new.calls ≡ next_call self.old.calls }
+        ensures fails { self.new.fails ≡ self.old.fails }
+        ensures writes { Writes (kept_at self.old.fails (next_call self.old.calls)) self.old.written self.new.written target.now bytes.now result }
     {
         self.calls = self.calls.saturating_add(1);
         match kept_at(self.fails.items(), self.calls) {

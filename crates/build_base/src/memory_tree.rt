@@ -1,7 +1,7 @@
 //! A tree in memory, which fails at the calls of a list.
 ghost use Rattle.std.specs.Prelude.{◌≡◌, [], Some, ◌++◌, ◌∷◌, IfOk, OnOk, OnErr};
-ghost use Rattle.build_base.specs.Outside.{got_of};
-ghost use Rattle.build_base.specs.MemoryTree.{file_at, with_file, without_file};
+ghost use Rattle.build_base.specs.Outside.{got_of, IsWithin, TreeCause, next_call};
+ghost use Rattle.build_base.specs.MemoryTree.{file_at, with_file, without_file, is_failing, FailsWhere};
 ghost use Rattle.std.specs.Prelude.{IfSome, nat_eq};
 ghost use Rattle.std.specs.List.{position};
 ghost use Rattle.std.specs.Cmp.Lexicographic.{pointwise};
@@ -38,6 +38,8 @@ impl MemoryTree {
         ensures held { ⟦<MemoryTree as Tree>⟧.held result ≡ Some (file_at files) }
         ensures reads { ⟦<MemoryTree as Tree>⟧.reads result ≡ Some [] }
         ensures faults { ⟦<MemoryTree as Tree>⟧.faults result ≡ 0 }
+        ensures fails { result.fails ≡ fails }
+        ensures calls { result.calls ≡ 0 }
     {
         MemoryTree {
             alloc,
@@ -58,6 +60,8 @@ impl MemoryTree {
         ensures err { OnErr result (⟦<MemoryTree as Tree>⟧.held self.new ≡ ⟦<MemoryTree as Tree>⟧.held self.old) }
         ensures reads { ⟦<MemoryTree as Tree>⟧.reads self.new ≡ ⟦<MemoryTree as Tree>⟧.reads self.old }
         ensures faults { ⟦<MemoryTree as Tree>⟧.faults self.new ≡ ⟦<MemoryTree as Tree>⟧.faults self.old }
+        ensures fails { self.new.fails ≡ self.old.fails }
+        ensures calls { self.new.calls ≡ self.old.calls }
     {
         put_in(&mut self.files, path, bytes)
     }
@@ -68,6 +72,8 @@ impl MemoryTree {
             ⟦<MemoryTree as Tree>⟧.held self.new ≡ Some (without_file files path.now)) }
         ensures reads { ⟦<MemoryTree as Tree>⟧.reads self.new ≡ ⟦<MemoryTree as Tree>⟧.reads self.old }
         ensures faults { ⟦<MemoryTree as Tree>⟧.faults self.new ≡ ⟦<MemoryTree as Tree>⟧.faults self.old }
+        ensures fails { self.new.fails ≡ self.old.fails }
+        ensures calls { self.new.calls ≡ self.old.calls }
     {
         drop_from(&mut self.files, path);
     }
@@ -124,7 +130,17 @@ impl Tree for MemoryTree {
 
     ghost faults = { λ t. t.faults };
 
-    fn read(&mut self, path: &Path, limit: u64) -> Result<Got, TreeFailed> {
+    fn read(&mut self, path: &Path, limit: u64) -> Result<Got, TreeFailed>
+        ensures held { self.new.files ≡ self.old.files }
+        ensures got { IfOk result (λ g. g ≡ got_of limit (file_at self.old.files path.now)) }
+        ensures within { IfOk result (IsWithin limit) }
+        ensures reads_ok { OnOk result (self.new.reads ≡ self.old.reads ++ path.now ∷ []) }
+        ensures reads_err { OnErr result (self.new.reads ≡ self.old.reads) }
+        ensures cause { TreeCause self.old.faults self.new.faults result }
+        ensures calls { self.new.calls ≡ next_call self.old.calls }
+        ensures fails { self.new.fails ≡ self.old.fails }
+        ensures failed { FailsWhere (is_failing self.old.fails (next_call self.old.calls)) result }
+    {
         self.calls = self.calls.saturating_add(1);
         if self.fails.items().contains(&self.calls) {
             self.faults = self.faults.saturating_add(1);

@@ -1,7 +1,7 @@
 //! A keeper in memory that never fails.
-ghost use Rattle.std.specs.Prelude.{◌≡◌, ◌≤◌, IfOk, IfSome, Some, None, length, vec_capacity};
+ghost use Rattle.std.specs.Prelude.{◌≡◌, ◌≤◌, IfOk, IfSome, IsSome, Some, None, Err, length, vec_capacity};
 ghost use Rattle.std.specs.Option.{option_map};
-ghost use Rattle.build_base.specs.Keeping.{KeeperState};
+ghost use Rattle.build_base.specs.Keeping.{KeeperState, KeeperCause, Stores};
 
 use crate::outside::{Keeper, KeeperFailed};
 use crate::text::{Text, WantOfMemory};
@@ -64,7 +64,8 @@ impl SureKeeper {
 // Puts other bytes in the place of those that are there, where there is room.
 fn fill(store: &mut Vec<u8>, bytes: &[u8])
     requires { length bytes.now ≤ vec_capacity store.old }
-    ensures { store.new.items ≡ bytes.now }
+    ensures items { store.new.items ≡ bytes.now }
+    ensures room { vec_capacity store.old ≤ vec_capacity store.new }
 {
     store.clear();
     let _ = store.extend_from_slice(bytes);
@@ -75,7 +76,12 @@ impl Keeper for SureKeeper {
 
     ghost faults = { λ k. 0 };
 
-    fn load(&mut self) -> Result<Option<Text>, KeeperFailed> {
+    fn load(&mut self) -> Result<Option<Text>, KeeperFailed>
+        ensures kept { self.new.kept ≡ self.old.kept }
+        ensures loads { IfOk result (λ text. IfSome self.old.kept (λ there. text ≡ there)) }
+        ensures cause { KeeperCause 0 0 result }
+        ensures room { self.new.room ≡ self.old.room }
+    {
         if !self.there {
             return Ok(None);
         }
@@ -85,7 +91,13 @@ impl Keeper for SureKeeper {
         }
     }
 
-    fn store(&mut self, bytes: &[u8]) -> Result<(), KeeperFailed> {
+    fn store(&mut self, bytes: &[u8]) -> Result<(), KeeperFailed>
+        ensures kept { Stores self.old.kept self.new.kept bytes.now result }
+        ensures cause { KeeperCause 0 0 result }
+        ensures room { ¬ (result ≡ Err KeeperFailed.WantOfMemory) }
+        ensures told { IsSome self.old.kept → length bytes.now ≤ self.old.room → IsSome self.new.kept }
+        ensures room_stays { self.old.room ≤ self.new.room }
+    {
         if bytes.len() <= self.store.capacity() {
             fill(&mut self.store, bytes);
             self.there = true;
