@@ -1,7 +1,7 @@
 //! A device's image.
 ghost use Rattle.std.specs.Prelude.{◌≡◌, length};
 
-use build_base::{Same, Text, WantOfMemory};
+use build_base::{Pieces, Same, Text, WantOfMemory};
 use std::alloc::Global;
 use std::marker::Model;
 
@@ -38,6 +38,13 @@ impl Device {
         ensures { result ≡ self }
     {
         self.bytes
+    }
+
+    /// Its bytes, piece by piece.
+    pub fn pieces(&self) -> Pieces<'_>
+        ensures { result ≡ self.now }
+    {
+        Pieces::of(self.bytes.bytes())
     }
 }
 

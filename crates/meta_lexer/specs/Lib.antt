@@ -5,3 +5,4 @@ pub mod Fields
 pub mod Heads
 pub mod Words
 pub mod Tokens
+pub mod GuidBraces

@@ -2,6 +2,7 @@
 #![tactic(auto)]
 
 pub mod field;
+pub mod guid_braces;
 pub mod head;
 pub mod line;
 pub mod numbers;
@@ -10,6 +11,7 @@ pub mod token;
 pub mod words;
 
 pub use field::{Span, fields};
+pub use guid_braces::guid_of_braces;
 pub use head::{Head, section_head};
 pub use line::{Line, lines};
 pub use numbers::number;

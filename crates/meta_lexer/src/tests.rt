@@ -1,6 +1,9 @@
 //! Worked rows.
 
-use crate::{LexRefusal, TokenKind, fields, lines, number, quoted, section_head, tokens};
+use crate::{
+    LexRefusal, TokenKind, fields, guid_of_braces, lines, number, quoted, section_head, tokens,
+};
+use build_base::Guid;
 
 #[test]
 fn rows(rt: HostRuntime) {
@@ -66,4 +69,23 @@ fn reads_tokens(rt: HostRuntime) {
         _ => assert!(rt; false),
     }
     assert!(rt; section_head(alloc, b"[A").is_err());
+}
+
+#[test]
+fn guids_in_braces(rt: HostRuntime) {
+    let guid = guid_of_braces(
+        b" { 0x8BE4DF61, 0x93CA,0x11D2 , { 0xAA, 13, 0x00, 0xE0, 0x98, 0x03, 0x2B, 0x8C }} ",
+    );
+    assert!(rt; guid == Guid::of_text(b"8BE4DF61-93CA-11D2-AA0D-00E098032B8C"));
+    assert!(rt; guid.is_some());
+    let others: [&[u8]; 5] = [
+        b"{ 0x100000000, 0, 0, { 0, 0, 0, 0, 0, 0, 0, 0 } }",
+        b"{ 0, 0x10000, 0, { 0, 0, 0, 0, 0, 0, 0, 0 } }",
+        b"{ 0, 0, 0, { 0, 0, 0, 0, 0, 0, 0 } }",
+        b"{ 0, 0, 0, { 0, 0, 0, 0, 0, 0, 0, 0, 0 } }",
+        b"{ 0, 0, 0, { 0, 0, 0, 0, 0, 0, 0, 256 } }",
+    ];
+    for text in others {
+        assert!(rt; guid_of_braces(text).is_none());
+    }
 }
