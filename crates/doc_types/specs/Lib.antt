@@ -1,1 +1,2 @@
+pub mod Arches
 pub mod Volumes
