@@ -1,1 +1,3 @@
+pub mod NameLemmas
+pub mod FirstFaults
 pub mod More

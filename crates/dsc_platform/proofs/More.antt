@@ -1,37 +1,43 @@
 -- One line more.
-use Rattle.std.proofs.Common.{◌≡◌, List, [], ◌∷◌, ◌++◌, ℕ, Option, Some, codes, fold, refl, sym, ap, ◌∙◌}
+use Rattle.std.proofs.Common.{◌≡◌, List, [], ◌∷◌, ◌++◌, Option, sym, ap, ◌∙◌}
 use Rattle.std.proofs.lemmas.List.Sums.{fold_push}
+use Rattle.build_base.specs.declared.fault.Place.{Place}
 use Rattle.build_base.specs.declared.lines.Taken.{Taken}
-use Rattle.macro_conditions.proofs.Turns.{each_push}
+use Rattle.macro_conditions.specs.Reading.{each, last_or, last_of}
+use Rattle.macro_conditions.proofs.Turns.{last_push}
+use Rattle.dsc_platform.specs.declared.line.PlatformLine.{PlatformLine}
+use Rattle.dsc_platform.specs.declared.line.Section.{Section}
+use Rattle.dsc_platform.specs.declared.line.Section.TheVariants.{Nowhere}
 use Rattle.dsc_platform.specs.declared.reading.PlatformReader.{PlatformReader}
-use Rattle.dsc_platform.specs.declared.reading.Section.TheVariants.{Nowhere}
 use Rattle.dsc_platform.specs.Lines.{platform_line}
-use Rattle.std.specs.Option.{option_and_then}
-use Rattle.build_base.specs.Guid.{guid_of}
-use Rattle.build_base.specs.Path.{path_field}
-use Rattle.build_base.specs.declared.guid.Guid.{Guid}
-use Rattle.dsc_platform.specs.declared.line.Pair.{Pair}
-use Rattle.dsc_platform.specs.Keys.{value_of, name_field}
-use Rattle.dsc_platform.specs.Platform.{enter, enter_line, pairs_at, pairs_of, output_field, with_fields, platform_of_keys}
+use Rattle.dsc_platform.specs.Platform.{enter, enter_line, section_below, last_given, name_at, guid_at, arches_at, output_at, sku_at, flash_at}
 use Rattle.dsc_platform.specs.Reading.{Holds}
 
-pub holds_more : (above : List Taken) (line : Taken) (old new : PlatformReader) → Holds above old
-    → new.section ≡ enter old.section (platform_line line.text) → new.pairs ≡ old.pairs ++ pairs_at (platform_line line.text)
-    → Holds (above ++ line ∷ []) new
-holds_more above line old new h section pairs = record {
-  section = section ∙ ap (λ s. enter s (platform_line line.text)) h.section ∙ sym (fold_push enter_line Nowhere above line);
-  pairs =
-      pairs ∙ ap (λ ps. ps ++ pairs_at (platform_line line.text)) h.pairs
-      ∙ sym (each_push enter_line (λ s l. pairs_at (platform_line l.text)) Nowhere above line);
-}
+-- the last of what the lines give
+last_more : {R : Type 0} (gives : Place → PlatformLine → List R) (above : List Taken) (line : Taken) (section : Section) (old new : Option R)
+    → section ≡ section_below above → old ≡ last_given gives above → new ≡ last_or old (gives line.at (platform_line section line.text)) → new ≡ last_given gives (above ++ line ∷ [])
+last_more gives above line section old new s o n =
+    n ∙ ap (λ r. last_or r (gives line.at (platform_line section line.text))) o
+    ∙ ap (λ k. last_or (last_given gives above) (gives line.at (platform_line k line.text))) s
+    ∙ sym (last_push enter_line (λ k l. gives l.at (platform_line k l.text)) Nowhere above line)
 
--- the document, where all that must be stated is
-pub all_stated : (root : List ℕ) (pairs : List Pair) (name : List ℕ) (guid : Guid) (arches output flash : List ℕ)
-    → option_and_then name_field (value_of (codes "PLATFORM_NAME") pairs) ≡ Some name
-    → option_and_then guid_of (value_of (codes "PLATFORM_GUID") pairs) ≡ Some guid
-    → value_of (codes "SUPPORTED_ARCHITECTURES") pairs ≡ Some arches
-    → output_field name (value_of (codes "OUTPUT_DIRECTORY") pairs) ≡ Some output
-    → option_and_then path_field (value_of (codes "FLASH_DEFINITION") pairs) ≡ Some flash
-    → Some (with_fields root name guid output flash) ≡ platform_of_keys root pairs
-unfolding platform_of_keys
-all_stated root pairs name guid arches output flash n g a o f = rw (n, g, a, o, f) refl
+-- what a line of this form does to a reader
+pub record Takes (line : Taken) (form : PlatformLine) (old new : PlatformReader) : Type 0 where
+  pub section : new.section ≡ enter old.section form
+  pub name : new.stated.name ≡ last_or old.stated.name (name_at line.at form)
+  pub guid : new.stated.guid ≡ last_or old.stated.guid (guid_at line.at form)
+  pub arches : new.stated.arches ≡ last_or old.stated.arches (arches_at line.at form)
+  pub output : new.stated.output ≡ last_or old.stated.output (output_at line.at form)
+  pub sku : new.stated.sku_choice ≡ last_or old.stated.sku_choice (sku_at line.at form)
+  pub flash : new.stated.flash ≡ last_or old.stated.flash (flash_at line.at form)
+
+pub holds_more : (above : List Taken) (line : Taken) (old new : PlatformReader) → Holds above old → Takes line (platform_line old.section line.text) old new → Holds (above ++ line ∷ []) new
+holds_more above line old new h t = record {
+  section = t.section ∙ ap (λ s. enter_line s line) h.section ∙ sym (fold_push enter_line Nowhere above line);
+  name = last_more name_at above line old.section old.stated.name new.stated.name h.section h.name t.name;
+  guid = last_more guid_at above line old.section old.stated.guid new.stated.guid h.section h.guid t.guid;
+  arches = last_more arches_at above line old.section old.stated.arches new.stated.arches h.section h.arches t.arches;
+  output = last_more output_at above line old.section old.stated.output new.stated.output h.section h.output t.output;
+  sku = last_more sku_at above line old.section old.stated.sku_choice new.stated.sku_choice h.section h.sku t.sku;
+  flash = last_more flash_at above line old.section old.stated.flash new.stated.flash h.section h.flash t.flash;
+}

@@ -1,18 +1,24 @@
--- The keys of a section.
-use Rattle.std.specs.Prelude.{ℕ, ◌&&◌, not, nat_le, ◌==◌, if◌then◌else◌, List, [], ◌∷◌, length, Option, Some, None}
-use Rattle.std.specs.List.{list_any}
-use Rattle.build_base.specs.Path.{is_path}
+-- The keys of [Defines].
+use Rattle.std.specs.Prelude.{ℕ, List, Option, Some, None, codes, if◌then◌else◌}
+use Rattle.build_base.specs.First.{or_else}
 use Rattle.meta_lexer.specs.Words.{same_word}
-use Rattle.dsc_platform.specs.declared.line.Pair.{Pair}
+use Rattle.dsc_platform.specs.declared.key.PlatformKey.{PlatformKey}
+use Rattle.dsc_platform.specs.declared.key.PlatformKey.TheVariants.{Name, Guid, Arches, Output, SkuChoice, Flash}
 
--- the value of the last line of a key, or the one given
-unfoldable pub value_or : Option (List ℕ) → List ℕ → List Pair → Option (List ℕ)
-value_or o key [] = o
-value_or o key (pair ∷ pairs) = value_or (if same_word pair.key key then Some pair.value else o) key pairs
+-- without these there is no document
+unfoldable pub required_key : List ℕ → Option PlatformKey
+required_key word =
+    if same_word word (codes "PLATFORM_NAME") then Some Name
+    else if same_word word (codes "PLATFORM_GUID") then Some Guid
+    else if same_word word (codes "SUPPORTED_ARCHITECTURES") then Some Arches
+    else None
 
-abbrev pub value_of : List ℕ → List Pair → Option (List ℕ)
-value_of key pairs = value_or None key pairs
+unfoldable pub optional_key : List ℕ → Option PlatformKey
+optional_key word =
+    if same_word word (codes "OUTPUT_DIRECTORY") then Some Output
+    else if same_word word (codes "SKUID_IDENTIFIER") then Some SkuChoice
+    else if same_word word (codes "FLASH_DEFINITION") then Some Flash
+    else None
 
--- one segment of a path, of at most 64 bytes
-abbrev pub name_field : List ℕ → Option (List ℕ)
-name_field text = if is_path text && not (list_any (λ b. b == 47) text) && nat_le (length text) 64 then Some text else None
+unfoldable pub key_named : List ℕ → Option PlatformKey
+key_named word = or_else (required_key word) (optional_key word)

@@ -1,4 +1,8 @@
-pub mod Lines
+pub mod Sections
 pub mod Keys
+pub mod Names
+pub mod Arches
+pub mod Values
+pub mod Lines
 pub mod Platform
 pub mod Reading

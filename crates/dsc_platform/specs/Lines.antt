@@ -1,43 +1,37 @@
 -- The forms of a line of a DSC file.
-use Rattle.std.specs.Prelude.{ℕ, Bool, true, false, ◌&&◌, ◌||◌, not, nat_lt, nat_le, ◌==◌, if◌then◌else◌, List, [], ◌∷◌, length, Option, Some, None, Result, Ok, Err, codes}
-use Rattle.std.specs.List.{list_all}
+use Rattle.std.specs.Prelude.{ℕ, ◌==◌, if◌then◌else◌, List, length, Option, Some, None, Result, Ok, Err}
 use Rattle.meta_lexer.specs.Faults.{Spot}
 use Rattle.meta_lexer.specs.Heads.{begins_section, section_of}
-use Rattle.meta_lexer.specs.Words.{same_word, halves}
+use Rattle.meta_lexer.specs.Words.{halves}
 use Rattle.meta_lexer.specs.declared.head.Head.{Head}
-use Rattle.macro_conditions.specs.Readable.{is_readable}
+use Rattle.dsc_platform.specs.declared.key.PlatformKey.{PlatformKey}
 use Rattle.dsc_platform.specs.declared.line.PlatformLine.{PlatformLine}
-use Rattle.dsc_platform.specs.declared.line.PlatformLine.TheVariants.{Blank, Defines, Keyed, Unread}
+use Rattle.dsc_platform.specs.declared.line.PlatformLine.TheVariants.{Blank, Heads, BadHead, Stray, Keyed, Passed}
+use Rattle.dsc_platform.specs.declared.line.Section.{Section}
+use Rattle.dsc_platform.specs.declared.line.Section.TheVariants.{Nowhere, Defines}
+use Rattle.dsc_platform.specs.Keys.{key_named}
 
--- letters, digits and `_`
-abbrev pub is_word_byte : ℕ → Bool
-is_word_byte b = (nat_le 97 b && nat_le b 122) || (nat_le 65 b && nat_le b 90) || (nat_le 48 b && nat_le b 57) || (b == 95)
+abbrev pub head_line : Result (Option (List Head)) Spot → PlatformLine
+head_line (Ok (Some heads)) = Heads heads
+head_line (Ok None) = BadHead
+head_line (Err spot) = BadHead
 
-unfoldable pub is_key : List ℕ → Bool
-is_key text = nat_lt 0 (length text) && list_all is_word_byte text
+-- a line of another key is read past
+abbrev pub key_line : Option PlatformKey → List ℕ → PlatformLine
+key_line (Some key) value = Keyed key value
+key_line None value = Passed
 
-abbrev pub names_defines : List (List ℕ) → Bool
-names_defines (name ∷ []) = same_word name (codes "Defines")
-names_defines _ = false
-
--- one head, of the section [Defines]
-abbrev pub is_defines : List Head → Bool
-is_defines (head ∷ []) = names_defines head.parts
-is_defines _ = false
-
-abbrev pub section_line : Result (Option (List Head)) Spot → PlatformLine
-section_line (Ok (Some heads)) = if is_defines heads then Defines else Unread
-section_line (Ok None) = Unread
-section_line (Err spot) = Unread
-
--- `KEY = VALUE`
+-- `KEY = VALUE`; a line without `=` is read past
 abbrev pub pair_line : Option (List ℕ × List ℕ) → PlatformLine
-pair_line None = Unread
-pair_line (Some p) = if is_key p.0 then Keyed (record { key = p.0; value = p.1 }) else Unread
+pair_line (Some p) = key_line (key_named p.0) p.1
+pair_line None = Passed
 
-unfoldable pub platform_line : List ℕ → PlatformLine
-platform_line text =
-    if not (is_readable text) then Unread
-    else if length text == 0 then Blank
-    else if begins_section text then section_line (section_of text)
-    else pair_line (halves 61 text)
+abbrev pub body_line : Section → List ℕ → PlatformLine
+body_line Nowhere text = Stray
+body_line Defines text = pair_line (halves 61 text)
+
+unfoldable pub platform_line : Section → List ℕ → PlatformLine
+platform_line section text =
+    if length text == 0 then Blank
+    else if begins_section text then head_line (section_of text)
+    else body_line section text

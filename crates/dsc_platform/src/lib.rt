@@ -1,8 +1,13 @@
 //! A platform's description, read from its lines (EDK II DSC specification).
 #![tactic(auto)]
 
-pub mod keys;
+pub mod arches;
+pub mod key;
 pub mod line;
+pub mod name;
 pub mod reading;
+pub mod section;
+pub mod stated;
+pub mod values;
 
 pub use reading::read_platform;

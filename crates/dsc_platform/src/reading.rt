@@ -1,61 +1,56 @@
 //! Reading a platform's lines.
-ghost use Rattle.std.specs.Prelude.{◌≡◌, ◌++◌, ◌∷◌, OnOk, IfOk, codes, Some};
-ghost use Rattle.build_base.specs.Answer.{Answers, Checks};
-ghost use Rattle.dsc_platform.specs.Lines.{platform_line};
-ghost use Rattle.dsc_platform.specs.Platform.{enter, may_stand, pairs_at, fault_in, output_field, with_fields, platform_of_keys, platform_of};
-ghost use Rattle.dsc_platform.specs.Keys.{value_of, name_field};
-ghost use Rattle.std.specs.Option.{option_map, option_and_then};
-ghost use Rattle.build_base.specs.Guid.{guid_of};
-ghost use Rattle.build_base.specs.Path.{path_field};
+ghost use Rattle.std.specs.Prelude.{◌≡◌, ◌++◌, OnOk, IfOk, Some, codes, unwrap_or};
+ghost use Rattle.build_base.specs.Answer.{Answers, Checks, Finds};
+ghost use Rattle.macro_conditions.specs.Reading.{last_or};
+ghost use Rattle.dsc_platform.specs.Platform.{enter, form_fault, name_at, guid_at, arches_at, output_at, sku_at, flash_at, missing_key, with_required, document_of, platform_of};
 
-use crate::keys::{name_field, value_of};
-use crate::line::{Pair, PlatformLine, platform_line};
-use build_base::path::path_field;
+use crate::line::{PlatformLine, Section, platform_line};
+use crate::name::PlatformName;
+use crate::section::check_heads;
+use crate::stated::Stated;
 use build_base::{
-    Guid, Lines, Path, Permit, Place, Refusal, Rows, Same, Taken, Text, WantOfMemory,
+    Guid, Lines, Path, Permit, Place, Refusal, Rows, Same, Taken, Text, WantOfMemory, refuse,
 };
+use doc_types::arch::Arch;
 use doc_types::platform::PlatformDoc;
-use macro_conditions::readable::{refuse_document, refuse_line};
+use macro_conditions::value_fields::open_quote;
 use macro_conditions::{Reader, read_lines};
 use std::alloc::Global;
 
-/// The section in which a line stands.
-#[derive(Clone, Copy, Debug, PartialEq, Eq)]
-pub enum Section {
-    Nowhere,
-    Defines,
-}
-
+/// What a reader of a platform holds: the section in which the next line stands, and what the keys state.
 #[derive(Drop)]
-struct PlatformReader {
-    alloc: Global,
-    section: Section,
-    pairs: Rows<Pair>,
-}
-
-fn may_stand(section: Section, line: &PlatformLine) -> bool
-    ensures { result ≡ may_stand section line.now }
-{
-    match line {
-        PlatformLine::Blank | PlatformLine::Defines => true,
-        PlatformLine::Keyed(_) => section == Section::Defines,
-        PlatformLine::Unread => false,
-    }
+pub struct PlatformReader {
+    pub alloc: Global,
+    pub section: Section,
+    pub stated: Stated,
 }
 
 impl PlatformReader {
     // Takes what the line gives.
-    fn take(&mut self, line: PlatformLine) -> Result<(), WantOfMemory>
-        ensures section { OnOk result (self.new.section ≡ enter self.old.section line) }
-        ensures pairs { OnOk result (self.new.pairs ≡ self.old.pairs ++ pairs_at line) }
+    fn take(&mut self, line: &Taken, form: PlatformLine) -> Result<(), Refusal>
+        ensures fault { Checks result (form_fault line.now form) }
+        ensures section { OnOk result (self.new.section ≡ enter self.old.section form) }
+        ensures name { OnOk result (self.new.stated.name ≡ last_or self.old.stated.name (name_at line.now.at form)) }
+        ensures guid { OnOk result (self.new.stated.guid ≡ last_or self.old.stated.guid (guid_at line.now.at form)) }
+        ensures arches { OnOk result (self.new.stated.arches ≡ last_or self.old.stated.arches (arches_at line.now.at form)) }
+        ensures output { OnOk result (self.new.stated.output ≡ last_or self.old.stated.output (output_at line.now.at form)) }
+        ensures sku { OnOk result (self.new.stated.sku_choice ≡ last_or self.old.stated.sku_choice (sku_at line.now.at form)) }
+        ensures flash { OnOk result (self.new.stated.flash ≡ last_or self.old.stated.flash (flash_at line.now.at form)) }
     {
-        match line {
-            PlatformLine::Defines => {
+        match form {
+            PlatformLine::Blank | PlatformLine::Passed => Ok(()),
+            PlatformLine::Heads(heads) => {
                 self.section = Section::Defines;
-                Ok(())
+                check_heads(self.alloc, line, heads.items())
             }
-            PlatformLine::Keyed(pair) => self.pairs.push(pair),
-            PlatformLine::Blank | PlatformLine::Unread => Ok(()),
+            PlatformLine::BadHead => Err(refuse(self.alloc, 114, &line.at, line.text.bytes())),
+            PlatformLine::Stray => Err(refuse(self.alloc, 226, &line.at, line.text.bytes())),
+            PlatformLine::Keyed(key, value) => {
+                if let Err(refusal) = open_quote(self.alloc, &line.at, line.text.bytes()) {
+                    return Err(refusal);
+                }
+                self.stated.take(self.alloc, &line.at, key, value.bytes())
+            }
         }
     }
 }
@@ -69,114 +64,94 @@ impl Reader for PlatformReader {
     ghost fault = { line_fault };
 
     fn line(&mut self, line: &Taken, _last: bool) -> Result<(), Refusal> {
-        let form = platform_line(self.alloc, line.text.bytes())?;
-        if !may_stand(self.section, &form) {
-            return Err(refuse_line(self.alloc, line));
-        }
-        self.take(form)?;
+        let form = platform_line(self.alloc, self.section, line.text.bytes())?;
+        self.take(line, form)?;
         Ok(())
     }
 }
 
-fn default_output(alloc: Global, name: &[u8]) -> Result<Option<Path>, WantOfMemory>
-    ensures { IfOk result (λ p. p ≡ path_field (codes "Build/" ++ name.now)) }
+fn refuse_missing(alloc: Global, root: &Path, key: &[u8]) -> Refusal
+    ensures { Finds result (Some (missing_key root.now key.now)) }
 {
-    let mut text = Vec::from_slice(alloc, b"Build/")?;
-    text.extend_from_slice(name)?;
-    path_field(alloc, text.as_slice())
-}
-
-fn output_of(alloc: Global, name: &[u8], pairs: &[Pair]) -> Result<Option<Path>, WantOfMemory>
-    ensures { IfOk result (λ p. p ≡ output_field name.now (value_of (codes "OUTPUT_DIRECTORY") pairs.now)) }
-{
-    match value_of(b"OUTPUT_DIRECTORY".as_slice(), pairs) {
-        Some(text) => path_field(alloc, text),
-        None => default_output(alloc, name),
+    match root.copy(alloc) {
+        Ok(path) => refuse(alloc, 221, &Place { path, line: 0 }, key),
+        Err(_) => Refusal::WantOfMemory,
     }
 }
 
-// A key's value that must be a name, and one that must be a GUID.
-fn name_of(pairs: &[Pair]) -> Option<&[u8]>
-    ensures { option_map (λ t. t.now) result ≡ option_and_then name_field (value_of (codes "PLATFORM_NAME") pairs.now) }
+fn output_of(alloc: Global, stated: Option<Path>, name: &PlatformName) -> Result<Path, WantOfMemory>
+    ensures { IfOk result (λ p. p ≡ unwrap_or stated (codes "Build/" ++ name.now)) }
 {
-    match value_of(b"PLATFORM_NAME".as_slice(), pairs) {
-        Some(text) => name_field(text),
-        None => None,
+    match stated {
+        Some(path) => Ok(path),
+        None => name.folder(alloc),
     }
 }
 
-fn guid_of(pairs: &[Pair]) -> Option<Guid>
-    ensures { result ≡ option_and_then guid_of (value_of (codes "PLATFORM_GUID") pairs.now) }
+fn sku_choice_of(alloc: Global, stated: Option<Text>) -> Result<Text, WantOfMemory>
+    ensures { IfOk result (λ t. t ≡ unwrap_or stated (codes "DEFAULT")) }
 {
-    match value_of(b"PLATFORM_GUID".as_slice(), pairs) {
-        Some(text) => Guid::of_text(text),
-        None => None,
+    match stated {
+        Some(text) => Ok(text),
+        None => Text::of(alloc, b"DEFAULT".as_slice()),
     }
 }
 
 fn make_document(
     alloc: Global,
-    root: &Path,
-    name: &[u8],
+    lines: &Lines,
+    name: PlatformName,
     guid: Guid,
-    output: Path,
-    flash: Path,
+    arches: Rows<Arch>,
+    output: Option<Path>,
+    sku_choice: Option<Text>,
+    flash: Option<Path>,
 ) -> Result<PlatformDoc, WantOfMemory>
-    ensures { IfOk result (λ d. d ≡ with_fields root.now name.now guid output flash) }
+    ensures { IfOk result (λ d. d ≡ with_required lines.now name guid arches output sku_choice flash) }
 {
     Ok(PlatformDoc {
         at: Place {
-            path: root.copy(alloc)?,
+            path: lines.root.copy(alloc)?,
             line: 0,
         },
-        name: Text::of(alloc, name)?,
+        output: output_of(alloc, output, &name)?,
+        name: name.into_text(),
         guid,
-        output,
-        flash: Some(flash),
+        arches,
+        sku_choice: sku_choice_of(alloc, sku_choice)?,
+        flash,
+        macros: lines.macros.copy(alloc)?,
     })
 }
 
-fn flash_of(alloc: Global, pairs: &[Pair]) -> Result<Option<Path>, WantOfMemory>
-    ensures { IfOk result (λ p. p ≡ option_and_then path_field (value_of (codes "FLASH_DEFINITION") pairs.now)) }
+// The document of these keys, where each required one is stated.
+#[tactic(auto, unfolding(crate::specs::Platform::document_of))]
+fn document(alloc: Global, lines: &Lines, stated: Stated) -> Result<PlatformDoc, Refusal>
+    ensures { Answers result (document_of lines.now stated) }
 {
-    match value_of(b"FLASH_DEFINITION".as_slice(), pairs) {
-        Some(text) => path_field(alloc, text),
-        None => Ok(None),
-    }
+    let Stated {
+        name,
+        guid,
+        arches,
+        output,
+        sku_choice,
+        flash,
+    } = stated;
+    let Some(name) = name else {
+        return Err(refuse_missing(alloc, &lines.root, b"PLATFORM_NAME".as_slice()));
+    };
+    let Some(guid) = guid else {
+        return Err(refuse_missing(alloc, &lines.root, b"PLATFORM_GUID".as_slice()));
+    };
+    let Some(arches) = arches else {
+        return Err(refuse_missing(alloc, &lines.root, b"SUPPORTED_ARCHITECTURES".as_slice()));
+    };
+    let document = make_document(alloc, lines, name, guid, arches, output, sku_choice, flash)?;
+    Ok(document)
 }
 
-fn arches_of(pairs: &[Pair]) -> Option<&[u8]>
-    ensures { option_map (λ t. t.now) result ≡ value_of (codes "SUPPORTED_ARCHITECTURES") pairs.now }
-{
-    value_of(b"SUPPORTED_ARCHITECTURES".as_slice(), pairs)
-}
-
-// The document of these keys, where all that must be stated is.
-#[tactic(auto, unfolding(crate::specs::Platform::platform_of_keys))]
-fn document(alloc: Global, root: &Path, pairs: &[Pair]) -> Result<Option<PlatformDoc>, WantOfMemory>
-    ensures { IfOk result (λ d. d ≡ platform_of_keys root.now pairs.now) }
-{
-    let Some(name) = name_of(pairs) else {
-        return Ok(None);
-    };
-    let Some(guid) = guid_of(pairs) else {
-        return Ok(None);
-    };
-    let Some(_arches) = arches_of(pairs) else {
-        return Ok(None);
-    };
-    let Some(output) = output_of(alloc, name, pairs)? else {
-        return Ok(None);
-    };
-    let Some(flash) = flash_of(alloc, pairs)? else {
-        return Ok(None);
-    };
-    let document = make_document(alloc, root, name, guid, output, flash)?;
-    Ok(Some(document))
-}
-
-/// The platform that these lines describe, or the first fault: of the first line that isn't of a form
-/// that is read, else of the document, at its root's line 0, where a required key isn't stated.
+/// The platform that these lines describe, or the first fault: of the first line that has one, else of the
+/// document, at its root's line 0, where a required key isn't stated.
 #[tactic(auto, unfolding(crate::specs::Platform::platform_of))]
 pub fn read_platform(alloc: Global, permit: Permit, lines: &Lines) -> Result<PlatformDoc, Refusal>
     ensures { Answers result (platform_of lines.now) }
@@ -185,13 +160,10 @@ pub fn read_platform(alloc: Global, permit: Permit, lines: &Lines) -> Result<Pla
     let mut reader = PlatformReader {
         alloc,
         section: Section::Nowhere,
-        pairs: Rows::new(alloc),
+        stated: Stated::new(),
     };
     if let Err(refusal) = read_lines(&mut reader, lines.rows.items()) {
         return Err(refusal);
     }
-    match document(alloc, &lines.root, reader.pairs.items())? {
-        Some(document) => Ok(document),
-        None => Err(refuse_document(alloc, &lines.root)),
-    }
+    document(alloc, lines, reader.stated)
 }
