@@ -32,9 +32,7 @@ fn check_macros(alloc: Global, at: &Place, words: &[Text]) -> Result<(), Refusal
     ensures { Checks result (first_fault (undefined_macro at.now) words.now) }
 {
     for word in words {
-        if let Err(refusal) = undefined_macro(alloc, at, word.bytes()) {
-            return Err(refusal);
-        }
+        undefined_macro(alloc, at, word.bytes())?;
     }
     Ok(())
 }
@@ -63,10 +61,7 @@ fn arches_of(alloc: Global, at: &Place, words: &[Text]) -> Result<Rows<Arch>, Re
 {
     let mut arches = Rows::new(alloc);
     for word in words {
-        match arch_value(alloc, at, word.bytes()) {
-            Ok(arch) => arches.push(arch)?,
-            Err(refusal) => return Err(refusal),
-        }
+        arches.push(arch_value(alloc, at, word.bytes())?)?;
     }
     Ok(arches)
 }
@@ -77,8 +72,6 @@ pub fn arches_value(alloc: Global, at: &Place, text: &[u8]) -> Result<Rows<Arch>
     ensures { Answers result (arches_value at.now text.now) }
 {
     let words = arch_words(alloc, text)?;
-    if let Err(refusal) = check_macros(alloc, at, words.items()) {
-        return Err(refusal);
-    }
+    check_macros(alloc, at, words.items())?;
     arches_of(alloc, at, words.items())
 }

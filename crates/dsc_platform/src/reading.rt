@@ -46,9 +46,7 @@ impl PlatformReader {
             PlatformLine::BadHead => Err(refuse(self.alloc, 114, &line.at, line.text.bytes())),
             PlatformLine::Stray => Err(refuse(self.alloc, 226, &line.at, line.text.bytes())),
             PlatformLine::Keyed(key, value) => {
-                if let Err(refusal) = open_quote(self.alloc, &line.at, line.text.bytes()) {
-                    return Err(refusal);
-                }
+                open_quote(self.alloc, &line.at, line.text.bytes())?;
                 self.stated.take(self.alloc, &line.at, key, value.bytes())
             }
         }
@@ -162,8 +160,6 @@ pub fn read_platform(alloc: Global, permit: Permit, lines: &Lines) -> Result<Pla
         section: Section::Nowhere,
         stated: Stated::new(),
     };
-    if let Err(refusal) = read_lines(&mut reader, lines.rows.items()) {
-        return Err(refusal);
-    }
+    read_lines(&mut reader, lines.rows.items())?;
     document(alloc, lines, reader.stated)
 }

@@ -227,9 +227,7 @@ fn check_names(alloc: Global, at: &Place, heads: &[Head]) -> Result<(), Refusal>
     ensures { Checks result (first_fault (unknown_head at.now) heads.now) }
 {
     for head in heads {
-        if let Err(refusal) = check_head(alloc, at, head) {
-            return Err(refusal);
-        }
+        check_head(alloc, at, head)?;
     }
     Ok(())
 }

@@ -12,9 +12,7 @@ use std::alloc::Global;
 pub fn guid_value(alloc: Global, at: &Place, text: &[u8]) -> Result<Guid, Refusal>
     ensures { Answers result (guid_value at.now text.now) }
 {
-    if let Err(refusal) = undefined_macro(alloc, at, text) {
-        return Err(refusal);
-    }
+    undefined_macro(alloc, at, text)?;
     match Guid::of_text(text) {
         Some(guid) => Ok(guid),
         None => Err(refuse(alloc, 222, at, text)),
@@ -26,8 +24,6 @@ pub fn guid_value(alloc: Global, at: &Place, text: &[u8]) -> Result<Guid, Refusa
 pub fn text_value(alloc: Global, at: &Place, text: &[u8]) -> Result<Text, Refusal>
     ensures { Answers result (text_value at.now text.now) }
 {
-    if let Err(refusal) = undefined_macro(alloc, at, text) {
-        return Err(refusal);
-    }
+    undefined_macro(alloc, at, text)?;
     Ok(Text::of(alloc, text)?)
 }
