@@ -11,3 +11,6 @@ pub mod stated;
 pub mod values;
 
 pub use reading::read_platform;
+
+#[cfg(test)]
+mod tests;
