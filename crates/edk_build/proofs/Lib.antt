@@ -1,4 +1,3 @@
-pub mod FileLineLemmas
 pub mod AllOkLemmas
 pub mod ToldLemmas
 pub mod VolumeLemmas
@@ -8,4 +7,6 @@ pub mod AmongLemmas
 pub mod UnitLemmas
 pub mod OutputLemmas
 pub mod ValueLemmas
+pub mod DocumentLemmas
+pub mod WordLemmas
 pub mod CompleteLemmas

@@ -1,9 +1,10 @@
 pub mod Stops
-pub mod FileLines
 pub mod FilePair
 pub mod FileValues
+pub mod Defines
 pub mod Words
 pub mod Values
 pub mod Outcome
 pub mod Statuses
 pub mod Outputs
+pub mod Learning

@@ -1,12 +1,11 @@
 -- The value of each step, as a function of the world.
-use Rattle.std.specs.Prelude.{ℕ, ◌==◌, List, [], ◌∷◌, ◌++◌, length, map, Option, Some, None, Result, Ok, Err, codes, slice_get, if◌then◌else◌}
+use Rattle.std.specs.Prelude.{ℕ, List, [], ◌∷◌, ◌++◌, length, map, Option, Some, None, Result, Ok, Err, codes, slice_get}
 use Rattle.std.specs.List.{range_with_len}
 use Rattle.std.specs.Char.{to_ascii_uppercase}
 use Rattle.build_base.specs.declared.fault.Fault.{Fault}
 use Rattle.build_base.specs.declared.fault.Place.{Place}
 use Rattle.build_base.specs.declared.lines.Lines.{Lines}
-use Rattle.build_base.specs.declared.outside.Got.{Got}
-use Rattle.build_base.specs.declared.outside.Got.TheVariants.{File, Absent, TooLong}
+use Rattle.build_base.specs.declared.lines.Macro.{Macro}
 use Rattle.build_base.specs.FaultText.{fault_of}
 use Rattle.build_base.specs.First.{and_then, all_ok}
 use Rattle.build_base.specs.Outside.{Files}
@@ -21,34 +20,52 @@ use Rattle.edk_build.specs.FileValues.{whole_file, volume_planned}
 use Rattle.dsc_platform.specs.Platform.{platform_of}
 use Rattle.fdf_layout.specs.Flash.{flash_of}
 use Rattle.fd_regions.specs.Device.{device_of}
-use Rattle.edk_build.specs.FileLines.{lines_of_file}
+use Rattle.macro_conditions.specs.Expansion.{Stop, bad, need, expansion}
+use Rattle.macro_conditions.specs.Worlds.{told}
+use Rattle.edk_build.specs.Defines.{target, tag, fixed_macros}
 use Rattle.edk_build.specs.FilePair.{FilePair}
+use Rattle.edk_build.specs.declared.job.Job.{Job}
 
 -- the ten fields of a job: the platform's file, architectures, target, tag, SKU, macros, PCDs, the FDF file,
 -- the images wanted, and the report's file
-abbrev pub job_fields : List ℕ → List (List ℕ)
-job_fields path = path ∷ [] ∷ [] ∷ [] ∷ [] ∷ [] ∷ [] ∷ [] ∷ [] ∷ [] ∷ []
+abbrev pub job_fields : Job → List (List ℕ)
+job_fields job = job.path ∷ [] ∷ [] ∷ [] ∷ [] ∷ job.defines ∷ [] ∷ [] ∷ [] ∷ [] ∷ []
 
-abbrev pub world_of : Files → List ℕ → World
-world_of files path = record { files = files; fields = job_fields path }
+abbrev pub world_of : Files → Job → World
+world_of files job = record { files = files; fields = job_fields job }
 
--- the lines of a file that must be there
-abbrev pub lines_got : List ℕ → Got → Result Lines Fault
-lines_got path (File bytes) = Ok (lines_of_file path bytes)
-lines_got path Absent = Err (fault_of 103 (whole_file path) path)
-lines_got path TooLong = Err (fault_of 102 (whole_file path) path)
+-- A world tells what is got of every path, so that none is wanted; one that were would count as absent.
+abbrev pub in_world : Result Lines Stop → Result Lines Fault
+in_world (Ok lines) = Ok lines
+in_world (Err (bad fault)) = Err fault
+in_world (Err (need path)) = Err (fault_of 103 (whole_file path) path)
+
+-- the lines that a document comes to which starts with these macros
+unfoldable pub lines_of : World → List ℕ → List Macro → Result Lines Fault
+lines_of w root macros = in_world (expansion (told (got w)) root macros (fixed_macros w))
+
+unfoldable pub platform_lines : World → Result Lines Fault
+platform_lines w = lines_of w (field w 0) []
 
 -- the platform's description
 unfoldable pub platform_value : World → Result PlatformDoc Fault
-platform_value w = and_then (lines_got (field w 0) (got w (field w 0))) platform_of
+platform_value w = and_then (platform_lines w) platform_of
 
--- the flash description that a platform names, or an empty one
-unfoldable pub flash_named : World → PlatformDoc → Option (List ℕ) → Result FlashDoc Fault
-flash_named w platform (Some path) = and_then (lines_got path (got w path)) flash_of
-flash_named w platform None = Ok (record { at = platform.at; devices = []; volumes = [] })
+-- the macros at the end of a document
+abbrev pub macros_left : Result Lines Fault → List Macro
+macros_left (Ok lines) = lines.macros
+macros_left (Err fault) = []
+
+-- the flash description that a platform names, which starts with these macros, or an empty one
+unfoldable pub flash_from : World → PlatformDoc → List Macro → Option (List ℕ) → Result FlashDoc Fault
+flash_from w platform macros (Some path) = and_then (lines_of w path macros) flash_of
+flash_from w platform macros None = Ok (record { at = platform.at; devices = []; volumes = [] })
+
+abbrev pub flash_named : World → PlatformDoc → Result FlashDoc Fault
+flash_named w platform = flash_from w platform (macros_left (platform_lines w)) platform.flash
 
 unfoldable pub flash_value : World → Result FlashDoc Fault
-flash_value w = and_then (platform_value w) (λ platform. flash_named w platform platform.flash)
+flash_value w = and_then (platform_value w) (flash_named w)
 
 -- the volume of a number, from 0
 abbrev pub volume_of_plan : World → FlashDoc → Option VolumePlan → Result (List ℕ) Fault
@@ -81,13 +98,10 @@ device_at w flash d = planned w flash (slice_get flash.devices d)
 unfoldable pub device_value : World → ℕ → Result (List ℕ) Fault
 device_value w d = and_then (flash_value w) (λ flash. device_at w flash d)
 
-abbrev pub or_default : List ℕ → List ℕ → List ℕ
-or_default text default = if length text == 0 then default else text
-
 -- the folder of outputs: OUTPUT_DIRECTORY/TARGET_TAG
 abbrev pub output_folder : World → PlatformDoc → List ℕ
 output_folder w platform =
-    platform.output ++ codes "/" ++ or_default (field w 2) (codes "DEBUG") ++ codes "_" ++ or_default (field w 3) (codes "GCC")
+    platform.output ++ codes "/" ++ target w ++ codes "_" ++ tag w
 
 -- the file of an image in the folder
 abbrev pub image_path : List ℕ → List ℕ → List ℕ → List ℕ

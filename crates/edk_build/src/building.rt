@@ -5,16 +5,17 @@ ghost use Rattle.build_base.specs.Spelling.{Spelled, SpelledCut};
 ghost use Rattle.edk_build.specs.Outcome.{outcome, outputs_of, IsMade, made_status, made_outputs, IsBuilt, IsComplete};
 ghost use Rattle.edk_build.specs.Statuses.{OnEnd, OnUnwritten, OnUsage, OnReadFault, OnWriteFault, OnBuild, IsUsageTold};
 ghost use Rattle.edk_build.specs.Values.{world_of};
-ghost use Rattle.edk_build.specs.Words.{words_path};
+ghost use Rattle.edk_build.specs.Words.{words_job};
 
+use crate::job::Job;
 use crate::key::Key;
 use crate::made::Made;
 use crate::status::Status;
 use crate::steps::all_files;
 use crate::stop::Stop;
-use crate::words::words_path;
+use crate::words::words_job;
 use build_base::fault::fault_text;
-use build_base::{Book, Gate, Keeper, Path, Sink, Target, Tree, TreeFailed};
+use build_base::{Book, Gate, Keeper, Sink, Target, Tree, TreeFailed};
 use std::alloc::Global;
 use std::thread::Threads;
 
@@ -23,13 +24,13 @@ fn make<T: Tree>(
     alloc: Global,
     tree: &mut T,
     book: &mut Book<Key>,
-    path: &Path,
+    job: &Job,
 ) -> Result<Made, TreeFailed>
-    ensures made { IfSome (T.held tree.old) (λ files. IfOk result (λ made. IsMade made (outcome (world_of files path.now)))) }
+    ensures made { IfSome (T.held tree.old) (λ files. IfOk result (λ made. IsMade made (outcome (world_of files job.now)))) }
     ensures cause { TreeCause (T.faults tree.old) (T.faults tree.new) result }
     ensures held { T.held tree.new ≡ T.held tree.old }
 {
-    match all_files(alloc, tree, book, path) {
+    match all_files(alloc, tree, book, job) {
         Ok(files) => Ok(Made::Files(files)),
         Err(Stop::Bad(fault)) => match fault_text(alloc, &fault) {
             Ok(message) => Ok(Made::Faulty(message)),
@@ -60,20 +61,20 @@ fn build<T: Tree, S: Sink>(
     tree: &mut T,
     sink: &mut S,
     book: &mut Book<Key>,
-    path: &Path,
+    job: &Job,
 ) -> Status
-    ensures built { OnEnd result (IfSome (T.held tree.old) (λ files. IsBuilt (world_of files path.now) result (S.written sink.old) (S.written sink.new))) }
+    ensures built { OnEnd result (IfSome (T.held tree.old) (λ files. IsBuilt (world_of files job.now) result (S.written sink.old) (S.written sink.new))) }
     ensures tree_count { OnEnd result (T.faults tree.new ≡ T.faults tree.old) }
     ensures sink_count { OnEnd result (S.faults sink.new ≡ S.faults sink.old) }
     ensures read_fault { OnReadFault result (Rose (T.faults tree.old) (T.faults tree.new)) }
     ensures write_fault { OnWriteFault result (Rose (S.faults sink.old) (S.faults sink.new)) }
     ensures unwritten { OnUnwritten result (S.written sink.new ≡ S.written sink.old) }
-    ensures cut { OnWriteFault result (IfSome (T.held tree.old) (λ files. SpelledCut (S.written sink.old) (S.written sink.new) (outputs_of (outcome (world_of files path.now))))) }
+    ensures cut { OnWriteFault result (IfSome (T.held tree.old) (λ files. SpelledCut (S.written sink.old) (S.written sink.new) (outputs_of (outcome (world_of files job.now))))) }
     ensures held { T.held tree.new ≡ T.held tree.old }
     ensures no_usage { OnUsage result ⊥ }
-    ensures complete { IfSome (T.held tree.old) (λ files. IsComplete (outcome (world_of files path.now)) (Rose (T.faults tree.old) (T.faults tree.new)) (Rose (S.faults sink.old) (S.faults sink.new)) result) }
+    ensures complete { IfSome (T.held tree.old) (λ files. IsComplete (outcome (world_of files job.now)) (Rose (T.faults tree.old) (T.faults tree.new)) (Rose (S.faults sink.old) (S.faults sink.new)) result) }
 {
-    match make(alloc, tree, book, path) {
+    match make(alloc, tree, book, job) {
         Ok(made) => finish(sink, &made),
         Err(TreeFailed::Failed) => Status::ReadFault,
         Err(TreeFailed::WantOfMemory) => Status::WantOfMemory,
@@ -98,26 +99,26 @@ pub fn run<H: Threads + Sync, T: Tree, S: Sink, K: Keeper, G: Gate>(
     _gate: &G,
     book: &mut Book<Key>,
 ) -> Status
-    ensures built { OnEnd result (IsSomeAnd (words_path (map string_bytes words.now)) (λ path.
-        IfSome (T.held tree.old) (λ files. IsBuilt (world_of files path) result (S.written sink.old) (S.written sink.new)))) }
+    ensures built { OnEnd result (IsSomeAnd (words_job (map string_bytes words.now)) (λ job.
+        IfSome (T.held tree.old) (λ files. IsBuilt (world_of files job) result (S.written sink.old) (S.written sink.new)))) }
     ensures tree_count { OnEnd result (T.faults tree.new ≡ T.faults tree.old) }
     ensures sink_count { OnEnd result (S.faults sink.new ≡ S.faults sink.old) }
-    ensures usage { OnUsage result (words_path (map string_bytes words.now) ≡ None) }
+    ensures usage { OnUsage result (words_job (map string_bytes words.now) ≡ None) }
     ensures usage_told { OnUsage result (IsUsageTold (S.faults sink.old) (S.faults sink.new) (S.written sink.old) (S.written sink.new)) }
     ensures usage_book { OnUsage result (book.new ≡ book.old) }
-    ensures grammar { OnBuild result (IsSome (words_path (map string_bytes words.now))) }
+    ensures grammar { OnBuild result (IsSome (words_job (map string_bytes words.now))) }
     ensures read_fault { OnReadFault result (Rose (T.faults tree.old) (T.faults tree.new)) }
     ensures write_fault { OnWriteFault result (Rose (S.faults sink.old) (S.faults sink.new)) }
     ensures unwritten { OnUnwritten result (S.written sink.new ≡ S.written sink.old) }
-    ensures cut { OnWriteFault result (IfSome (words_path (map string_bytes words.now)) (λ path. IfSome (T.held tree.old) (λ files.
-        SpelledCut (S.written sink.old) (S.written sink.new) (outputs_of (outcome (world_of files path)))))) }
+    ensures cut { OnWriteFault result (IfSome (words_job (map string_bytes words.now)) (λ job. IfSome (T.held tree.old) (λ files.
+        SpelledCut (S.written sink.old) (S.written sink.new) (outputs_of (outcome (world_of files job)))))) }
     ensures held { T.held tree.new ≡ T.held tree.old }
-    ensures complete { IfSome (words_path (map string_bytes words.now)) (λ path. IfSome (T.held tree.old) (λ files.
-        IsComplete (outcome (world_of files path)) (Rose (T.faults tree.old) (T.faults tree.new)) (Rose (S.faults sink.old) (S.faults sink.new)) result)) }
+    ensures complete { IfSome (words_job (map string_bytes words.now)) (λ job. IfSome (T.held tree.old) (λ files.
+        IsComplete (outcome (world_of files job)) (Rose (T.faults tree.old) (T.faults tree.new)) (Rose (S.faults sink.old) (S.faults sink.new)) result)) }
     ensures keeper { keeper.new ≡ keeper.old }
 {
-    match words_path(alloc, words) {
-        Ok(Some(path)) => build(alloc, tree, sink, book, &path),
+    match words_job(alloc, words) {
+        Ok(Some(job)) => build(alloc, tree, sink, book, &job),
         Ok(None) => {
             tell_usage(sink);
             Status::Usage

@@ -2,10 +2,12 @@
 #![tactic(auto)]
 
 pub mod building;
+pub mod defines;
 pub mod device_step;
-pub mod file_lines;
+pub mod document;
 pub mod file_out;
 pub mod file_step;
+pub mod job;
 pub mod key;
 pub mod made;
 pub mod out_files;

@@ -11,9 +11,6 @@ use std::thread::Threads;
 const DSC: &[u8] =
     b"[Defines]\nPLATFORM_NAME = P\nPLATFORM_GUID = 00000000-0000-0000-0000-000000000001\nOUTPUT_DIRECTORY = Build/P\nSUPPORTED_ARCHITECTURES = X64\nFLASH_DEFINITION = P.fdf\n";
 
-const IF_DSC: &[u8] =
-    b"[Defines]\nPLATFORM_NAME = P\nPLATFORM_GUID = 00000000-0000-0000-0000-000000000001\nOUTPUT_DIRECTORY = Build/P\nSUPPORTED_ARCHITECTURES = X64\nFLASH_DEFINITION = P.fdf\n!if 1\n";
-
 fn path(alloc: Global, text: &[u8]) -> Result<Path, WantOfMemory> {
     match Path::new(alloc, text) {
         Ok(path) => Ok(path),
@@ -171,26 +168,16 @@ fn a_device_is_written(rt: HostRuntime) -> Result<(), Fail> {
 #[test]
 fn a_fault_is_told(rt: HostRuntime) -> Result<(), Fail> {
     let alloc = rt.alloc();
-    let cases: [(&[u8], &[u8], &[u8]); 3] = [
+    let cases: [(&[u8], &[u8]); 2] = [
         (
-            DSC,
             b"0x3D|0x4\n",
             b"P.fdf(7): error 712: RegionOutside: 65 > 64\n",
         ),
-        (
-            DSC,
-            b"0x10|0x3\n",
-            b"P.fdf(7): error 713: DataTooLong: 4 > 3\n",
-        ),
-        (
-            IF_DSC,
-            b"0x10|0x4\n",
-            b"P.dsc(7): error 199: NotBuilt: !if 1\n",
-        ),
+        (b"0x10|0x3\n", b"P.fdf(7): error 713: DataTooLong: 4 > 3\n"),
     ];
-    for (dsc, region, message) in cases {
+    for (region, message) in cases {
         let flash = fdf(alloc, region, DATA)?;
-        let told = outcome_of(&rt, &WORDS, dsc, Some(flash), &[], &[])?;
+        let told = outcome_of(&rt, &WORDS, DSC, Some(flash), &[], &[])?;
         assert_eq!(rt; told.status, Status::FileFault);
         assert_eq!(rt; told.emissions, 1);
         assert_eq!(rt; told.kind, Kind::Err);
@@ -346,5 +333,192 @@ fn a_volumes_fault_is_told(rt: HostRuntime) -> Result<(), Fail> {
         told.bytes.bytes(),
         b"P.fdf(5): error 258: SectionAbsent: c.bin\n".as_slice()
     );
+    Ok(())
+}
+
+// The platform and the flash description, where the one ends with further lines and the other with these.
+fn documents(alloc: Global, more: &[u8], data: &[u8]) -> Result<Rows<Held>, WantOfMemory> {
+    let mut platform = Vec::from_slice(alloc, DSC)?;
+    platform.extend_from_slice(more)?;
+    let mut files = Rows::new(alloc);
+    add(alloc, &mut files, b"P.dsc", Text::from_vec(platform))?;
+    add(
+        alloc,
+        &mut files,
+        b"P.fdf",
+        fdf(alloc, b"0x10|0x4\n", data)?,
+    )?;
+    Ok(files)
+}
+
+fn told_of<H: AllocGlobal + Threads + Sync>(
+    rt: &H,
+    words: &[&str],
+    more: &[u8],
+    data: &[u8],
+) -> Result<Told, Fail> {
+    let files = documents(rt.alloc(), more, data)?;
+    outcome_over(rt, words, files, 0, &[], &[])
+}
+
+#[test]
+fn a_branch_is_left_out(rt: HostRuntime) -> Result<(), Fail> {
+    let more = b"!if $(NOPE)\n!include absent.inc\n!endif\n";
+    let told = told_of(&rt, &WORDS, more, DATA)?;
+    assert_eq!(rt; told.status, Status::Done);
+    let expected = image(rt.alloc(), 16, &[0xDE, 0xAD, 0xBE, 0xEF], 44)?;
+    assert_eq!(rt; told.bytes.bytes(), expected.bytes());
+    Ok(())
+}
+
+#[test]
+fn a_directives_fault_is_told(rt: HostRuntime) -> Result<(), Fail> {
+    let cases: [(&[u8], &[u8]); 3] = [
+        (b"!if 1\n", b"P.dsc(7): error 120: Unbalanced: if\n"),
+        (
+            b"!include P.dsc\n",
+            b"P.dsc(7): error 123: IncludeLoop: P.dsc\n",
+        ),
+        (
+            b"!include no.inc\n",
+            b"P.dsc(7): error 121: IncludeAbsent: no.inc\n",
+        ),
+    ];
+    for (more, message) in cases {
+        let told = told_of(&rt, &WORDS, more, DATA)?;
+        assert_eq!(rt; told.status, Status::FileFault);
+        assert_eq!(rt; told.bytes.bytes(), message);
+    }
+    Ok(())
+}
+
+const DATA_OF_A: &[u8] = b"DATA = { $(A) }\n";
+
+// The image whose region begins with this byte.
+fn image_of(alloc: Global, byte: u8) -> Result<Text, Fail> {
+    image(alloc, 16, &[byte], 47)
+}
+
+#[test]
+fn the_last_definition_holds(rt: HostRuntime) -> Result<(), Fail> {
+    let alloc = rt.alloc();
+    let expected = image_of(alloc, 2)?;
+    let cases: [(&[u8], &[u8]); 3] = [
+        (b"", b"DEFINE A = 1\nDEFINE A = 2\nDATA = { $(A) }\n"),
+        (b"DEFINE A = 2\n", DATA_OF_A),
+        (
+            b"!if $(TARGET)_$(TOOL_CHAIN_TAG) == DEBUG_GCC\nDEFINE A = 2\n!endif\n",
+            DATA_OF_A,
+        ),
+    ];
+    for (more, data) in cases {
+        let told = told_of(&rt, &WORDS, more, data)?;
+        assert_eq!(rt; told.status, Status::Done);
+        assert_eq!(rt; told.bytes.bytes(), expected.bytes());
+    }
+    Ok(())
+}
+
+#[test]
+fn the_words_define_macros(rt: HostRuntime) -> Result<(), Fail> {
+    let alloc = rt.alloc();
+    let expected = image_of(alloc, 2)?;
+    let words = ["build", "-p", "P.dsc", "-D", "A=1", "-D", "A=2"];
+    let told = told_of(&rt, &words, b"DEFINE A = 1\n", DATA_OF_A)?;
+    assert_eq!(rt; told.status, Status::Done);
+    assert_eq!(rt; told.bytes.bytes(), expected.bytes());
+    let words = ["build", "-p", "P.dsc", "-D", "B", "-D", "TARGET=X"];
+    let more = b"!if $(B) == 1 AND $(TARGET) == DEBUG\nDEFINE A = 2\n!endif\n";
+    let told = told_of(&rt, &words, more, DATA_OF_A)?;
+    assert_eq!(rt; told.status, Status::Done);
+    assert_eq!(rt; told.bytes.bytes(), expected.bytes());
+    Ok(())
+}
+
+#[test]
+fn definitions_of_another_form_are_refused(rt: HostRuntime) -> Result<(), Fail> {
+    let words = ["build", "-p", "P.dsc", "-D", "1x"];
+    let told = told_of(&rt, &words, b"", DATA)?;
+    assert_eq!(rt; told.status, Status::Usage);
+    let words = ["build", "-p", "P.dsc", "-D"];
+    let told = told_of(&rt, &words, b"", DATA)?;
+    assert_eq!(rt; told.status, Status::Usage);
+    let words = ["build", "-p", "P.dsc", "-D", "A=\u{e4}"];
+    let told = told_of(&rt, &words, b"", DATA)?;
+    assert_eq!(rt; told.status, Status::Usage);
+    Ok(())
+}
+
+#[test]
+fn an_include_is_read_from_its_folder(rt: HostRuntime) -> Result<(), Fail> {
+    let alloc = rt.alloc();
+    let mut files = documents(alloc, b"!include sub/a.inc\n", DATA_OF_A)?;
+    let inner = Text::of(alloc, b"!include b.inc\n".as_slice())?;
+    let definition = Text::of(alloc, b"DEFINE A = 2\n".as_slice())?;
+    add(alloc, &mut files, b"sub/a.inc", inner)?;
+    add(alloc, &mut files, b"sub/b.inc", definition)?;
+    let told = outcome_over(&rt, &WORDS, files, 0, &[], &[])?;
+    assert_eq!(rt; told.status, Status::Done);
+    assert_eq!(rt; told.bytes.bytes(), image_of(alloc, 2)?.bytes());
+    Ok(())
+}
+
+// The platform, a volume of three blocks with two files, and their bodies.
+fn padded_workspace(alloc: Global) -> Result<Rows<Held>, WantOfMemory> {
+    let mut flash = Vec::from_slice(alloc, b"[FV.V]\nBlockSize = 0x1000\nNumBlocks = 3\n")?;
+    flash.extend_from_slice(NAME)?;
+    flash.extend_from_slice(b"{\nb.bin\n}\n")?;
+    flash.extend_from_slice(b"FILE RAW = 22222222-2222-2222-2222-222222222222 ")?;
+    flash.extend_from_slice(b"Align = 4K {\nc.bin\n}\n")?;
+    let mut body: Vec<u8> = Vec::new(alloc);
+    body.resize(3968, 7)?;
+    let mut files = Rows::new(alloc);
+    add(alloc, &mut files, b"P.dsc", Text::of(alloc, DSC)?)?;
+    add(alloc, &mut files, b"P.fdf", Text::from_vec(flash))?;
+    add(alloc, &mut files, b"b.bin", Text::from_vec(body))?;
+    add(
+        alloc,
+        &mut files,
+        b"c.bin",
+        Text::of(alloc, b"c".as_slice())?,
+    )?;
+    Ok(files)
+}
+
+#[test]
+fn a_pad_file_is_written(rt: HostRuntime) -> Result<(), Fail> {
+    let alloc = rt.alloc();
+    let pad = [
+        0xFF, 0xFF, 0xFF, 0xFF, 0xFF, 0xFF, 0xFF, 0xFF, 0xFF, 0xFF, 0xFF, 0xFF, 0xFF, 0xFF, 0xFF,
+        0xFF, 0x08, 0xAA, 0xF0, 0x00, 0x08, 0x10, 0x00, 0xF8, 0xFF,
+    ];
+    let file = [
+        0x22, 0x22, 0x22, 0x22, 0x22, 0x22, 0x22, 0x22, 0x22, 0x22, 0x22, 0x22, 0x22, 0x22, 0x22,
+        0x22, 0x9E, 0xAA, 0x01, 0x28, 0x19, 0x00, 0x00, 0xF8, b'c',
+    ];
+    let told = outcome_over(&rt, &WORDS, padded_workspace(alloc)?, 0, &[], &[])?;
+    assert_eq!(rt; told.status, Status::Done);
+    let bytes = told.bytes.bytes();
+    assert_eq!(rt; bytes.len(), 12288);
+    assert_eq!(rt; &bytes[0xFE0..0xFF9], pad.as_slice());
+    assert_eq!(rt; &bytes[0x1FE8..0x2001], file.as_slice());
+    Ok(())
+}
+
+#[test]
+fn texts_of_sections_are_written(rt: HostRuntime) -> Result<(), Fail> {
+    let alloc = rt.alloc();
+    let body = [
+        0x0E, 0x00, 0x00, 0x14, 0x00, 0x00, 0x31, 0x00, 0x2E, 0x00, 0x30, 0x00, 0x00, 0x00, 0x00,
+        0x00, 0x0A, 0x00, 0x00, 0x15, 0x48, 0x00, 0x69, 0x00, 0x00, 0x00,
+    ];
+    let sections = b"{\nSECTION VERSION = \"1.0\"\nSECTION UI = \"Hi\"\n}\n";
+    let name = b"FILE FREEFORM = 11111111-1111-1111-1111-111111111111 ";
+    let files = workspace(alloc, ONE_BLOCK, name, sections, b"")?;
+    let told = outcome_over(&rt, &WORDS, files, 0, &[], &[])?;
+    assert_eq!(rt; told.status, Status::Done);
+    let bytes = told.bytes.bytes();
+    assert_eq!(rt; bytes.len(), 4096);
+    assert_eq!(rt; &bytes[0x60..0x7A], body.as_slice());
     Ok(())
 }

@@ -10,7 +10,7 @@ pub returns-in-Ok-clause-complete : goal.returns-in-Ok-clause-complete
 returns-in-Ok-clause-complete g c =
     let tree_failed : Type 0 = Rose (g.T.Tree.faults c.args.tree.now) (g.T.Tree.faults c.make.new.tree) in
     let sink_failed : Type 0 = Rose (g.S.Sink.faults c.args.sink.now) (g.S.Sink.faults c.finish.new.sink) in
-    some_then (g.T.Tree.held c.args.tree.now) (λ files. IsMade c.in-Ok.made (outcome (world_of files c.args.path.now)))
-    (λ files. IsComplete (outcome (world_of files c.args.path.now)) tree_failed sink_failed c.finish.result)
+    some_then (g.T.Tree.held c.args.tree.now) (λ files. IsMade c.in-Ok.made (outcome (world_of files c.args.job.now)))
+    (λ files. IsComplete (outcome (world_of files c.args.job.now)) tree_failed sink_failed c.finish.result)
     c.in-Ok.ensures.made
-    (λ files m. finished (outcome (world_of files c.args.path.now)) c.in-Ok.made c.finish.result tree_failed sink_failed m c.finish.ensures.answers c.finish.ensures.write_fault)
+    (λ files m. finished (outcome (world_of files c.args.job.now)) c.in-Ok.made c.finish.result tree_failed sink_failed m c.finish.ensures.answers c.finish.ensures.write_fault)
