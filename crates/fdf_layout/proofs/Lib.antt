@@ -1,5 +1,4 @@
 pub mod More
 pub mod Listed
 pub mod Scans
-pub mod ShapeLemmas
 pub mod Told

@@ -6,8 +6,7 @@ use Rattle.macro_conditions.specs.Reading.{each, last_or, last_of}
 use Rattle.macro_conditions.proofs.Turns.{each_push, last_push}
 use Rattle.fdf_layout.specs.declared.reading.FlashReader.{FlashReader}
 use Rattle.fdf_layout.specs.declared.context.FlashContext.{FlashContext}
-use Rattle.fdf_layout.specs.Lines.{flash_line}
-use Rattle.fdf_layout.specs.Contexts.{start, enter, after, context_below}
+use Rattle.fdf_layout.specs.Contexts.{start, read_as, enter, after, context_below}
 use Rattle.fdf_layout.specs.Whole.{capped}
 use Rattle.fdf_layout.specs.Flash.{heads_at, base_at, size_at, erase_at, capped_sum, products_at, sizes_at, regions_at, volumes_at}
 use Rattle.fdf_layout.specs.Reading.{Holds}
@@ -33,25 +32,25 @@ sum_more gives above line context old new c o n =
 
 -- what a line does to a reader
 pub record Takes (line : Taken) (old new : FlashReader) : Type 0 where
-  pub context : new.context ≡ after old.context line.at (flash_line line.text)
-  pub heads : new.device.heads ≡ old.device.heads ++ heads_at line.at (flash_line line.text)
-  pub base : new.device.base ≡ last_or old.device.base (base_at (flash_line line.text))
-  pub size : new.device.size ≡ last_or old.device.size (size_at (flash_line line.text))
-  pub erase : new.device.erase ≡ last_or old.device.erase (erase_at (flash_line line.text))
-  pub blocks : new.device.blocks ≡ capped_sum old.device.blocks (products_at old.context (flash_line line.text))
-  pub sizes : new.device.sizes ≡ old.device.sizes ++ sizes_at old.context (flash_line line.text)
-  pub regions : new.regions ≡ old.regions ++ regions_at old.context (flash_line line.text)
-  pub volumes : new.volumes ≡ old.volumes ++ volumes_at old.context (flash_line line.text)
+  pub context : new.context ≡ after old.context line.at (read_as old.context line)
+  pub head : new.device.head ≡ last_or old.device.head (heads_at line.at (read_as old.context line))
+  pub base : new.device.base ≡ last_or old.device.base (base_at (read_as old.context line))
+  pub size : new.device.size ≡ last_or old.device.size (size_at (read_as old.context line))
+  pub erase : new.device.erase ≡ last_or old.device.erase (erase_at (read_as old.context line))
+  pub blocks : new.device.blocks ≡ capped_sum old.device.blocks (products_at old.context (read_as old.context line))
+  pub sizes : new.device.sizes ≡ old.device.sizes ++ sizes_at old.context (read_as old.context line)
+  pub regions : new.regions ≡ old.regions ++ regions_at old.context line.at (read_as old.context line)
+  pub volumes : new.volumes ≡ old.volumes ++ volumes_at old.context (read_as old.context line)
 
 pub holds_more : (above : List Taken) (line : Taken) (old new : FlashReader) → Holds above old → Takes line old new → Holds (above ++ line ∷ []) new
 holds_more above line old new h t = record {
   context = t.context ∙ ap (λ c. enter c line) h.context ∙ sym (fold_push enter start above line);
-  heads = list_more (λ c l. heads_at l.at (flash_line l.text)) above line old.context old.device.heads new.device.heads h.context h.heads t.heads;
-  base = last_more (λ c l. base_at (flash_line l.text)) above line old.context old.device.base new.device.base h.context h.base t.base;
-  size = last_more (λ c l. size_at (flash_line l.text)) above line old.context old.device.size new.device.size h.context h.size t.size;
-  erase = last_more (λ c l. erase_at (flash_line l.text)) above line old.context old.device.erase new.device.erase h.context h.erase t.erase;
-  blocks = sum_more (λ c l. products_at c (flash_line l.text)) above line old.context old.device.blocks new.device.blocks h.context h.blocks t.blocks;
-  sizes = list_more (λ c l. sizes_at c (flash_line l.text)) above line old.context old.device.sizes new.device.sizes h.context h.sizes t.sizes;
-  regions = list_more (λ c l. regions_at c (flash_line l.text)) above line old.context old.regions new.regions h.context h.regions t.regions;
-  volumes = list_more (λ c l. volumes_at c (flash_line l.text)) above line old.context old.volumes new.volumes h.context h.volumes t.volumes;
+  head = last_more (λ c l. heads_at l.at (read_as c l)) above line old.context old.device.head new.device.head h.context h.head t.head;
+  base = last_more (λ c l. base_at (read_as c l)) above line old.context old.device.base new.device.base h.context h.base t.base;
+  size = last_more (λ c l. size_at (read_as c l)) above line old.context old.device.size new.device.size h.context h.size t.size;
+  erase = last_more (λ c l. erase_at (read_as c l)) above line old.context old.device.erase new.device.erase h.context h.erase t.erase;
+  blocks = sum_more (λ c l. products_at c (read_as c l)) above line old.context old.device.blocks new.device.blocks h.context h.blocks t.blocks;
+  sizes = list_more (λ c l. sizes_at c (read_as c l)) above line old.context old.device.sizes new.device.sizes h.context h.sizes t.sizes;
+  regions = list_more (λ c l. regions_at c l.at (read_as c l)) above line old.context old.regions new.regions h.context h.regions t.regions;
+  volumes = list_more (λ c l. volumes_at c (read_as c l)) above line old.context old.volumes new.volumes h.context h.volumes t.volumes;
 }

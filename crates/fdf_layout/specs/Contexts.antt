@@ -1,7 +1,8 @@
--- What the lines above come to, and which lines may stand there.
-use Rattle.std.specs.Prelude.{ℕ, Bool, true, false, ◌&&◌, not, nat_le, ◌==◌, length, Option, Some, None, is_some, is_none, List, [], ◌∷◌, ◌++◌, fold}
+-- What the lines above come to.
+use Rattle.std.specs.Prelude.{ℕ, Bool, true, false, Option, Some, None, is_some, if◌then◌else◌, List, [], ◌∷◌, ◌++◌, fold, Result, Ok, Err}
 use Rattle.std.specs.Option.{option_map}
 use Rattle.build_base.specs.declared.lines.Taken.{Taken}
+use Rattle.build_base.specs.declared.fault.Fault.{Fault}
 use Rattle.build_base.specs.declared.fault.Place.{Place}
 use Rattle.doc_types.specs.declared.volume.FilePlan.{FilePlan}
 use Rattle.doc_types.specs.declared.volume.SectionPlan.{SectionPlan}
@@ -11,10 +12,12 @@ use Rattle.fdf_layout.specs.declared.statement.FileHead.{FileHead}
 use Rattle.fdf_layout.specs.declared.statement.SectionForm.{SectionForm}
 use Rattle.fdf_layout.specs.declared.statement.Part.{Part}
 use Rattle.fdf_layout.specs.declared.statement.Part.TheVariants.{File, Section, Whole, Close}
-use Rattle.fdf_layout.specs.declared.line.FlashKey.{FlashKey}
-use Rattle.fdf_layout.specs.declared.line.FlashKey.TheVariants.{BaseAddress, Size, ErasePolarity, BlockSize, NumBlocks, VolumePolarity}
+use Rattle.fdf_layout.specs.declared.key.FlashKey.{FlashKey}
+use Rattle.fdf_layout.specs.declared.key.FlashKey.TheVariants.{BaseAddress, Size, ErasePolarity, BlockSize, NumBlocks, VolumePolarity}
 use Rattle.fdf_layout.specs.declared.line.FlashLine.{FlashLine}
-use Rattle.fdf_layout.specs.declared.line.FlashLine.TheVariants.{Blank, Device, Volume, Keyed, Region, Data, Held, Statement, Unread}
+use Rattle.fdf_layout.specs.declared.line.FlashLine.TheVariants.{Blank, Device, Volume, Keyed, Region, Data, Held, Statement}
+use Rattle.fdf_layout.specs.declared.line.Zone.{Zone}
+use Rattle.fdf_layout.specs.declared.line.Zone.TheVariants.{FrontZone, DeviceZone, VolumeZone, BraceZone}
 use Rattle.fdf_layout.specs.declared.context.FlashContext.{FlashContext}
 use Rattle.fdf_layout.specs.declared.context.OpenRegion.{OpenRegion}
 use Rattle.fdf_layout.specs.declared.context.StatedVolume.{StatedVolume}
@@ -50,62 +53,17 @@ file_in (InVolume volume) = volume.file
 file_in Outside = None
 file_in (InDevice device) = None
 
--- in a device a block size and its number of blocks stand in turn; a polarity is 1 or 0
-abbrev pub device_key_fits : Option ℕ → FlashKey → ℕ → Bool
-device_key_fits block BaseAddress number = true
-device_key_fits block Size number = true
-device_key_fits block ErasePolarity number = nat_le number 1
-device_key_fits block BlockSize number = is_none block
-device_key_fits block NumBlocks number = is_some block
-device_key_fits block VolumePolarity number = false
+-- the statements of a volume that are whole
+abbrev pub items_in : Within → List Item
+items_in (InVolume volume) = volume.items
+items_in Outside = []
+items_in (InDevice device) = []
 
-abbrev pub volume_key_fits : FlashKey → ℕ → Bool
-volume_key_fits BaseAddress number = false
-volume_key_fits Size number = false
-volume_key_fits ErasePolarity number = false
-volume_key_fits BlockSize number = true
-volume_key_fits NumBlocks number = true
-volume_key_fits VolumePolarity number = nat_le number 1
-
-abbrev pub key_fits : Within → FlashKey → ℕ → Bool
-key_fits Outside key number = false
-key_fits (InDevice device) key number = device_key_fits device.block key number
-key_fits (InVolume volume) key number = is_none volume.file && volume_key_fits key number
-
--- a body is one file as it is, or sections
-abbrev pub body_fits : FilePlan → Part → Bool
-body_fits file (File head) = false
-body_fits file (Section form) = is_none file.whole
-body_fits file (Whole path) = is_none file.whole && (length file.sections == 0)
-body_fits file Close = true
-
-abbrev pub is_file : Part → Bool
-is_file (File head) = true
-is_file (Section form) = false
-is_file (Whole path) = false
-is_file Close = false
-
-abbrev pub part_fits : Option FilePlan → Part → Bool
-part_fits None part = is_file part
-part_fits (Some file) part = body_fits file part
-
--- whether a line may stand there
-abbrev pub may_stand : FlashContext → FlashLine → Bool
-may_stand context Blank = true
-may_stand context (Device name) = not context.device && is_none (file_in context.section)
-may_stand context (Volume name) = is_none (file_in context.section)
-may_stand context (Keyed key number) = key_fits context.section key number
-may_stand context (Region extent) = in_device context.section
-may_stand context (Data bytes) = is_some (region_in context.section)
-may_stand context (Held name) = is_some (region_in context.section)
-may_stand context (Statement part) = in_volume context.section && part_fits (file_in context.section) part
-may_stand context Unread = false
-
--- whether a statement is open after a line that may stand there
-abbrev pub leaves_open : FlashContext → FlashLine → Bool
-leaves_open context (Statement (File head)) = true
-leaves_open context (Statement Close) = false
-leaves_open context line = is_some (file_in context.section)
+-- where the next line stands
+abbrev pub zone_of : Within → Zone
+zone_of Outside = FrontZone
+zone_of (InDevice device) = DeviceZone
+zone_of (InVolume volume) = if is_some volume.file then BraceZone else VolumeZone
 
 abbrev pub block_after : Option ℕ → FlashKey → ℕ → Option ℕ
 block_after block BaseAddress number = block
@@ -183,13 +141,20 @@ after context at (Region extent) = record context { section = with_region contex
 after context at (Data bytes) = record context { section = with_region context.section None }
 after context at (Held name) = record context { section = with_region context.section None }
 after context at (Statement part) = record context { section = stated context.section at part }
-after context at Unread = context
 
 abbrev pub start : FlashContext
 start = record { device = false; section = Outside }
 
+abbrev pub found : Result FlashLine Fault → FlashLine
+found (Ok form) = form
+found (Err fault) = Blank
+
+-- what a line is below others; a line with a fault counts as empty
+abbrev pub read_as : FlashContext → Taken → FlashLine
+read_as context line = found (flash_line (zone_of context.section) line)
+
 abbrev pub enter : FlashContext → Taken → FlashContext
-enter context line = after context line.at (flash_line line.text)
+enter context line = after context line.at (read_as context line)
 
 abbrev pub context_below : List Taken → FlashContext
 context_below lines = fold enter start lines

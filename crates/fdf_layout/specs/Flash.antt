@@ -1,15 +1,14 @@
 -- A flash description's document, or its first fault.
-use Rattle.std.specs.Prelude.{ℕ, ◌*◌, Bool, ◌&&◌, not, ◌+◌, fold, List, [], ◌∷◌, ◌++◌, Option, Some, None, Result, Ok, Err, if◌then◌else◌}
+use Rattle.std.specs.Prelude.{ℕ, ◌*◌, Bool, ◌+◌, fold, List, [], ◌∷◌, ◌++◌, length, Option, Some, None, Result, if◌then◌else◌}
 use Rattle.build_base.specs.First.{or_fault}
 use Rattle.build_base.specs.declared.fault.Fault.{Fault}
 use Rattle.build_base.specs.declared.fault.Place.{Place}
 use Rattle.build_base.specs.declared.lines.Taken.{Taken}
 use Rattle.build_base.specs.declared.lines.Lines.{Lines}
 use Rattle.macro_conditions.specs.Reading.{lines_fault, each, last_of}
-use Rattle.macro_conditions.specs.Readable.{unread_line, unread_document}
 use Rattle.doc_types.specs.declared.flash.FlashDoc.{FlashDoc}
-use Rattle.fdf_layout.specs.declared.line.FlashKey.{FlashKey}
-use Rattle.fdf_layout.specs.declared.line.FlashKey.TheVariants.{BaseAddress, Size, ErasePolarity, BlockSize, NumBlocks}
+use Rattle.fdf_layout.specs.declared.key.FlashKey.{FlashKey}
+use Rattle.fdf_layout.specs.declared.key.FlashKey.TheVariants.{BaseAddress, Size, ErasePolarity, BlockSize, NumBlocks}
 use Rattle.fdf_layout.specs.declared.line.FlashLine.{FlashLine}
 use Rattle.fdf_layout.specs.declared.line.FlashLine.TheVariants.{Device, Volume, Keyed, Region, Data, Held}
 use Rattle.fdf_layout.specs.declared.context.FlashContext.{FlashContext}
@@ -22,17 +21,9 @@ use Rattle.fdf_layout.specs.declared.tables.DeviceTables.{DeviceTables}
 use Rattle.fdf_layout.specs.declared.tables.Content.{Content}
 use Rattle.fdf_layout.specs.declared.tables.Content.TheVariants.{Nothing, Listed, Named}
 use Rattle.fdf_layout.specs.declared.tables.StatedRegion.{StatedRegion}
-use Rattle.fdf_layout.specs.Lines.{flash_line}
-use Rattle.fdf_layout.specs.Contexts.{start, enter, context_below, may_stand, leaves_open, in_device, block_in, region_in}
+use Rattle.fdf_layout.specs.Contexts.{start, read_as, enter, context_below, in_device, block_in, region_in}
+use Rattle.fdf_layout.specs.Standing.{fault_below}
 use Rattle.fdf_layout.specs.Whole.{capped, flash_of_parts}
-
--- the fault of a line, by what the lines above come to and by whether it is the last
-abbrev pub fault_in : FlashContext → Taken → Bool → Option Fault
-fault_in context line last =
-    if may_stand context (flash_line line.text) && not (last && leaves_open context (flash_line line.text)) then None else Some (unread_line line)
-
-abbrev pub line_fault : List Taken → Taken → Bool → Option Fault
-line_fault above line last = fault_in (context_below above) line last
 
 -- the devices and numbers that a line gives
 abbrev pub heads_at : Place → FlashLine → List DeviceHead
@@ -84,13 +75,13 @@ abbrev pub filled : Within → Content → List StatedRegion
 filled section content = region_rows (region_in section) content
 
 -- a region is given with its content, or empty before the next region or head
-abbrev pub regions_at : FlashContext → FlashLine → List StatedRegion
-regions_at context (Device name) = filled context.section Nothing
-regions_at context (Volume name) = filled context.section Nothing
-regions_at context (Region extent) = filled context.section Nothing
-regions_at context (Data bytes) = filled context.section (Listed bytes)
-regions_at context (Held name) = filled context.section (Named name)
-regions_at context _ = []
+abbrev pub regions_at : FlashContext → Place → FlashLine → List StatedRegion
+regions_at context at (Device name) = filled context.section Nothing
+regions_at context at (Volume name) = filled context.section Nothing
+regions_at context at (Region extent) = filled context.section Nothing
+regions_at context at (Data bytes) = filled context.section (Listed bytes)
+regions_at context at (Held name) = filled context.section (Named (record { at = at; name = name }))
+regions_at context at _ = []
 
 abbrev pub volume_rows : Within → List StatedVolume
 volume_rows (InVolume volume) = volume ∷ []
@@ -103,33 +94,37 @@ volumes_at context (Device name) = volume_rows context.section
 volumes_at context (Volume name) = volume_rows context.section
 volumes_at context _ = []
 
-abbrev pub heads_of : List Taken → List DeviceHead
-heads_of lines = each enter (λ context line. heads_at line.at (flash_line line.text)) start lines
+abbrev pub head_of : List Taken → Option DeviceHead
+head_of lines = last_of (each enter (λ context line. heads_at line.at (read_as context line)) start lines)
 
 abbrev pub base_of : List Taken → Option ℕ
-base_of lines = last_of (each enter (λ context line. base_at (flash_line line.text)) start lines)
+base_of lines = last_of (each enter (λ context line. base_at (read_as context line)) start lines)
 
 abbrev pub size_of : List Taken → Option ℕ
-size_of lines = last_of (each enter (λ context line. size_at (flash_line line.text)) start lines)
+size_of lines = last_of (each enter (λ context line. size_at (read_as context line)) start lines)
 
 abbrev pub erase_of : List Taken → Option ℕ
-erase_of lines = last_of (each enter (λ context line. erase_at (flash_line line.text)) start lines)
+erase_of lines = last_of (each enter (λ context line. erase_at (read_as context line)) start lines)
 
 -- the sum of the products of block sizes and numbers of blocks
 abbrev pub blocks_of : List Taken → ℕ
-blocks_of lines = capped_sum 0 (each enter (λ context line. products_at context (flash_line line.text)) start lines)
+blocks_of lines = capped_sum 0 (each enter (λ context line. products_at context (read_as context line)) start lines)
 
 abbrev pub sizes_of : List Taken → List ℕ
-sizes_of lines = each enter (λ context line. sizes_at context (flash_line line.text)) start lines
+sizes_of lines = each enter (λ context line. sizes_at context (read_as context line)) start lines
 
 abbrev pub device_of : List Taken → DeviceTables
-device_of lines = record { heads = heads_of lines; base = base_of lines; size = size_of lines; erase = erase_of lines; blocks = blocks_of lines; sizes = sizes_of lines }
+device_of lines = record { head = head_of lines; base = base_of lines; size = size_of lines; erase = erase_of lines; blocks = blocks_of lines; sizes = sizes_of lines }
 
 abbrev pub regions_of : List Taken → List StatedRegion
-regions_of lines = each enter (λ context line. regions_at context (flash_line line.text)) start lines
+regions_of lines = each enter (λ context line. regions_at context line.at (read_as context line)) start lines
 
 abbrev pub volumes_of : List Taken → List StatedVolume
-volumes_of lines = each enter (λ context line. volumes_at context (flash_line line.text)) start lines
+volumes_of lines = each enter (λ context line. volumes_at context (read_as context line)) start lines
+
+-- the fault of a line, by the lines above it and by whether it is the last
+abbrev pub line_fault : List Taken → Taken → Bool → Option Fault
+line_fault above line last = fault_below (length (volumes_of above)) (context_below above) line last
 
 -- with those that are open at the end
 abbrev pub all_regions : List Taken → List StatedRegion
@@ -138,13 +133,10 @@ all_regions lines = regions_of lines ++ filled (context_below lines).section Not
 abbrev pub all_volumes : List Taken → List StatedVolume
 all_volumes lines = volumes_of lines ++ volume_rows (context_below lines).section
 
-abbrev pub whole : List ℕ → Option FlashDoc → Result FlashDoc Fault
-whole root (Some doc) = Ok doc
-whole root None = Err (unread_document root)
-
-abbrev pub flash_of_lines : List ℕ → List Taken → Option FlashDoc
+-- the first fault of the whole, else the document
+abbrev pub flash_of_lines : List ℕ → List Taken → Result FlashDoc Fault
 flash_of_lines root rows = flash_of_parts root (device_of rows) (all_regions rows) (all_volumes rows)
 
--- the fault of the first line that has one, else the document, where it is whole
+-- the fault of the first line that has one, else the first fault of the whole, else the document
 unfoldable pub flash_of : Lines → Result FlashDoc Fault
-flash_of lines = or_fault (lines_fault line_fault [] lines.rows) (whole lines.root (flash_of_lines lines.root lines.rows))
+flash_of lines = or_fault (lines_fault line_fault [] lines.rows) (flash_of_lines lines.root lines.rows)

@@ -1,8 +1,14 @@
 pub mod Words
-pub mod Statements
+pub mod Keys
+pub mod Numbers
+pub mod HeadLines
 pub mod DataBytes
+pub mod DeviceLines
+pub mod Statements
+pub mod VolumeLines
 pub mod Lines
 pub mod Contexts
+pub mod Standing
 pub mod Whole
 pub mod Flash
 pub mod Reading

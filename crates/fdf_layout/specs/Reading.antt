@@ -3,11 +3,11 @@ use Rattle.std.specs.Prelude.{◌≡◌, List}
 use Rattle.build_base.specs.declared.lines.Taken.{Taken}
 use Rattle.fdf_layout.specs.declared.reading.FlashReader.{FlashReader}
 use Rattle.fdf_layout.specs.Contexts.{context_below}
-use Rattle.fdf_layout.specs.Flash.{heads_of, base_of, size_of, erase_of, blocks_of, sizes_of, regions_of, volumes_of}
+use Rattle.fdf_layout.specs.Flash.{head_of, base_of, size_of, erase_of, blocks_of, sizes_of, regions_of, volumes_of}
 
 pub record Holds (above : List Taken) (reader : FlashReader) : Type 0 where
   pub context : reader.context ≡ context_below above
-  pub heads : reader.device.heads ≡ heads_of above
+  pub head : reader.device.head ≡ head_of above
   pub base : reader.device.base ≡ base_of above
   pub size : reader.device.size ≡ size_of above
   pub erase : reader.device.erase ≡ erase_of above

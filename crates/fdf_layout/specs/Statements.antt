@@ -1,14 +1,18 @@
 -- The lines of a volume's statements (EDK II FDF specification, section 3.7).
-use Rattle.std.specs.Prelude.{ℕ, ◌-◌, Bool, ◌&&◌, not, nat_lt, ◌==◌, if◌then◌else◌, List, [], ◌∷◌, length, take, Option, Some, None, codes}
+use Rattle.std.specs.Prelude.{ℕ, ◌-◌, Bool, false, ◌&&◌, ◌||◌, not, nat_lt, ◌==◌, if◌then◌else◌, List, [], ◌∷◌, length, take, Option, Some, None, is_some, Result, Ok, Err, codes}
 use Rattle.std.specs.List.{list_all}
 use Rattle.std.specs.Option.{option_map, option_and_then}
 use Rattle.std.specs.Str.{bytes_eq}
+use Rattle.build_base.specs.First.{and_then, or_fault}
+use Rattle.build_base.specs.FaultText.{fault_of}
 use Rattle.build_base.specs.Guid.{guid_of}
-use Rattle.build_base.specs.Path.{path_field}
+use Rattle.build_base.specs.declared.fault.Fault.{Fault}
 use Rattle.build_base.specs.declared.guid.Guid.{Guid}
+use Rattle.build_base.specs.declared.lines.Taken.{Taken}
 use Rattle.meta_lexer.specs.Heads.{inner, stands_between}
 use Rattle.meta_lexer.specs.Lines.{without_blanks}
 use Rattle.meta_lexer.specs.Words.{same_word}
+use Rattle.macro_conditions.specs.ValueFields.{path_value, undefined_macro}
 use Rattle.doc_types.specs.declared.volume.Align.{Align}
 use Rattle.doc_types.specs.declared.volume.Align.TheVariants.{Unset, Bytes}
 use Rattle.doc_types.specs.declared.volume.SectionSource.{SectionSource}
@@ -18,6 +22,10 @@ use Rattle.fdf_layout.specs.declared.statement.FileHead.{FileHead}
 use Rattle.fdf_layout.specs.declared.statement.SectionForm.{SectionForm}
 use Rattle.fdf_layout.specs.declared.statement.SectionType.{SectionType}
 use Rattle.fdf_layout.specs.declared.statement.SectionType.TheVariants.{Raw, Version, Interface}
+use Rattle.fdf_layout.specs.declared.statement.Part.TheVariants.{File, Section, Whole}
+use Rattle.fdf_layout.specs.declared.line.FlashLine.{FlashLine}
+use Rattle.fdf_layout.specs.declared.line.FlashLine.TheVariants.{Statement}
+use Rattle.fdf_layout.specs.Numbers.{bad_line}
 use Rattle.fdf_layout.specs.Words.{last_byte, word_of, after_word, after_equals, stated_align, options_of}
 
 -- EFI_FV_FILETYPE_RAW and EFI_FV_FILETYPE_FREEFORM
@@ -26,6 +34,13 @@ file_type word =
     if same_word word (codes "RAW") then Some 1
     else if same_word word (codes "FREEFORM") then Some 2
     else None
+
+-- the types that aren't built yet
+unfoldable pub is_unbuilt_type : List ℕ → Bool
+is_unbuilt_type word =
+    same_word word (codes "SEC") || same_word word (codes "PEI_CORE") || same_word word (codes "DXE_CORE")
+    || same_word word (codes "PEIM") || same_word word (codes "DRIVER") || same_word word (codes "APPLICATION")
+    || same_word word (codes "SMM") || same_word word (codes "FV_IMAGE") || same_word word (codes "SMM_CORE")
 
 -- what stands before the brace at the end
 unfoldable pub before_brace : List ℕ → Option (List ℕ)
@@ -38,25 +53,42 @@ top_name = 46 ∷ 6 ∷ 160 ∷ 27 ∷ 121 ∷ 199 ∷ 130 ∷ 69 ∷ 133 ∷ 10
 unfoldable pub is_top : Guid → Bool
 is_top guid = bytes_eq guid.0 top_name
 
-abbrev pub not_top : Option Guid → Option Guid
-not_top (Some guid) = if is_top guid then None else Some guid
-not_top None = None
+abbrev pub is_top_name : Option Guid → Bool
+is_top_name (Some guid) = is_top guid
+is_top_name None = false
 
--- the name of a file, but not that of the volume top file
-unfoldable pub file_name : List ℕ → Option Guid
-file_name text = not_top (guid_of text)
+-- `GUID OPTIONS` of `TYPE = GUID OPTIONS {`
+unfoldable pub file_front : List ℕ → Option (List ℕ)
+file_front text = option_and_then before_brace (after_equals (after_word text))
 
-abbrev pub head_with : ℕ → Guid → Options → FileHead
-head_with kind guid options = record { file_type = kind; guid = guid; options = options }
+abbrev pub names_top : Option (List ℕ) → Bool
+names_top (Some front) = is_top_name (guid_of (word_of front))
+names_top None = false
 
--- `GUID OPTIONS {`
-abbrev pub file_head : ℕ → List ℕ → Option FileHead
-file_head kind text = option_and_then (λ guid. option_map (head_with kind guid) (options_of (after_word text))) (file_name (word_of text))
+-- a file of a type that isn't built yet, or the volume top file, which isn't either
+abbrev pub is_unbuilt_file : List ℕ → Bool
+is_unbuilt_file text = is_unbuilt_type (word_of text) || (is_some (file_type (word_of text)) && names_top (file_front text))
 
--- `TYPE = GUID OPTIONS {`
-unfoldable pub file_of : List ℕ → Option FileHead
-file_of text =
-    option_and_then (λ kind. option_and_then (λ value. option_and_then (file_head kind) (before_brace value)) (after_equals (after_word text))) (file_type (word_of text))
+abbrev pub head_with : ℕ → Options → Guid → FileHead
+head_with kind options guid = record { file_type = kind; guid = guid; options = options }
+
+abbrev pub named_file : Taken → ℕ → Options → List ℕ → Option Guid → Result FlashLine Fault
+named_file line kind options word (Some guid) = Ok (Statement (File (head_with kind options guid)))
+named_file line kind options word None = Err (fault_of 262 line.at word)
+
+-- a word and known options, and then the word must be a GUID
+abbrev pub file_head : Taken → ℕ → List ℕ → Option Options → Result FlashLine Fault
+file_head line kind word (Some options) = if length word == 0 then Err (bad_line 246 line) else named_file line kind options word (guid_of word)
+file_head line kind word None = Err (bad_line 246 line)
+
+abbrev pub file_parts : Taken → Option ℕ → Option (List ℕ) → Result FlashLine Fault
+file_parts line (Some kind) (Some front) = file_head line kind (word_of front) (options_of (after_word front))
+file_parts line (Some kind) None = Err (bad_line 246 line)
+file_parts line None front = Err (bad_line 246 line)
+
+-- `TYPE = GUID OPTIONS {`, which follows the word FILE
+abbrev pub file_line : Taken → List ℕ → Result FlashLine Fault
+file_line line text = or_fault (undefined_macro line.at line.text) (file_parts line (file_type (word_of text)) (file_front text))
 
 unfoldable pub section_type : List ℕ → Option SectionType
 section_type word =
@@ -64,6 +96,13 @@ section_type word =
     else if same_word word (codes "VERSION") then Some Version
     else if same_word word (codes "UI") then Some Interface
     else None
+
+-- the kinds that aren't built yet
+unfoldable pub is_unbuilt_kind : List ℕ → Bool
+is_unbuilt_kind word =
+    same_word word (codes "PE32") || same_word word (codes "TE") || same_word word (codes "DXE_DEPEX")
+    || same_word word (codes "PEI_DEPEX") || same_word word (codes "SMM_DEPEX") || same_word word (codes "FV_IMAGE")
+    || same_word word (codes "SUBTYPE_GUID") || same_word word (codes "COMPRESS") || same_word word (codes "GUIDED")
 
 -- EFI_SECTION_RAW, EFI_SECTION_VERSION and EFI_SECTION_USER_INTERFACE
 abbrev pub section_number : SectionType → ℕ
@@ -75,11 +114,21 @@ section_number Interface = 21
 unfoldable pub words_in_quotes : List ℕ → Option (List ℕ)
 words_in_quotes text = if stands_between 34 34 text && list_all (λ b. not (b == 34)) (inner text) then Some (inner text) else None
 
+abbrev pub words_found : Taken → Option (List ℕ) → Result SectionSource Fault
+words_found line (Some words) = Ok (Words words)
+words_found line None = Err (bad_line 246 line)
+
+abbrev pub words_source : Taken → List ℕ → Result SectionSource Fault
+words_source line text = or_fault (undefined_macro line.at line.text) (words_found line (words_in_quotes text))
+
+abbrev pub tree_source : Taken → List ℕ → Result SectionSource Fault
+tree_source line text = and_then (path_value line.at text) (λ path. Ok (Tree path))
+
 -- a path, or a text in quotes
-unfoldable pub source_of : SectionType → List ℕ → Option SectionSource
-source_of Raw text = option_map Tree (path_field text)
-source_of Version text = option_map Words (words_in_quotes text)
-source_of Interface text = option_map Words (words_in_quotes text)
+abbrev pub source_of : Taken → SectionType → List ℕ → Result SectionSource Fault
+source_of line Raw text = tree_source line text
+source_of line Version text = words_source line text
+source_of line Interface text = words_source line text
 
 abbrev pub is_align : List ℕ → Bool
 is_align word = same_word word (codes "Align")
@@ -88,14 +137,32 @@ is_align word = same_word word (codes "Align")
 unfoldable pub maybe_align : List ℕ → Option (Align × List ℕ)
 maybe_align text = if is_align (word_of text) then option_map (λ p. (Bytes p.0, p.1)) (stated_align (after_word text)) else Some (Unset, text)
 
+-- a section of a kind that isn't built yet
+abbrev pub is_unbuilt_section : Option (Align × List ℕ) → Bool
+is_unbuilt_section (Some p) = is_unbuilt_kind (word_of p.1)
+is_unbuilt_section None = false
+
+-- no section: a macro in the line goes first
+abbrev pub misformed : Taken → Result FlashLine Fault
+misformed line = or_fault (undefined_macro line.at line.text) (Err (bad_line 246 line))
+
 abbrev pub form_with : Align → SectionType → SectionSource → SectionForm
 form_with align kind source = record { kind = section_number kind; align = align; source = source }
 
--- `TYPE = SOURCE`
-unfoldable pub typed_section : Align → List ℕ → Option SectionForm
-typed_section align text =
-    option_and_then (λ kind. option_and_then (λ value. option_map (form_with align kind) (source_of kind value)) (after_equals (after_word text))) (section_type (word_of text))
+abbrev pub formed_section : Taken → Align → SectionType → List ℕ → Result FlashLine Fault
+formed_section line align kind value = and_then (source_of line kind value) (λ source. Ok (Statement (Section (form_with align kind source))))
 
--- `Align = n TYPE = SOURCE`, or without an alignment
-unfoldable pub section_form : List ℕ → Option SectionForm
-section_form text = option_and_then (λ p. typed_section p.0 p.1) (maybe_align text)
+-- `KIND = SOURCE`
+abbrev pub typed_section : Taken → Align → Option SectionType → Option (List ℕ) → Result FlashLine Fault
+typed_section line align (Some kind) (Some value) = formed_section line align kind value
+typed_section line align (Some kind) None = misformed line
+typed_section line align None value = misformed line
+
+-- `Align = n KIND = SOURCE`, or without an alignment
+abbrev pub section_line : Taken → Option (Align × List ℕ) → Result FlashLine Fault
+section_line line (Some p) = typed_section line p.0 (section_type (word_of p.1)) (after_equals (after_word p.1))
+section_line line None = misformed line
+
+-- the path of a body
+abbrev pub body_line : Taken → Result FlashLine Fault
+body_line line = and_then (path_value line.at line.text) (λ path. Ok (Statement (Whole path)))

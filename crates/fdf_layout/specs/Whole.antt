@@ -1,6 +1,10 @@
--- The document of what the lines give, where all fits.
-use Rattle.std.specs.Prelude.{ℕ, ◌+◌, ◌*◌, ◌^◌, ◌-◌, ◌%◌, Bool, true, false, ◌&&◌, not, nat_le, ◌==◌, min, List, [], ◌∷◌, length, Option, Some, None, is_some, unwrap_or, if◌then◌else◌}
-use Rattle.std.specs.Option.{option_map, option_and_then}
+-- The first fault of the whole, and the document of what the lines give.
+use Rattle.std.specs.Prelude.{ℕ, ◌+◌, ◌*◌, ◌^◌, ◌-◌, ◌%◌, Bool, false, ◌&&◌, not, nat_lt, nat_le, ◌==◌, min, List, [], ◌∷◌, ◌++◌, map, Option, Some, None, is_some, unwrap_or, if◌then◌else◌, Result, codes, decimal}
+use Rattle.build_base.specs.First.{or_else, first_of, unless}
+use Rattle.build_base.specs.FaultText.{fault_of}
+use Rattle.build_base.specs.declared.fault.Fault.{Fault}
+use Rattle.build_base.specs.declared.fault.Place.{Place}
+use Rattle.meta_lexer.specs.Faults.{first_fault}
 use Rattle.meta_lexer.specs.Words.{same_word}
 use Rattle.doc_types.specs.declared.flash.FlashDoc.{FlashDoc}
 use Rattle.doc_types.specs.declared.flash.DevicePlan.{DevicePlan}
@@ -20,11 +24,6 @@ use Rattle.fdf_layout.specs.declared.tables.StatedRegion.{StatedRegion}
 abbrev pub capped : ℕ → ℕ
 capped n = min n (2 ^ 64 - 1)
 
--- what each makes with its number, where all make something
-unfoldable pub each_some : {X Y : Type 0} → (ℕ → X → Option Y) → ℕ → List X → Option (List Y)
-each_some make n [] = Some []
-each_some make n (x ∷ xs) = option_and_then (λ y. option_map (λ ys. y ∷ ys) (each_some make (n + 1) xs)) (make n x)
-
 -- names differ by more than case
 abbrev pub is_named : List ℕ → StatedVolume → Bool
 is_named name volume = same_word volume.name name
@@ -34,43 +33,27 @@ unfoldable pub number_from : ℕ → List ℕ → List StatedVolume → Option �
 number_from n name [] = None
 number_from n name (v ∷ vs) = if is_named name v then Some n else number_from (n + 1) name vs
 
--- no two volumes have one name
-unfoldable pub no_twins : List StatedVolume → Bool
-no_twins [] = true
-no_twins (v ∷ vs) = not (is_some (number_from 0 v.name vs)) && no_twins vs
+abbrev pub names : StatedVolume → Content → Bool
+names volume Nothing = false
+names volume (Listed bytes) = false
+names volume (Named held) = is_named held.name volume
 
-unfoldable pub region_kind : List StatedVolume → Content → Option RegionKind
-region_kind volumes Nothing = Some Empty
-region_kind volumes (Listed bytes) = Some (Bytes bytes)
-region_kind volumes (Named name) = option_map Volume (number_from 0 name volumes)
-
-abbrev pub region_with : StatedRegion → RegionKind → Region
-region_with region kind = record { at = region.at; offset = region.extent.offset; size = region.extent.size; kind = kind }
-
-unfoldable pub region_of : List StatedVolume → ℕ → StatedRegion → Option Region
-region_of volumes n region = option_map (region_with region) (region_kind volumes region.content)
-
-abbrev pub is_volume : ℕ → RegionKind → Bool
-is_volume n Empty = false
-is_volume n (Bytes bytes) = false
-is_volume n (Volume m) = m == n
+-- a region holds the volume that its line names
+abbrev pub holds : StatedVolume → StatedRegion → Bool
+holds volume region = names volume region.content
 
 -- the size of the first region that holds a volume
-unfoldable pub held_size : ℕ → List Region → Option ℕ
-held_size n [] = None
-held_size n (region ∷ regions) = if is_volume n region.kind then Some region.size else held_size n regions
+unfoldable pub held_size : StatedVolume → List StatedRegion → Option ℕ
+held_size volume [] = None
+held_size volume (region ∷ regions) = if holds volume region then Some region.extent.size else held_size volume regions
 
-abbrev pub differs : ℕ → ℕ → Region → Bool
-differs n size region = is_volume n region.kind && not (region.size == size)
+abbrev pub differs : StatedVolume → ℕ → StatedRegion → Bool
+differs volume size region = holds volume region && not (region.extent.size == size)
 
--- each region that holds a volume has this size
-unfoldable pub all_sized : ℕ → ℕ → List Region → Bool
-all_sized n size [] = true
-all_sized n size (region ∷ regions) = not (differs n size region) && all_sized n size regions
-
-abbrev pub regions_fit : ℕ → Option ℕ → List Region → Bool
-regions_fit n (Some size) regions = all_sized n size regions
-regions_fit n None regions = true
+-- the size of the first region that holds a volume and has another size
+unfoldable pub other_size : StatedVolume → ℕ → List StatedRegion → Option ℕ
+other_size volume size [] = None
+other_size volume size (region ∷ regions) = if differs volume size region then Some region.extent.size else other_size volume size regions
 
 -- its own, else the first of the device that holds it, else 4096
 abbrev pub block_size_of : Option ℕ → Option ℕ → Option ℕ → ℕ
@@ -83,10 +66,108 @@ abbrev pub volume_size : ℕ → Option ℕ → Option ℕ → Option ℕ
 volume_size block (Some blocks) held = Some (capped (block * blocks))
 volume_size block None held = held
 
--- at most 256M, and a whole number of blocks
-unfoldable pub size_fits : ℕ → Option ℕ → Bool
-size_fits block (Some size) = nat_le size 268435456 && (size % block == 0)
-size_fits block None = true
+abbrev pub block_of : Option ℕ → List StatedRegion → StatedVolume → ℕ
+block_of first regions volume = block_size_of volume.block_size (held_size volume regions) first
+
+abbrev pub size_of : Option ℕ → List StatedRegion → StatedVolume → Option ℕ
+size_of first regions volume = volume_size (block_of first regions volume) volume.blocks (held_size volume regions)
+
+-- `first != second`
+abbrev pub unequal : ℕ → ℕ → List ℕ
+unequal first second = decimal first ++ codes " != " ++ decimal second
+
+-- a device has a base address and a size
+abbrev pub unstated_of : DeviceHead → Option ℕ → Option ℕ → Option Fault
+unstated_of head None size = Some (fault_of 242 head.at (codes "BaseAddress"))
+unstated_of head (Some base) None = Some (fault_of 242 head.at (codes "Size"))
+unstated_of head (Some base) (Some size) = None
+
+abbrev pub unstated : Option DeviceHead → Option ℕ → Option ℕ → Option Fault
+unstated (Some head) base size = unstated_of head base size
+unstated None base size = None
+
+-- a volume has at most 0x10000000 bytes
+abbrev pub size_fault : Place → Option ℕ → Option Fault
+size_fault at (Some size) = if nat_le size 268435456 then None else Some (fault_of 249 at (decimal size))
+size_fault at None = None
+
+abbrev pub too_large : Option ℕ → List StatedRegion → StatedVolume → Option Fault
+too_large first regions volume = size_fault volume.at (size_of first regions volume)
+
+-- a name in a region is that of a volume
+abbrev pub unknown_in : List StatedVolume → Content → Option Fault
+unknown_in volumes Nothing = None
+unknown_in volumes (Listed bytes) = None
+unknown_in volumes (Named held) = if is_some (number_from 0 held.name volumes) then None else Some (fault_of 251 held.at held.name)
+
+abbrev pub unknown : List StatedVolume → StatedRegion → Option Fault
+unknown volumes region = unknown_in volumes region.content
+
+-- the blocks of a device are its size
+abbrev pub blocks_of_head : Option DeviceHead → Option ℕ → ℕ → Option Fault
+blocks_of_head (Some head) (Some size) blocks = if blocks == size then None else Some (fault_of 255 head.at (unequal blocks size))
+blocks_of_head (Some head) None blocks = None
+blocks_of_head None size blocks = None
+
+-- another size than the first
+abbrev pub unlike : ℕ → Place → ℕ → Option ℕ → Option Fault
+unlike code at size (Some other) = Some (fault_of code at (unequal size other))
+unlike code at size None = None
+
+-- a region's size is a whole number of blocks
+abbrev pub whole_blocks : Place → ℕ → Option ℕ → Option Fault
+whole_blocks at block (Some size) = if size % block == 0 then None else Some (fault_of 255 at (unequal size (size - size % block)))
+whole_blocks at block None = None
+
+-- a volume's own size is that of each of its regions; without an own size its first region's counts
+abbrev pub blocks_with : StatedVolume → List StatedRegion → ℕ → Option ℕ → Option Fault
+blocks_with volume regions block (Some blocks) = unlike 255 volume.at (capped (block * blocks)) (other_size volume (capped (block * blocks)) regions)
+blocks_with volume regions block None = whole_blocks volume.at block (held_size volume regions)
+
+abbrev pub blocks_differ : Option ℕ → List StatedRegion → StatedVolume → Option Fault
+blocks_differ first regions volume = blocks_with volume regions (block_of first regions volume) volume.blocks
+
+-- the regions that hold a volume have one size
+abbrev pub sizes_of_regions : StatedVolume → List StatedRegion → Option ℕ → Option Fault
+sizes_of_regions volume regions (Some size) = unlike 256 volume.at size (other_size volume size regions)
+sizes_of_regions volume regions None = None
+
+abbrev pub two_sizes : List StatedRegion → StatedVolume → Option Fault
+two_sizes regions volume = sizes_of_regions volume regions (held_size volume regions)
+
+-- the first volume whose name one above has
+unfoldable pub twin : List StatedVolume → List StatedVolume → Option Fault
+twin above [] = None
+twin above (v ∷ vs) = if is_some (number_from 0 v.name above) then Some (fault_of 261 v.at v.name) else twin (above ++ v ∷ []) vs
+
+abbrev pub first_item : List ℕ → Option ℕ
+first_item [] = None
+first_item (n ∷ ns) = Some n
+
+-- the first fault of the whole, in the order of codes
+unfoldable pub whole_fault : DeviceTables → List StatedRegion → List StatedVolume → Option Fault
+whole_fault device regions volumes =
+    first_of (
+    unstated device.head device.base device.size
+    ∷ first_fault (too_large (first_item device.sizes) regions) volumes
+    ∷ first_fault (unknown volumes) regions
+    ∷ blocks_of_head device.head device.size device.blocks
+    ∷ first_fault (blocks_differ (first_item device.sizes) regions) volumes
+    ∷ first_fault (two_sizes regions) volumes
+    ∷ twin [] volumes
+    ∷ [])
+
+abbrev pub kind_numbered : Option ℕ → RegionKind
+kind_numbered (Some n) = Volume n
+kind_numbered None = Empty
+
+abbrev pub region_kind : List StatedVolume → Content → RegionKind
+region_kind volumes Nothing = Empty
+region_kind volumes (Listed bytes) = Bytes bytes
+region_kind volumes (Named held) = kind_numbered (number_from 0 held.name volumes)
+
+abbrev pub region_of : List StatedVolume → StatedRegion → Region
+region_of volumes region = record { at = region.at; offset = region.extent.offset; size = region.extent.size; kind = region_kind volumes region.content }
 
 -- polarity 1 where none is stated
 abbrev pub polarity_of : Option ℕ → ℕ
@@ -96,8 +177,8 @@ polarity_of stated = if unwrap_or stated 1 == 0 then 0 else 1
 abbrev pub attributes_of : ℕ → ℕ
 attributes_of erase = if erase == 0 then 0 else 2048
 
-abbrev pub head_of : StatedVolume → ℕ → Option ℕ → VolumeHead
-head_of volume block size = record {
+abbrev pub head_with : StatedVolume → ℕ → Option ℕ → VolumeHead
+head_with volume block size = record {
   at = volume.at;
   name = volume.name;
   attributes = attributes_of (polarity_of volume.erase);
@@ -110,47 +191,28 @@ head_of volume block size = record {
 }
 
 abbrev pub plan_with : StatedVolume → ℕ → Option ℕ → VolumePlan
-plan_with volume block size = record { head = head_of volume block size; items = volume.items }
+plan_with volume block size = record { head = head_with volume block size; items = volume.items }
 
-abbrev pub sized_plan : List Region → ℕ → StatedVolume → ℕ → Option ℕ → Option VolumePlan
-sized_plan regions n volume block size =
-    if size_fits block size && (regions_fit n size regions && nat_le (length volume.items) 65535) then Some (plan_with volume block size) else None
-
-abbrev pub held_plan : List Region → ℕ → StatedVolume → Option ℕ → ℕ → Option VolumePlan
-held_plan regions n volume held block = sized_plan regions n volume block (volume_size block volume.blocks held)
-
-unfoldable pub volume_plan : Option ℕ → List Region → ℕ → StatedVolume → Option VolumePlan
-volume_plan first regions n volume = held_plan regions n volume (held_size n regions) (block_size_of volume.block_size (held_size n regions) first)
-
-abbrev pub first_item : List ℕ → Option ℕ
-first_item [] = None
-first_item (n ∷ ns) = Some n
+unfoldable pub volume_plan : Option ℕ → List StatedRegion → StatedVolume → VolumePlan
+volume_plan first regions volume = plan_with volume (block_of first regions volume) (size_of first regions volume)
 
 abbrev pub device_with : DeviceHead → ℕ → ℕ → ℕ → List Region → DevicePlan
 device_with head base size erase regions = record { at = head.at; name = head.name; base = base; size = size; erase = erase; regions = regions }
 
--- a size of at most 0x10000000 that is the sum of the blocks
-abbrev pub sized_device : DeviceHead → ℕ → ℕ → ℕ → ℕ → List Region → Option (List DevicePlan)
-sized_device head base size erase blocks regions =
-    if nat_le size 268435456 && (blocks == size) then Some (device_with head base size erase regions ∷ []) else None
+abbrev pub devices_with : Option DeviceHead → DeviceTables → List Region → List DevicePlan
+devices_with (Some head) device regions = device_with head (unwrap_or device.base 0) (unwrap_or device.size 0) (polarity_of device.erase) regions ∷ []
+devices_with None device regions = []
 
-abbrev pub one_device : List DeviceHead → Option ℕ → Option ℕ → ℕ → ℕ → List Region → Option (List DevicePlan)
-one_device [] base size erase blocks regions = Some []
-one_device (head ∷ []) (Some base) (Some size) erase blocks regions = sized_device head base size erase blocks regions
-one_device heads base size erase blocks regions = None
+abbrev pub devices_of : DeviceTables → List Region → List DevicePlan
+devices_of device regions = devices_with device.head device regions
 
--- no device, or one of which all is stated that must be
-unfoldable pub devices_of : DeviceTables → List Region → Option (List DevicePlan)
-devices_of device regions = one_device device.heads device.base device.size (polarity_of device.erase) device.blocks regions
+unfoldable pub document_of : List ℕ → DeviceTables → List StatedRegion → List StatedVolume → FlashDoc
+document_of root device regions volumes = record {
+  at = record { path = root; line = 0 };
+  devices = devices_of device (map (region_of volumes) regions);
+  volumes = map (volume_plan (first_item device.sizes) regions) volumes;
+}
 
-abbrev pub document_of : List ℕ → List VolumePlan → List DevicePlan → FlashDoc
-document_of root volumes devices = record { at = record { path = root; line = 0 }; devices = devices; volumes = volumes }
-
-unfoldable pub placed : List ℕ → DeviceTables → List StatedVolume → List Region → Option FlashDoc
-placed root device volumes regions =
-    option_and_then (λ plans. option_map (document_of root plans) (devices_of device regions)) (each_some (volume_plan (first_item device.sizes) regions) 0 volumes)
-
--- the document of these parts
-unfoldable pub flash_of_parts : List ℕ → DeviceTables → List StatedRegion → List StatedVolume → Option FlashDoc
-flash_of_parts root device regions volumes =
-    if nat_le (length volumes) 65535 && no_twins volumes then option_and_then (placed root device volumes) (each_some (region_of volumes) 0 regions) else None
+-- the first fault of the whole, else the document
+unfoldable pub flash_of_parts : List ℕ → DeviceTables → List StatedRegion → List StatedVolume → Result FlashDoc Fault
+flash_of_parts root device regions volumes = unless (whole_fault device regions volumes) (document_of root device regions volumes)

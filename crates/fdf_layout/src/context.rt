@@ -1,14 +1,25 @@
-//! What the lines above come to, and which lines may stand there.
-ghost use Rattle.std.specs.Prelude.{◌≡◌, ◌&&◌, is_some, IfOk, ◌++◌, OnOk, None};
+//! What the lines above come to, and the faults of lines that don't stand there.
+ghost use Rattle.std.specs.Prelude.{◌≡◌, ◌<◌, ◌^◌, is_some, IfOk, ◌++◌, OnOk, None};
 ghost use Rattle.std.specs.Option.{option_map};
-ghost use Rattle.fdf_layout.specs.Contexts.{in_device, in_volume, region_in, block_in, file_in, start, device_key_fits, volume_key_fits, key_fits, body_fits, is_file, part_fits, may_stand, leaves_open, block_after, new_volume, volume_keyed, keyed, with_region, opened_file, section_plan, with_section, with_whole, item_of, volume_stated, stated};
+ghost use Rattle.build_base.specs.Answer.{Checks, Finds};
+ghost use Rattle.fdf_layout.specs.Keys.{key_text, key_pair};
+ghost use Rattle.fdf_layout.specs.VolumeLines.{is_close};
+ghost use Rattle.fdf_layout.specs.Contexts.{in_device, in_volume, region_in, block_in, file_in, items_in, zone_of, start, block_after, new_volume, volume_keyed, keyed, with_region, opened_file, section_plan, with_section, with_whole, item_of, volume_stated, stated};
+ghost use Rattle.fdf_layout.specs.Standing.{open_brace, head_fault, device_head_fault, volume_count, too_many, volume_head_fault, key_order, key_fault, content_fault, body_fits, is_file, body_fault, open_part_fault, part_fault, standing, leaves_open, end_fault};
 
-use crate::line::{Extent, FlashKey, FlashLine};
+use crate::key::{FlashKey, key_text};
+use crate::line::{Extent, FlashLine, Zone};
+use crate::number::bad_line;
 use crate::statement::{FileHead, Part, SectionForm};
-use build_base::{Path, Place, Rows, Text, WantOfMemory};
+use crate::volume_line::{begins_file, is_close};
+use build_base::{Path, Place, Refusal, Rows, Taken, Text, WantOfMemory, refuse};
 use doc_types::volume::{FilePlan, Item, SectionPlan};
+use macro_conditions::readable::refuse_line;
 use std::alloc::Global;
 use std::mem;
+
+/// The most volumes, and the most statements of one.
+const COUNT_LIMIT: usize = 65535;
 
 /// A region whose content may still come.
 #[derive(Debug, Drop)]
@@ -51,51 +62,18 @@ pub struct FlashContext {
     pub section: Within,
 }
 
-fn device_key_fits(block: Option<u64>, key: FlashKey, number: u64) -> bool
-    ensures { result ≡ device_key_fits block key number }
-{
-    match key {
-        FlashKey::BaseAddress | FlashKey::Size => true,
-        FlashKey::ErasePolarity => number <= 1,
-        FlashKey::BlockSize => block.is_none(),
-        FlashKey::NumBlocks => block.is_some(),
-        FlashKey::VolumePolarity => false,
-    }
-}
-
-fn volume_key_fits(key: FlashKey, number: u64) -> bool
-    ensures { result ≡ volume_key_fits key number }
-{
-    match key {
-        FlashKey::BlockSize | FlashKey::NumBlocks => true,
-        FlashKey::VolumePolarity => number <= 1,
-        FlashKey::BaseAddress | FlashKey::Size | FlashKey::ErasePolarity => false,
-    }
-}
-
-fn body_fits(file: &FilePlan, part: &Part) -> bool
-    ensures { result ≡ body_fits file.now part.now }
-{
-    match part {
-        Part::File(_) => false,
-        Part::Section(_) => file.whole.is_none(),
-        Part::Whole(_) => file.whole.is_none() && file.sections.items().is_empty(),
-        Part::Close => true,
-    }
-}
-
-fn is_file(part: &Part) -> bool
-    ensures { result ≡ is_file part.now }
-{
-    matches!(part, Part::File(_))
-}
-
 impl Within {
     /// Whether this is a device.
     pub fn in_device(&self) -> bool
         ensures { result ≡ in_device self.now }
     {
         matches!(self, Within::InDevice(_))
+    }
+
+    fn in_volume(&self) -> bool
+        ensures { result ≡ in_volume self.now }
+    {
+        matches!(self, Within::InVolume(_))
     }
 
     /// The block size whose number of blocks is still to come.
@@ -126,25 +104,151 @@ impl Within {
         }
     }
 
-    fn key_fits(&self, key: FlashKey, number: u64) -> bool
-        ensures { result ≡ key_fits self.now key number }
+    fn item_count(&self) -> usize
+        ensures { result ≡ Rattle.std.specs.Prelude.length (items_in self.now) }
     {
         match self {
-            Within::Outside => false,
-            Within::InDevice(device) => device_key_fits(device.block, key, number),
-            Within::InVolume(volume) => volume.file.is_none() && volume_key_fits(key, number),
+            Within::InVolume(volume) => volume.items.items().len(),
+            Within::Outside | Within::InDevice(_) => 0,
         }
     }
 
-    fn part_fits(&self, part: &Part) -> bool
-        ensures { result ≡ (in_volume self.now && part_fits (file_in self.now) part.now) }
+    /// Where the next line stands.
+    pub fn zone(&self) -> Zone
+        ensures { result ≡ zone_of self.now }
+    {
+        match self {
+            Within::Outside => Zone::FrontZone,
+            Within::InDevice(_) => Zone::DeviceZone,
+            Within::InVolume(volume) => {
+                if volume.file.is_some() {
+                    Zone::BraceZone
+                } else {
+                    Zone::VolumeZone
+                }
+            }
+        }
+    }
+
+    // Whether a key's number isn't in turn.
+    fn out_of_order(&self, key: FlashKey) -> bool
+        ensures { result ≡ key_order self.now key }
+    {
+        match key {
+            FlashKey::BlockSize => self.in_device() && self.block().is_some(),
+            FlashKey::NumBlocks => self.in_device() && self.block().is_none(),
+            _ => false,
+        }
+    }
+}
+
+fn open_brace(alloc: Global, line: &Taken) -> Refusal
+    ensures { Finds result (Rattle.std.specs.Prelude.Some (open_brace line.now)) }
+{
+    refuse(alloc, 246, &line.at, b"{".as_slice())
+}
+
+fn too_many(alloc: Global, line: &Taken, count: usize) -> Result<(), Refusal>
+    ensures { Checks result (too_many line.now count) }
+{
+    if count < COUNT_LIMIT {
+        Ok(())
+    } else {
+        Err(refuse(alloc, 263, &line.at, b"65536".as_slice()))
+    }
+}
+
+fn body_fits(file: &FilePlan, part: &Part) -> bool
+    ensures { result ≡ body_fits file.now part.now }
+{
+    match part {
+        Part::Section(_) => file.whole.is_none(),
+        Part::Whole(_) => file.whole.is_none() && file.sections.items().is_empty(),
+        Part::File(_) | Part::Close => true,
+    }
+}
+
+fn is_file(part: &Part) -> bool
+    ensures { result ≡ is_file part.now }
+{
+    matches!(part, Part::File(_))
+}
+
+fn body_fault(alloc: Global, line: &Taken, file: &FilePlan, part: &Part) -> Result<(), Refusal>
+    ensures { Checks result (body_fault line.now file.now part.now) }
+{
+    if body_fits(file, part) {
+        Ok(())
+    } else {
+        Err(bad_line(alloc, 246, line))
+    }
+}
+
+impl Within {
+    fn head_fault(&self, alloc: Global, line: &Taken) -> Result<(), Refusal>
+        ensures { Checks result (head_fault self.now line.now) }
+    {
+        if self.has_file() {
+            Err(open_brace(alloc, line))
+        } else {
+            Ok(())
+        }
+    }
+
+    fn volume_count(&self, closed: usize) -> usize
+        requires { closed < 2 ^ 63 }
+        ensures { result ≡ volume_count closed self.now }
+    {
+        if self.in_volume() { closed + 1 } else { closed }
+    }
+
+    fn volume_head_fault(&self, alloc: Global, line: &Taken, closed: usize) -> Result<(), Refusal>
+        requires { closed < 2 ^ 63 }
+        ensures { Checks result (volume_head_fault closed self.now line.now) }
+    {
+        self.head_fault(alloc, line)?;
+        too_many(alloc, line, self.volume_count(closed))
+    }
+
+    fn key_fault(&self, alloc: Global, line: &Taken, key: FlashKey) -> Result<(), Refusal>
+        ensures { Checks result (key_fault self.now line.now key) }
+    {
+        if self.out_of_order(key) {
+            Err(refuse(alloc, 241, &line.at, key_text(line.text.bytes())))
+        } else {
+            Ok(())
+        }
+    }
+
+    fn content_fault(&self, alloc: Global, line: &Taken) -> Result<(), Refusal>
+        ensures { Checks result (content_fault self.now line.now) }
+    {
+        if self.awaits_content() {
+            Ok(())
+        } else {
+            Err(bad_line(alloc, 244, line))
+        }
+    }
+
+    fn open_part_fault(&self, alloc: Global, line: &Taken, part: &Part) -> Result<(), Refusal>
+        ensures { Checks result (open_part_fault line.now (file_in self.now) part.now) }
     {
         match self {
             Within::InVolume(volume) => match &volume.file {
-                Some(file) => body_fits(file, part),
-                None => is_file(part),
+                Some(file) => body_fault(alloc, line, file, part),
+                None => Ok(()),
             },
-            Within::Outside | Within::InDevice(_) => false,
+            Within::Outside | Within::InDevice(_) => Ok(()),
+        }
+    }
+
+    fn part_fault(&self, alloc: Global, line: &Taken, part: &Part) -> Result<(), Refusal>
+        ensures { Checks result (part_fault self.now line.now part.now) }
+    {
+        if is_file(part) {
+            too_many(alloc, line, self.item_count())
+        } else {
+            self.open_part_fault(alloc, line, part)
         }
     }
 }
@@ -160,31 +264,56 @@ impl FlashContext {
         }
     }
 
-    /// Whether the line may stand below.
-    pub fn may_stand(&self, line: &FlashLine) -> bool
-        ensures { result ≡ may_stand self.now line.now }
+    fn device_head_fault(&self, alloc: Global, line: &Taken) -> Result<(), Refusal>
+        ensures { Checks result (device_head_fault self.now line.now) }
     {
-        match line {
-            FlashLine::Blank => true,
-            FlashLine::Device(_) => !self.device && !self.section.has_file(),
-            FlashLine::Volume(_) => !self.section.has_file(),
-            FlashLine::Keyed(key, number) => self.section.key_fits(*key, *number),
-            FlashLine::Region(_) => self.section.in_device(),
-            FlashLine::Data(_) | FlashLine::Held(_) => self.section.awaits_content(),
-            FlashLine::Statement(part) => self.section.part_fits(part),
-            FlashLine::Unread => false,
+        if self.device {
+            return Err(refuse_line(alloc, line));
         }
+        self.section.head_fault(alloc, line)
     }
 
-    /// Whether a statement is open after the line.
-    pub fn leaves_open(&self, line: &FlashLine) -> bool
-        ensures { result ≡ leaves_open self.now line.now }
+    /// Refuses a line that doesn't fit what stands above it. `closed` is how many volumes are whole above.
+    pub fn standing(
+        &self,
+        alloc: Global,
+        line: &Taken,
+        closed: usize,
+        form: &FlashLine,
+    ) -> Result<(), Refusal>
+        requires { closed < 2 ^ 63 }
+        ensures { Checks result (standing closed self.now line.now form.now) }
     {
-        match line {
-            FlashLine::Statement(Part::File(_)) => true,
-            FlashLine::Statement(Part::Close) => false,
-            _ => self.section.has_file(),
+        match form {
+            FlashLine::Blank | FlashLine::Region(_) => Ok(()),
+            FlashLine::Device(_) => self.device_head_fault(alloc, line),
+            FlashLine::Volume(_) => self.section.volume_head_fault(alloc, line, closed),
+            FlashLine::Keyed(key, _) => self.section.key_fault(alloc, line, *key),
+            FlashLine::Data(_) => self.section.content_fault(alloc, line),
+            FlashLine::Held(_) => self.section.content_fault(alloc, line),
+            FlashLine::Statement(part) => self.section.part_fault(alloc, line, part),
         }
+    }
+}
+
+fn leaves_open(zone: Zone, text: &[u8]) -> bool
+    ensures { result ≡ leaves_open zone text.now }
+{
+    match zone {
+        Zone::FrontZone | Zone::DeviceZone => false,
+        Zone::VolumeZone => begins_file(text),
+        Zone::BraceZone => !is_close(text),
+    }
+}
+
+/// Refuses a last line after which a statement is open.
+pub fn end_fault(alloc: Global, zone: Zone, line: &Taken, last: bool) -> Result<(), Refusal>
+    ensures { Checks result (end_fault zone line.now last) }
+{
+    if last && leaves_open(zone, line.text.bytes()) {
+        Err(open_brace(alloc, line))
+    } else {
+        Ok(())
     }
 }
 

@@ -1,13 +1,19 @@
 //! A flash description, read from its lines (EDK II FDF specification).
 #![tactic(auto)]
 
+pub mod check;
 pub mod context;
 pub mod data_bytes;
+pub mod device_line;
+pub mod head_line;
+pub mod key;
 pub mod line;
+pub mod number;
 pub mod reading;
 pub mod scan;
 pub mod statement;
 pub mod tables;
+pub mod volume_line;
 pub mod whole;
 pub mod word;
 

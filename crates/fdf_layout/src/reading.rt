@@ -1,9 +1,12 @@
 //! Reading a flash description's lines.
-ghost use Rattle.std.specs.Prelude.{◌≡◌, ◌++◌, OnOk, IfOk, None};
-ghost use Rattle.build_base.specs.Answer.{Answers};
+ghost use Rattle.std.specs.Prelude.{◌≡◌, ◌++◌, OnOk, IfOk, None, Option, length};
+ghost use Rattle.build_base.specs.Answer.{Answers, Finds};
+ghost use Rattle.build_base.specs.declared.fault.Fault.{Fault as Found};
+ghost use Rattle.macro_conditions.specs.ValueFields.{lesser};
+ghost use Rattle.fdf_layout.specs.Standing.{own_line, end_fault};
 ghost use Rattle.macro_conditions.specs.Reading.{last_or};
 ghost use Rattle.fdf_layout.specs.Contexts.{after, with_region};
-ghost use Rattle.fdf_layout.specs.Flash.{heads_at, base_at, size_at, erase_at, products_at, sizes_at, regions_at, volumes_at, filled, volume_rows, capped_sum, whole, flash_of};
+ghost use Rattle.fdf_layout.specs.Flash.{heads_at, base_at, size_at, erase_at, products_at, sizes_at, regions_at, volumes_at, filled, volume_rows, capped_sum, flash_of};
 ghost use Rattle.fdf_layout.specs.Whole.{flash_of_parts};
 ghost use Rattle.fdf_layout.specs.Shape.{HasShape};
 ghost use Rattle.fdf_layout.specs.declared.line.FlashLine.TheVariants.{Device};
@@ -11,15 +14,15 @@ ghost use Rattle.fdf_layout.specs.declared.context.Within.TheVariants.{Outside};
 ghost use Rattle.fdf_layout.specs.declared.tables.Content.TheVariants.{Nothing};
 
 use crate::context::{
-    DevicePart, FlashContext, OpenRegion, StatedVolume, Within, keyed, new_volume, stated,
-    with_region, without_region,
+    DevicePart, FlashContext, OpenRegion, StatedVolume, Within, end_fault, keyed, new_volume,
+    stated, with_region, without_region,
 };
-use crate::line::{FlashLine, flash_line};
-use crate::tables::{Content, DeviceHead, DeviceTables, StatedRegion, push_region};
+use crate::line::{FlashLine, Zone, flash_line};
+use crate::tables::{Content, DeviceHead, DeviceTables, NamedVolume, StatedRegion, push_region};
 use crate::whole::document;
 use build_base::{Lines, Path, Permit, Place, Refusal, Rows, Same, Taken, Text, WantOfMemory};
 use doc_types::flash::FlashDoc;
-use macro_conditions::readable::{refuse_document, refuse_line};
+use macro_conditions::value_fields::lesser_refusal;
 use macro_conditions::{Reader, read_lines};
 use std::alloc::Global;
 use std::mem;
@@ -69,9 +72,9 @@ impl FlashReader {
         push_volume(&mut self.volumes, section)
     }
 
-    fn begin_device(&mut self, at: Place, name: Text) -> Result<(), WantOfMemory>
-        ensures device { OnOk result (self.new.device ≡ record self.old.device { heads = self.old.device.heads ++ heads_at at (Device name) }) }
-        ensures context { OnOk result (self.new.context ≡ after self.old.context at (Device name)) }
+    fn begin_device(&mut self, at: Place, name: Text)
+        ensures device { (self.new.device ≡ record self.old.device { head = last_or self.old.device.head (heads_at at (Device name)) }) }
+        ensures context { self.new.context ≡ after self.old.context at (Device name) }
         ensures regions { self.new.regions ≡ self.old.regions }
         ensures volumes { self.new.volumes ≡ self.old.volumes }
     {
@@ -82,27 +85,28 @@ impl FlashReader {
                 region: None,
             }),
         };
-        self.device.heads.push(DeviceHead { at, name })
+        self.device.head = Some(DeviceHead { at, name });
     }
 
     // Takes what the line gives.
     fn take(&mut self, at: &Place, line: FlashLine) -> Result<(), WantOfMemory>
         ensures context { OnOk result (self.new.context ≡ after self.old.context at.now line) }
-        ensures heads { OnOk result (self.new.device.heads ≡ self.old.device.heads ++ heads_at at.now line) }
+        ensures head { OnOk result (self.new.device.head ≡ last_or self.old.device.head (heads_at at.now line)) }
         ensures base { OnOk result (self.new.device.base ≡ last_or self.old.device.base (base_at line)) }
         ensures size { OnOk result (self.new.device.size ≡ last_or self.old.device.size (size_at line)) }
         ensures erase { OnOk result (self.new.device.erase ≡ last_or self.old.device.erase (erase_at line)) }
         ensures blocks { OnOk result (self.new.device.blocks ≡ capped_sum self.old.device.blocks (products_at self.old.context line)) }
         ensures sizes { OnOk result (self.new.device.sizes ≡ self.old.device.sizes ++ sizes_at self.old.context line) }
-        ensures regions { OnOk result (self.new.regions ≡ self.old.regions ++ regions_at self.old.context line) }
+        ensures regions { OnOk result (self.new.regions ≡ self.old.regions ++ regions_at self.old.context at.now line) }
         ensures volumes { OnOk result (self.new.volumes ≡ self.old.volumes ++ volumes_at self.old.context line) }
     {
         match line {
-            FlashLine::Blank | FlashLine::Unread => Ok(()),
+            FlashLine::Blank => Ok(()),
             FlashLine::Device(name) => {
                 let at = at.copy(self.alloc)?;
                 self.close()?;
-                self.begin_device(at, name)
+                self.begin_device(at, name);
+                Ok(())
             }
             FlashLine::Volume(name) => {
                 let at = at.copy(self.alloc)?;
@@ -126,7 +130,10 @@ impl FlashReader {
                 Ok(())
             }
             FlashLine::Data(bytes) => self.fill(Content::Listed(bytes)),
-            FlashLine::Held(name) => self.fill(Content::Named(name)),
+            FlashLine::Held(name) => {
+                let at = at.copy(self.alloc)?;
+                self.fill(Content::Named(NamedVolume { at, name }))
+            }
             FlashLine::Statement(part) => {
                 let at = at.copy(self.alloc)?;
                 let section = mem::replace(&mut self.context.section, Within::Outside);
@@ -134,6 +141,28 @@ impl FlashReader {
                 Ok(())
             }
         }
+    }
+}
+
+// The refusal of a line, or of an open statement at the end, if that has the lesser code.
+fn with_end(alloc: Global, zone: Zone, line: &Taken, last: bool, refusal: Refusal) -> Refusal
+    ensures { (fault : Option Found) → Finds refusal fault → Finds result (lesser fault (end_fault zone line.now last)) }
+{
+    match end_fault(alloc, zone, line, last) {
+        Ok(()) => refusal,
+        Err(end) => lesser_refusal(refusal, end),
+    }
+}
+
+impl FlashReader {
+    // What the line is below those that are read.
+    fn read(&self, line: &Taken) -> Result<FlashLine, Refusal>
+        ensures { Answers result (own_line (length self.now.volumes) self.now.context line.now) }
+    {
+        let form = flash_line(self.alloc, self.context.section.zone(), line)?;
+        let closed = self.volumes.items().len();
+        self.context.standing(self.alloc, line, closed, &form)?;
+        Ok(form)
     }
 }
 
@@ -146,31 +175,31 @@ impl Reader for FlashReader {
     ghost fault = { line_fault };
 
     fn line(&mut self, line: &Taken, last: bool) -> Result<(), Refusal> {
-        let form = flash_line(self.alloc, line.text.bytes())?;
-        if !self.context.may_stand(&form) || last && self.context.leaves_open(&form) {
-            return Err(refuse_line(self.alloc, line));
+        let zone = self.context.section.zone();
+        match self.read(line) {
+            Ok(form) => {
+                end_fault(self.alloc, zone, line, last)?;
+                self.take(&line.at, form)?;
+                Ok(())
+            }
+            Err(refusal) => Err(with_end(self.alloc, zone, line, last, refusal)),
         }
-        self.take(&line.at, form)?;
-        Ok(())
     }
 }
 
 // The document of what was read, with what is open at the end.
 fn finish(root: &Path, mut reader: FlashReader) -> Result<FlashDoc, Refusal>
-    ensures { Answers result (whole root.now (flash_of_parts root.now reader.device (reader.regions ++ filled reader.context.section Nothing) (reader.volumes ++ volume_rows reader.context.section))) }
+    ensures { Answers result (flash_of_parts root.now reader.device (reader.regions ++ filled reader.context.section Nothing) (reader.volumes ++ volume_rows reader.context.section)) }
 {
     let alloc = reader.alloc;
     reader.close()?;
-    match document(
+    document(
         alloc,
         root,
         &reader.device,
         reader.regions.items(),
         reader.volumes.items(),
-    )? {
-        Some(document) => Ok(document),
-        None => Err(refuse_document(alloc, root)),
-    }
+    )
 }
 
 #[tactic(auto, unfolding(crate::specs::Flash::flash_of))]
@@ -190,9 +219,8 @@ fn read_document(alloc: Global, lines: &Lines) -> Result<FlashDoc, Refusal>
     finish(&lines.root, reader)
 }
 
-/// The flash description of these lines, or the first fault: of the first line that isn't of a form that
-/// is read or may not stand there, else of the document, at its root's line 0, where its device, its regions
-/// and its volumes don't fit.
+/// The flash description of these lines, or the first fault: that of the first line that has one, of its
+/// faults the one of the least code, else of the whole, in the order of codes.
 pub fn read_flash(alloc: Global, permit: Permit, lines: &Lines) -> Result<FlashDoc, Refusal>
     ensures flash { Answers result (flash_of lines.now) }
     ensures shape { IfOk result (λ flash. HasShape flash) }

@@ -5,7 +5,8 @@ ghost use Rattle.fdf_layout.specs.Flash.{base_at, size_at, erase_at, product, ke
 ghost use Rattle.fdf_layout.specs.declared.line.FlashLine.TheVariants.{Keyed};
 
 use crate::context::OpenRegion;
-use crate::line::{Extent, FlashKey};
+use crate::key::FlashKey;
+use crate::line::Extent;
 use build_base::{Place, Rows, Text, WantOfMemory};
 use std::alloc::Global;
 
@@ -16,10 +17,10 @@ pub struct DeviceHead {
     pub name: Text,
 }
 
-/// What the keys of a device give: the last of its numbers, the sum of its blocks, and its block sizes.
+/// What the lines of a device give: its head, the last of its numbers, the sum of its blocks, and its block sizes.
 #[derive(Debug, Drop)]
 pub struct DeviceTables {
-    pub heads: Rows<DeviceHead>,
+    pub head: Option<DeviceHead>,
     pub base: Option<u64>,
     pub size: Option<u64>,
     pub erase: Option<u64>,
@@ -27,12 +28,19 @@ pub struct DeviceTables {
     pub sizes: Rows<u64>,
 }
 
+/// The name of a volume as a region's line gives it.
+#[derive(Debug, Drop)]
+pub struct NamedVolume {
+    pub at: Place,
+    pub name: Text,
+}
+
 /// What a region's lines say of its content: nothing, bytes, or the name of a volume.
 #[derive(Debug, Drop)]
 pub enum Content {
     Nothing,
     Listed(Text),
-    Named(Text),
+    Named(NamedVolume),
 }
 
 /// A region as its lines state it.
@@ -56,10 +64,10 @@ fn more_blocks(blocks: u64, block: Option<u64>, number: u64) -> u64
 impl DeviceTables {
     /// No device yet.
     pub fn new(alloc: Global) -> DeviceTables
-        ensures { result ≡ record { heads = []; base = None; size = None; erase = None; blocks = 0; sizes = [] } }
+        ensures { result ≡ record { head = None; base = None; size = None; erase = None; blocks = 0; sizes = [] } }
     {
         DeviceTables {
-            heads: Rows::new(alloc),
+            head: None,
             base: None,
             size: None,
             erase: None,
@@ -76,7 +84,7 @@ impl DeviceTables {
         key: FlashKey,
         number: u64,
     ) -> Result<(), WantOfMemory>
-        ensures heads { OnOk result (self.new.heads ≡ self.old.heads) }
+        ensures head { OnOk result (self.new.head ≡ self.old.head) }
         ensures base { OnOk result (self.new.base ≡ last_or self.old.base (base_at (Keyed key number))) }
         ensures size { OnOk result (self.new.size ≡ last_or self.old.size (size_at (Keyed key number))) }
         ensures erase { OnOk result (self.new.erase ≡ last_or self.old.erase (erase_at (Keyed key number))) }

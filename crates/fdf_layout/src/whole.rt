@@ -1,88 +1,17 @@
 //! The document of what the lines give.
-ghost use Rattle.std.specs.Prelude.{◌≡◌, ℕ, ◌≤◌, ◌%◌, ◌==◌, length, IfOk};
-ghost use Rattle.fdf_layout.specs.Whole.{each_some, region_kind, region_of, regions_fit, block_size_of, volume_size, size_fits, polarity_of, attributes_of, plan_with, sized_plan, volume_plan, first_item, sized_device, devices_of, document_of, placed, flash_of_parts};
+ghost use Rattle.std.specs.Prelude.{◌≡◌, ◌%◌, ◌==◌, IfOk, map, Some};
+ghost use Rattle.build_base.specs.Answer.{Answers};
+ghost use Rattle.fdf_layout.specs.Whole.{block_size_of, volume_size, block_of, size_of, kind_numbered, region_kind, region_of, polarity_of, attributes_of, plan_with, volume_plan, first_item, devices_with, devices_of, document_of, flash_of_parts, held_size};
 
+use crate::check::check;
 use crate::context::StatedVolume;
-use crate::scan::{all_sized, held_size, no_twins, volume_number};
+use crate::scan::{held_size, volume_number};
 use crate::tables::{Content, DeviceHead, DeviceTables, StatedRegion};
-use build_base::{Path, Place, Rows, Same, WantOfMemory};
+use build_base::{Path, Place, Refusal, Rows, Same, WantOfMemory};
 use doc_types::flash::{DevicePlan, FlashDoc, Region, RegionKind};
 use doc_types::volume::VolumePlan;
 use doc_types::volume_head::VolumeHead;
 use std::alloc::Global;
-
-/// The greatest size of a device or a volume.
-const SIZE_LIMIT: u64 = 0x1000_0000;
-
-/// The most volumes, and the most statements of one.
-const COUNT_LIMIT: usize = 65535;
-
-#[tactic(auto, unfolding(crate::specs::Whole::region_kind))]
-fn region_kind(
-    alloc: Global,
-    volumes: &[StatedVolume],
-    content: &Content,
-) -> Result<Option<RegionKind>, WantOfMemory>
-    requires { length volumes.now ≤ 65535 }
-    ensures { IfOk result (λ k. k ≡ region_kind volumes.now content.now) }
-{
-    match content {
-        Content::Nothing => Ok(Some(RegionKind::Empty)),
-        Content::Listed(bytes) => Ok(Some(RegionKind::Bytes(bytes.copy(alloc)?))),
-        Content::Named(name) => match volume_number(name.bytes(), volumes) {
-            Some(number) => Ok(Some(RegionKind::Volume(number))),
-            None => Ok(None),
-        },
-    }
-}
-
-#[tactic(auto, unfolding(crate::specs::Whole::region_of))]
-fn region_of(
-    alloc: Global,
-    volumes: &[StatedVolume],
-    region: &StatedRegion,
-) -> Result<Option<Region>, WantOfMemory>
-    requires { length volumes.now ≤ 65535 }
-    ensures { (n : ℕ) → IfOk result (λ r. r ≡ region_of volumes.now n region.now) }
-{
-    let Some(kind) = region_kind(alloc, volumes, &region.content)? else {
-        return Ok(None);
-    };
-    Ok(Some(Region {
-        at: region.at.copy(alloc)?,
-        offset: region.extent.offset,
-        size: region.extent.size,
-        kind,
-    }))
-}
-
-// The regions with the volumes that they name.
-fn place_regions(
-    alloc: Global,
-    volumes: &[StatedVolume],
-    stated: &[StatedRegion],
-) -> Result<Option<Rows<Region>>, WantOfMemory>
-    requires { length volumes.now ≤ 65535 }
-    ensures { IfOk result (λ o. o ≡ each_some (region_of volumes.now) 0 stated.now) }
-{
-    let mut regions = Rows::new(alloc);
-    for region in stated {
-        match region_of(alloc, volumes, region)? {
-            Some(region) => regions.push(region)?,
-            None => return Ok(None),
-        }
-    }
-    Ok(Some(regions))
-}
-
-fn regions_fit(number: u32, size: Option<u64>, regions: &[Region]) -> bool
-    ensures { result ≡ regions_fit number size regions.now }
-{
-    match size {
-        Some(size) => all_sized(number, size, regions),
-        None => true,
-    }
-}
 
 fn block_size_of(own: Option<u64>, held: Option<u64>, first: Option<u64>) -> u64
     ensures { result ≡ block_size_of own held first }
@@ -103,25 +32,77 @@ fn volume_size(block: u64, blocks: Option<u64>, held: Option<u64>) -> Option<u64
     }
 }
 
-// Whether a size is a multiple of a unit; of 0 there is the multiple 0 alone.
-fn is_multiple(size: u64, unit: u64) -> bool
-    ensures { result ≡ (size % unit == 0) }
+/// The block size of a volume: its own, else the first of the device that holds it, else 0x1000.
+pub fn block_of(first: Option<u64>, regions: &[StatedRegion], volume: &StatedVolume) -> u64
+    ensures { result ≡ block_of first regions.now volume.now }
 {
-    if unit == 0 {
-        size == 0
-    } else {
-        size % unit == 0
+    block_size_of(volume.block_size, held_size(volume, regions), first)
+}
+
+/// The size of a volume that its blocks or its first region give.
+pub fn size_of(first: Option<u64>, regions: &[StatedRegion], volume: &StatedVolume) -> Option<u64>
+    ensures { result ≡ size_of first regions.now volume.now }
+{
+    let block = block_of(first, regions, volume);
+    volume_size(block, volume.blocks, held_size(volume, regions))
+}
+
+// A number past 32 bits can't be had: there are at most 65,535 volumes.
+fn kind_numbered(number: Option<usize>) -> Result<RegionKind, WantOfMemory>
+    ensures { IfOk result (λ k. k ≡ kind_numbered number) }
+{
+    match number {
+        Some(number) => match u32::try_from(number) {
+            Ok(number) => Ok(RegionKind::Volume(number)),
+            Err(_) => Err(WantOfMemory),
+        },
+        None => Ok(RegionKind::Empty),
     }
 }
 
-#[tactic(auto, unfolding(crate::specs::Whole::size_fits))]
-fn size_fits(block: u64, size: Option<u64>) -> bool
-    ensures { result ≡ size_fits block size }
+fn region_kind(
+    alloc: Global,
+    volumes: &[StatedVolume],
+    content: &Content,
+) -> Result<RegionKind, WantOfMemory>
+    ensures { IfOk result (λ k. k ≡ region_kind volumes.now content.now) }
 {
-    match size {
-        Some(size) => size <= SIZE_LIMIT && is_multiple(size, block),
-        None => true,
+    match content {
+        Content::Nothing => Ok(RegionKind::Empty),
+        Content::Listed(bytes) => Ok(RegionKind::Bytes(bytes.copy(alloc)?)),
+        Content::Named(held) => kind_numbered(volume_number(held.name.bytes(), volumes)),
     }
+}
+
+fn region_of(
+    alloc: Global,
+    volumes: &[StatedVolume],
+    region: &StatedRegion,
+) -> Result<Region, WantOfMemory>
+    ensures { IfOk result (λ r. r ≡ region_of volumes.now region.now) }
+{
+    let kind = region_kind(alloc, volumes, &region.content)?;
+    Ok(Region {
+        at: region.at.copy(alloc)?,
+        offset: region.extent.offset,
+        size: region.extent.size,
+        kind,
+    })
+}
+
+// The regions with the volumes that they name.
+fn place_regions(
+    alloc: Global,
+    volumes: &[StatedVolume],
+    stated: &[StatedRegion],
+) -> Result<Rows<Region>, WantOfMemory>
+    ensures { IfOk result (λ rows. rows ≡ map (region_of volumes.now) stated.now) }
+{
+    let mut regions = Rows::new(alloc);
+    for region in stated {
+        regions.push(region_of(alloc, volumes, region)?)?;
+    }
+    Ok(regions)
 }
 
 fn polarity_of(stated: Option<u64>) -> u8
@@ -162,63 +143,38 @@ fn plan_with(
     })
 }
 
-fn sized_plan(
-    alloc: Global,
-    regions: &[Region],
-    number: u32,
-    volume: &StatedVolume,
-    block: u64,
-    size: Option<u64>,
-) -> Result<Option<VolumePlan>, WantOfMemory>
-    ensures { IfOk result (λ p. p ≡ sized_plan regions.now number volume.now block size) }
-{
-    if size_fits(block, size)
-        && regions_fit(number, size, regions)
-        && volume.items.items().len() <= COUNT_LIMIT
-    {
-        Ok(Some(plan_with(alloc, volume, block, size)?))
-    } else {
-        Ok(None)
-    }
-}
-
 #[tactic(auto, unfolding(crate::specs::Whole::volume_plan))]
 fn volume_plan(
     alloc: Global,
     first: Option<u64>,
-    regions: &[Region],
-    number: u32,
+    regions: &[StatedRegion],
     volume: &StatedVolume,
-) -> Result<Option<VolumePlan>, WantOfMemory>
-    ensures { IfOk result (λ p. p ≡ volume_plan first regions.now number volume.now) }
+) -> Result<VolumePlan, WantOfMemory>
+    ensures { IfOk result (λ p. p ≡ volume_plan first regions.now volume.now) }
 {
-    let held = held_size(number, regions);
-    let block = block_size_of(volume.block_size, held, first);
-    let size = volume_size(block, volume.blocks, held);
-    sized_plan(alloc, regions, number, volume, block, size)
+    let block = block_of(first, regions, volume);
+    let size = size_of(first, regions, volume);
+    plan_with(alloc, volume, block, size)
 }
 
-// The plans of the volumes: each looks through the regions twice.
+// The plans of the volumes: each looks through the regions.
 fn make_volumes(
     alloc: Global,
     first: Option<u64>,
-    regions: &[Region],
+    regions: &[StatedRegion],
     volumes: &[StatedVolume],
-) -> Result<Option<Rows<VolumePlan>>, WantOfMemory>
-    requires { length volumes.now ≤ 65535 }
-    ensures { IfOk result (λ o. o ≡ each_some (volume_plan first regions.now) 0 volumes.now) }
+) -> Result<Rows<VolumePlan>, WantOfMemory>
+    ensures { IfOk result (λ rows. rows ≡ map (volume_plan first regions.now) volumes.now) }
 {
     let mut plans = Rows::new(alloc);
-    for (i, volume) in volumes.iter().enumerate() {
-        match volume_plan(alloc, first, regions, i as u32, volume)? {
-            Some(plan) => plans.push(plan)?,
-            None => return Ok(None),
-        }
+    for volume in volumes {
+        plans.push(volume_plan(alloc, first, regions, volume)?)?;
     }
-    Ok(Some(plans))
+    Ok(plans)
 }
 
-fn first_item(numbers: &[u64]) -> Option<u64>
+/// The first of some numbers.
+pub fn first_item(numbers: &[u64]) -> Option<u64>
     ensures { result ≡ first_item numbers.now }
 {
     match numbers {
@@ -227,89 +183,62 @@ fn first_item(numbers: &[u64]) -> Option<u64>
     }
 }
 
-fn sized_device(
+fn device_with(
     alloc: Global,
     head: &DeviceHead,
-    base: u64,
-    size: u64,
-    erase: u8,
-    blocks: u64,
+    device: &DeviceTables,
     regions: Rows<Region>,
-) -> Result<Option<Rows<DevicePlan>>, WantOfMemory>
-    ensures { IfOk result (λ d. d ≡ sized_device head.now base size erase blocks regions) }
+) -> Result<Rows<DevicePlan>, WantOfMemory>
+    ensures { IfOk result (λ d. d ≡ devices_with (Some head.now) device.now regions) }
 {
-    if size > SIZE_LIMIT || blocks != size {
-        return Ok(None);
-    }
-    let device = DevicePlan {
+    let plan = DevicePlan {
         at: head.at.copy(alloc)?,
         name: head.name.copy(alloc)?,
-        base,
-        size,
-        erase,
+        base: device.base.unwrap_or(0),
+        size: device.size.unwrap_or(0),
+        erase: polarity_of(device.erase),
         regions,
     };
     let mut devices = Rows::new(alloc);
-    devices.push(device)?;
-    Ok(Some(devices))
+    devices.push(plan)?;
+    Ok(devices)
 }
 
-#[tactic(auto, unfolding(crate::specs::Whole::devices_of))]
 fn devices_of(
     alloc: Global,
     device: &DeviceTables,
     regions: Rows<Region>,
-) -> Result<Option<Rows<DevicePlan>>, WantOfMemory>
+) -> Result<Rows<DevicePlan>, WantOfMemory>
     ensures { IfOk result (λ d. d ≡ devices_of device.now regions) }
 {
-    match (device.heads.items(), device.base, device.size) {
-        ([], _, _) => Ok(Some(Rows::new(alloc))),
-        ([head], Some(base), Some(size)) => {
-            let erase = polarity_of(device.erase);
-            sized_device(alloc, head, base, size, erase, device.blocks, regions)
-        }
-        _ => Ok(None),
+    match &device.head {
+        Some(head) => device_with(alloc, head, device, regions),
+        None => Ok(Rows::new(alloc)),
     }
 }
 
+#[tactic(auto, unfolding(crate::specs::Whole::document_of))]
 fn document_of(
     alloc: Global,
     root: &Path,
-    volumes: Rows<VolumePlan>,
-    devices: Rows<DevicePlan>,
+    device: &DeviceTables,
+    regions: &[StatedRegion],
+    volumes: &[StatedVolume],
 ) -> Result<FlashDoc, WantOfMemory>
-    ensures { IfOk result (λ d. d ≡ document_of root.now volumes devices) }
+    ensures { IfOk result (λ d. d ≡ document_of root.now device.now regions.now volumes.now) }
 {
+    let placed = place_regions(alloc, volumes, regions)?;
+    let plans = make_volumes(alloc, first_item(device.sizes.items()), regions, volumes)?;
+    let devices = devices_of(alloc, device, placed)?;
     let path = root.copy(alloc)?;
     Ok(FlashDoc {
         at: Place { path, line: 0 },
         devices,
-        volumes,
+        volumes: plans,
     })
 }
 
-#[tactic(auto, unfolding(crate::specs::Whole::placed))]
-fn placed(
-    alloc: Global,
-    root: &Path,
-    device: &DeviceTables,
-    volumes: &[StatedVolume],
-    regions: Rows<Region>,
-) -> Result<Option<FlashDoc>, WantOfMemory>
-    requires { length volumes.now ≤ 65535 }
-    ensures { IfOk result (λ d. d ≡ placed root.now device.now volumes.now regions) }
-{
-    let first = first_item(device.sizes.items());
-    let Some(plans) = make_volumes(alloc, first, regions.items(), volumes)? else {
-        return Ok(None);
-    };
-    let Some(devices) = devices_of(alloc, device, regions)? else {
-        return Ok(None);
-    };
-    Ok(Some(document_of(alloc, root, plans, devices)?))
-}
-
-/// The document of these parts, where all fits.
+/// The document of these parts, or the first fault of the whole.
 #[tactic(auto, unfolding(crate::specs::Whole::flash_of_parts))]
 pub fn document(
     alloc: Global,
@@ -317,14 +246,9 @@ pub fn document(
     device: &DeviceTables,
     regions: &[StatedRegion],
     volumes: &[StatedVolume],
-) -> Result<Option<FlashDoc>, WantOfMemory>
-    ensures { IfOk result (λ d. d ≡ flash_of_parts root.now device.now regions.now volumes.now) }
+) -> Result<FlashDoc, Refusal>
+    ensures { Answers result (flash_of_parts root.now device.now regions.now volumes.now) }
 {
-    if volumes.len() > COUNT_LIMIT || !no_twins(volumes) {
-        return Ok(None);
-    }
-    match place_regions(alloc, volumes, regions)? {
-        Some(regions) => placed(alloc, root, device, volumes, regions),
-        None => Ok(None),
-    }
+    check(alloc, device, regions, volumes)?;
+    Ok(document_of(alloc, root, device, regions, volumes)?)
 }

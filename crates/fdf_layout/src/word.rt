@@ -31,8 +31,8 @@ fn ends_word(byte: u8) -> bool
     byte == b'\t' || byte == b' ' || byte == b'='
 }
 
-// Where the first word ends.
-fn word_end(text: &[u8]) -> usize
+/// Where the first word ends.
+pub fn word_end(text: &[u8]) -> usize
     ensures at { result ≡ position_or_len ends_word text.now }
     ensures within { result ≤ length text.now }
 {

@@ -1,7 +1,6 @@
-use Rattle.std.proofs.Common.{◌≡◌, ◌++◌, drop}
-use Rattle.std.specs.Option.{option_map}
-use Rattle.fdf_layout.specs.Whole.{each_some, volume_plan}
+use Rattle.std.proofs.Common.{◌≡◌, map, take}
+use Rattle.fdf_layout.specs.Whole.{volume_plan}
 use Rattle.fdf_layout.proofs.whole.make_volumes.Given as goal
 
-abbrev pub invariant-loop-i : goal.invariant-loop-i
-invariant-loop-i l = option_map (λ rows. l.plans ++ rows) (each_some (volume_plan l.first l.regions) l.i (drop l.i l.volumes)) ≡ each_some (volume_plan l.first l.regions) 0 l.volumes
+abbrev pub invariant-loop-volume : goal.invariant-loop-volume
+invariant-loop-volume l = l.plans ≡ map (volume_plan l.first l.regions) (take l.volume-index l.volumes)

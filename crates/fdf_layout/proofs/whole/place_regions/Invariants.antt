@@ -1,7 +1,6 @@
-use Rattle.std.proofs.Common.{◌≡◌, ◌++◌, drop}
-use Rattle.std.specs.Option.{option_map}
-use Rattle.fdf_layout.specs.Whole.{each_some, region_of}
+use Rattle.std.proofs.Common.{◌≡◌, map, take}
+use Rattle.fdf_layout.specs.Whole.{region_of}
 use Rattle.fdf_layout.proofs.whole.place_regions.Given as goal
 
 abbrev pub invariant-loop-region : goal.invariant-loop-region
-invariant-loop-region l = option_map (λ rows. l.regions ++ rows) (each_some (region_of l.volumes) l.region-index (drop l.region-index l.stated)) ≡ each_some (region_of l.volumes) 0 l.stated
+invariant-loop-region l = l.regions ≡ map (region_of l.volumes) (take l.region-index l.stated)

@@ -1,0 +1,6 @@
+use Rattle.std.proofs.Common.{◌≡◌, [], take, drop}
+use Rattle.fdf_layout.specs.Whole.{twin}
+use Rattle.fdf_layout.proofs.scan.refuse_twins.Given as goal
+
+abbrev pub invariant-loop-i : goal.invariant-loop-i
+invariant-loop-i l = twin (take l.i l.volumes) (drop l.i l.volumes) ≡ twin [] l.volumes
