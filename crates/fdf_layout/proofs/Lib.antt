@@ -2,3 +2,5 @@ pub mod More
 pub mod Listed
 pub mod Scans
 pub mod Told
+pub mod LineLemmas
+pub mod ShapeLemmas

@@ -4,6 +4,7 @@ use Rattle.std.proofs.lemmas.List.Sums.{fold_push, fold-append}
 use Rattle.build_base.specs.declared.lines.Taken.{Taken}
 use Rattle.macro_conditions.specs.Reading.{each, last_or, last_of}
 use Rattle.macro_conditions.proofs.Turns.{each_push, last_push}
+use Rattle.fdf_layout.specs.declared.line.FlashLine.{FlashLine}
 use Rattle.fdf_layout.specs.declared.reading.FlashReader.{FlashReader}
 use Rattle.fdf_layout.specs.declared.context.FlashContext.{FlashContext}
 use Rattle.fdf_layout.specs.Contexts.{start, read_as, enter, after, context_below}
@@ -30,19 +31,19 @@ sum_more gives above line context old new c o n =
     n ∙ ap (λ r. capped_sum r (gives context line)) o ∙ ap (λ k. capped_sum (capped_sum 0 (each enter gives start above)) (gives k line)) c
     ∙ sym (ap (capped_sum 0) (each_push enter gives start above line) ∙ fold-append step 0 (each enter gives start above) (gives (context_below above) line))
 
--- what a line does to a reader
-pub record Takes (line : Taken) (old new : FlashReader) : Type 0 where
-  pub context : new.context ≡ after old.context line.at (read_as old.context line)
-  pub head : new.device.head ≡ last_or old.device.head (heads_at line.at (read_as old.context line))
-  pub base : new.device.base ≡ last_or old.device.base (base_at (read_as old.context line))
-  pub size : new.device.size ≡ last_or old.device.size (size_at (read_as old.context line))
-  pub erase : new.device.erase ≡ last_or old.device.erase (erase_at (read_as old.context line))
-  pub blocks : new.device.blocks ≡ capped_sum old.device.blocks (products_at old.context (read_as old.context line))
-  pub sizes : new.device.sizes ≡ old.device.sizes ++ sizes_at old.context (read_as old.context line)
-  pub regions : new.regions ≡ old.regions ++ regions_at old.context line.at (read_as old.context line)
-  pub volumes : new.volumes ≡ old.volumes ++ volumes_at old.context (read_as old.context line)
+-- what a line of a form does to a reader
+pub record Takes (line : Taken) (form : FlashLine) (old new : FlashReader) : Type 0 where
+  pub context : new.context ≡ after old.context line.at form
+  pub head : new.device.head ≡ last_or old.device.head (heads_at line.at form)
+  pub base : new.device.base ≡ last_or old.device.base (base_at form)
+  pub size : new.device.size ≡ last_or old.device.size (size_at form)
+  pub erase : new.device.erase ≡ last_or old.device.erase (erase_at form)
+  pub blocks : new.device.blocks ≡ capped_sum old.device.blocks (products_at old.context form)
+  pub sizes : new.device.sizes ≡ old.device.sizes ++ sizes_at old.context form
+  pub regions : new.regions ≡ old.regions ++ regions_at old.context line.at form
+  pub volumes : new.volumes ≡ old.volumes ++ volumes_at old.context form
 
-pub holds_more : (above : List Taken) (line : Taken) (old new : FlashReader) → Holds above old → Takes line old new → Holds (above ++ line ∷ []) new
+pub holds_more : (above : List Taken) (line : Taken) (old new : FlashReader) → Holds above old → Takes line (read_as old.context line) old new → Holds (above ++ line ∷ []) new
 holds_more above line old new h t = record {
   context = t.context ∙ ap (λ c. enter c line) h.context ∙ sym (fold_push enter start above line);
   head = last_more (λ c l. heads_at l.at (read_as c l)) above line old.context old.device.head new.device.head h.context h.head t.head;

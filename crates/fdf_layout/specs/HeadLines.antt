@@ -22,18 +22,16 @@ is_name_byte b = (nat_le 97 b && nat_le b 122) || (nat_le 65 b && nat_le b 90) |
 unfoldable pub is_image_name : List ℕ → Bool
 is_image_name text = nat_lt 0 (length text) && nat_le (length text) 64 && list_all is_name_byte text
 
+-- the sections that aren't built yet
+unfoldable pub is_unbuilt_name : List ℕ → Bool
+is_unbuilt_name word = same_word word (codes "Defines") || same_word word (codes "Rule") || same_word word (codes "VTF") || same_word word (codes "OptionRom") || same_word word (codes "Capsule") || same_word word (codes "FmpPayload") || same_word word (codes "UserExtensions")
+
 -- the sections that there are, without regard to case
 unfoldable pub section_kind : List ℕ → Option SectionKind
 section_kind word =
     if same_word word (codes "FD") then Some DeviceHead
     else if same_word word (codes "FV") then Some VolumeHead
-    else if same_word word (codes "Defines") then Some UnbuiltHead
-    else if same_word word (codes "Rule") then Some UnbuiltHead
-    else if same_word word (codes "VTF") then Some UnbuiltHead
-    else if same_word word (codes "OptionRom") then Some UnbuiltHead
-    else if same_word word (codes "Capsule") then Some UnbuiltHead
-    else if same_word word (codes "FmpPayload") then Some UnbuiltHead
-    else if same_word word (codes "UserExtensions") then Some UnbuiltHead
+    else if is_unbuilt_name word then Some UnbuiltHead
     else None
 
 -- the only qualifier, where it is a name

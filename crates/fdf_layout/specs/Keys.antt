@@ -67,25 +67,23 @@ volume_key word =
     else None
 
 unfoldable pub is_header_key : List ℕ → Bool
-is_header_key word =
-    same_word word (codes "FvAlignment") || same_word word (codes "FvNameGuid") || same_word word (codes "FvBaseAddress")
-    || same_word word (codes "FvForceRebase") || same_word word (codes "FileSystemGuid")
+is_header_key word = same_word word (codes "FvAlignment") || same_word word (codes "FvNameGuid") || same_word word (codes "FvBaseAddress") || same_word word (codes "FvForceRebase") || same_word word (codes "FileSystemGuid")
 
 unfoldable pub is_read_attribute : List ℕ → Bool
-is_read_attribute word =
-    same_word word (codes "READ_DISABLED_CAP") || same_word word (codes "READ_ENABLED_CAP") || same_word word (codes "READ_STATUS")
-    || same_word word (codes "READ_LOCK_CAP") || same_word word (codes "READ_LOCK_STATUS")
+is_read_attribute word = same_word word (codes "READ_DISABLED_CAP") || same_word word (codes "READ_ENABLED_CAP") || same_word word (codes "READ_STATUS")
 
 unfoldable pub is_write_attribute : List ℕ → Bool
-is_write_attribute word =
-    same_word word (codes "WRITE_DISABLED_CAP") || same_word word (codes "WRITE_ENABLED_CAP") || same_word word (codes "WRITE_STATUS")
-    || same_word word (codes "WRITE_LOCK_CAP") || same_word word (codes "WRITE_LOCK_STATUS")
+is_write_attribute word = same_word word (codes "WRITE_DISABLED_CAP") || same_word word (codes "WRITE_ENABLED_CAP") || same_word word (codes "WRITE_STATUS")
 
 unfoldable pub is_lock_attribute : List ℕ → Bool
-is_lock_attribute word =
-    same_word word (codes "LOCK_CAP") || same_word word (codes "LOCK_STATUS") || same_word word (codes "STICKY_WRITE")
-    || same_word word (codes "MEMORY_MAPPED") || same_word word (codes "WEAK_ALIGNMENT")
+is_lock_attribute word = same_word word (codes "LOCK_CAP") || same_word word (codes "LOCK_STATUS") || same_word word (codes "READ_LOCK_CAP") || same_word word (codes "READ_LOCK_STATUS")
+
+unfoldable pub is_write_lock_attribute : List ℕ → Bool
+is_write_lock_attribute word = same_word word (codes "WRITE_LOCK_CAP") || same_word word (codes "WRITE_LOCK_STATUS")
+
+unfoldable pub is_memory_attribute : List ℕ → Bool
+is_memory_attribute word = same_word word (codes "STICKY_WRITE") || same_word word (codes "MEMORY_MAPPED") || same_word word (codes "WEAK_ALIGNMENT")
 
 -- the keys of a volume that aren't built yet
 abbrev pub is_unbuilt_key : List ℕ → Bool
-is_unbuilt_key word = is_header_key word || is_read_attribute word || is_write_attribute word || is_lock_attribute word
+is_unbuilt_key word = is_header_key word || is_read_attribute word || is_write_attribute word || is_lock_attribute word || is_write_lock_attribute word || is_memory_attribute word

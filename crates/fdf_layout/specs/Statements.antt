@@ -35,12 +35,15 @@ file_type word =
     else if same_word word (codes "FREEFORM") then Some 2
     else None
 
+unfoldable pub is_core_type : List ℕ → Bool
+is_core_type word = same_word word (codes "SEC") || same_word word (codes "PEI_CORE") || same_word word (codes "DXE_CORE") || same_word word (codes "SMM_CORE")
+
+unfoldable pub is_module_type : List ℕ → Bool
+is_module_type word = same_word word (codes "PEIM") || same_word word (codes "DRIVER") || same_word word (codes "APPLICATION") || same_word word (codes "SMM") || same_word word (codes "FV_IMAGE")
+
 -- the types that aren't built yet
-unfoldable pub is_unbuilt_type : List ℕ → Bool
-is_unbuilt_type word =
-    same_word word (codes "SEC") || same_word word (codes "PEI_CORE") || same_word word (codes "DXE_CORE")
-    || same_word word (codes "PEIM") || same_word word (codes "DRIVER") || same_word word (codes "APPLICATION")
-    || same_word word (codes "SMM") || same_word word (codes "FV_IMAGE") || same_word word (codes "SMM_CORE")
+abbrev pub is_unbuilt_type : List ℕ → Bool
+is_unbuilt_type word = is_core_type word || is_module_type word
 
 -- what stands before the brace at the end
 unfoldable pub before_brace : List ℕ → Option (List ℕ)
@@ -97,12 +100,15 @@ section_type word =
     else if same_word word (codes "UI") then Some Interface
     else None
 
+unfoldable pub is_module_kind : List ℕ → Bool
+is_module_kind word = same_word word (codes "PE32") || same_word word (codes "TE") || same_word word (codes "DXE_DEPEX") || same_word word (codes "PEI_DEPEX") || same_word word (codes "SMM_DEPEX")
+
+unfoldable pub is_nesting_kind : List ℕ → Bool
+is_nesting_kind word = same_word word (codes "FV_IMAGE") || same_word word (codes "SUBTYPE_GUID") || same_word word (codes "COMPRESS") || same_word word (codes "GUIDED")
+
 -- the kinds that aren't built yet
-unfoldable pub is_unbuilt_kind : List ℕ → Bool
-is_unbuilt_kind word =
-    same_word word (codes "PE32") || same_word word (codes "TE") || same_word word (codes "DXE_DEPEX")
-    || same_word word (codes "PEI_DEPEX") || same_word word (codes "SMM_DEPEX") || same_word word (codes "FV_IMAGE")
-    || same_word word (codes "SUBTYPE_GUID") || same_word word (codes "COMPRESS") || same_word word (codes "GUIDED")
+abbrev pub is_unbuilt_kind : List ℕ → Bool
+is_unbuilt_kind word = is_module_kind word || is_nesting_kind word
 
 -- EFI_SECTION_RAW, EFI_SECTION_VERSION and EFI_SECTION_USER_INTERFACE
 abbrev pub section_number : SectionType → ℕ

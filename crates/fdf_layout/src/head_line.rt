@@ -3,7 +3,7 @@ ghost use Rattle.std.specs.Prelude.{◌≡◌};
 ghost use Rattle.std.specs.List.{list_all};
 ghost use Rattle.build_base.specs.Answer.{Answers};
 ghost use Rattle.meta_lexer.specs.Heads.{section_of};
-ghost use Rattle.fdf_layout.specs.HeadLines.{is_name_byte, is_image_name, section_kind, image_name, headed, named_line, head_line, section_line};
+ghost use Rattle.fdf_layout.specs.HeadLines.{is_name_byte, is_image_name, is_unbuilt_name, section_kind, image_name, headed, named_line, head_line, section_line};
 ghost use Rattle.std.specs.Option.{option_map};
 
 use crate::line::FlashLine;
@@ -43,6 +43,34 @@ pub fn is_image_name(text: &[u8]) -> bool
     !text.is_empty() && text.len() <= 64 && has_name_bytes(text)
 }
 
+#[tactic(auto, unfolding(crate::specs::HeadLines::is_unbuilt_name))]
+fn is_unbuilt_name(word: &[u8]) -> bool
+    ensures { result ≡ is_unbuilt_name word.now }
+{
+    if same_word(word, b"Defines".as_slice()) {
+        return true;
+    }
+    if same_word(word, b"Rule".as_slice()) {
+        return true;
+    }
+    if same_word(word, b"VTF".as_slice()) {
+        return true;
+    }
+    if same_word(word, b"OptionRom".as_slice()) {
+        return true;
+    }
+    if same_word(word, b"Capsule".as_slice()) {
+        return true;
+    }
+    if same_word(word, b"FmpPayload".as_slice()) {
+        return true;
+    }
+    if same_word(word, b"UserExtensions".as_slice()) {
+        return true;
+    }
+    false
+}
+
 #[tactic(auto, unfolding(crate::specs::HeadLines::section_kind))]
 fn section_kind(word: &[u8]) -> Option<SectionKind>
     ensures { result ≡ section_kind word.now }
@@ -53,25 +81,7 @@ fn section_kind(word: &[u8]) -> Option<SectionKind>
     if same_word(word, b"FV".as_slice()) {
         return Some(SectionKind::VolumeHead);
     }
-    if same_word(word, b"Defines".as_slice()) {
-        return Some(SectionKind::UnbuiltHead);
-    }
-    if same_word(word, b"Rule".as_slice()) {
-        return Some(SectionKind::UnbuiltHead);
-    }
-    if same_word(word, b"VTF".as_slice()) {
-        return Some(SectionKind::UnbuiltHead);
-    }
-    if same_word(word, b"OptionRom".as_slice()) {
-        return Some(SectionKind::UnbuiltHead);
-    }
-    if same_word(word, b"Capsule".as_slice()) {
-        return Some(SectionKind::UnbuiltHead);
-    }
-    if same_word(word, b"FmpPayload".as_slice()) {
-        return Some(SectionKind::UnbuiltHead);
-    }
-    if same_word(word, b"UserExtensions".as_slice()) {
+    if is_unbuilt_name(word) {
         return Some(SectionKind::UnbuiltHead);
     }
     None

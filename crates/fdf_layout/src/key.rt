@@ -3,7 +3,7 @@ ghost use Rattle.std.specs.Prelude.{◌≡◌, ◌≤◌, ◌==◌, length};
 ghost use Rattle.std.specs.Option.{option_map};
 ghost use Rattle.std.specs.List.{position_or_len, list_all};
 ghost use Rattle.meta_lexer.specs.Tokens.{is_word_byte};
-ghost use Rattle.fdf_layout.specs.Keys.{begins_equals, is_key, key_and_value, key_pair, key_text, is_identifier, is_pcd, device_key, volume_key, is_header_key, is_read_attribute, is_write_attribute, is_lock_attribute, is_unbuilt_key, has_key};
+ghost use Rattle.fdf_layout.specs.Keys.{begins_equals, is_key, key_and_value, key_pair, key_text, is_identifier, is_pcd, device_key, volume_key, is_header_key, is_read_attribute, is_write_attribute, is_lock_attribute, is_write_lock_attribute, is_memory_attribute, is_unbuilt_key, has_key};
 
 use meta_lexer::line::trim;
 use meta_lexer::token::is_word_byte;
@@ -171,7 +171,10 @@ fn is_header_key(word: &[u8]) -> bool
     if same_word(word, b"FvForceRebase".as_slice()) {
         return true;
     }
-    same_word(word, b"FileSystemGuid".as_slice())
+    if same_word(word, b"FileSystemGuid".as_slice()) {
+        return true;
+    }
+    false
 }
 
 #[tactic(auto, unfolding(crate::specs::Keys::is_read_attribute))]
@@ -187,10 +190,7 @@ fn is_read_attribute(word: &[u8]) -> bool
     if same_word(word, b"READ_STATUS".as_slice()) {
         return true;
     }
-    if same_word(word, b"READ_LOCK_CAP".as_slice()) {
-        return true;
-    }
-    same_word(word, b"READ_LOCK_STATUS".as_slice())
+    false
 }
 
 #[tactic(auto, unfolding(crate::specs::Keys::is_write_attribute))]
@@ -206,10 +206,7 @@ fn is_write_attribute(word: &[u8]) -> bool
     if same_word(word, b"WRITE_STATUS".as_slice()) {
         return true;
     }
-    if same_word(word, b"WRITE_LOCK_CAP".as_slice()) {
-        return true;
-    }
-    same_word(word, b"WRITE_LOCK_STATUS".as_slice())
+    false
 }
 
 #[tactic(auto, unfolding(crate::specs::Keys::is_lock_attribute))]
@@ -222,13 +219,42 @@ fn is_lock_attribute(word: &[u8]) -> bool
     if same_word(word, b"LOCK_STATUS".as_slice()) {
         return true;
     }
+    if same_word(word, b"READ_LOCK_CAP".as_slice()) {
+        return true;
+    }
+    if same_word(word, b"READ_LOCK_STATUS".as_slice()) {
+        return true;
+    }
+    false
+}
+
+#[tactic(auto, unfolding(crate::specs::Keys::is_write_lock_attribute))]
+fn is_write_lock_attribute(word: &[u8]) -> bool
+    ensures { result ≡ is_write_lock_attribute word.now }
+{
+    if same_word(word, b"WRITE_LOCK_CAP".as_slice()) {
+        return true;
+    }
+    if same_word(word, b"WRITE_LOCK_STATUS".as_slice()) {
+        return true;
+    }
+    false
+}
+
+#[tactic(auto, unfolding(crate::specs::Keys::is_memory_attribute))]
+fn is_memory_attribute(word: &[u8]) -> bool
+    ensures { result ≡ is_memory_attribute word.now }
+{
     if same_word(word, b"STICKY_WRITE".as_slice()) {
         return true;
     }
     if same_word(word, b"MEMORY_MAPPED".as_slice()) {
         return true;
     }
-    same_word(word, b"WEAK_ALIGNMENT".as_slice())
+    if same_word(word, b"WEAK_ALIGNMENT".as_slice()) {
+        return true;
+    }
+    false
 }
 
 fn is_unbuilt_key(word: &[u8]) -> bool
@@ -243,7 +269,13 @@ fn is_unbuilt_key(word: &[u8]) -> bool
     if is_write_attribute(word) {
         return true;
     }
-    is_lock_attribute(word)
+    if is_lock_attribute(word) {
+        return true;
+    }
+    if is_write_lock_attribute(word) {
+        return true;
+    }
+    is_memory_attribute(word)
 }
 
 /// Whether a line of a volume states a key that isn't built yet.

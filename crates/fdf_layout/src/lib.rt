@@ -18,3 +18,6 @@ pub mod whole;
 pub mod word;
 
 pub use reading::read_flash;
+
+#[cfg(test)]
+mod tests;

@@ -6,7 +6,7 @@ ghost use Rattle.build_base.specs.Answer.{Answers, Finds};
 ghost use Rattle.build_base.specs.Guid.{guid_of};
 ghost use Rattle.fdf_layout.specs.Numbers.{bad_line};
 ghost use Rattle.fdf_layout.specs.Words.{word_of, after_word, after_equals, options_of};
-ghost use Rattle.fdf_layout.specs.Statements.{file_type, is_unbuilt_type, before_brace, is_top, is_top_name, file_front, names_top, is_unbuilt_file, head_with, named_file, file_head, file_parts, file_line, section_type, is_unbuilt_kind, section_number, words_in_quotes, words_found, words_source, source_of, is_align, maybe_align, is_unbuilt_section, misformed, form_with, typed_section, aligned_section, section_line, body_line};
+ghost use Rattle.fdf_layout.specs.Statements.{file_type, is_core_type, is_module_type, is_unbuilt_type, before_brace, is_top, is_top_name, file_front, names_top, is_unbuilt_file, head_with, named_file, file_head, file_parts, file_line, section_type, is_module_kind, is_nesting_kind, is_unbuilt_kind, section_number, words_in_quotes, words_found, words_source, source_of, is_align, maybe_align, is_unbuilt_section, misformed, form_with, typed_section, section_line, body_line};
 
 use crate::line::FlashLine;
 use crate::number::bad_line;
@@ -71,9 +71,9 @@ fn file_type(word: &[u8]) -> Option<u8>
     None
 }
 
-#[tactic(auto, unfolding(crate::specs::Statements::is_unbuilt_type))]
-fn is_unbuilt_type(word: &[u8]) -> bool
-    ensures { result ≡ is_unbuilt_type word.now }
+#[tactic(auto, unfolding(crate::specs::Statements::is_core_type))]
+fn is_core_type(word: &[u8]) -> bool
+    ensures { result ≡ is_core_type word.now }
 {
     if same_word(word, b"SEC".as_slice()) {
         return true;
@@ -84,6 +84,16 @@ fn is_unbuilt_type(word: &[u8]) -> bool
     if same_word(word, b"DXE_CORE".as_slice()) {
         return true;
     }
+    if same_word(word, b"SMM_CORE".as_slice()) {
+        return true;
+    }
+    false
+}
+
+#[tactic(auto, unfolding(crate::specs::Statements::is_module_type))]
+fn is_module_type(word: &[u8]) -> bool
+    ensures { result ≡ is_module_type word.now }
+{
     if same_word(word, b"PEIM".as_slice()) {
         return true;
     }
@@ -99,7 +109,16 @@ fn is_unbuilt_type(word: &[u8]) -> bool
     if same_word(word, b"FV_IMAGE".as_slice()) {
         return true;
     }
-    same_word(word, b"SMM_CORE".as_slice())
+    false
+}
+
+fn is_unbuilt_type(word: &[u8]) -> bool
+    ensures { result ≡ is_unbuilt_type word.now }
+{
+    if is_core_type(word) {
+        return true;
+    }
+    is_module_type(word)
 }
 
 #[tactic(auto, unfolding(crate::specs::Statements::before_brace))]
@@ -234,9 +253,9 @@ fn section_type(word: &[u8]) -> Option<SectionType>
     None
 }
 
-#[tactic(auto, unfolding(crate::specs::Statements::is_unbuilt_kind))]
-fn is_unbuilt_kind(word: &[u8]) -> bool
-    ensures { result ≡ is_unbuilt_kind word.now }
+#[tactic(auto, unfolding(crate::specs::Statements::is_module_kind))]
+fn is_module_kind(word: &[u8]) -> bool
+    ensures { result ≡ is_module_kind word.now }
 {
     if same_word(word, b"PE32".as_slice()) {
         return true;
@@ -253,6 +272,13 @@ fn is_unbuilt_kind(word: &[u8]) -> bool
     if same_word(word, b"SMM_DEPEX".as_slice()) {
         return true;
     }
+    false
+}
+
+#[tactic(auto, unfolding(crate::specs::Statements::is_nesting_kind))]
+fn is_nesting_kind(word: &[u8]) -> bool
+    ensures { result ≡ is_nesting_kind word.now }
+{
     if same_word(word, b"FV_IMAGE".as_slice()) {
         return true;
     }
@@ -262,7 +288,19 @@ fn is_unbuilt_kind(word: &[u8]) -> bool
     if same_word(word, b"COMPRESS".as_slice()) {
         return true;
     }
-    same_word(word, b"GUIDED".as_slice())
+    if same_word(word, b"GUIDED".as_slice()) {
+        return true;
+    }
+    false
+}
+
+fn is_unbuilt_kind(word: &[u8]) -> bool
+    ensures { result ≡ is_unbuilt_kind word.now }
+{
+    if is_module_kind(word) {
+        return true;
+    }
+    is_nesting_kind(word)
 }
 
 fn section_number(kind: SectionType) -> u8

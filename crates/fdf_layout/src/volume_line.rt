@@ -73,7 +73,10 @@ fn is_unbuilt_statement(word: &[u8]) -> bool
     if same_word(word, b"INF".as_slice()) {
         return true;
     }
-    same_word(word, b"APRIORI".as_slice())
+    if same_word(word, b"APRIORI".as_slice()) {
+        return true;
+    }
+    false
 }
 
 /// Whether a line of a volume, outside of braces, is of a form that isn't built yet.
