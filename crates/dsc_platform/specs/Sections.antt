@@ -9,7 +9,7 @@ use Rattle.build_base.specs.declared.lines.Taken.{Taken}
 use Rattle.meta_lexer.specs.Faults.{first_fault}
 use Rattle.meta_lexer.specs.Words.{same_word}
 use Rattle.meta_lexer.specs.declared.head.Head.{Head}
-use Rattle.macro_conditions.specs.Readable.{unread_line}
+use Rattle.macro_conditions.specs.Unbuilt.{unbuilt_line}
 use Rattle.dsc_platform.specs.declared.section.SectionName.{SectionName}
 use Rattle.dsc_platform.specs.declared.section.SectionName.TheVariants.{Defines, SkuIds, LibraryClasses, Components, PcdsFeatureFlag, PcdsFixedAtBuild, PcdsPatchableInModule, PcdsDynamicDefault, PcdsDynamicHii, PcdsDynamicVpd, PcdsDynamicExDefault, PcdsDynamicExHii, PcdsDynamicExVpd, BuildOptions, UserExtensions, DefaultStores, Packages}
 use Rattle.dsc_platform.specs.declared.section.HeadKind.{HeadKind}
@@ -82,7 +82,7 @@ is_qualified kind = false
 
 -- a section that isn't read yet
 abbrev pub unbuilt_fault : Taken → List Head → Option Fault
-unbuilt_fault line heads = if list_any (λ head. is_unbuilt (head_kind head)) heads then Some (unread_line line) else None
+unbuilt_fault line heads = if list_any (λ head. is_unbuilt (head_kind head)) heads then Some (unbuilt_line line) else None
 
 -- a qualifier that may not stand there
 abbrev pub qualifier_fault : Taken → List Head → Option Fault

@@ -6,7 +6,7 @@ ghost use Rattle.meta_lexer.specs.Faults.{first_fault};
 ghost use Rattle.dsc_platform.specs.Sections.{main_section, static_section, dynamic_section, dynamic_ex_section, pcd_section, passed_section, section_named, kind_of, head_name, head_kind, is_unbuilt, is_qualified, unknown_head, heads_fault};
 
 use build_base::{Place, Refusal, Taken, Text, refuse};
-use macro_conditions::readable::refuse_line;
+use macro_conditions::unbuilt::refuse_unbuilt;
 use meta_lexer::head::Head;
 use meta_lexer::words::same_word;
 use std::alloc::Global;
@@ -237,7 +237,7 @@ pub fn check_heads(alloc: Global, line: &Taken, heads: &[Head]) -> Result<(), Re
     ensures { Checks result (heads_fault line.now heads.now) }
 {
     if any_unbuilt(heads) {
-        return Err(refuse_line(alloc, line));
+        return Err(refuse_unbuilt(alloc, line));
     }
     if any_qualified(heads) {
         return Err(refuse(alloc, 114, &line.at, line.text.bytes()));

@@ -7,7 +7,7 @@ use Rattle.build_base.specs.First.{and_then, or_fault}
 use Rattle.meta_lexer.specs.Lines.{without_blanks}
 use Rattle.meta_lexer.specs.Fields.{parts_of, bytes_at}
 use Rattle.meta_lexer.specs.declared.field.Span.{Span}
-use Rattle.macro_conditions.specs.Readable.{unread_line}
+use Rattle.macro_conditions.specs.Unbuilt.{unbuilt_line}
 use Rattle.macro_conditions.specs.ValueFields.{lesser, fault_in, number_value, undefined_macro}
 use Rattle.fdf_layout.specs.declared.key.FlashKey.{FlashKey}
 use Rattle.fdf_layout.specs.declared.key.DeviceKey.{DeviceKey}
@@ -54,11 +54,11 @@ extent_line offset size =
 -- `PCD|PCD`, which isn't built yet, or `Offset|Size`
 abbrev pub pair_line : Taken → List ℕ → List ℕ → Result FlashLine Fault
 pair_line line first second =
-    if is_pcd first && is_pcd second then Err (unread_line line) else extent_line (number_value line.at first) (number_value line.at second)
+    if is_pcd first && is_pcd second then Err (unbuilt_line line) else extent_line (number_value line.at first) (number_value line.at second)
 
 -- `PCD`, which isn't built yet
 abbrev pub one_field : Taken → List ℕ → Fault
-one_field line field = if is_pcd field then unread_line line else bad_line 244 line
+one_field line field = if is_pcd field then unbuilt_line line else bad_line 244 line
 
 -- a region, or the PCDs of one, by the line's fields
 abbrev pub region_line : Taken → List Span → Result FlashLine Fault

@@ -7,7 +7,7 @@ use Rattle.build_base.specs.FaultText.{fault_of}
 use Rattle.meta_lexer.specs.Faults.{Spot}
 use Rattle.meta_lexer.specs.Words.{same_word}
 use Rattle.meta_lexer.specs.declared.head.Head.{Head}
-use Rattle.macro_conditions.specs.Readable.{unread_line}
+use Rattle.macro_conditions.specs.Unbuilt.{unbuilt_line}
 use Rattle.fdf_layout.specs.declared.head_line.SectionKind.{SectionKind}
 use Rattle.fdf_layout.specs.declared.head_line.SectionKind.TheVariants.{DeviceHead, VolumeHead, UnbuiltHead}
 use Rattle.fdf_layout.specs.declared.line.FlashLine.{FlashLine}
@@ -45,7 +45,7 @@ headed line section (Some DeviceHead) (Some name) = Ok (Device name)
 headed line section (Some DeviceHead) None = Err (bad_line 114 line)
 headed line section (Some VolumeHead) (Some name) = Ok (Volume name)
 headed line section (Some VolumeHead) None = Err (bad_line 114 line)
-headed line section (Some UnbuiltHead) name = Err (unread_line line)
+headed line section (Some UnbuiltHead) name = Err (unbuilt_line line)
 headed line section None name = Err (fault_of 241 line.at section)
 
 abbrev pub named_line : Taken → List (List ℕ) → Result FlashLine Fault
@@ -55,7 +55,7 @@ named_line line [] = Err (bad_line 114 line)
 -- several heads in one line aren't built yet
 abbrev pub head_line : Taken → List Head → Result FlashLine Fault
 head_line line (head ∷ []) = named_line line head.parts
-head_line line _ = Err (unread_line line)
+head_line line _ = Err (unbuilt_line line)
 
 abbrev pub section_line : Taken → Result (Option (List Head)) Spot → Result FlashLine Fault
 section_line line (Ok (Some heads)) = head_line line heads

@@ -4,7 +4,7 @@ use Rattle.build_base.specs.First.{or_fault}
 use Rattle.build_base.specs.declared.fault.Fault.{Fault}
 use Rattle.build_base.specs.declared.lines.Taken.{Taken}
 use Rattle.meta_lexer.specs.Heads.{begins_section, section_of}
-use Rattle.macro_conditions.specs.Readable.{unread_line}
+use Rattle.macro_conditions.specs.Unbuilt.{unbuilt_line}
 use Rattle.macro_conditions.specs.ValueFields.{open_quote}
 use Rattle.fdf_layout.specs.declared.line.FlashLine.{FlashLine}
 use Rattle.fdf_layout.specs.declared.line.FlashLine.TheVariants.{Blank}
@@ -44,5 +44,5 @@ read_line zone line = or_fault (open_quote line.at line.text) (formed_line zone 
 unfoldable pub flash_line : Zone → Taken → Result FlashLine Fault
 flash_line zone line =
     if length line.text == 0 then Ok Blank
-    else if is_unbuilt zone line.text then Err (unread_line line)
+    else if is_unbuilt zone line.text then Err (unbuilt_line line)
     else read_line zone line

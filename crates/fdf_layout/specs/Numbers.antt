@@ -5,7 +5,7 @@ use Rattle.build_base.specs.declared.lines.Taken.{Taken}
 use Rattle.build_base.specs.FaultText.{fault_of}
 use Rattle.build_base.specs.First.{and_then}
 use Rattle.meta_lexer.specs.Fields.{parts_of}
-use Rattle.macro_conditions.specs.Readable.{unread_line}
+use Rattle.macro_conditions.specs.Unbuilt.{unbuilt_line}
 use Rattle.macro_conditions.specs.ValueFields.{number_value}
 use Rattle.fdf_layout.specs.declared.key.FlashKey.{FlashKey}
 use Rattle.fdf_layout.specs.declared.key.FlashKey.TheVariants.{BaseAddress, Size, ErasePolarity, BlockSize, NumBlocks, VolumePolarity}
@@ -30,7 +30,7 @@ one_number line value count = if count == 1 then number_value line.at value else
 abbrev pub addressed : Taken → List ℕ → ℕ → Result ℕ Fault
 addressed line value count =
     if count == 1 then number_value line.at value
-    else if count == 2 then Err (unread_line line)
+    else if count == 2 then Err (unbuilt_line line)
     else Err (bad_value line value)
 
 -- a device has at most 0x10000000 bytes

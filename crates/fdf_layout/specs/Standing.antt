@@ -5,7 +5,7 @@ use Rattle.build_base.specs.FaultText.{fault_of}
 use Rattle.build_base.specs.declared.fault.Fault.{Fault}
 use Rattle.build_base.specs.declared.lines.Taken.{Taken}
 use Rattle.doc_types.specs.declared.volume.FilePlan.{FilePlan}
-use Rattle.macro_conditions.specs.Readable.{unread_line}
+use Rattle.macro_conditions.specs.Unbuilt.{unbuilt_line}
 use Rattle.macro_conditions.specs.ValueFields.{lesser, fault_in}
 use Rattle.fdf_layout.specs.declared.key.FlashKey.{FlashKey}
 use Rattle.fdf_layout.specs.declared.key.FlashKey.TheVariants.{BaseAddress, Size, ErasePolarity, BlockSize, NumBlocks, VolumePolarity}
@@ -34,7 +34,7 @@ head_fault section line = if is_some (file_in section) then Some (open_brace lin
 
 -- a second device isn't built yet
 abbrev pub device_head_fault : FlashContext → Taken → Option Fault
-device_head_fault context line = if context.device then Some (unread_line line) else head_fault context.section line
+device_head_fault context line = if context.device then Some (unbuilt_line line) else head_fault context.section line
 
 -- the volumes above: those that are whole, and the one that is still read
 abbrev pub volume_count : ℕ → Within → ℕ

@@ -14,7 +14,7 @@ use crate::statement::{FileHead, Part, SectionForm};
 use crate::volume_line::{begins_file, is_close};
 use build_base::{Path, Place, Refusal, Rows, Taken, Text, WantOfMemory, refuse};
 use doc_types::volume::{FilePlan, Item, SectionPlan};
-use macro_conditions::readable::refuse_line;
+use macro_conditions::unbuilt::refuse_unbuilt;
 use std::alloc::Global;
 use std::mem;
 
@@ -268,7 +268,7 @@ impl FlashContext {
         ensures { Checks result (device_head_fault self.now line.now) }
     {
         if self.device {
-            return Err(refuse_line(alloc, line));
+            return Err(refuse_unbuilt(alloc, line));
         }
         self.section.head_fault(alloc, line)
     }

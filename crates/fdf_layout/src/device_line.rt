@@ -15,7 +15,7 @@ use crate::key::{DeviceKey, FlashKey, device_key, is_pcd, key_pair};
 use crate::line::{Extent, FlashLine};
 use crate::number::{bad_line, key_number};
 use build_base::{Refusal, Taken, Text, refuse};
-use macro_conditions::readable::refuse_line;
+use macro_conditions::unbuilt::refuse_unbuilt;
 use macro_conditions::value_fields::{lesser_refusal, number_value, undefined_macro};
 use meta_lexer::Span;
 use meta_lexer::field::cut;
@@ -109,7 +109,7 @@ fn pair_line(alloc: Global, line: &Taken, first: &[u8], second: &[u8]) -> Result
     ensures { Answers result (pair_line line.now first.now second.now) }
 {
     if is_pcd(first) && is_pcd(second) {
-        Err(refuse_line(alloc, line))
+        Err(refuse_unbuilt(alloc, line))
     } else {
         extent_line(alloc, line, first, second)
     }
@@ -119,7 +119,7 @@ fn one_field(alloc: Global, line: &Taken, field: &[u8]) -> Refusal
     ensures { Rattle.build_base.specs.Answer.Finds result (Rattle.std.specs.Prelude.Some (Rattle.fdf_layout.specs.DeviceLines.one_field line.now field.now)) }
 {
     if is_pcd(field) {
-        refuse_line(alloc, line)
+        refuse_unbuilt(alloc, line)
     } else {
         bad_line(alloc, 244, line)
     }

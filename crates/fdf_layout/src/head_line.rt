@@ -9,7 +9,7 @@ ghost use Rattle.std.specs.Option.{option_map};
 use crate::line::FlashLine;
 use crate::number::bad_line;
 use build_base::{Refusal, Taken, Text, refuse};
-use macro_conditions::readable::refuse_line;
+use macro_conditions::unbuilt::refuse_unbuilt;
 use meta_lexer::head::{Head, section_head};
 use meta_lexer::refusal::LexRefusal;
 use meta_lexer::words::same_word;
@@ -115,7 +115,7 @@ fn headed(alloc: Global, line: &Taken, section: &[u8], names: &[Text]) -> Result
         )?)),
         (Some(SectionKind::DeviceHead), None) => Err(bad_line(alloc, 114, line)),
         (Some(SectionKind::VolumeHead), None) => Err(bad_line(alloc, 114, line)),
-        (Some(SectionKind::UnbuiltHead), _) => Err(refuse_line(alloc, line)),
+        (Some(SectionKind::UnbuiltHead), _) => Err(refuse_unbuilt(alloc, line)),
         (None, _) => Err(refuse(alloc, 241, &line.at, section)),
     }
 }
@@ -134,7 +134,7 @@ fn head_line(alloc: Global, line: &Taken, heads: &[Head]) -> Result<FlashLine, R
 {
     match heads {
         [head] => named_line(alloc, line, head.parts.items()),
-        _ => Err(refuse_line(alloc, line)),
+        _ => Err(refuse_unbuilt(alloc, line)),
     }
 }
 

@@ -14,7 +14,7 @@ use crate::volume_line::{
     brace_line, is_file_word, is_set, unbuilt_in_braces, unbuilt_in_volume, volume_line,
 };
 use build_base::{Refusal, Taken, Text};
-use macro_conditions::readable::refuse_line;
+use macro_conditions::unbuilt::refuse_unbuilt;
 use macro_conditions::value_fields::open_quote;
 use meta_lexer::head::begins_section;
 use std::alloc::Global;
@@ -117,7 +117,7 @@ pub fn flash_line(alloc: Global, zone: Zone, line: &Taken) -> Result<FlashLine, 
         return Ok(FlashLine::Blank);
     }
     if is_unbuilt(zone, text) {
-        return Err(refuse_line(alloc, line));
+        return Err(refuse_unbuilt(alloc, line));
     }
     read_line(alloc, zone, line)
 }

@@ -8,7 +8,7 @@ ghost use Rattle.fdf_layout.specs.Numbers.{bad_line, bad_value, field_count, one
 use crate::key::FlashKey;
 use build_base::{Refusal, Taken, Text, WantOfMemory, refuse};
 use itoa::Buffer;
-use macro_conditions::readable::refuse_line;
+use macro_conditions::unbuilt::refuse_unbuilt;
 use macro_conditions::value_fields::number_value;
 use meta_lexer::field::cut;
 use std::alloc::Global;
@@ -52,7 +52,7 @@ fn addressed(alloc: Global, line: &Taken, value: &[u8]) -> Result<u64, Refusal>
 {
     match field_count(alloc, value)? {
         1 => number_value(alloc, &line.at, value),
-        2 => Err(refuse_line(alloc, line)),
+        2 => Err(refuse_unbuilt(alloc, line)),
         _ => Err(bad_value(alloc, line, value)),
     }
 }

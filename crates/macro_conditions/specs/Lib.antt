@@ -1,5 +1,5 @@
 pub mod Reading
-pub mod Readable
+pub mod Unbuilt
 pub mod Macros
 pub mod Values
 pub mod ExpressionTree

@@ -11,8 +11,8 @@ pub mod machine;
 pub mod macros;
 pub mod operand;
 pub mod operator;
-pub mod readable;
 pub mod reader;
+pub mod unbuilt;
 pub mod value_fields;
 mod work;
 
