@@ -44,12 +44,12 @@ value_fault at Output value = fault_in (path_value at value)
 value_fault at SkuChoice value = fault_in (text_value at value)
 value_fault at Flash value = fault_in (path_value at value)
 
--- the fault of a line of this form; a line with an open quote has no other
+-- the fault of a line of this form
 abbrev pub form_fault : Taken → PlatformLine → Option Fault
 form_fault line Blank = None
 form_fault line (Heads heads) = heads_fault line heads
-form_fault line BadHead = or_else (open_quote line.at line.text) (Some (fault_of 114 line.at line.text))
-form_fault line Stray = or_else (open_quote line.at line.text) (Some (fault_of 226 line.at line.text))
+form_fault line BadHead = Some (fault_of 114 line.at line.text)
+form_fault line Stray = Some (fault_of 226 line.at line.text)
 form_fault line (Keyed key value) = or_else (open_quote line.at line.text) (value_fault line.at key value)
 form_fault line Passed = None
 

@@ -1,9 +1,6 @@
 //! Reading a platform's lines.
 ghost use Rattle.std.specs.Prelude.{◌≡◌, ◌++◌, OnOk, IfOk, Some, codes, unwrap_or};
 ghost use Rattle.build_base.specs.Answer.{Answers, Checks, Finds};
-ghost use Rattle.build_base.specs.FaultText.{fault_of};
-ghost use Rattle.build_base.specs.First.{or_else};
-ghost use Rattle.macro_conditions.specs.ValueFields.{open_quote};
 ghost use Rattle.macro_conditions.specs.Reading.{last_or};
 ghost use Rattle.dsc_platform.specs.Platform.{enter, form_fault, name_at, guid_at, arches_at, output_at, sku_at, flash_at, missing_key, with_required, document_of, platform_of};
 
@@ -29,14 +26,6 @@ pub struct PlatformReader {
 }
 
 impl PlatformReader {
-    // Refuses a line by a code, or for its open quote.
-    fn refuse_read(&self, line: &Taken, code: u16) -> Result<(), Refusal>
-        ensures { Checks result (or_else (open_quote line.now.at line.now.text) (Some (fault_of code line.now.at line.now.text))) }
-    {
-        open_quote(self.alloc, &line.at, line.text.bytes())?;
-        Err(refuse(self.alloc, code, &line.at, line.text.bytes()))
-    }
-
     // Takes what the line gives.
     fn take(&mut self, line: &Taken, form: PlatformLine) -> Result<(), Refusal>
         ensures fault { Checks result (form_fault line.now form) }
@@ -54,8 +43,8 @@ impl PlatformReader {
                 self.section = Section::Defines;
                 check_heads(self.alloc, line, heads.items())
             }
-            PlatformLine::BadHead => self.refuse_read(line, 114),
-            PlatformLine::Stray => self.refuse_read(line, 226),
+            PlatformLine::BadHead => Err(refuse(self.alloc, 114, &line.at, line.text.bytes())),
+            PlatformLine::Stray => Err(refuse(self.alloc, 226, &line.at, line.text.bytes())),
             PlatformLine::Keyed(key, value) => {
                 open_quote(self.alloc, &line.at, line.text.bytes())?;
                 self.stated.take(self.alloc, &line.at, key, value.bytes())
