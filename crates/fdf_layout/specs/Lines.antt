@@ -1,5 +1,5 @@
 -- The forms of a line of an FDF file, by where it stands.
-use Rattle.std.specs.Prelude.{ℕ, Bool, false, ◌||◌, ◌==◌, if◌then◌else◌, List, length, Result, Ok, Err}
+use Rattle.std.specs.Prelude.{ℕ, Bool, false, ◌||◌, ◌==◌, if◌then◌else◌, List, length, Option, None, Result, Ok, Err}
 use Rattle.build_base.specs.First.{or_fault}
 use Rattle.build_base.specs.declared.fault.Fault.{Fault}
 use Rattle.build_base.specs.declared.lines.Taken.{Taken}
@@ -33,16 +33,20 @@ zone_line DeviceZone line = device_line line (key_pair line.text)
 zone_line VolumeZone line = volume_line line (line_word (word_of line.text))
 zone_line BraceZone line = brace_line line
 
-abbrev pub formed_line : Zone → Taken → Result FlashLine Fault
-formed_line zone line = if begins_section line.text then section_line line (section_of line.text) else zone_line zone line
+-- a line of a section that has an open quote has no fields and no other fault
+abbrev pub quote_fault : Zone → Taken → Option Fault
+quote_fault FrontZone line = None
+quote_fault DeviceZone line = open_quote line.at line.text
+quote_fault VolumeZone line = open_quote line.at line.text
+quote_fault BraceZone line = open_quote line.at line.text
 
--- a line with an open quote has no fields and no other fault
+-- a form that isn't built yet has that fault alone
 abbrev pub read_line : Zone → Taken → Result FlashLine Fault
-read_line zone line = or_fault (open_quote line.at line.text) (formed_line zone line)
+read_line zone line = if is_unbuilt zone line.text then Err (unbuilt_line line) else or_fault (quote_fault zone line) (zone_line zone line)
 
--- what a line is, or the least fault of its form; a form that isn't built yet has that fault alone
+-- what a line is, or the least fault of its form
 unfoldable pub flash_line : Zone → Taken → Result FlashLine Fault
 flash_line zone line =
     if length line.text == 0 then Ok Blank
-    else if is_unbuilt zone line.text then Err (unbuilt_line line)
+    else if begins_section line.text then section_line line (section_of line.text)
     else read_line zone line

@@ -1,9 +1,9 @@
 //! The forms of a line, by where it stands.
 ghost use Rattle.std.specs.Prelude.{◌≡◌};
-ghost use Rattle.build_base.specs.Answer.{Answers};
+ghost use Rattle.build_base.specs.Answer.{Answers, Checks};
 ghost use Rattle.fdf_layout.specs.Keys.{key_pair, has_key};
 ghost use Rattle.fdf_layout.specs.VolumeLines.{is_file_word};
-ghost use Rattle.fdf_layout.specs.Lines.{unbuilt_in_device, is_unbuilt, zone_line, formed_line, read_line, flash_line};
+ghost use Rattle.fdf_layout.specs.Lines.{unbuilt_in_device, is_unbuilt, zone_line, quote_fault, read_line, flash_line};
 
 use crate::device_line::device_line;
 use crate::head_line::section_line;
@@ -89,22 +89,26 @@ fn zone_line(alloc: Global, zone: Zone, line: &Taken) -> Result<FlashLine, Refus
     }
 }
 
-fn formed_line(alloc: Global, zone: Zone, line: &Taken) -> Result<FlashLine, Refusal>
-    ensures { Answers result (formed_line zone line.now) }
+fn quote_fault(alloc: Global, zone: Zone, line: &Taken) -> Result<(), Refusal>
+    ensures { Checks result (quote_fault zone line.now) }
 {
-    if begins_section(line.text.bytes()) {
-        section_line(alloc, line)
-    } else {
-        zone_line(alloc, zone, line)
+    match zone {
+        Zone::FrontZone => Ok(()),
+        Zone::DeviceZone | Zone::VolumeZone | Zone::BraceZone => {
+            open_quote(alloc, &line.at, line.text.bytes())
+        }
     }
 }
 
-// A line without an open quote.
+// A line that is no head.
 fn read_line(alloc: Global, zone: Zone, line: &Taken) -> Result<FlashLine, Refusal>
     ensures { Answers result (read_line zone line.now) }
 {
-    open_quote(alloc, &line.at, line.text.bytes())?;
-    formed_line(alloc, zone, line)
+    if is_unbuilt(zone, line.text.bytes()) {
+        return Err(refuse_unbuilt(alloc, line));
+    }
+    quote_fault(alloc, zone, line)?;
+    zone_line(alloc, zone, line)
 }
 
 /// What the line is, or the fault of its form.
@@ -116,8 +120,8 @@ pub fn flash_line(alloc: Global, zone: Zone, line: &Taken) -> Result<FlashLine, 
     if text.is_empty() {
         return Ok(FlashLine::Blank);
     }
-    if is_unbuilt(zone, text) {
-        return Err(refuse_unbuilt(alloc, line));
+    if begins_section(text) {
+        return section_line(alloc, line);
     }
     read_line(alloc, zone, line)
 }

@@ -343,18 +343,20 @@ fn volumes(rt: HostRuntime) -> Result<(), Fail> {
 }
 
 #[test]
-fn too_many(rt: HostRuntime) -> Result<(), Fail> {
+fn too_many_volumes(rt: HostRuntime) -> Result<(), Fail> {
     let alloc = rt.alloc();
-    let found = told(
-        alloc,
-        read_rows(alloc, repeated(alloc, b"", b"[FV.V]", b"")?),
-    )?;
+    let rows = repeated(alloc, b"", b"[FV.V]", b"")?;
+    let found = told(alloc, read_rows(alloc, rows))?;
     assert!(rt; found.bytes() == b"P.fdf(65536): error 263: TooMany: 65536\n".as_slice());
-    let first = b"FILE RAW = 11111111-1111-1111-1111-111111111111 {";
-    let found = told(
-        alloc,
-        read_rows(alloc, repeated(alloc, b"[FV.V]", first, b"}")?),
-    )?;
+    Ok(())
+}
+
+#[test]
+fn too_many_files(rt: HostRuntime) -> Result<(), Fail> {
+    let alloc = rt.alloc();
+    let file = b"FILE RAW = 11111111-1111-1111-1111-111111111111 {";
+    let rows = repeated(alloc, b"[FV.V]", file, b"}")?;
+    let found = told(alloc, read_rows(alloc, rows))?;
     assert!(rt; found.bytes() == b"P.fdf(65536): error 263: TooMany: 65536\n".as_slice());
     Ok(())
 }
