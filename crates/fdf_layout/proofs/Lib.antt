@@ -4,3 +4,4 @@ pub mod Scans
 pub mod Told
 pub mod LineLemmas
 pub mod ShapeLemmas
+pub mod ByNameLemmas

@@ -10,6 +10,7 @@ pub mod Lines
 pub mod Contexts
 pub mod Standing
 pub mod Whole
+pub mod ByName
 pub mod Flash
 pub mod Reading
 pub mod Shape

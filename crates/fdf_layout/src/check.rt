@@ -1,16 +1,20 @@
 //! The checks over the whole of a flash description.
-ghost use Rattle.std.specs.Prelude.{◌≡◌, ◌-◌, ◌%◌, IfOk, Some};
+ghost use Rattle.std.specs.Prelude.{◌≡◌, ◌-◌, ◌%◌, IfOk, Some, List};
+ghost use Rattle.fdf_layout.specs.ByName.{Numbers};
+ghost use Rattle.fdf_layout.specs.declared.context.StatedVolume.{StatedVolume as Volume};
 ghost use Rattle.build_base.specs.Answer.{Checks, Finds};
 ghost use Rattle.build_base.specs.FaultText.{fault_of};
 ghost use Rattle.meta_lexer.specs.Faults.{first_fault};
 ghost use Rattle.fdf_layout.specs.Whole.{capped, held_size, other_size, unequal, unstated_of, unstated, size_fault, too_large, unknown_in, unknown, blocks_of_head, unlike, whole_blocks, blocks_with, blocks_differ, sizes_of_regions, two_sizes, whole_fault, first_item};
 
+use crate::by_name::number_in;
 use crate::context::StatedVolume;
 use crate::number::SIZE_LIMIT;
-use crate::scan::{held_size, other_size, refuse_twins, volume_number};
+use crate::scan::{held_size, other_size, refuse_twins};
 use crate::tables::{Content, DeviceHead, DeviceTables, StatedRegion};
 use crate::whole::{block_of, first_item, size_of};
 use build_base::{Place, Refusal, Text, WantOfMemory, refuse};
+use indexmap::IndexMap;
 use itoa::Buffer;
 use std::alloc::Global;
 
@@ -81,12 +85,16 @@ fn check_sizes(
     Ok(())
 }
 
-fn check_content(alloc: Global, volumes: &[StatedVolume], content: &Content) -> Result<(), Refusal>
-    ensures { Checks result (unknown_in volumes.now content.now) }
+fn check_content(
+    alloc: Global,
+    numbers: &IndexMap<Vec<u8>, usize>,
+    content: &Content,
+) -> Result<(), Refusal>
+    ensures { (volumes : List Volume) → Numbers volumes numbers.now → Checks result (unknown_in volumes content.now) }
 {
     match content {
         Content::Nothing | Content::Listed(_) => Ok(()),
-        Content::Named(held) => match volume_number(held.name.bytes(), volumes) {
+        Content::Named(held) => match number_in(alloc, numbers, held.name.bytes())? {
             Some(_) => Ok(()),
             None => Err(refuse(alloc, 251, &held.at, held.name.bytes())),
         },
@@ -95,13 +103,13 @@ fn check_content(alloc: Global, volumes: &[StatedVolume], content: &Content) -> 
 
 fn check_names(
     alloc: Global,
-    volumes: &[StatedVolume],
+    numbers: &IndexMap<Vec<u8>, usize>,
     regions: &[StatedRegion],
 ) -> Result<(), Refusal>
-    ensures { Checks result (first_fault (unknown volumes.now) regions.now) }
+    ensures { (volumes : List Volume) → Numbers volumes numbers.now → Checks result (first_fault (unknown volumes) regions.now) }
 {
     for region in regions {
-        if let Err(refusal) = check_content(alloc, volumes, &region.content) {
+        if let Err(refusal) = check_content(alloc, numbers, &region.content) {
             return Err(refusal);
         }
     }
@@ -223,13 +231,15 @@ pub fn check(
     device: &DeviceTables,
     regions: &[StatedRegion],
     volumes: &[StatedVolume],
+    numbers: &IndexMap<Vec<u8>, usize>,
 ) -> Result<(), Refusal>
+    requires { Numbers volumes.now numbers.now }
     ensures { Checks result (whole_fault device.now regions.now volumes.now) }
 {
     let first = first_item(device.sizes.items());
     check_device(alloc, device)?;
     check_sizes(alloc, first, regions, volumes)?;
-    check_names(alloc, volumes, regions)?;
+    check_names(alloc, numbers, regions)?;
     check_device_blocks(alloc, device)?;
     check_blocks(alloc, first, regions, volumes)?;
     check_regions(alloc, regions, volumes)?;

@@ -1,6 +1,7 @@
 //! A flash description, read from its lines (EDK II FDF specification).
 #![tactic(auto)]
 
+pub mod by_name;
 pub mod check;
 pub mod context;
 pub mod data_bytes;

@@ -1,11 +1,13 @@
 //! Volumes and regions found by scanning their lists.
-ghost use Rattle.std.specs.Prelude.{◌≡◌, ◌<◌, is_some, take, []};
+ghost use Rattle.std.specs.Prelude.{◌≡◌, []};
 ghost use Rattle.build_base.specs.Answer.{Checks};
-ghost use Rattle.fdf_layout.specs.Whole.{is_named, number_from, names, holds, held_size, differs, other_size, twin};
+ghost use Rattle.fdf_layout.specs.Whole.{is_named, names, holds, held_size, differs, other_size, twin};
 
+use crate::by_name::{add_number, number_in};
 use crate::context::StatedVolume;
 use crate::tables::{Content, StatedRegion};
 use build_base::{Refusal, refuse};
+use indexmap::IndexMap;
 use meta_lexer::words::same_word;
 use std::alloc::Global;
 
@@ -15,40 +17,16 @@ fn is_named(name: &[u8], volume: &StatedVolume) -> bool
     same_word(volume.name.bytes(), name)
 }
 
-/// The number of the first volume of a name, without regard to ASCII case: one look at each volume.
-pub fn volume_number(name: &[u8], volumes: &[StatedVolume]) -> Option<usize>
-    ensures { result ≡ number_from 0 name.now volumes.now }
-{
-    for (i, volume) in volumes.iter().enumerate() {
-        if is_named(name, volume) {
-            return Some(i);
-        }
-    }
-    None
-}
-
-fn is_taken(name: &[u8], volumes: &[StatedVolume]) -> bool
-    ensures { result ≡ is_some (number_from 0 name.now volumes.now) }
-{
-    volume_number(name, volumes).is_some()
-}
-
-// The volumes above one.
-fn above(i: usize, volumes: &[StatedVolume]) -> &[StatedVolume]
-    requires { i < Rattle.std.specs.Prelude.length volumes.now }
-    ensures { result.now ≡ take i volumes.now }
-{
-    &volumes[..i]
-}
-
-/// Refuses the first volume whose name one above has: each is compared with those above it.
+/// Refuses the first volume whose name one above has.
 pub fn refuse_twins(alloc: Global, volumes: &[StatedVolume]) -> Result<(), Refusal>
     ensures { Checks result (twin [] volumes.now) }
 {
+    let mut numbers = IndexMap::new(alloc);
     for (i, volume) in volumes.iter().enumerate() {
-        if is_taken(volume.name.bytes(), above(i, volumes)) {
+        if number_in(alloc, &numbers, volume.name.bytes())?.is_some() {
             return Err(refuse(alloc, 261, &volume.at, volume.name.bytes()));
         }
+        add_number(alloc, &mut numbers, volume, i)?;
     }
     Ok(())
 }

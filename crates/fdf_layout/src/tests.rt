@@ -67,11 +67,11 @@ fn repeated(
 // What is read of the device with another text in one of its lines.
 fn read_device(alloc: Global, number: u64, text: &str) -> Result<FlashDoc, Refusal> {
     let mut rows = Rows::new(alloc);
-    let mut at = 1;
+    let mut at: u64 = 1;
     for stated in FLASH {
         let text = if at == number { text } else { stated };
         rows.push(line(alloc, at, text.as_bytes())?)?;
-        at += 1;
+        at = at.saturating_add(1);
     }
     read_rows(alloc, rows)
 }
@@ -79,11 +79,11 @@ fn read_device(alloc: Global, number: u64, text: &str) -> Result<FlashDoc, Refus
 // What is read of lines, with `;` between them, below those of the device where `below` is set.
 fn read_lines(alloc: Global, below: bool, text: &[u8]) -> Result<FlashDoc, Refusal> {
     let mut rows = Rows::new(alloc);
-    let mut at = 1;
+    let mut at: u64 = 1;
     if below {
         for stated in FLASH {
             rows.push(line(alloc, at, stated.as_bytes())?)?;
-            at += 1;
+            at = at.saturating_add(1);
         }
     }
     let spans = cut(alloc, false, b';', text)?;

@@ -1,16 +1,20 @@
 //! The document of what the lines give.
-ghost use Rattle.std.specs.Prelude.{◌≡◌, ◌%◌, ◌==◌, IfOk, map, Some};
+ghost use Rattle.std.specs.Prelude.{◌≡◌, ◌%◌, ◌==◌, IfOk, map, Some, List};
+ghost use Rattle.fdf_layout.specs.ByName.{Numbers};
+ghost use Rattle.fdf_layout.specs.declared.context.StatedVolume.{StatedVolume as Volume};
 ghost use Rattle.build_base.specs.Answer.{Answers};
 ghost use Rattle.fdf_layout.specs.Whole.{block_size_of, volume_size, block_of, size_of, kind_numbered, region_kind, region_of, polarity_of, attributes_of, plan_with, volume_plan, first_item, devices_with, devices_of, document_of, flash_of_parts, held_size};
 
+use crate::by_name::{number_in, volume_numbers};
 use crate::check::check;
 use crate::context::StatedVolume;
-use crate::scan::{held_size, volume_number};
+use crate::scan::held_size;
 use crate::tables::{Content, DeviceHead, DeviceTables, StatedRegion};
 use build_base::{Path, Place, Refusal, Rows, Same, WantOfMemory};
 use doc_types::flash::{DevicePlan, FlashDoc, Region, RegionKind};
 use doc_types::volume::VolumePlan;
 use doc_types::volume_head::VolumeHead;
+use indexmap::IndexMap;
 use std::alloc::Global;
 
 fn block_size_of(own: Option<u64>, held: Option<u64>, first: Option<u64>) -> u64
@@ -62,26 +66,26 @@ fn kind_numbered(number: Option<usize>) -> Result<RegionKind, WantOfMemory>
 
 fn region_kind(
     alloc: Global,
-    volumes: &[StatedVolume],
+    numbers: &IndexMap<Vec<u8>, usize>,
     content: &Content,
 ) -> Result<RegionKind, WantOfMemory>
-    ensures { IfOk result (λ k. k ≡ region_kind volumes.now content.now) }
+    ensures { (volumes : List Volume) → Numbers volumes numbers.now → IfOk result (λ k. k ≡ region_kind volumes content.now) }
 {
     match content {
         Content::Nothing => Ok(RegionKind::Empty),
         Content::Listed(bytes) => Ok(RegionKind::Bytes(bytes.copy(alloc)?)),
-        Content::Named(held) => kind_numbered(volume_number(held.name.bytes(), volumes)),
+        Content::Named(held) => kind_numbered(number_in(alloc, numbers, held.name.bytes())?),
     }
 }
 
 fn region_of(
     alloc: Global,
-    volumes: &[StatedVolume],
+    numbers: &IndexMap<Vec<u8>, usize>,
     region: &StatedRegion,
 ) -> Result<Region, WantOfMemory>
-    ensures { IfOk result (λ r. r ≡ region_of volumes.now region.now) }
+    ensures { (volumes : List Volume) → Numbers volumes numbers.now → IfOk result (λ r. r ≡ region_of volumes region.now) }
 {
-    let kind = region_kind(alloc, volumes, &region.content)?;
+    let kind = region_kind(alloc, numbers, &region.content)?;
     Ok(Region {
         at: region.at.copy(alloc)?,
         offset: region.extent.offset,
@@ -93,14 +97,14 @@ fn region_of(
 // The regions with the volumes that they name.
 fn place_regions(
     alloc: Global,
-    volumes: &[StatedVolume],
+    numbers: &IndexMap<Vec<u8>, usize>,
     stated: &[StatedRegion],
 ) -> Result<Rows<Region>, WantOfMemory>
-    ensures { IfOk result (λ rows. rows ≡ map (region_of volumes.now) stated.now) }
+    ensures { (volumes : List Volume) → Numbers volumes numbers.now → IfOk result (λ rows. rows ≡ map (region_of volumes) stated.now) }
 {
     let mut regions = Rows::new(alloc);
     for region in stated {
-        regions.push(region_of(alloc, volumes, region)?)?;
+        regions.push(region_of(alloc, numbers, region)?)?;
     }
     Ok(regions)
 }
@@ -224,10 +228,12 @@ fn document_of(
     device: &DeviceTables,
     regions: &[StatedRegion],
     volumes: &[StatedVolume],
+    numbers: &IndexMap<Vec<u8>, usize>,
 ) -> Result<FlashDoc, WantOfMemory>
+    requires { Numbers volumes.now numbers.now }
     ensures { IfOk result (λ d. d ≡ document_of root.now device.now regions.now volumes.now) }
 {
-    let placed = place_regions(alloc, volumes, regions)?;
+    let placed = place_regions(alloc, numbers, regions)?;
     let plans = make_volumes(alloc, first_item(device.sizes.items()), regions, volumes)?;
     let devices = devices_of(alloc, device, placed)?;
     let path = root.copy(alloc)?;
@@ -249,6 +255,7 @@ pub fn document(
 ) -> Result<FlashDoc, Refusal>
     ensures { Answers result (flash_of_parts root.now device.now regions.now volumes.now) }
 {
-    check(alloc, device, regions, volumes)?;
-    Ok(document_of(alloc, root, device, regions, volumes)?)
+    let numbers = volume_numbers(alloc, volumes)?;
+    check(alloc, device, regions, volumes, &numbers)?;
+    Ok(document_of(alloc, root, device, regions, volumes, &numbers)?)
 }
