@@ -10,7 +10,7 @@ use Rattle.fdf_layout.specs.declared.context.StatedVolume.{StatedVolume}
 use Rattle.fdf_layout.specs.Whole.{is_named, number_from}
 use Rattle.fdf_layout.specs.ByName.{folded, same_key, number_by, Numbers}
 
-or_none : {T : Type 0} (o : Option T) → or_else o None ≡ o
+pub or_none : {T : Type 0} (o : Option T) → or_else o None ≡ o
 or_none None = refl
 or_none (Some x) = refl
 

@@ -5,3 +5,4 @@ pub mod Told
 pub mod LineLemmas
 pub mod ShapeLemmas
 pub mod ByNameLemmas
+pub mod HeldLemmas

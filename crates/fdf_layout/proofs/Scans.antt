@@ -6,21 +6,7 @@ use Rattle.build_base.proofs.Steps.{head_drop}
 use Rattle.build_base.specs.FaultText.{fault_of}
 use Rattle.meta_lexer.specs.Faults.{first_fault}
 use Rattle.fdf_layout.specs.declared.context.StatedVolume.{StatedVolume}
-use Rattle.fdf_layout.specs.declared.tables.StatedRegion.{StatedRegion}
-use Rattle.fdf_layout.specs.Whole.{is_named, number_from, holds, held_size, differs, other_size, twin}
-
-pub number_here : (name : List ℕ) (vs : List StatedVolume) (i : ℕ) (v : StatedVolume) → i < length vs → v ≡ get_or vs i v → is_named name v ≡ true → number_from i name (drop i vs) ≡ Some i
-unfolding number_from
-number_here name vs i v h e t = rw (head_drop vs i v h e, t) refl
-
-pub number_later : (name : List ℕ) (vs : List StatedVolume) (i : ℕ) (v : StatedVolume) → i < length vs → v ≡ get_or vs i v → is_named name v ≡ false
-    → number_from i name (drop i vs) ≡ number_from (i + 1) name (drop (i + 1) vs)
-unfolding number_from
-number_later name vs i v h e t = rw (head_drop vs i v h e, t) refl
-
-pub number_none : (name : List ℕ) (vs : List StatedVolume) (i : ℕ) → length vs ≤ i → number_from i name (drop i vs) ≡ None
-unfolding number_from
-number_none name vs i h = rw (drop_all i vs h) refl
+use Rattle.fdf_layout.specs.Whole.{number_from, twin}
 
 pub twin_here : (vs : List StatedVolume) (i : ℕ) (v : StatedVolume) → i < length vs → v ≡ get_or vs i v → is_some (number_from 0 v.name (take i vs)) ≡ true
     → twin (take i vs) (drop i vs) ≡ Some (fault_of 261 v.at v.name)
@@ -37,32 +23,6 @@ twin_later vs i v h e t =
 pub twin_none : (above vs : List StatedVolume) (i : ℕ) → length vs ≤ i → twin above (drop i vs) ≡ None
 unfolding twin
 twin_none above vs i h = rw (drop_all i vs h) refl
-
-pub held_here : (v : StatedVolume) (rs : List StatedRegion) (i : ℕ) (r : StatedRegion) → i < length rs → r ≡ get_or rs i r → holds v r ≡ true → held_size v (drop i rs) ≡ Some r.extent.size
-unfolding held_size
-held_here v rs i r h e t = rw (head_drop rs i r h e, t) refl
-
-pub held_later : (v : StatedVolume) (rs : List StatedRegion) (i : ℕ) (r : StatedRegion) → i < length rs → r ≡ get_or rs i r → holds v r ≡ false → held_size v (drop i rs) ≡ held_size v (drop (i + 1) rs)
-unfolding held_size
-held_later v rs i r h e t = rw (head_drop rs i r h e, t) refl
-
-pub held_none : (v : StatedVolume) (rs : List StatedRegion) (i : ℕ) → length rs ≤ i → held_size v (drop i rs) ≡ None
-unfolding held_size
-held_none v rs i h = rw (drop_all i rs h) refl
-
-pub other_here : (v : StatedVolume) (size : ℕ) (rs : List StatedRegion) (i : ℕ) (r : StatedRegion) → i < length rs → r ≡ get_or rs i r → differs v size r ≡ true
-    → other_size v size (drop i rs) ≡ Some r.extent.size
-unfolding other_size
-other_here v size rs i r h e t = rw (head_drop rs i r h e, t) refl
-
-pub other_later : (v : StatedVolume) (size : ℕ) (rs : List StatedRegion) (i : ℕ) (r : StatedRegion) → i < length rs → r ≡ get_or rs i r → differs v size r ≡ false
-    → other_size v size (drop i rs) ≡ other_size v size (drop (i + 1) rs)
-unfolding other_size
-other_later v size rs i r h e t = rw (head_drop rs i r h e, t) refl
-
-pub other_none : (v : StatedVolume) (size : ℕ) (rs : List StatedRegion) (i : ℕ) → length rs ≤ i → other_size v size (drop i rs) ≡ None
-unfolding other_size
-other_none v size rs i h = rw (drop_all i rs h) refl
 
 pub fault_here : {A F : Type 0} (fault : A → Option F) (xs : List A) (i : ℕ) (x : A) (f : F) → i < length xs → x ≡ get_or xs i x → fault x ≡ Some f → first_fault fault (drop i xs) ≡ Some f
 fault_here fault xs i x f h e t = rw (head_drop xs i x h e, t) refl

@@ -1,16 +1,16 @@
 //! The checks over the whole of a flash description.
-ghost use Rattle.std.specs.Prelude.{◌≡◌, ◌-◌, ◌%◌, IfOk, Some, List};
-ghost use Rattle.fdf_layout.specs.ByName.{Numbers};
+ghost use Rattle.std.specs.Prelude.{◌≡◌, ◌-◌, ◌%◌, IfOk, Some, List, []};
+ghost use Rattle.fdf_layout.specs.ByName.{Numbers, Sizes, first_of_held, block_held, size_held, blocks_held, sizes_held};
+ghost use Rattle.fdf_layout.specs.declared.tables.StatedRegion.{StatedRegion as StatedPart};
 ghost use Rattle.fdf_layout.specs.declared.context.StatedVolume.{StatedVolume as Volume};
 ghost use Rattle.build_base.specs.Answer.{Checks, Finds};
 ghost use Rattle.build_base.specs.FaultText.{fault_of};
 ghost use Rattle.meta_lexer.specs.Faults.{first_fault};
-ghost use Rattle.fdf_layout.specs.Whole.{capped, held_size, other_size, unequal, unstated_of, unstated, size_fault, too_large, unknown_in, unknown, blocks_of_head, unlike, whole_blocks, blocks_with, blocks_differ, sizes_of_regions, two_sizes, whole_fault, first_item};
+ghost use Rattle.fdf_layout.specs.Whole.{capped, unequal, unstated_of, unstated, size_fault, too_large, unknown_in, unknown, blocks_of_head, unlike, whole_blocks, blocks_differ, two_sizes, twin, whole_fault, first_item};
 
-use crate::by_name::number_in;
+use crate::by_name::{HeldSizes, add_number, first_of_held, held_in, number_in, other_than};
 use crate::context::StatedVolume;
 use crate::number::SIZE_LIMIT;
-use crate::scan::{held_size, other_size, refuse_twins};
 use crate::tables::{Content, DeviceHead, DeviceTables, StatedRegion};
 use crate::whole::{block_of, first_item, size_of};
 use build_base::{Place, Refusal, Text, WantOfMemory, refuse};
@@ -68,17 +68,28 @@ fn size_fault(alloc: Global, at: &Place, size: Option<u64>) -> Result<(), Refusa
     }
 }
 
+fn too_large(
+    alloc: Global,
+    first: Option<u64>,
+    sizes: &IndexMap<Vec<u8>, HeldSizes>,
+    volume: &StatedVolume,
+) -> Result<(), Refusal>
+    ensures { (regions : List StatedPart) → Sizes regions sizes.now → Checks result (too_large first regions volume.now) }
+{
+    let held = held_in(alloc, sizes, volume)?;
+    size_fault(alloc, &volume.at, size_of(first, held, volume))
+}
+
 fn check_sizes(
     alloc: Global,
     first: Option<u64>,
-    regions: &[StatedRegion],
+    sizes: &IndexMap<Vec<u8>, HeldSizes>,
     volumes: &[StatedVolume],
 ) -> Result<(), Refusal>
-    ensures { Checks result (first_fault (too_large first regions.now) volumes.now) }
+    ensures { (regions : List StatedPart) → Sizes regions sizes.now → Checks result (first_fault (too_large first regions) volumes.now) }
 {
     for volume in volumes {
-        let size = size_of(first, regions, volume);
-        if let Err(refusal) = size_fault(alloc, &volume.at, size) {
+        if let Err(refusal) = too_large(alloc, first, sizes, volume) {
             return Err(refusal);
         }
     }
@@ -162,69 +173,106 @@ fn whole_blocks(alloc: Global, at: &Place, block: u64, size: Option<u64>) -> Res
     Err(refuse_unequal(alloc, 255, at, size, size.saturating_sub(past)))
 }
 
-fn blocks_with(
+fn blocks_held(
     alloc: Global,
     volume: &StatedVolume,
-    regions: &[StatedRegion],
+    held: Option<HeldSizes>,
     block: u64,
 ) -> Result<(), Refusal>
-    ensures { Checks result (blocks_with volume.now regions.now block volume.now.blocks) }
+    ensures { Checks result (blocks_held volume.now held block volume.now.blocks) }
 {
     match volume.blocks {
         Some(blocks) => {
             let own = block.saturating_mul(blocks);
-            let other = other_size(volume, own, regions);
+            let other = other_than(own, held);
             unlike(alloc, 255, &volume.at, own, other)
         }
-        None => whole_blocks(alloc, &volume.at, block, held_size(volume, regions)),
+        None => whole_blocks(alloc, &volume.at, block, first_of_held(held)),
     }
+}
+
+fn blocks_differ(
+    alloc: Global,
+    first: Option<u64>,
+    sizes: &IndexMap<Vec<u8>, HeldSizes>,
+    volume: &StatedVolume,
+) -> Result<(), Refusal>
+    ensures { (regions : List StatedPart) → Sizes regions sizes.now → Checks result (blocks_differ first regions volume.now) }
+{
+    let held = held_in(alloc, sizes, volume)?;
+    blocks_held(alloc, volume, held, block_of(first, held, volume))
 }
 
 fn check_blocks(
     alloc: Global,
     first: Option<u64>,
-    regions: &[StatedRegion],
+    sizes: &IndexMap<Vec<u8>, HeldSizes>,
     volumes: &[StatedVolume],
 ) -> Result<(), Refusal>
-    ensures { Checks result (first_fault (blocks_differ first regions.now) volumes.now) }
+    ensures { (regions : List StatedPart) → Sizes regions sizes.now → Checks result (first_fault (blocks_differ first regions) volumes.now) }
 {
     for volume in volumes {
-        let block = block_of(first, regions, volume);
-        if let Err(refusal) = blocks_with(alloc, volume, regions, block) {
+        if let Err(refusal) = blocks_differ(alloc, first, sizes, volume) {
             return Err(refusal);
         }
     }
     Ok(())
 }
 
-fn two_sizes(alloc: Global, regions: &[StatedRegion], volume: &StatedVolume) -> Result<(), Refusal>
-    ensures { Checks result (two_sizes regions.now volume.now) }
+fn sizes_held(alloc: Global, volume: &StatedVolume, held: Option<HeldSizes>) -> Result<(), Refusal>
+    ensures { Checks result (sizes_held volume.now held (first_of_held held)) }
 {
-    match held_size(volume, regions) {
+    match first_of_held(held) {
         Some(size) => {
-            let other = other_size(volume, size, regions);
+            let other = other_than(size, held);
             unlike(alloc, 256, &volume.at, size, other)
         }
         None => Ok(()),
     }
 }
 
+fn two_sizes(
+    alloc: Global,
+    sizes: &IndexMap<Vec<u8>, HeldSizes>,
+    volume: &StatedVolume,
+) -> Result<(), Refusal>
+    ensures { (regions : List StatedPart) → Sizes regions sizes.now → Checks result (two_sizes regions volume.now) }
+{
+    let held = held_in(alloc, sizes, volume)?;
+    sizes_held(alloc, volume, held)
+}
+
 fn check_regions(
     alloc: Global,
-    regions: &[StatedRegion],
+    sizes: &IndexMap<Vec<u8>, HeldSizes>,
     volumes: &[StatedVolume],
 ) -> Result<(), Refusal>
-    ensures { Checks result (first_fault (two_sizes regions.now) volumes.now) }
+    ensures { (regions : List StatedPart) → Sizes regions sizes.now → Checks result (first_fault (two_sizes regions) volumes.now) }
 {
     for volume in volumes {
-        if let Err(refusal) = two_sizes(alloc, regions, volume) {
+        if let Err(refusal) = two_sizes(alloc, sizes, volume) {
             return Err(refusal);
         }
     }
     Ok(())
 }
 
-/// Refuses what isn't whole, by the first check in the order of codes. Each volume looks through the regions.
+// Refuses the first volume whose name one above has.
+fn refuse_twins(alloc: Global, volumes: &[StatedVolume]) -> Result<(), Refusal>
+    ensures { Checks result (twin [] volumes.now) }
+{
+    let mut numbers = IndexMap::new(alloc);
+    for (i, volume) in volumes.iter().enumerate() {
+        if number_in(alloc, &numbers, volume.name.bytes())?.is_some() {
+            return Err(refuse(alloc, 261, &volume.at, volume.name.bytes()));
+        }
+        add_number(alloc, &mut numbers, volume, i)?;
+    }
+    Ok(())
+}
+
+/// Refuses what isn't whole, by the first check in the order of codes. The tables are those of the volumes'
+/// numbers and of the regions' sizes by names.
 #[tactic(auto, unfolding(crate::specs::Whole::whole_fault))]
 pub fn check(
     alloc: Global,
@@ -232,16 +280,18 @@ pub fn check(
     regions: &[StatedRegion],
     volumes: &[StatedVolume],
     numbers: &IndexMap<Vec<u8>, usize>,
+    sizes: &IndexMap<Vec<u8>, HeldSizes>,
 ) -> Result<(), Refusal>
-    requires { Numbers volumes.now numbers.now }
+    requires numbers { Numbers volumes.now numbers.now }
+    requires sizes { Sizes regions.now sizes.now }
     ensures { Checks result (whole_fault device.now regions.now volumes.now) }
 {
     let first = first_item(device.sizes.items());
     check_device(alloc, device)?;
-    check_sizes(alloc, first, regions, volumes)?;
+    check_sizes(alloc, first, sizes, volumes)?;
     check_names(alloc, numbers, regions)?;
     check_device_blocks(alloc, device)?;
-    check_blocks(alloc, first, regions, volumes)?;
-    check_regions(alloc, regions, volumes)?;
+    check_blocks(alloc, first, sizes, volumes)?;
+    check_regions(alloc, sizes, volumes)?;
     refuse_twins(alloc, volumes)
 }

@@ -11,7 +11,6 @@ pub mod key;
 pub mod line;
 pub mod number;
 pub mod reading;
-pub mod scan;
 pub mod statement;
 pub mod tables;
 pub mod volume_line;

@@ -1,14 +1,14 @@
 //! The document of what the lines give.
 ghost use Rattle.std.specs.Prelude.{◌≡◌, ◌%◌, ◌==◌, IfOk, map, Some, List};
-ghost use Rattle.fdf_layout.specs.ByName.{Numbers};
+ghost use Rattle.fdf_layout.specs.ByName.{Numbers, Sizes, block_held, size_held};
+ghost use Rattle.fdf_layout.specs.declared.tables.StatedRegion.{StatedRegion as StatedPart};
 ghost use Rattle.fdf_layout.specs.declared.context.StatedVolume.{StatedVolume as Volume};
 ghost use Rattle.build_base.specs.Answer.{Answers};
-ghost use Rattle.fdf_layout.specs.Whole.{block_size_of, volume_size, block_of, size_of, kind_numbered, region_kind, region_of, polarity_of, attributes_of, plan_with, volume_plan, first_item, devices_with, devices_of, document_of, flash_of_parts, held_size};
+ghost use Rattle.fdf_layout.specs.Whole.{block_size_of, volume_size, kind_numbered, region_kind, region_of, polarity_of, attributes_of, plan_with, volume_plan, first_item, devices_with, devices_of, document_of, flash_of_parts};
 
-use crate::by_name::{number_in, volume_numbers};
+use crate::by_name::{HeldSizes, first_of_held, held_in, held_sizes, number_in, volume_numbers};
 use crate::check::check;
 use crate::context::StatedVolume;
-use crate::scan::held_size;
 use crate::tables::{Content, DeviceHead, DeviceTables, StatedRegion};
 use build_base::{Path, Place, Refusal, Rows, Same, WantOfMemory};
 use doc_types::flash::{DevicePlan, FlashDoc, Region, RegionKind};
@@ -37,18 +37,18 @@ fn volume_size(block: u64, blocks: Option<u64>, held: Option<u64>) -> Option<u64
 }
 
 /// The block size of a volume: its own, else the first of the device that holds it, else 0x1000.
-pub fn block_of(first: Option<u64>, regions: &[StatedRegion], volume: &StatedVolume) -> u64
-    ensures { result ≡ block_of first regions.now volume.now }
+pub fn block_of(first: Option<u64>, held: Option<HeldSizes>, volume: &StatedVolume) -> u64
+    ensures { result ≡ block_held first held volume.now }
 {
-    block_size_of(volume.block_size, held_size(volume, regions), first)
+    block_size_of(volume.block_size, first_of_held(held), first)
 }
 
 /// The size of a volume that its blocks or its first region give.
-pub fn size_of(first: Option<u64>, regions: &[StatedRegion], volume: &StatedVolume) -> Option<u64>
-    ensures { result ≡ size_of first regions.now volume.now }
+pub fn size_of(first: Option<u64>, held: Option<HeldSizes>, volume: &StatedVolume) -> Option<u64>
+    ensures { result ≡ size_held first held volume.now }
 {
-    let block = block_of(first, regions, volume);
-    volume_size(block, volume.blocks, held_size(volume, regions))
+    let block = block_of(first, held, volume);
+    volume_size(block, volume.blocks, first_of_held(held))
 }
 
 // A number past 32 bits can't be had: there are at most 65,535 volumes.
@@ -147,32 +147,31 @@ fn plan_with(
     })
 }
 
-#[tactic(auto, unfolding(crate::specs::Whole::volume_plan))]
 fn volume_plan(
     alloc: Global,
     first: Option<u64>,
-    regions: &[StatedRegion],
+    sizes: &IndexMap<Vec<u8>, HeldSizes>,
     volume: &StatedVolume,
 ) -> Result<VolumePlan, WantOfMemory>
-    ensures { IfOk result (λ p. p ≡ volume_plan first regions.now volume.now) }
+    ensures { (regions : List StatedPart) → Sizes regions sizes.now → IfOk result (λ p. p ≡ volume_plan first regions volume.now) }
 {
-    let block = block_of(first, regions, volume);
-    let size = size_of(first, regions, volume);
+    let held = held_in(alloc, sizes, volume)?;
+    let block = block_of(first, held, volume);
+    let size = size_of(first, held, volume);
     plan_with(alloc, volume, block, size)
 }
 
-// The plans of the volumes: each looks through the regions.
 fn make_volumes(
     alloc: Global,
     first: Option<u64>,
-    regions: &[StatedRegion],
+    sizes: &IndexMap<Vec<u8>, HeldSizes>,
     volumes: &[StatedVolume],
 ) -> Result<Rows<VolumePlan>, WantOfMemory>
-    ensures { IfOk result (λ rows. rows ≡ map (volume_plan first regions.now) volumes.now) }
+    ensures { (regions : List StatedPart) → Sizes regions sizes.now → IfOk result (λ rows. rows ≡ map (volume_plan first regions) volumes.now) }
 {
     let mut plans = Rows::new(alloc);
     for volume in volumes {
-        plans.push(volume_plan(alloc, first, regions, volume)?)?;
+        plans.push(volume_plan(alloc, first, sizes, volume)?)?;
     }
     Ok(plans)
 }
@@ -229,12 +228,14 @@ fn document_of(
     regions: &[StatedRegion],
     volumes: &[StatedVolume],
     numbers: &IndexMap<Vec<u8>, usize>,
+    sizes: &IndexMap<Vec<u8>, HeldSizes>,
 ) -> Result<FlashDoc, WantOfMemory>
-    requires { Numbers volumes.now numbers.now }
+    requires numbers { Numbers volumes.now numbers.now }
+    requires sizes { Sizes regions.now sizes.now }
     ensures { IfOk result (λ d. d ≡ document_of root.now device.now regions.now volumes.now) }
 {
     let placed = place_regions(alloc, numbers, regions)?;
-    let plans = make_volumes(alloc, first_item(device.sizes.items()), regions, volumes)?;
+    let plans = make_volumes(alloc, first_item(device.sizes.items()), sizes, volumes)?;
     let devices = devices_of(alloc, device, placed)?;
     let path = root.copy(alloc)?;
     Ok(FlashDoc {
@@ -256,6 +257,7 @@ pub fn document(
     ensures { Answers result (flash_of_parts root.now device.now regions.now volumes.now) }
 {
     let numbers = volume_numbers(alloc, volumes)?;
-    check(alloc, device, regions, volumes, &numbers)?;
-    Ok(document_of(alloc, root, device, regions, volumes, &numbers)?)
+    let sizes = held_sizes(alloc, regions)?;
+    check(alloc, device, regions, volumes, &numbers, &sizes)?;
+    Ok(document_of(alloc, root, device, regions, volumes, &numbers, &sizes)?)
 }

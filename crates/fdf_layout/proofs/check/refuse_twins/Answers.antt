@@ -4,7 +4,7 @@ use Rattle.build_base.specs.Answer.{Finds}
 use Rattle.fdf_layout.specs.ByName.{Numbers}
 use Rattle.fdf_layout.proofs.ByNameLemmas.{numbers_none}
 use Rattle.fdf_layout.proofs.Scans.{twin_here, twin_later, twin_none}
-use Rattle.fdf_layout.proofs.scan.refuse_twins.Goals as goal
+use Rattle.fdf_layout.proofs.check.refuse_twins.Goals as goal
 
 pub loop-i-init : goal.loop-i-init
 loop-i-init c = (numbers_none c.new-numbers.result c.new-numbers.ensures.empty, refl)
