@@ -7,7 +7,7 @@ use Rattle.std.specs.Cmp.Lexicographic.{pointwise, same_text}
 use Rattle.build_base.specs.First.{or_else}
 use Rattle.meta_lexer.specs.Words.{same_word}
 use Rattle.fdf_layout.specs.declared.context.StatedVolume.{StatedVolume}
-use Rattle.fdf_layout.specs.Whole.{is_named, number_from}
+use Rattle.fdf_layout.specs.Whole.{number_from}
 use Rattle.fdf_layout.specs.ByName.{folded, same_key, number_by, Numbers}
 
 pub or_none : {T : Type 0} (o : Option T) → or_else o None ≡ o

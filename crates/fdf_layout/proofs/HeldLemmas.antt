@@ -16,7 +16,7 @@ use Rattle.fdf_layout.specs.declared.tables.Content.{Content}
 use Rattle.fdf_layout.specs.declared.tables.Content.TheVariants.{Nothing, Listed, Named}
 use Rattle.fdf_layout.specs.declared.tables.NamedVolume.{NamedVolume}
 use Rattle.fdf_layout.specs.declared.tables.StatedRegion.{StatedRegion}
-use Rattle.fdf_layout.specs.Whole.{capped, names, holds, held_size, differs, other_size, block_size_of, volume_size, size_fault, too_large, unlike, whole_blocks, blocks_with, blocks_differ, sizes_of_regions, two_sizes, plan_with, volume_plan}
+use Rattle.fdf_layout.specs.Whole.{capped, names, holds, held_size, other_size, block_size_of, volume_size, size_fault, too_large, unlike, whole_blocks, blocks_with, blocks_differ, sizes_of_regions, two_sizes, plan_with, volume_plan}
 use Rattle.fdf_layout.specs.ByName.{folded, same_key, with_size, names_key, more_held, held_by, Sizes, first_of_held, other_than, IsHeld, block_held, size_held, blocks_held, sizes_held}
 use Rattle.fdf_layout.proofs.ByNameLemmas.{or_none}
 

@@ -1,5 +1,5 @@
 -- A document without a fault has its shape.
-use Rattle.std.proofs.Common.{◌≡◌, ℕ, ◌+◌, ◌*◌, ◌^◌, ◌-◌, ◌%◌, ◌==◌, ◌<◌, ◌≤◌, Bool, true, false, nat_le, List, [], ◌∷◌, length, map, min, Option, Some, None, Result, Ok, Err, if◌then◌else◌, unwrap_or, refl, sym, ap, ◌∙◌, subst, arith}
+use Rattle.std.proofs.Common.{◌≡◌, ℕ, ◌+◌, ◌*◌, ◌%◌, ◌==◌, ◌<◌, ◌≤◌, Bool, true, false, nat_le, List, [], ◌∷◌, length, map, Option, Some, None, Result, Ok, Err, if◌then◌else◌, unwrap_or, refl, sym, ap, ◌∙◌, subst, arith}
 use Rattle.std.specs.Prelude.{IfOk}
 use Rattle.std.specs.List.{All}
 use Rattle.std.specs.Option.{IfSome}
@@ -8,7 +8,7 @@ use Rattle.std.proofs.lemmas.List.Elements.{All-nil, All-cons}
 use Rattle.std.proofs.lemmas.Bool.Decides.{nat_tests}
 use Rattle.std.proofs.Math.Nat.{mul-mod_right}
 use Rattle.build_base.specs.Answer.{Answers}
-use Rattle.build_base.specs.First.{or_else, first_of, or_fault, unless}
+use Rattle.build_base.specs.First.{or_else, or_fault, unless}
 use Rattle.build_base.specs.declared.fault.Fault.{Fault}
 use Rattle.build_base.specs.declared.fault.Place.{Place}
 use Rattle.build_base.specs.declared.refusal.Refusal.{Refusal}
@@ -16,9 +16,7 @@ use Rattle.build_base.specs.declared.lines.Lines.{Lines}
 use Rattle.meta_lexer.specs.Faults.{first_fault}
 use Rattle.macro_conditions.specs.Reading.{lines_fault}
 use Rattle.doc_types.specs.declared.flash.FlashDoc.{FlashDoc}
-use Rattle.doc_types.specs.declared.flash.DevicePlan.{DevicePlan}
 use Rattle.doc_types.specs.declared.flash.Region.{Region}
-use Rattle.doc_types.specs.declared.volume.VolumePlan.{VolumePlan}
 use Rattle.doc_types.specs.Volumes.{SizeFits}
 use Rattle.fdf_layout.specs.declared.context.StatedVolume.{StatedVolume}
 use Rattle.fdf_layout.specs.declared.tables.DeviceHead.{DeviceHead}
@@ -26,7 +24,7 @@ use Rattle.fdf_layout.specs.declared.tables.DeviceTables.{DeviceTables}
 use Rattle.fdf_layout.specs.declared.tables.Content.{Content}
 use Rattle.fdf_layout.specs.declared.tables.Content.TheVariants.{Nothing, Listed, Named}
 use Rattle.fdf_layout.specs.declared.tables.StatedRegion.{StatedRegion}
-use Rattle.fdf_layout.specs.Whole.{capped, is_named, number_from, held_size, unequal, unstated, size_fault, size_of, block_of, volume_size, too_large, unknown, blocks_of_head, whole_blocks, blocks_with, blocks_differ, two_sizes, twin, first_item, whole_fault, kind_numbered, region_kind, region_of, polarity_of, volume_plan, device_with, devices_with, devices_of, document_of, flash_of_parts}
+use Rattle.fdf_layout.specs.Whole.{capped, is_named, number_from, held_size, unstated, size_fault, block_of, volume_size, too_large, unknown, blocks_of_head, whole_blocks, blocks_with, blocks_differ, first_item, whole_fault, kind_numbered, region_kind, region_of, polarity_of, volume_plan, device_with, devices_with, devices_of, document_of, flash_of_parts}
 use Rattle.fdf_layout.specs.Shape.{HeadFits, KindFits, RegionFits, DeviceFits, HasShape}
 use Rattle.fdf_layout.specs.Flash.{line_fault, device_of, all_regions, all_volumes, flash_of_lines, flash_of}
 

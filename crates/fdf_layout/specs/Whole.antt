@@ -1,6 +1,6 @@
 -- The first fault of the whole, and the document of what the lines give.
-use Rattle.std.specs.Prelude.{ℕ, ◌+◌, ◌*◌, ◌^◌, ◌-◌, ◌%◌, Bool, false, ◌&&◌, not, nat_lt, nat_le, ◌==◌, min, List, [], ◌∷◌, ◌++◌, map, Option, Some, None, is_some, unwrap_or, if◌then◌else◌, Result, codes, decimal}
-use Rattle.build_base.specs.First.{or_else, first_of, unless}
+use Rattle.std.specs.Prelude.{ℕ, ◌+◌, ◌*◌, ◌^◌, ◌-◌, ◌%◌, Bool, false, ◌&&◌, not, nat_le, ◌==◌, min, List, [], ◌∷◌, ◌++◌, map, Option, Some, None, is_some, unwrap_or, if◌then◌else◌, Result, codes, decimal}
+use Rattle.build_base.specs.First.{first_of, unless}
 use Rattle.build_base.specs.FaultText.{fault_of}
 use Rattle.build_base.specs.declared.fault.Fault.{Fault}
 use Rattle.build_base.specs.declared.fault.Place.{Place}
