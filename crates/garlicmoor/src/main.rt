@@ -61,3 +61,6 @@ fn main(rt: HostRuntime) -> ExitCode {
     }
     ExitCode::from(status as u8)
 }
+
+#[cfg(test)]
+mod tests;
