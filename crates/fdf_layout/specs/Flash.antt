@@ -21,7 +21,7 @@ use Rattle.fdf_layout.specs.declared.tables.DeviceTables.{DeviceTables}
 use Rattle.fdf_layout.specs.declared.tables.Content.{Content}
 use Rattle.fdf_layout.specs.declared.tables.Content.TheVariants.{Nothing, Listed, Named}
 use Rattle.fdf_layout.specs.declared.tables.StatedRegion.{StatedRegion}
-use Rattle.fdf_layout.specs.Contexts.{start, read_as, enter, context_below, in_device, block_in, region_in}
+use Rattle.fdf_layout.specs.Contexts.{start, read_as, enter, context_below, block_in, region_in}
 use Rattle.fdf_layout.specs.Standing.{fault_below}
 use Rattle.fdf_layout.specs.Whole.{capped, flash_of_parts}
 
@@ -57,13 +57,17 @@ abbrev pub products_at : FlashContext → FlashLine → List ℕ
 products_at context (Keyed key number) = key_products (block_in context.section) key number
 products_at context _ = []
 
--- the block sizes of a device
-abbrev pub key_sizes : Bool → FlashKey → ℕ → List ℕ
-key_sizes device BlockSize number = if device then number ∷ [] else []
-key_sizes device _ number = []
+-- the block sizes of a device that have a number of blocks
+abbrev pub paired : Option ℕ → List ℕ
+paired (Some block) = block ∷ []
+paired None = []
+
+abbrev pub key_sizes : Option ℕ → FlashKey → ℕ → List ℕ
+key_sizes block NumBlocks number = paired block
+key_sizes block _ number = []
 
 abbrev pub sizes_at : FlashContext → FlashLine → List ℕ
-sizes_at context (Keyed key number) = key_sizes (in_device context.section) key number
+sizes_at context (Keyed key number) = key_sizes (block_in context.section) key number
 sizes_at context _ = []
 
 -- an open region with its content

@@ -115,9 +115,8 @@ impl FlashReader {
                 Ok(())
             }
             FlashLine::Keyed(key, number) => {
-                let device = self.context.section.in_device();
                 let block = self.context.section.block();
-                self.device.take_key(device, block, key, number)?;
+                self.device.take_key(block, key, number)?;
                 let section = mem::replace(&mut self.context.section, Within::Outside);
                 self.context.section = keyed(section, key, number);
                 Ok(())

@@ -1,7 +1,7 @@
 //! What the lines of a device give.
 ghost use Rattle.std.specs.Prelude.{◌≡◌, ◌++◌, OnOk, [], None};
 ghost use Rattle.macro_conditions.specs.Reading.{last_or};
-ghost use Rattle.fdf_layout.specs.Flash.{base_at, size_at, erase_at, product, key_products, key_sizes, capped_sum, region_rows};
+ghost use Rattle.fdf_layout.specs.Flash.{base_at, size_at, erase_at, product, key_products, paired, key_sizes, capped_sum, region_rows};
 ghost use Rattle.fdf_layout.specs.declared.line.FlashLine.TheVariants.{Keyed};
 
 use crate::context::OpenRegion;
@@ -61,6 +61,16 @@ fn more_blocks(blocks: u64, block: Option<u64>, number: u64) -> u64
     }
 }
 
+// Adds the block size whose number of blocks is here.
+fn push_size(sizes: &mut Rows<u64>, block: Option<u64>) -> Result<(), WantOfMemory>
+    ensures { OnOk result (sizes.new ≡ sizes.old ++ paired block) }
+{
+    match block {
+        Some(block) => sizes.push(block),
+        None => Ok(()),
+    }
+}
+
 impl DeviceTables {
     /// No device yet.
     pub fn new(alloc: Global) -> DeviceTables
@@ -79,7 +89,6 @@ impl DeviceTables {
     /// Takes the number of a key, where `block` waits for its number of blocks.
     pub fn take_key(
         &mut self,
-        device: bool,
         block: Option<u64>,
         key: FlashKey,
         number: u64,
@@ -89,14 +98,16 @@ impl DeviceTables {
         ensures size { OnOk result (self.new.size ≡ last_or self.old.size (size_at (Keyed key number))) }
         ensures erase { OnOk result (self.new.erase ≡ last_or self.old.erase (erase_at (Keyed key number))) }
         ensures blocks { OnOk result (self.new.blocks ≡ capped_sum self.old.blocks (key_products block key number)) }
-        ensures sizes { OnOk result (self.new.sizes ≡ self.old.sizes ++ key_sizes device key number) }
+        ensures sizes { OnOk result (self.new.sizes ≡ self.old.sizes ++ key_sizes block key number) }
     {
         match key {
             FlashKey::BaseAddress => self.base = Some(number),
             FlashKey::Size => self.size = Some(number),
             FlashKey::ErasePolarity => self.erase = Some(number),
-            FlashKey::NumBlocks => self.blocks = more_blocks(self.blocks, block, number),
-            FlashKey::BlockSize if device => self.sizes.push(number)?,
+            FlashKey::NumBlocks => {
+                push_size(&mut self.sizes, block)?;
+                self.blocks = more_blocks(self.blocks, block, number);
+            }
             FlashKey::BlockSize | FlashKey::VolumePolarity => {}
         }
         Ok(())
