@@ -3,7 +3,7 @@ use Rattle.std.specs.Prelude.{ℕ, ◌+◌, Bool, ◌&&◌, ◌==◌, List, [], 
 use Rattle.std.specs.List.{list_all, position, slice_split}
 use Rattle.build_base.specs.declared.lines.Macro.{Macro}
 use Rattle.build_base.specs.World.{World, field}
-use Rattle.macro_conditions.specs.Macros.{is_macro_name}
+use Rattle.meta_lexer.specs.Words.{is_identifier}
 use Rattle.meta_lexer.specs.Lines.{is_plain}
 
 abbrev pub cut_at : List ℕ → Option ℕ → Macro
@@ -16,7 +16,7 @@ macro_of text = cut_at text (position (λ byte. byte == 61) text)
 
 -- a value is on one line of bytes that may stand in a file
 unfoldable pub is_define : List ℕ → Bool
-is_define text = is_macro_name (macro_of text).name && list_all is_plain (macro_of text).value
+is_define text = is_identifier (macro_of text).name && list_all is_plain (macro_of text).value
 
 -- the macros of texts that line feeds join
 unfoldable pub macros_of : List ℕ → List Macro

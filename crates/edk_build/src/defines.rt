@@ -6,8 +6,8 @@ ghost use Rattle.edk_build.specs.Defines.{macro_of, is_define, macros_of, with_t
 
 use crate::job::Job;
 use build_base::{Macro, Rows, Text, WantOfMemory};
-use macro_conditions::macros::is_macro_name;
 use meta_lexer::line::is_plain;
+use meta_lexer::words::is_identifier;
 use std::alloc::{AllocError, Global};
 
 fn equals_at(text: &[u8]) -> Option<usize>
@@ -41,7 +41,7 @@ pub fn is_define(text: &[u8]) -> bool
     ensures { result ≡ is_define text.now }
 {
     let (name, value) = halves(text);
-    is_macro_name(name) && has_plain_bytes_alone(value)
+    is_identifier(name) && has_plain_bytes_alone(value)
 }
 
 fn new_macro(alloc: Global, name: &[u8], value: &[u8]) -> Result<Macro, WantOfMemory>

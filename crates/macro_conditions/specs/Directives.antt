@@ -1,9 +1,9 @@
 -- Directives and definitions, by the first word of a line.
 use Rattle.std.specs.Prelude.{ℕ, ◌+◌, Bool, ◌&&◌, ◌||◌, ◌==◌, if◌then◌else◌, List, length, take, drop, slice_index, codes, Option, Some, None}
 use Rattle.meta_lexer.specs.Lines.{without_blanks}
-use Rattle.meta_lexer.specs.Words.{same_word, halves}
 use Rattle.meta_lexer.specs.Tokens.{word_size}
-use Rattle.macro_conditions.specs.Macros.{is_macro_name, use_at}
+use Rattle.meta_lexer.specs.Words.{same_word, is_identifier, halves}
+use Rattle.macro_conditions.specs.Macros.{use_at}
 use Rattle.macro_conditions.specs.declared.directive.Kind.{Kind}
 use Rattle.macro_conditions.specs.declared.directive.Kind.TheVariants.{Act, If, Elseif, Else, Endif}
 
@@ -51,7 +51,7 @@ is_definition text = same_word (first_word text) (codes "DEFINE") || same_word (
 
 abbrev pub named : Option (List ℕ × List ℕ) → Option (List ℕ × List ℕ)
 named None = None
-named (Some pair) = if is_macro_name pair.0 then Some pair else None
+named (Some pair) = if is_identifier pair.0 then Some pair else None
 
 -- the name and the value of a definition, around the first `=`
 unfoldable pub definition_of : List ℕ → Option (List ℕ × List ℕ)
@@ -63,4 +63,4 @@ whole_use text (Some n) = if n + 3 == length text then Some (take n (drop 2 text
 
 -- the macro that is named as `NAME` or `$(NAME)`
 unfoldable pub macro_named : List ℕ → Option (List ℕ)
-macro_named text = if is_macro_name text then Some text else whole_use text (use_at text)
+macro_named text = if is_identifier text then Some text else whole_use text (use_at text)

@@ -1,9 +1,9 @@
 -- Macros and their uses in a text.
-use Rattle.std.specs.Prelude.{ℕ, zero, suc, ◌+◌, Bool, ◌&&◌, not, nat_lt, nat_le, nat_eq, ◌==◌, if◌then◌else◌, List, [], ◌∷◌, ◌++◌, length, take, drop, slice_index, Option, Some, None, unwrap_or}
-use Rattle.std.specs.List.{list_all}
+use Rattle.std.specs.Prelude.{ℕ, zero, suc, ◌+◌, Bool, ◌&&◌, nat_lt, nat_eq, ◌==◌, if◌then◌else◌, List, [], ◌∷◌, ◌++◌, length, take, drop, slice_index, Option, Some, None, unwrap_or}
 use Rattle.std.specs.Cmp.Lexicographic.{pointwise}
 use Rattle.build_base.specs.declared.lines.Macro.{Macro}
-use Rattle.meta_lexer.specs.Tokens.{is_word_byte, word_size}
+use Rattle.meta_lexer.specs.Tokens.{word_size}
+use Rattle.meta_lexer.specs.Words.{is_identifier}
 use Rattle.macro_conditions.specs.declared.macros.Undefined.{Undefined}
 use Rattle.macro_conditions.specs.declared.macros.Undefined.TheVariants.{Kept, Zero}
 use Rattle.macro_conditions.specs.declared.macros.Scope.{Scope}
@@ -11,13 +11,6 @@ use Rattle.macro_conditions.specs.declared.macros.Scope.{Scope}
 -- the same bytes
 abbrev pub same_text : List ℕ → List ℕ → Bool
 same_text xs ys = pointwise nat_eq xs ys
-
-abbrev pub begins_with_digit : List ℕ → Bool
-begins_with_digit xs = nat_le 48 (slice_index xs 0) && nat_le (slice_index xs 0) 57
-
--- 1 to 64 letters, digits and `_`, the first no digit
-unfoldable pub is_macro_name : List ℕ → Bool
-is_macro_name xs = nat_lt 0 (length xs) && nat_le (length xs) 64 && list_all is_word_byte xs && not (begins_with_digit xs)
 
 -- the word after `$(`
 abbrev pub used_name : List ℕ → List ℕ
@@ -27,7 +20,7 @@ used_name xs = take (word_size (drop 2 xs)) (drop 2 xs)
 unfoldable pub use_at : List ℕ → Option ℕ
 use_at xs =
     let n = word_size (drop 2 xs) in
-    if (slice_index xs 0 == 36) && (slice_index xs 1 == 40) && nat_lt (n + 2) (length xs) && (slice_index xs (n + 2) == 41) && is_macro_name (used_name xs)
+    if (slice_index xs 0 == 36) && (slice_index xs 1 == 40) && nat_lt (n + 2) (length xs) && (slice_index xs (n + 2) == 41) && is_identifier (used_name xs)
     then Some n else None
 
 -- the value of the last macro of the name

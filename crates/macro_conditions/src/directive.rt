@@ -3,10 +3,10 @@ ghost use Rattle.std.specs.Prelude.{◌≡◌, ◌≤◌, ◌+◌, length, codes
 ghost use Rattle.std.specs.Option.{option_map};
 ghost use Rattle.macro_conditions.specs.Directives.{first_word, after_word, is_directive, directive_word, directive_rest, begins_choice, kind_by, kind_of, is_include, is_definition, named, definition_of, macro_named};
 
-use crate::macros::{is_macro_name, use_at};
+use crate::macros::use_at;
 use meta_lexer::line::trim;
 use meta_lexer::token::word_size;
-use meta_lexer::words::{halves, same_word};
+use meta_lexer::words::{halves, is_identifier, same_word};
 
 /// What a line does to the conditionals. A line that acts is any but their directives.
 #[derive(Clone, Copy, Debug, PartialEq, Eq)]
@@ -120,7 +120,7 @@ pub fn definition_of(text: &[u8]) -> Option<(&[u8], &[u8])>
     ensures { option_map (λ p. (p.0.now, p.1.now)) result ≡ definition_of text.now }
 {
     match halves(b'=', after_word(text)) {
-        Some((name, value)) if is_macro_name(name) => Some((name, value)),
+        Some((name, value)) if is_identifier(name) => Some((name, value)),
         _ => None,
     }
 }
@@ -130,7 +130,7 @@ pub fn definition_of(text: &[u8]) -> Option<(&[u8], &[u8])>
 pub fn macro_named(text: &[u8]) -> Option<&[u8]>
     ensures { option_map (λ t. t.now) result ≡ macro_named text.now }
 {
-    if is_macro_name(text) {
+    if is_identifier(text) {
         return Some(text);
     }
     match use_at(text) {

@@ -1,12 +1,11 @@
 //! Macros and their uses in a text.
 ghost use Rattle.std.specs.Prelude.{◌≡◌, ◌≤◌, ◌+◌, ◌-◌, ◌<◌, length, IfOk, IfSome, OnOk, ◌++◌, None, drop, List, ℕ};
 ghost use Rattle.std.specs.Option.{option_map};
-ghost use Rattle.std.specs.List.{list_all};
-ghost use Rattle.meta_lexer.specs.Tokens.{is_word_byte};
-ghost use Rattle.macro_conditions.specs.Macros.{begins_with_digit, is_macro_name, use_at, value_from, value_of, scope_of, undefined, meaning, replaced};
+ghost use Rattle.macro_conditions.specs.Macros.{use_at, value_from, value_of, scope_of, undefined, meaning, replaced};
 
 use build_base::{Macro, WantOfMemory};
-use meta_lexer::token::{is_word_byte, word_size};
+use meta_lexer::token::word_size;
+use meta_lexer::words::is_identifier;
 use std::alloc::Global;
 
 /// What stands in a text for the use of a macro that isn't defined: the use as written, or `0`.
@@ -23,27 +22,6 @@ pub struct Scope<'a> {
     pub fixed: &'a [Macro],
 }
 
-fn has_word_bytes_alone(text: &[u8]) -> bool
-    ensures { result ≡ list_all is_word_byte text.now }
-{
-    text.iter().all(|b| is_word_byte(*b))
-}
-
-fn begins_with_digit(text: &[u8]) -> bool
-    requires { 0 < length text.now }
-    ensures { result ≡ begins_with_digit text.now }
-{
-    text[0] >= b'0' && text[0] <= b'9'
-}
-
-/// Whether a text is the name of a macro.
-#[tactic(auto, unfolding(crate::specs::Macros::is_macro_name))]
-pub fn is_macro_name(text: &[u8]) -> bool
-    ensures { result ≡ is_macro_name text.now }
-{
-    !text.is_empty() && text.len() <= 64 && has_word_bytes_alone(text) && !begins_with_digit(text)
-}
-
 /// The length of the name, where the text begins with the use of a macro.
 #[tactic(auto, unfolding(crate::specs::Macros::use_at))]
 pub fn use_at(text: &[u8]) -> Option<usize>
@@ -54,7 +32,7 @@ pub fn use_at(text: &[u8]) -> Option<usize>
         return None;
     }
     let n = word_size(&text[2..]);
-    if n + 2 < text.len() && text[n + 2] == b')' && is_macro_name(&text[2..n + 2]) {
+    if n + 2 < text.len() && text[n + 2] == b')' && is_identifier(&text[2..n + 2]) {
         Some(n)
     } else {
         None

@@ -3,6 +3,7 @@ pub mod Lines
 pub mod Numbers
 pub mod Fields
 pub mod Heads
+pub mod Parts
 pub mod Words
 pub mod Tokens
 pub mod GuidBraces

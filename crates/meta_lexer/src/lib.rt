@@ -6,6 +6,7 @@ pub mod guid_braces;
 pub mod head;
 pub mod line;
 pub mod numbers;
+pub mod parts;
 pub mod refusal;
 pub mod token;
 pub mod words;

@@ -3,7 +3,9 @@
 use crate::{
     LexRefusal, TokenKind, fields, guid_of_braces, lines, number, quoted, section_head, tokens,
 };
-use build_base::Guid;
+use crate::parts::{field_texts, words};
+use crate::words::is_identifier;
+use build_base::{Guid, Text};
 
 #[test]
 fn rows(rt: HostRuntime) {
@@ -88,4 +90,50 @@ fn guids_in_braces(rt: HostRuntime) {
     for text in others {
         assert!(rt; guid_of_braces(text).is_none());
     }
+}
+
+fn are_texts(found: &[Text], expected: &[u8]) -> bool {
+    let mut texts = expected.split(|byte| *byte == b';');
+    for text in found {
+        match texts.next() {
+            Some(same) => {
+                if text.bytes() != same {
+                    return false;
+                }
+            }
+            None => return false,
+        }
+    }
+    texts.next().is_none()
+}
+
+#[test]
+fn cuts_fields_and_words(rt: HostRuntime) {
+    let alloc = rt.alloc();
+    match field_texts(alloc, b" a |\"b|c\"| { 1 | 2 } |") {
+        Ok(fields) => assert!(rt; are_texts(fields.items(), b"a;\"b|c\";{ 1 | 2 };")),
+        Err(_) => assert!(rt; false),
+    }
+    match words(alloc, b" PEIM\t DXE_DRIVER ") {
+        Ok(found) => assert!(rt; are_texts(found.items(), b"PEIM;DXE_DRIVER")),
+        Err(_) => assert!(rt; false),
+    }
+    match words(alloc, b" \t") {
+        Ok(found) => assert!(rt; found.items().is_empty()),
+        Err(_) => assert!(rt; false),
+    }
+}
+
+#[test]
+fn an_identifier_has_64_bytes_at_most(rt: HostRuntime) {
+    let alloc = rt.alloc();
+    assert!(rt; is_identifier(b"_a9"));
+    assert!(rt; !is_identifier(b"9a"));
+    assert!(rt; !is_identifier(b"a.b"));
+    assert!(rt; !is_identifier(b""));
+    let mut name = Vec::new(alloc);
+    assert!(rt; name.resize(64, b'a').is_ok());
+    assert!(rt; is_identifier(name.as_slice()));
+    assert!(rt; name.resize(65, b'a').is_ok());
+    assert!(rt; !is_identifier(name.as_slice()));
 }

@@ -1,10 +1,12 @@
-//! Words, pairs around a mark, and uses of macros.
-ghost use Rattle.std.specs.Prelude.{◌≡◌, ◌≤◌, ◌==◌, length};
+//! Words, identifiers, pairs around a mark, and uses of macros.
+ghost use Rattle.std.specs.Prelude.{◌≡◌, ◌≤◌, ◌<◌, ◌==◌, length};
 ghost use Rattle.std.specs.Option.{option_map};
-ghost use Rattle.std.specs.List.{position_or_len};
-ghost use Rattle.meta_lexer.specs.Words.{same_word, halves, holds_macro};
+ghost use Rattle.std.specs.List.{list_all, position_or_len};
+ghost use Rattle.meta_lexer.specs.Tokens.{is_word_byte};
+ghost use Rattle.meta_lexer.specs.Words.{same_word, begins_with_digit, is_identifier, halves, holds_macro};
 
 use crate::line::trim;
+use crate::token::is_word_byte;
 
 /// Whether two words are the same without regard to ASCII case.
 #[tactic(auto, unfolding(crate::specs::Words::same_word))]
@@ -12,6 +14,27 @@ pub fn same_word(ours: &[u8], other: &[u8]) -> bool
     ensures { result ≡ same_word ours.now other.now }
 {
     ours.eq_ignore_ascii_case(other)
+}
+
+fn has_word_bytes_alone(text: &[u8]) -> bool
+    ensures { result ≡ list_all is_word_byte text.now }
+{
+    text.iter().all(|b| is_word_byte(*b))
+}
+
+fn begins_with_digit(text: &[u8]) -> bool
+    requires { 0 < length text.now }
+    ensures { result ≡ begins_with_digit text.now }
+{
+    text[0] >= b'0' && text[0] <= b'9'
+}
+
+/// Whether a text is a C identifier of at most 64 bytes, as the names of macros, PCDs and GUIDs are.
+#[tactic(auto, unfolding(crate::specs::Words::is_identifier))]
+pub fn is_identifier(text: &[u8]) -> bool
+    ensures { result ≡ is_identifier text.now }
+{
+    !text.is_empty() && text.len() <= 64 && has_word_bytes_alone(text) && !begins_with_digit(text)
 }
 
 // Where the mark stands first, or the length.
