@@ -1,3 +1,1 @@
-pub mod NameLemmas
-pub mod FirstFaults
 pub mod More

@@ -5,16 +5,11 @@ use Rattle.build_base.specs.FaultText.{fault_of}
 use Rattle.build_base.specs.declared.fault.Fault.{Fault}
 use Rattle.build_base.specs.declared.fault.Place.{Place}
 use Rattle.meta_lexer.specs.Faults.{first_fault}
-use Rattle.meta_lexer.specs.Fields.{parts_of, bytes_at}
-use Rattle.meta_lexer.specs.Lines.{without_blanks}
+use Rattle.meta_lexer.specs.Parts.{field_texts}
 use Rattle.macro_conditions.specs.ValueFields.{undefined_macro}
 use Rattle.doc_types.specs.Arches.{arch_named}
 use Rattle.doc_types.specs.declared.arch.Arch.{Arch}
 use Rattle.doc_types.specs.declared.arch.Arch.TheVariants.{Common}
-
--- the fields between `|`, without their outer blanks
-unfoldable pub arch_words : List ℕ → List (List ℕ)
-arch_words text = map (λ span. without_blanks (bytes_at text span)) (parts_of true 124 text)
 
 abbrev pub is_common : Arch → Bool
 is_common Common = true
@@ -29,4 +24,4 @@ arch_value at word = arch_found at word (arch_named word)
 
 -- a macro that isn't defined comes before a word that is no architecture
 unfoldable pub arches_value : Place → List ℕ → Result (List Arch) Fault
-arches_value at text = or_fault (first_fault (undefined_macro at) (arch_words text)) (all_ok (map (arch_value at) (arch_words text)))
+arches_value at text = or_fault (first_fault (undefined_macro at) (field_texts text)) (all_ok (map (arch_value at) (field_texts text)))

@@ -8,7 +8,8 @@ use Rattle.build_base.specs.declared.fault.Place.{Place}
 use Rattle.build_base.specs.declared.lines.Taken.{Taken}
 use Rattle.build_base.specs.declared.lines.Lines.{Lines}
 use Rattle.macro_conditions.specs.Reading.{lines_fault, each, last_of}
-use Rattle.macro_conditions.specs.ValueFields.{fault_in, open_quote, path_value}
+use Rattle.macro_conditions.specs.SegmentNames.{segment_name}
+use Rattle.macro_conditions.specs.ValueFields.{fault_in, given, open_quote, guid_value, text_value, path_value}
 use Rattle.doc_types.specs.declared.arch.Arch.{Arch}
 use Rattle.doc_types.specs.declared.platform.PlatformDoc.{PlatformDoc}
 use Rattle.dsc_platform.specs.declared.key.PlatformKey.{PlatformKey}
@@ -20,9 +21,7 @@ use Rattle.dsc_platform.specs.declared.line.Section.TheVariants.{Nowhere, Define
 use Rattle.dsc_platform.specs.declared.stated.Stated.{Stated}
 use Rattle.dsc_platform.specs.Arches.{arches_value}
 use Rattle.dsc_platform.specs.Lines.{platform_line}
-use Rattle.dsc_platform.specs.Names.{name_value}
 use Rattle.dsc_platform.specs.Sections.{heads_fault}
-use Rattle.dsc_platform.specs.Values.{guid_value, text_value}
 
 -- the section in which the line below stands
 abbrev pub enter : Section → PlatformLine → Section
@@ -37,8 +36,8 @@ section_below lines = fold enter_line Nowhere lines
 
 -- the fault of a key's value
 abbrev pub value_fault : Place → PlatformKey → List ℕ → Option Fault
-value_fault at Name value = fault_in (name_value at value)
-value_fault at Guid value = fault_in (guid_value at value)
+value_fault at Name value = fault_in (segment_name at value)
+value_fault at Guid value = fault_in (guid_value 222 at value)
 value_fault at Arches value = fault_in (arches_value at value)
 value_fault at Output value = fault_in (path_value at value)
 value_fault at SkuChoice value = fault_in (text_value at value)
@@ -56,18 +55,13 @@ form_fault line Passed = None
 abbrev pub line_fault : List Taken → Taken → Bool → Option Fault
 line_fault above line last = form_fault line (platform_line (section_below above) line.text)
 
--- what an outcome gives
-abbrev pub given : {T : Type 0} → Result T Fault → List T
-given (Ok value) = value ∷ []
-given (Err fault) = []
-
 -- the value of a key that a line gives
 abbrev pub name_at : Place → PlatformLine → List (List ℕ)
-name_at at (Keyed Name value) = given (name_value at value)
+name_at at (Keyed Name value) = given (segment_name at value)
 name_at at _ = []
 
 abbrev pub guid_at : Place → PlatformLine → List GuidBytes
-guid_at at (Keyed Guid value) = given (guid_value at value)
+guid_at at (Keyed Guid value) = given (guid_value 222 at value)
 guid_at at _ = []
 
 abbrev pub arches_at : Place → PlatformLine → List (List Arch)

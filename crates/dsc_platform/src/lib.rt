@@ -4,11 +4,9 @@
 pub mod arches;
 pub mod key;
 pub mod line;
-pub mod name;
 pub mod reading;
 pub mod section;
 pub mod stated;
-pub mod values;
 
 pub use reading::read_platform;
 

@@ -5,7 +5,6 @@ ghost use Rattle.macro_conditions.specs.Reading.{last_or};
 ghost use Rattle.dsc_platform.specs.Platform.{enter, form_fault, name_at, guid_at, arches_at, output_at, sku_at, flash_at, missing_key, with_required, document_of, platform_of};
 
 use crate::line::{PlatformLine, Section, platform_line};
-use crate::name::PlatformName;
 use crate::section::check_heads;
 use crate::stated::Stated;
 use build_base::{
@@ -13,6 +12,7 @@ use build_base::{
 };
 use doc_types::arch::Arch;
 use doc_types::platform::PlatformDoc;
+use macro_conditions::segment_name::SegmentName;
 use macro_conditions::value_fields::open_quote;
 use macro_conditions::{Reader, read_lines};
 use std::alloc::Global;
@@ -77,7 +77,7 @@ fn refuse_missing(alloc: Global, root: &Path, key: &[u8]) -> Refusal
     }
 }
 
-fn output_of(alloc: Global, stated: Option<Path>, name: &PlatformName) -> Result<Path, WantOfMemory>
+fn output_of(alloc: Global, stated: Option<Path>, name: &SegmentName) -> Result<Path, WantOfMemory>
     ensures { IfOk result (λ p. p ≡ unwrap_or stated (codes "Build/" ++ name.now)) }
 {
     match stated {
@@ -98,7 +98,7 @@ fn sku_choice_of(alloc: Global, stated: Option<Text>) -> Result<Text, WantOfMemo
 fn make_document(
     alloc: Global,
     lines: &Lines,
-    name: PlatformName,
+    name: SegmentName,
     guid: Guid,
     arches: Rows<Arch>,
     output: Option<Path>,

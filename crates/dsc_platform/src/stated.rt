@@ -7,17 +7,16 @@ ghost use Rattle.dsc_platform.specs.declared.line.PlatformLine.TheVariants.{Keye
 
 use crate::arches::arches_value;
 use crate::key::PlatformKey;
-use crate::name::{PlatformName, name_value};
-use crate::values::{guid_value, text_value};
 use build_base::{Guid, Path, Place, Refusal, Rows, Text};
 use doc_types::arch::Arch;
-use macro_conditions::value_fields::path_value;
+use macro_conditions::segment_name::{SegmentName, segment_name};
+use macro_conditions::value_fields::{guid_value, path_value, text_value};
 use std::alloc::Global;
 
 /// The last value of each key.
 #[derive(Debug, Drop)]
 pub struct Stated {
-    pub name: Option<PlatformName>,
+    pub name: Option<SegmentName>,
     pub guid: Option<Guid>,
     pub arches: Option<Rows<Arch>>,
     pub output: Option<Path>,
@@ -57,8 +56,8 @@ impl Stated {
         ensures flash { OnOk result (self.new.flash ≡ last_or self.old.flash (flash_at at.now (Keyed key value.now))) }
     {
         match key {
-            PlatformKey::Name => self.name = Some(name_value(alloc, at, value)?),
-            PlatformKey::Guid => self.guid = Some(guid_value(alloc, at, value)?),
+            PlatformKey::Name => self.name = Some(segment_name(alloc, at, value)?),
+            PlatformKey::Guid => self.guid = Some(guid_value(alloc, 222, at, value)?),
             PlatformKey::Arches => self.arches = Some(arches_value(alloc, at, value)?),
             PlatformKey::Output => self.output = Some(path_value(alloc, at, value)?),
             PlatformKey::SkuChoice => self.sku_choice = Some(text_value(alloc, at, value)?),

@@ -1,9 +1,9 @@
 -- One line more.
-use Rattle.std.proofs.Common.{◌≡◌, ℕ, ◌+◌, List, [], ◌∷◌, ◌++◌, Option, sym, ap, ◌∙◌}
+use Rattle.std.proofs.Common.{◌≡◌, ℕ, ◌+◌, List, [], ◌∷◌, ◌++◌, sym, ap, ◌∙◌}
 use Rattle.std.proofs.lemmas.List.Sums.{fold_push, fold-append}
 use Rattle.build_base.specs.declared.lines.Taken.{Taken}
-use Rattle.macro_conditions.specs.Reading.{each, last_or, last_of}
-use Rattle.macro_conditions.proofs.Turns.{each_push, last_push}
+use Rattle.macro_conditions.specs.Reading.{each, last_or}
+use Rattle.macro_conditions.proofs.Turns.{each_push, list_more, last_more}
 use Rattle.fdf_layout.specs.declared.line.FlashLine.{FlashLine}
 use Rattle.fdf_layout.specs.declared.reading.FlashReader.{FlashReader}
 use Rattle.fdf_layout.specs.declared.context.FlashContext.{FlashContext}
@@ -12,18 +12,7 @@ use Rattle.fdf_layout.specs.Whole.{capped}
 use Rattle.fdf_layout.specs.Flash.{heads_at, base_at, size_at, erase_at, capped_sum, products_at, sizes_at, regions_at, volumes_at}
 use Rattle.fdf_layout.specs.Reading.{Holds}
 
--- a list of what the lines give
-list_more : {R : Type 0} (gives : FlashContext → Taken → List R) (above : List Taken) (line : Taken) (context : FlashContext) (old new : List R)
-    → context ≡ context_below above → old ≡ each enter gives start above → new ≡ old ++ gives context line → new ≡ each enter gives start (above ++ line ∷ [])
-list_more gives above line context old new c o n =
-    n ∙ ap (λ rows. rows ++ gives context line) o ∙ ap (λ k. each enter gives start above ++ gives k line) c ∙ sym (each_push enter gives start above line)
-
--- the last of what the lines give
-last_more : {R : Type 0} (gives : FlashContext → Taken → List R) (above : List Taken) (line : Taken) (context : FlashContext) (old new : Option R)
-    → context ≡ context_below above → old ≡ last_of (each enter gives start above) → new ≡ last_or old (gives context line) → new ≡ last_of (each enter gives start (above ++ line ∷ []))
-last_more gives above line context old new c o n =
-    n ∙ ap (λ r. last_or r (gives context line)) o ∙ ap (λ k. last_or (last_of (each enter gives start above)) (gives k line)) c ∙ sym (last_push enter gives start above line)
-
+-- the sum of what the lines give, with one line more
 sum_more : (gives : FlashContext → Taken → List ℕ) (above : List Taken) (line : Taken) (context : FlashContext) (old new : ℕ)
     → context ≡ context_below above → old ≡ capped_sum 0 (each enter gives start above) → new ≡ capped_sum old (gives context line) → new ≡ capped_sum 0 (each enter gives start (above ++ line ∷ []))
 sum_more gives above line context old new c o n =
@@ -46,12 +35,12 @@ pub record Takes (line : Taken) (form : FlashLine) (old new : FlashReader) : Typ
 pub holds_more : (above : List Taken) (line : Taken) (old new : FlashReader) → Holds above old → Takes line (read_as old.context line) old new → Holds (above ++ line ∷ []) new
 holds_more above line old new h t = record {
   context = t.context ∙ ap (λ c. enter c line) h.context ∙ sym (fold_push enter start above line);
-  head = last_more (λ c l. heads_at l.at (read_as c l)) above line old.context old.device.head new.device.head h.context h.head t.head;
-  base = last_more (λ c l. base_at (read_as c l)) above line old.context old.device.base new.device.base h.context h.base t.base;
-  size = last_more (λ c l. size_at (read_as c l)) above line old.context old.device.size new.device.size h.context h.size t.size;
-  erase = last_more (λ c l. erase_at (read_as c l)) above line old.context old.device.erase new.device.erase h.context h.erase t.erase;
+  head = last_more enter (λ c l. heads_at l.at (read_as c l)) start above line old.context old.device.head new.device.head h.context h.head t.head;
+  base = last_more enter (λ c l. base_at (read_as c l)) start above line old.context old.device.base new.device.base h.context h.base t.base;
+  size = last_more enter (λ c l. size_at (read_as c l)) start above line old.context old.device.size new.device.size h.context h.size t.size;
+  erase = last_more enter (λ c l. erase_at (read_as c l)) start above line old.context old.device.erase new.device.erase h.context h.erase t.erase;
   blocks = sum_more (λ c l. products_at c (read_as c l)) above line old.context old.device.blocks new.device.blocks h.context h.blocks t.blocks;
-  sizes = list_more (λ c l. sizes_at c (read_as c l)) above line old.context old.device.sizes new.device.sizes h.context h.sizes t.sizes;
-  regions = list_more (λ c l. regions_at c l.at (read_as c l)) above line old.context old.regions new.regions h.context h.regions t.regions;
-  volumes = list_more (λ c l. volumes_at c (read_as c l)) above line old.context old.volumes new.volumes h.context h.volumes t.volumes;
+  sizes = list_more enter (λ c l. sizes_at c (read_as c l)) start above line old.context old.device.sizes new.device.sizes h.context h.sizes t.sizes;
+  regions = list_more enter (λ c l. regions_at c l.at (read_as c l)) start above line old.context old.regions new.regions h.context h.regions t.regions;
+  volumes = list_more enter (λ c l. volumes_at c (read_as c l)) start above line old.context old.volumes new.volumes h.context h.volumes t.volumes;
 }

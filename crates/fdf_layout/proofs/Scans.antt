@@ -4,7 +4,6 @@ use Rattle.std.specs.Prelude.{is_some}
 use Rattle.std.proofs.lemmas.List.{drop_all, take_more}
 use Rattle.build_base.proofs.Steps.{head_drop}
 use Rattle.build_base.specs.FaultText.{fault_of}
-use Rattle.meta_lexer.specs.Faults.{first_fault}
 use Rattle.fdf_layout.specs.declared.context.StatedVolume.{StatedVolume}
 use Rattle.fdf_layout.specs.Whole.{number_from, twin}
 
@@ -23,13 +22,3 @@ twin_later vs i v h e t =
 pub twin_none : (above vs : List StatedVolume) (i : ℕ) → length vs ≤ i → twin above (drop i vs) ≡ None
 unfolding twin
 twin_none above vs i h = rw (drop_all i vs h) refl
-
-pub fault_here : {A F : Type 0} (fault : A → Option F) (xs : List A) (i : ℕ) (x : A) (f : F) → i < length xs → x ≡ get_or xs i x → fault x ≡ Some f → first_fault fault (drop i xs) ≡ Some f
-fault_here fault xs i x f h e t = rw (head_drop xs i x h e, t) refl
-
-pub fault_later : {A F : Type 0} (fault : A → Option F) (xs : List A) (i : ℕ) (x : A) → i < length xs → x ≡ get_or xs i x → fault x ≡ None
-    → first_fault fault (drop i xs) ≡ first_fault fault (drop (i + 1) xs)
-fault_later fault xs i x h e t = rw (head_drop xs i x h e, t) refl
-
-pub fault_none : {A F : Type 0} (fault : A → Option F) (xs : List A) (i : ℕ) → length xs ≤ i → first_fault fault (drop i xs) ≡ None
-fault_none fault xs i h = rw (drop_all i xs h) refl

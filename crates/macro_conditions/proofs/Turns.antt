@@ -42,3 +42,15 @@ last_or-append o (x ∷ xs) ys = last_or-append (Some x) xs ys
 pub last_push : {C L R : Type 0} (enter : C → L → C) (gives : C → L → List R) (c : C) (ls : List L) (l : L)
     → last_of (each enter gives c (ls ++ l ∷ [])) ≡ last_or (last_of (each enter gives c ls)) (gives (fold enter c ls) l)
 last_push enter gives c ls l = ap last_of (each_push enter gives c ls l) ∙ last_or-append None (each enter gives c ls) (gives (fold enter c ls) l)
+
+-- a table of what the lines give, with one line more, where c is what the lines above come to
+pub list_more : {C L R : Type 0} (enter : C → L → C) (gives : C → L → List R) (start : C) (above : List L) (line : L) (c : C) (old new : List R)
+    → c ≡ fold enter start above → old ≡ each enter gives start above → new ≡ old ++ gives c line → new ≡ each enter gives start (above ++ line ∷ [])
+list_more enter gives start above line c old new k o n =
+    n ∙ ap (λ rows. rows ++ gives c line) o ∙ ap (λ d. each enter gives start above ++ gives d line) k ∙ sym (each_push enter gives start above line)
+
+-- the last of what the lines give, with one line more
+pub last_more : {C L R : Type 0} (enter : C → L → C) (gives : C → L → List R) (start : C) (above : List L) (line : L) (c : C) (old new : Option R)
+    → c ≡ fold enter start above → old ≡ last_of (each enter gives start above) → new ≡ last_or old (gives c line) → new ≡ last_of (each enter gives start (above ++ line ∷ []))
+last_more enter gives start above line c old new k o n =
+    n ∙ ap (λ r. last_or r (gives c line)) o ∙ ap (λ d. last_or (last_of (each enter gives start above)) (gives d line)) k ∙ sym (last_push enter gives start above line)

@@ -12,6 +12,7 @@ pub mod LineMeaning
 pub mod LineStack
 pub mod Sources
 pub mod Expansion
+pub mod SegmentNames
 pub mod ValueFields
 pub mod Work
 pub mod Worlds

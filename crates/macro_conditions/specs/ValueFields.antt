@@ -2,7 +2,10 @@
 use Rattle.std.specs.Prelude.{ℕ, nat_lt, if◌then◌else◌, List, [], ◌∷◌, Option, Some, None, Result, Ok, Err, codes}
 use Rattle.build_base.specs.declared.fault.Fault.{Fault}
 use Rattle.build_base.specs.declared.fault.Place.{Place}
+use Rattle.build_base.specs.declared.guid.Guid.{Guid}
+use Rattle.build_base.specs.First.{or_fault, unless}
 use Rattle.build_base.specs.FaultText.{fault_of}
+use Rattle.build_base.specs.Guid.{guid_of}
 use Rattle.build_base.specs.Path.{path_field}
 use Rattle.meta_lexer.specs.Fields.{ends_quoted}
 use Rattle.meta_lexer.specs.Words.{holds_macro}
@@ -27,6 +30,11 @@ abbrev pub fault_in : {T : Type 0} → Result T Fault → Option Fault
 fault_in (Ok value) = None
 fault_in (Err fault) = Some fault
 
+-- what an outcome gives
+abbrev pub given : {T : Type 0} → Result T Fault → List T
+given (Ok value) = value ∷ []
+given (Err fault) = []
+
 -- `$(` that is left in a text: its macro isn't defined
 abbrev pub undefined_macro : Place → List ℕ → Option Fault
 undefined_macro at text = if holds_macro text then Some (fault_of 127 at text) else None
@@ -34,6 +42,18 @@ undefined_macro at text = if holds_macro text then Some (fault_of 127 at text) e
 -- a double quote that isn't closed
 abbrev pub open_quote : Place → List ℕ → Option Fault
 open_quote at text = if ends_quoted text then Some (fault_of 111 at (codes "\"")) else None
+
+abbrev pub guid_found : ℕ → Place → List ℕ → Option Guid → Result Guid Fault
+guid_found code at text (Some guid) = Ok guid
+guid_found code at text None = Err (fault_of code at text)
+
+-- a GUID in registry form; a macro that isn't defined comes before a text that is none, whose code is given
+unfoldable pub guid_value : ℕ → Place → List ℕ → Result Guid Fault
+guid_value code at text = or_fault (undefined_macro at text) (guid_found code at text (guid_of text))
+
+-- kept as written
+unfoldable pub text_value : Place → List ℕ → Result (List ℕ) Fault
+text_value at text = unless (undefined_macro at text) text
 
 -- a text is no number, and a number needs every macro of its field
 abbrev pub number_found : Place → List ℕ → Result Value Fault → Result ℕ Fault

@@ -12,6 +12,7 @@ pub mod macros;
 pub mod operand;
 pub mod operator;
 pub mod reader;
+pub mod segment_name;
 pub mod unbuilt;
 pub mod value_fields;
 mod work;

@@ -1,13 +1,14 @@
 //! The fields of a line that need a value, and the least of a line's faults.
 ghost use Rattle.std.specs.Prelude.{◌≡◌, Option};
+ghost use Rattle.meta_lexer.specs.Faults.{first_fault};
 ghost use Rattle.build_base.specs.declared.fault.Fault.{Fault as Found};
 ghost use Rattle.build_base.specs.Answer.{Answers, Checks, Finds};
-ghost use Rattle.macro_conditions.specs.ValueFields.{lesser, undefined_macro, open_quote, number_value, path_value};
+ghost use Rattle.macro_conditions.specs.ValueFields.{lesser, undefined_macro, open_quote, guid_value, text_value, number_value, path_value};
 
 use crate::expression::{Value, evaluate};
 use crate::known::without_workspace;
 use build_base::path::path_field;
-use build_base::{Path, Place, Refusal, Rows, Text, refuse};
+use build_base::{Guid, Path, Place, Refusal, Rows, Text, refuse};
 use meta_lexer::field::ends_quoted;
 use meta_lexer::words::holds_macro;
 use std::alloc::Global;
@@ -38,6 +39,16 @@ pub fn undefined_macro(alloc: Global, at: &Place, text: &[u8]) -> Result<(), Ref
     Ok(())
 }
 
+/// Refuses the first of some fields in which a macro is left that isn't defined.
+pub fn undefined_macros(alloc: Global, at: &Place, fields: &[Text]) -> Result<(), Refusal>
+    ensures { Checks result (first_fault (undefined_macro at.now) fields.now) }
+{
+    for field in fields {
+        undefined_macro(alloc, at, field.bytes())?;
+    }
+    Ok(())
+}
+
 /// Refuses a line in which a quote stays open.
 pub fn open_quote(alloc: Global, at: &Place, text: &[u8]) -> Result<(), Refusal>
     ensures { Checks result (open_quote at.now text.now) }
@@ -46,6 +57,27 @@ pub fn open_quote(alloc: Global, at: &Place, text: &[u8]) -> Result<(), Refusal>
         return Err(refuse(alloc, 111, at, b"\"".as_slice()));
     }
     Ok(())
+}
+
+/// The GUID that a field states in registry form; `code` is the fault of a text that is none.
+#[tactic(auto, unfolding(crate::specs::ValueFields::guid_value))]
+pub fn guid_value(alloc: Global, code: u16, at: &Place, text: &[u8]) -> Result<Guid, Refusal>
+    ensures { Answers result (guid_value code at.now text.now) }
+{
+    undefined_macro(alloc, at, text)?;
+    match Guid::of_text(text) {
+        Some(guid) => Ok(guid),
+        None => Err(refuse(alloc, code, at, text)),
+    }
+}
+
+/// A field that is kept as written.
+#[tactic(auto, unfolding(crate::specs::ValueFields::text_value))]
+pub fn text_value(alloc: Global, at: &Place, text: &[u8]) -> Result<Text, Refusal>
+    ensures { Answers result (text_value at.now text.now) }
+{
+    undefined_macro(alloc, at, text)?;
+    Ok(Text::of(alloc, text)?)
 }
 
 /// The number of a numeric field, which is an expression.

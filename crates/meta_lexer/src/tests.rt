@@ -1,10 +1,10 @@
 //! Worked rows.
 
+use crate::parts::{field_texts, words};
+use crate::words::is_identifier;
 use crate::{
     LexRefusal, TokenKind, fields, guid_of_braces, lines, number, quoted, section_head, tokens,
 };
-use crate::parts::{field_texts, words};
-use crate::words::is_identifier;
 use build_base::{Guid, Text};
 
 #[test]

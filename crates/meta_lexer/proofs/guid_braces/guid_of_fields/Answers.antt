@@ -1,5 +1,4 @@
-use Rattle.std.proofs.Common.{◌≡◌, ℕ, length, List, [], ◌∷◌, ◌++◌, slice_index_or, refl, sym, ap, ◌∙◌, rules, arith}
-use Rattle.std.proofs.lemmas.Grind.{common_steps}
+use Rattle.std.proofs.Common.{◌≡◌, ℕ, length, List, [], ◌∷◌, slice_index_or, refl, ap, rules, arith}
 use Rattle.meta_lexer.specs.GuidBraces.{guid_of_fields}
 use Rattle.meta_lexer.proofs.guid_braces.guid_of_fields.Goals as goal
 

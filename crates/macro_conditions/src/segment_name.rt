@@ -1,8 +1,8 @@
-//! A platform's name.
+//! Names of platforms and packages.
 ghost use Rattle.std.specs.Prelude.{◌≡◌, ◌==◌, ◌++◌, IfOk, codes};
 ghost use Rattle.std.specs.List.{list_any};
 ghost use Rattle.build_base.specs.Answer.{Answers};
-ghost use Rattle.dsc_platform.specs.Names.{is_name, name_value};
+ghost use Rattle.macro_conditions.specs.SegmentNames.{is_segment_name, segment_name};
 
 use build_base::path::is_path;
 use build_base::{Path, PathRefusal, Place, Refusal, Text, WantOfMemory, refuse};
@@ -11,20 +11,20 @@ use std::marker::Model;
 
 /// A name: one segment of a path, of at most 64 bytes.
 #[derive(Debug, Drop)]
-pub struct PlatformName {
+pub struct SegmentName {
     text: Text,
 }
 
-impl Model for PlatformName {
+impl Model for SegmentName {
     ghost use Rattle.std.specs.Prelude.{List, ℕ};
 
     ghost Value = { List ℕ };
 
-    ghost use Rattle.dsc_platform.specs.Names.{IsName};
+    ghost use Rattle.macro_conditions.specs.SegmentNames.{IsSegmentName};
 
     ghost view = { λ n. n.text };
 
-    ghost invariant = { λ n. IsName n.text };
+    ghost invariant = { λ n. IsSegmentName n.text };
 }
 
 fn has_slash(text: &[u8]) -> bool
@@ -33,26 +33,26 @@ fn has_slash(text: &[u8]) -> bool
     text.iter().any(|byte| *byte == b'/')
 }
 
-#[tactic(auto, unfolding(crate::specs::Names::is_name))]
-fn is_name(text: &[u8]) -> bool
-    ensures { result ≡ is_name text.now }
+#[tactic(auto, unfolding(crate::specs::SegmentNames::is_segment_name))]
+fn is_segment_name(text: &[u8]) -> bool
+    ensures { result ≡ is_segment_name text.now }
 {
     is_path(text) && !has_slash(text) && text.len() <= 64
 }
 
 /// The name that a field states.
-pub fn name_value(alloc: Global, at: &Place, text: &[u8]) -> Result<PlatformName, Refusal>
-    ensures { Answers result (name_value at.now text.now) }
+pub fn segment_name(alloc: Global, at: &Place, text: &[u8]) -> Result<SegmentName, Refusal>
+    ensures { Answers result (segment_name at.now text.now) }
 {
-    if !is_name(text) {
+    if !is_segment_name(text) {
         return Err(refuse(alloc, 101, at, text));
     }
-    Ok(PlatformName {
+    Ok(SegmentName {
         text: Text::of(alloc, text)?,
     })
 }
 
-impl PlatformName {
+impl SegmentName {
     /// Its text.
     pub fn into_text(self) -> Text
         ensures { result ≡ self }
@@ -60,8 +60,8 @@ impl PlatformName {
         self.text
     }
 
-    /// The folder of the platform's outputs where it states none.
-    #[tactic(auto, using(crate::proofs::NameLemmas::folder_is_path))]
+    /// The folder of a platform's outputs where it states none.
+    #[tactic(auto, using(crate::proofs::SegmentNameLemmas::folder_is_path))]
     pub fn folder(&self, alloc: Global) -> Result<Path, WantOfMemory>
         ensures { IfOk result (λ p. p ≡ codes "Build/" ++ self.now) }
     {
