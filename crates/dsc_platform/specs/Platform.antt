@@ -1,5 +1,5 @@
 -- A platform's document, or its first fault.
-use Rattle.std.specs.Prelude.{ℕ, Bool, ◌++◌, List, [], ◌∷◌, Option, Some, None, unwrap_or, Result, Ok, Err, codes, fold}
+use Rattle.std.specs.Prelude.{ℕ, Bool, ◌++◌, List, [], Option, Some, None, unwrap_or, Result, Ok, Err, codes, fold}
 use Rattle.build_base.specs.First.{or_else, or_fault}
 use Rattle.build_base.specs.FaultText.{fault_of}
 use Rattle.build_base.specs.declared.guid.Guid.{Guid as GuidBytes}
