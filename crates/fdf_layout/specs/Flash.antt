@@ -1,5 +1,5 @@
 -- A flash description's document, or its first fault.
-use Rattle.std.specs.Prelude.{ℕ, ◌*◌, Bool, ◌+◌, fold, List, [], ◌∷◌, ◌++◌, length, Option, Some, None, Result, if◌then◌else◌}
+use Rattle.std.specs.Prelude.{ℕ, ◌*◌, Bool, ◌+◌, fold, List, [], ◌∷◌, ◌++◌, length, Option, Some, None, Result}
 use Rattle.build_base.specs.First.{or_fault}
 use Rattle.build_base.specs.declared.fault.Fault.{Fault}
 use Rattle.build_base.specs.declared.fault.Place.{Place}
@@ -8,7 +8,7 @@ use Rattle.build_base.specs.declared.lines.Lines.{Lines}
 use Rattle.macro_conditions.specs.Reading.{lines_fault, each, last_of}
 use Rattle.doc_types.specs.declared.flash.FlashDoc.{FlashDoc}
 use Rattle.fdf_layout.specs.declared.key.FlashKey.{FlashKey}
-use Rattle.fdf_layout.specs.declared.key.FlashKey.TheVariants.{BaseAddress, Size, ErasePolarity, BlockSize, NumBlocks}
+use Rattle.fdf_layout.specs.declared.key.FlashKey.TheVariants.{BaseAddress, Size, ErasePolarity, NumBlocks}
 use Rattle.fdf_layout.specs.declared.line.FlashLine.{FlashLine}
 use Rattle.fdf_layout.specs.declared.line.FlashLine.TheVariants.{Device, Volume, Keyed, Region, Data, Held}
 use Rattle.fdf_layout.specs.declared.context.FlashContext.{FlashContext}
