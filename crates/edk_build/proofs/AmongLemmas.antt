@@ -1,5 +1,5 @@
 -- The files of volumes and devices, part by part.
-use Rattle.std.proofs.Common.{◌≡◌, refl, List, ℕ, ◌++◌, map, Result, Ok, Err}
+use Rattle.std.proofs.Common.{◌≡◌, refl, List, ℕ, ◌++◌, map, Ok}
 use Rattle.build_base.specs.Answer.{Refused}
 use Rattle.build_base.specs.First.{all_ok}
 use Rattle.build_base.specs.Outside.{Files}

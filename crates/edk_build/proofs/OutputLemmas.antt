@@ -1,22 +1,20 @@
 -- The files of a build, by their numbers and by their plans.
-use Rattle.std.proofs.Common.{◌≡◌, ℕ, zero, suc, ◌+◌, List, [], ◌∷◌, ◌++◌, length, map, drop, Result, Ok, Err, Option, Some, None, slice_get, add-one, refl, ap, sym, ◌∙◌}
+use Rattle.std.proofs.Common.{◌≡◌, ℕ, zero, suc, ◌+◌, List, [], ◌∷◌, ◌++◌, length, map, drop, Result, Ok, Err, Some, slice_get, add-one, refl, ap, sym, ◌∙◌}
 use Rattle.std.specs.List.{range_with_len}
-use Rattle.build_base.specs.First.{and_then, all_ok, with_front}
+use Rattle.build_base.specs.First.{and_then, all_ok}
 use Rattle.build_base.specs.World.{World}
-use Rattle.build_base.specs.Outside.{Files}
 use Rattle.build_base.specs.declared.fault.Fault.{Fault}
 use Rattle.doc_types.specs.declared.flash.FlashDoc.{FlashDoc}
 use Rattle.doc_types.specs.declared.flash.DevicePlan.{DevicePlan}
-use Rattle.doc_types.specs.declared.flash.Region.{Region}
 use Rattle.doc_types.specs.declared.flash.RegionKind.{RegionKind}
 use Rattle.doc_types.specs.declared.flash.RegionKind.TheVariants.{Empty, Bytes, Volume}
 use Rattle.doc_types.specs.declared.volume.VolumePlan.{VolumePlan}
 use Rattle.fd_regions.specs.Device.{device_of}
 use Rattle.edk_build.specs.FilePair.{FilePair}
 use Rattle.edk_build.specs.FileValues.{volume_planned}
-use Rattle.edk_build.specs.Values.{flash_value, volume_of_plan, volume_at, volume_value, content_of, image_of_plan, planned, device_at, device_value, volume_pair, device_pair, zipped, images_of}
+use Rattle.edk_build.specs.Values.{flash_value, volume_of_plan, volume_value, content_of, image_of_plan, device_value, volume_pair, device_pair, zipped, images_of}
 use Rattle.edk_build.specs.Outputs.{volume_file, bytes_of_file, content_among, image_among, device_file, files_among}
-use Rattle.edk_build.proofs.AllOkLemmas.{Both, both_ok, all_ok_zipped}
+use Rattle.edk_build.proofs.AllOkLemmas.{both_ok, all_ok_zipped}
 
 get_dropped : {X : Type 0} (xs : List X) (k : ℕ) (x : X) (ys : List X) → x ∷ ys ≡ drop k xs → slice_get xs k ≡ Some x
 get_dropped [] zero x ys e = absurd cc

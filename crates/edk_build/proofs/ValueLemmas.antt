@@ -1,5 +1,5 @@
 -- The value of all outputs, step by step.
-use Rattle.std.proofs.Common.{◌≡◌, Option, None, Some, Result, Ok, Err, refl, sym, ap, ◌∙◌, List, ℕ}
+use Rattle.std.proofs.Common.{◌≡◌, Option, None, Some, Ok, refl, sym, ap, List}
 use Rattle.std.specs.Option.{IfSome}
 use Rattle.build_base.specs.Answer.{Refused}
 use Rattle.build_base.specs.World.{World}

@@ -1,5 +1,5 @@
 -- The texts of the words, word by word.
-use Rattle.std.proofs.Common.{◌≡◌, rules, tests, false, None, refl, sym, ap, ◌∙◌, ℕ, zero, suc, ◌+◌, ◌<◌, ◌==◌, List, [], ◌∷◌, ◌++◌, cond, length, get_or, take, map, append_assoc, arith, if◌then◌else◌}
+use Rattle.std.proofs.Common.{◌≡◌, rules, tests, false, None, refl, sym, ap, ◌∙◌, ℕ, zero, suc, ◌+◌, ◌<◌, ◌==◌, List, [], ◌∷◌, ◌++◌, length, get_or, take, map, append_assoc, arith, if◌then◌else◌}
 use Rattle.std.specs.List.{join_with_byte}
 use Rattle.std.proofs.lemmas.List.{take_more}
 use Rattle.edk_build.specs.Words.{define_texts}

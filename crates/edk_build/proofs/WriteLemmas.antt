@@ -1,8 +1,8 @@
 -- Writing one list of files after another.
-use Rattle.std.proofs.Common.{◌≡◌, List, ◌++◌, map, Option, ℕ, sym, subst}
+use Rattle.std.proofs.Common.{List, ◌++◌, map, Option, sym, subst}
 use Rattle.std.proofs.lemmas.List.{map-append}
 use Rattle.build_base.specs.Outside.{Emission}
-use Rattle.build_base.specs.Spelling.{Spelled, SpelledCut, SpellsCut}
+use Rattle.build_base.specs.Spelling.{Spelled, SpelledCut}
 use Rattle.build_base.proofs.SpellingLemmas.{Spelled-then, SpellsCut-append, SpellsCut-more, Grew-then}
 use Rattle.edk_build.specs.FilePair.{FilePair, output_of}
 

@@ -1,5 +1,5 @@
 -- What a build comes to, and what it emits.
-use Rattle.std.specs.Prelude.{◌≡◌, ◌⊎◌, IsOk, ℕ, List, [], ◌∷◌, map, Option, Result, Ok, Err}
+use Rattle.std.specs.Prelude.{◌≡◌, ◌⊎◌, IsOk, List, [], ◌∷◌, map, Option, Result, Ok, Err}
 use Rattle.build_base.specs.declared.fault.Fault.{Fault}
 use Rattle.build_base.specs.declared.outside.Target.TheVariants.{Err as ToErr}
 use Rattle.build_base.specs.FaultText.{fault_text}

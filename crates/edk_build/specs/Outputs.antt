@@ -1,5 +1,5 @@
 -- The files of volumes and devices, each by its plan.
-use Rattle.std.specs.Prelude.{ℕ, List, [], ◌∷◌, ◌++◌, map, Option, Some, None, Result, Ok, Err, codes, slice_get}
+use Rattle.std.specs.Prelude.{ℕ, List, [], ◌++◌, map, Option, Some, None, Result, Ok, Err, slice_get}
 use Rattle.build_base.specs.declared.fault.Fault.{Fault}
 use Rattle.build_base.specs.FaultText.{fault_of}
 use Rattle.build_base.specs.First.{and_then, all_ok}

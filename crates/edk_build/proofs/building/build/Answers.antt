@@ -1,4 +1,3 @@
-use Rattle.std.proofs.Common.{◌≡◌}
 use Rattle.build_base.specs.Outside.{Rose}
 use Rattle.build_base.proofs.OptionLemmas.{some_then}
 use Rattle.edk_build.specs.Outcome.{outcome, IsMade, IsComplete}

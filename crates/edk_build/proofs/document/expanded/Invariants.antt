@@ -1,6 +1,4 @@
-use Rattle.std.specs.Prelude.{◌≡◌, All}
-use Rattle.std.specs.Option.{IfSome}
-use Rattle.build_base.specs.Outside.{got_of}
+use Rattle.std.specs.Prelude.{◌≡◌}
 use Rattle.build_base.specs.World.{file_limit}
 use Rattle.macro_conditions.specs.Counting.{left, AreWithin}
 use Rattle.edk_build.proofs.DocumentLemmas.{AreRight}

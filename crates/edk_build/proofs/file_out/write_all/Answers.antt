@@ -1,4 +1,4 @@
-use Rattle.std.proofs.Common.{◌≡◌, ◌∙◌, [], ◌∷◌, map, take, drop, ◌+◌}
+use Rattle.std.proofs.Common.{◌∙◌, [], ◌∷◌, map, take, drop, ◌+◌}
 use Rattle.build_base.proofs.SpellingLemmas.{Spelled-then, SpelledCut-then, Spelled-file, SpelledCut-file}
 use Rattle.edk_build.specs.FilePair.{output_of}
 use Rattle.build_base.proofs.Steps.{map-passed, map-whole}

@@ -1,4 +1,3 @@
-use Rattle.std.proofs.Common.{◌≡◌, sym}
 use Rattle.build_base.proofs.SpellingLemmas.{Writes-text}
 use Rattle.edk_build.proofs.made.write_message.Goals as goal
 

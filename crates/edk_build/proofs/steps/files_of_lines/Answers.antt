@@ -2,7 +2,7 @@ use Rattle.std.proofs.Common.{◌≡◌, Ok}
 use Rattle.build_base.proofs.OptionLemmas.{some_then}
 use Rattle.edk_build.specs.Outputs.{files_in}
 use Rattle.edk_build.specs.Stops.{GivesAs, Stopped, stop_of}
-use Rattle.edk_build.specs.Values.{world_of, platform_lines, platform_value, macros_left, all_value}
+use Rattle.edk_build.specs.Values.{world_of, platform_lines, all_value}
 use Rattle.edk_build.proofs.ValueLemmas.{told_all, no_platform, platform_is, macros_are}
 use Rattle.edk_build.proofs.steps.files_of_lines.Goals as goal
 

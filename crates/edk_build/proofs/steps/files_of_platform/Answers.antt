@@ -1,6 +1,6 @@
 use Rattle.std.proofs.Common.{◌≡◌, Ok, subst}
 use Rattle.build_base.proofs.OptionLemmas.{some_then, some_both}
-use Rattle.edk_build.specs.Outputs.{files_among, files_in}
+use Rattle.edk_build.specs.Outputs.{files_in}
 use Rattle.edk_build.specs.Stops.{Stopped, GivesAs}
 use Rattle.edk_build.specs.Values.{world_of, platform_lines, platform_value, macros_left, all_value}
 use Rattle.edk_build.proofs.ValueLemmas.{no_flash, all_by_plan}

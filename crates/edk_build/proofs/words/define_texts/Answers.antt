@@ -1,4 +1,4 @@
-use Rattle.std.proofs.Common.{◌≡◌, map, sym, arith}
+use Rattle.std.proofs.Common.{arith}
 use Rattle.std.specs.Prelude.{string_bytes}
 use Rattle.edk_build.proofs.WordLemmas.{one_word}
 use Rattle.edk_build.proofs.words.define_texts.Goals as goal
