@@ -1,5 +1,5 @@
 -- First conditions, and outcomes one after another.
-use Rattle.std.proofs.Common.{◌≡◌, refl, Bool, true, false, List, [], ◌∷◌, ◌++◌, Option, Some, None, Result, Ok, Err, ap, sym, append_assoc}
+use Rattle.std.proofs.Common.{◌≡◌, refl, Bool, true, false, List, [], ◌∷◌, ◌++◌, Result, Ok, Err, ap, sym, append_assoc}
 use Rattle.build_base.specs.First.{or_else, first_holding, with_front}
 
 pub first_holding_append : {T : Type 0} (xs ys : List (Bool × T)) → first_holding (xs ++ ys) ≡ or_else (first_holding xs) (first_holding ys)

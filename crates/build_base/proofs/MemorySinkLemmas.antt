@@ -1,11 +1,9 @@
 -- Notes stand still while bytes are added behind them.
-use Rattle.std.proofs.Common.{◌≡◌, refl, sym, ap, ◌∙◌, ℕ, ◌+◌, ◌≤◌, ◌<◌, zero, suc, get_or, slice_get, Option, Some, None, List, [], ◌∷◌, ◌++◌, length, take, drop, append_assoc, arith, length-append}
+use Rattle.std.proofs.Common.{◌≡◌, refl, ap, ◌∙◌, ℕ, ◌+◌, ◌≤◌, ◌<◌, zero, suc, get_or, slice_get, Some, None, List, [], ◌∷◌, ◌++◌, length, take, drop, append_assoc, arith, length-append}
 use Rattle.std.proofs.Math.Seq.{take-append_seam, drop-append_seam}
-use Rattle.std.proofs.lemmas.List.{take-append-le}
 use Rattle.std.proofs.lemmas.Grind.{common_steps}
 use Rattle.build_base.specs.declared.memory_sink.Kind.{Kind}
 use Rattle.build_base.specs.declared.memory_sink.Note.{Note}
-use Rattle.build_base.specs.Outside.{Emission}
 use Rattle.build_base.specs.MemorySink.{target_of, seen, all_seen, IsKept}
 
 take-drop-more : (n k : ℕ) (xs ys : List ℕ) → k + n ≤ length xs → take n (drop k (xs ++ ys)) ≡ take n (drop k xs)

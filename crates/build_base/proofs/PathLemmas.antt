@@ -1,10 +1,9 @@
 -- A path's form, segment by segment.
 use Rattle.std.proofs.Common.{◌≡◌, ◌∷◌, [], ◌++◌, IsTrue, refl, Bool, Some, None, cond, unwrap_or, nat_lt, ◌==◌, ◌+◌, ◌<◌, ◌&&◌, List, ℕ, length, take, drop, get_or, ap, sym, ◌∙◌, subst, false, true, arith}
 use Rattle.std.proofs.lemmas.List.{take-append-drop, at_drop_more}
-use Rattle.std.specs.List.{position, prefix_len, position_or_len, list_all, slice_split, onto_first, All}
+use Rattle.std.specs.List.{position, position_or_len, list_all, slice_split, onto_first, All}
 use Rattle.std.proofs.lemmas.List.Splits.{slice_split_first, slice_split_none, length-slice_split}
 use Rattle.std.proofs.lemmas.List.Folds.{list_all-append}
-use Rattle.std.proofs.lemmas.Grind.{common_steps}
 use Rattle.std.proofs.lemmas.List.Sums.{fails_before_first, prefix_len-le-length}
 use Rattle.std.proofs.lemmas.Bool.Decides.{nat_tests}
 use Rattle.std.proofs.Math.Bool.{and-true}

@@ -1,11 +1,11 @@
 -- Emissions, one after another.
-use Rattle.std.proofs.Common.{◌≡◌, refl, sym, ap, ◌∙◌, ◌++◌, List, [], ◌∷◌, ℕ, Option, None, Some, Result, Ok, Err, append_assoc, append-nil, inl, inr, ◌⊎◌}
+use Rattle.std.proofs.Common.{◌≡◌, refl, sym, ap, ◌∙◌, ◌++◌, List, [], ◌∷◌, ℕ, Option, None, Some, Result, Ok, Err, append_assoc, append-nil, inl, inr}
 use Rattle.std.specs.List.{concat}
 use Rattle.std.proofs.lemmas.List.Folds.{concat-append}
 use Rattle.build_base.specs.declared.outside.Target.{Target}
 use Rattle.build_base.specs.declared.outside.Target.TheVariants.{Start, More}
 use Rattle.build_base.specs.Outside.{Emission, Grew, GrewCut, Emits}
-use Rattle.build_base.specs.Spelling.{Output, file, text, more_of, SpellsFile, SpelledFile, Spells, SpellsCut, Spelled, SpelledCut, Writes, WritesFile}
+use Rattle.build_base.specs.Spelling.{Output, file, text, more_of, SpelledFile, Spells, SpellsCut, Spelled, SpelledCut, Writes}
 
 pub Grew-then : (a b c : Option (List Emission)) (xs ys : List Emission) → Grew a b xs → Grew b c ys → Grew a c (xs ++ ys)
 Grew-then a b None xs ys g h = tt
@@ -69,10 +69,6 @@ later_cut a b c path bytes front piece tail e s g = (
   SpelledFile-more a b c path front g.0 s g.3,
 )
 
-pub Writes-file : (E : Type 0) (a b : Option (List Emission)) (path bytes : List ℕ) (r : Result (Unit {0}) E) → WritesFile a b path bytes r → Writes a b (file path bytes ∷ []) r
-Writes-file E a b path bytes (Ok x) w = Spelled-file a b path bytes w
-Writes-file E a b path bytes (Err e) w = SpelledCut-file a b path bytes w.0 w.1 w.2 w.3
-
 pub Writes-text : (E : Type 0) (a b : Option (List Emission)) (target : Target) (bytes : List ℕ) (r : Result (Unit {0}) E) → Emits a b target bytes r → Writes a b (text target bytes ∷ []) r
 Writes-text E a b target bytes (Ok x) w = Spelled-text a b target bytes w
 Writes-text E a b target bytes (Err e) w = SpelledCut-text a b target bytes w.0 w.1 w.2 w.3
@@ -101,7 +97,3 @@ Spelled-then a b c xs ys s t = (s.0 ++ t.0, Spells-append xs ys s.0 t.0 s.1 t.1,
 pub SpelledCut-then : (a b c : Option (List Emission)) (xs ys more : List Output) → Spelled a b xs → SpelledCut b c ys → SpelledCut a c (xs ++ (ys ++ more))
 SpelledCut-then a b c xs ys more s t =
     (s.0 ++ t.0, SpellsCut-append xs (ys ++ more) s.0 t.0 s.1 (SpellsCut-more ys more t.0 t.1), Grew-then a b c s.0 t.0 s.2 t.2)
-
-pub Spelled-none : (a : Option (List Emission)) → Spelled a a []
-Spelled-none None = ([], refl, tt)
-Spelled-none (Some es) = ([], refl, (es, refl, sym (append-nil es)))

@@ -1,6 +1,5 @@
 -- Emissions kept in memory, in room that was made before.
-use Rattle.std.specs.Prelude.{◌≡◌, ℕ, ◌+◌, ◌≤◌, ◌==◌, List, [], ◌∷◌, ◌++◌, length, take, drop, map, Option, Some, None, Bool, if◌then◌else◌}
-use Rattle.std.specs.List.{slice_range}
+use Rattle.std.specs.Prelude.{ℕ, ◌+◌, ◌≤◌, List, [], ◌∷◌, length, take, drop}
 use Rattle.build_base.specs.declared.outside.Target.{Target}
 use Rattle.build_base.specs.declared.outside.Target.TheVariants.{Start, More, Out, Err as ToErr}
 use Rattle.build_base.specs.declared.memory_sink.Kind.{Kind}

@@ -1,35 +1,14 @@
 -- Outcomes one after another.
-use Rattle.std.proofs.Common.{◌≡◌, ℕ, ◌+◌, ◌<◌, ◌≤◌, List, [], ◌∷◌, ◌++◌, length, map, get_or, drop, Result, Ok, Err, refl, ap, ◌∙◌, append-nil, arith}
-use Rattle.std.proofs.lemmas.List.{drop_all}
-use Rattle.build_base.specs.Answer.{Refused}
+use Rattle.std.proofs.Common.{◌≡◌, ℕ, ◌+◌, ◌<◌, List, [], ◌∷◌, ◌++◌, length, map, get_or, drop, Result, Ok, Err, refl, ap, ◌∙◌, arith}
 use Rattle.build_base.specs.First.{and_then, with_front, all_ok}
 use Rattle.build_base.specs.declared.fault.Fault.{Fault}
-use Rattle.build_base.specs.declared.refusal.Refusal.{Refusal}
-use Rattle.build_base.specs.declared.refusal.Refusal.TheVariants.{Bad as Refusing, WantOfMemory as Wanting}
 use Rattle.build_base.proofs.FirstLemmas.{front_front}
 use Rattle.build_base.proofs.Steps.{head_drop}
-use Rattle.edk_build.specs.Stops.{Stopped}
-use Rattle.edk_build.specs.declared.stop.Stop.{Stop}
-use Rattle.edk_build.specs.declared.stop.Stop.TheVariants.{Bad, ReadFault, WantOfMemory}
 use Rattle.edk_build.specs.Values.{zipped}
-
-pub all_ok_refused : {A B : Type 0} (f : A → Result B Fault) (front : List B) (xs : List A) (i : ℕ) (x : A) (e : Refusal)
-    → i < length xs → x ≡ get_or xs i x → Refused e (f x) → Refused e (with_front front (all_ok (map f (drop i xs))))
-all_ok_refused f front xs i x (Refusing fault) h e r = rw (head_drop xs i x h e, r) refl
-all_ok_refused f front xs i x Wanting h e r = tt
-
-pub all_ok_stopped : {A B : Type 0} (f : A → Result B Fault) (front : List B) (xs : List A) (i : ℕ) (x : A) (stop : Stop)
-    → i < length xs → x ≡ get_or xs i x → Stopped stop (f x) → Stopped stop (with_front front (all_ok (map f (drop i xs))))
-all_ok_stopped f front xs i x (Bad fault) h e r = rw (head_drop xs i x h e, r) refl
-all_ok_stopped f front xs i x ReadFault h e r = tt
-all_ok_stopped f front xs i x WantOfMemory h e r = tt
 
 pub all_ok_more : {A B : Type 0} (f : A → Result B Fault) (front : List B) (xs : List A) (i : ℕ) (x : A) (y : B)
     → i < length xs → x ≡ get_or xs i x → f x ≡ Ok y → with_front front (all_ok (map f (drop i xs))) ≡ with_front (front ++ y ∷ []) (all_ok (map f (drop (i + 1) xs)))
 all_ok_more f front xs i x y h e r = rw (head_drop xs i x h e, r) (front_front front (y ∷ []) (all_ok (map f (drop (i + 1) xs))))
-
-pub all_ok_end : {A B : Type 0} (f : A → Result B Fault) (front : List B) (xs : List A) (i : ℕ) → length xs ≤ i → with_front front (all_ok (map f (drop i xs))) ≡ Ok front
-all_ok_end f front xs i h = rw (drop_all i xs h, append-nil front) refl
 
 -- the parts of outcomes that are all good
 pub record Both {B : Type 0} (r : Result B Fault) (rs : Result (List B) Fault) (ys : List B) : Type 0 where

@@ -3,13 +3,13 @@ use Rattle.std.proofs.Common.{◌≡◌, ◌<◌, ℕ, true, false, cond, List, 
 use Rattle.std.specs.List.{All}
 use Rattle.std.specs.Option.{IfSome}
 use Rattle.std.specs.Cmp.Lexicographic.{same_text as text_same}
-use Rattle.std.proofs.lemmas.List.Elements.{All-nil, All-head, All-tail, All-push}
+use Rattle.std.proofs.lemmas.List.Elements.{All-head, All-tail}
 use Rattle.build_base.specs.declared.lines.Lines.{Lines}
 use Rattle.build_base.specs.declared.lines.Macro.{Macro}
 use Rattle.build_base.specs.declared.outside.Got.{Got}
 use Rattle.build_base.specs.declared.refusal.Refusal.{Refusal}
 use Rattle.build_base.specs.declared.refusal.Refusal.TheVariants.{Bad as Refusing, WantOfMemory as Wanting}
-use Rattle.build_base.specs.Outside.{Files, got_of, IsWithin}
+use Rattle.build_base.specs.Outside.{Files, got_of}
 use Rattle.build_base.specs.World.{file_limit}
 use Rattle.macro_conditions.specs.declared.known.Known.{Known}
 use Rattle.macro_conditions.specs.declared.expansion.Turned.{Turned}
@@ -44,18 +44,6 @@ agrees files (k ∷ known) a path got e =
           subst (λ p. got_of file_limit (files p) ≡ got) here (All-head (IsRight files) k known a ∙ is)
       | false ↦ λ t h. agrees files known (All-tail (IsRight files) k known a) path got h
     ] refl e
-
--- nothing is known at first
-pub none_right : (held : Option Files) → AreRight held []
-none_right None = tt
-none_right (Some files) = All-nil (IsRight files)
-
-pub one_right : (held : Option Files) (path : List ℕ) (old new : List Known) → AreRight held old → IsLearned held path old new → AreRight held new
-one_right None path old new a l = tt
-one_right (Some files) path old new a l = subst (All (IsRight files)) (sym l.more) (All-push (IsRight files) old _ a (sym l.right))
-
-pub one_within : (held : Option Files) (path : List ℕ) (old new : List Known) → AreWithin file_limit old → IsLearned held path old new → AreWithin file_limit new
-one_within held path old new a l = subst (AreWithin file_limit) (sym l.more) (All-push (λ (k : Known). IsWithin file_limit k.got) old _ a l.within)
 
 -- the outcome in the world of the files, where it is told
 pub told_whole : (held : Option Files) (known : List Known) (turned : Turned) (lines : Lines) (root : List ℕ) (macros fixed : List Macro) → turned ≡ Whole lines → AreRight held known

@@ -39,14 +39,6 @@ sizes_added above region held m n k content is h update = λ q.
     update q ∙ rw turned (sized_at (pointwise nat_eq q.items (folded held.name)) _ (get same_key m q) (held_by q.items above) next here (h q))
     ∙ sym (fold_push (more_held q.items) None above region ∙ ap (λ c. if names_key q.items c then Some next else held_by q.items above) content)
 
-names_none : (key : List ℕ) (held : Option HeldSizes) (region : StatedRegion) → names_key key region.content ≡ false → more_held key held region ≡ held
-names_none key held region e = rw e refl
-
--- a region that names none changes nothing
-pub sizes_kept : {S : Type 0} (above : List StatedRegion) (region : StatedRegion) (m : HashMap (Vec ℕ) HeldSizes S)
-    → ((key : List ℕ) → names_key key region.content ≡ false) → Sizes above m → Sizes (above ++ region ∷ []) m
-sizes_kept above region m none h = λ q. h q ∙ sym (fold_push (more_held q.items) None above region ∙ names_none q.items (held_by q.items above) region (none q.items))
-
 -- the sizes at a volume's key are those of the regions that hold it
 key_holds : (v : StatedVolume) (content : Content) → names_key (folded v.name) content ≡ names v content
 unfolding same_word

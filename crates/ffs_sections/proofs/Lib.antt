@@ -2,4 +2,3 @@ pub mod SumLemmas
 pub mod PadLemmas
 pub mod PartLemmas
 pub mod HeadLemmas
-pub mod ImageShape

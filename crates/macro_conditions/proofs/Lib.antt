@@ -2,7 +2,6 @@ pub mod Turns
 pub mod Shifts
 pub mod ExpressionComplete
 pub mod ExpressionSound
-pub mod ExpressionStack
 pub mod ExpressionTurns
 pub mod MacroFronts
 pub mod ExpressionMeaning

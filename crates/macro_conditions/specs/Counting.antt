@@ -13,7 +13,7 @@ use Rattle.macro_conditions.specs.declared.known.Known.{Known}
 use Rattle.macro_conditions.specs.Directives.{is_include}
 use Rattle.macro_conditions.specs.Sources.{Source, answer, places, Located, wanted, missing, over_limit, there, located, without_workspace}
 use Rattle.macro_conditions.specs.LineMeaning.{Acts, ◌>>=◌, file_of}
-use Rattle.macro_conditions.specs.Expansion.{Env, Stop, bad, need, acted, tested, include_field, unbalanced, fault_at, long_fault, place_of, line_at, lines_read, inside, outside, is_open, begun}
+use Rattle.macro_conditions.specs.Expansion.{Env, acted, tested, include_field, unbalanced, fault_at, long_fault, place_of, line_at, lines_read, inside, outside, is_open, begun}
 
 -- the answers used so far
 pub record Counted : Type 0 where
@@ -24,10 +24,6 @@ pub record Counted : Type 0 where
 pub data Halt : Type 0 where
   fault : Fault → Halt
   wants : List ℕ → ℕ → Halt
-
-abbrev pub halted : ℕ → Stop → Halt
-halted u (bad f) = fault f
-halted u (need path) = wants path u
 
 abbrev pub counting : ℕ → Result Env Fault → Result Counted Halt
 counting u (Ok x) = Ok (record { env = x; used = u })

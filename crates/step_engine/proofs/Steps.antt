@@ -13,7 +13,7 @@ use Rattle.step_engine.specs.Needed.{IsNeededBy}
 use Rattle.step_engine.specs.Needed.IsNeededBy.{asked}
 use Rattle.step_engine.specs.Turns.{AreLawful}
 use Rattle.step_engine.specs.Build.{Setting, setting, IsHere}
-use Rattle.step_engine.specs.Engine.{State, state, AreKept, IsKnown, HasParts, HasTalkParts, AddsPaths, Adds, Moves, IsNext, IsPathAsked, Grows, IsSettled, IsAnswered, AreAnswered, IsCheckedBatch, IsChecked}
+use Rattle.step_engine.specs.Engine.{State, AreKept, IsKnown, HasParts, HasTalkParts, AddsPaths, Adds, Moves, IsNext, IsPathAsked, Grows, IsSettled, IsAnswered, AreAnswered, IsCheckedBatch, IsChecked}
 use Rattle.step_engine.proofs.Loops.{IsUnderWay, IsAnswering, IsCheckingBatch, IsChecking, IsRunning}
 use Rattle.step_engine.proofs.Talks.{follows_front, follows_push, next_asked}
 use Rattle.step_engine.proofs.Moves.{none_in, one_in, added_none, moves_none, moves_then, adds_then, moves_under, has_key_grows, needed_itself}
@@ -343,9 +343,6 @@ pub running_falls : {K O : Type 0} (s : Setting K O) (law : AreLawful s.means) (
 running_falls {K} {O} s law k y talk pairs asks n e is small =
     let b : Batch K O = record { pairs = pairs } in
     law.falls k talk b n.follows (e ∙ ap Some (sym is)) (All-push (λ (b : Batch K O). ArePairsSmall b.pairs) talk b n.small small)
-
-pub kept_ran : {K O : Type 0} (s : Setting K O) (x : State K O) (ran : List K) → AreKept s x → AreKept s (state x.fresh x.files ran x.reads)
-kept_ran s x ran q = record { sound = q.sound; right = q.right; closed = q.closed; known = q.known; within = q.within }
 
 pub checking_batch_step : {K O : Type 0} (s : Setting K O) (k : K) (pairs : List (Pair K O)) (i : ℕ) (x y z : State K O) (p : Pair K O) (r : Answer O) (b c same : Bool) → IsCheckingBatch s pairs i y b → i < length pairs → p ≡ get_or pairs i p → Grows y.fresh z.fresh → ((w : World) → IsHere s w → r ≡ right s.means w p.ask) → ((part : K) → p.ask ≡ ask.Part part → HasKey z.fresh part) → (IsTrue same ↔ (r ≡ p.answer)) → (same ≡ true → c ≡ b) → (same ≡ false → c ≡ false) → IsCheckingBatch s pairs (i + 1) z c
 checking_batch_step s k pairs i x y z p r b c true n l e grows t parts d same_right other_right = rw (same_right refl) (checking_batch_same s k pairs i x y z p r b n l e grows t parts (d.0 refl))

@@ -1,4 +1,4 @@
-use Rattle.std.proofs.Common.{◌≡◌, List, ℕ, ap, ◌∙◌, rules, nat_eq, not}
+use Rattle.std.proofs.Common.{List, ℕ, ap, ◌∙◌, rules, nat_eq, not}
 use Rattle.std.specs.Cmp.Lexicographic.{pointwise}
 use Rattle.std.proofs.lemmas.Fn.{filter_same}
 use Rattle.build_base.specs.MemoryTree.{file_at}

@@ -1,4 +1,4 @@
-use Rattle.std.proofs.Common.{◌≡◌, sym, ◌∙◌, rules}
+use Rattle.std.proofs.Common.{sym, rules}
 use Rattle.std.proofs.lemmas.Grind.{common_steps}
 use Rattle.build_base.proofs.MemoryTreeLemmas.{file_at-put, file_at-add}
 use Rattle.build_base.proofs.memory_tree.put_in.Goals as goal

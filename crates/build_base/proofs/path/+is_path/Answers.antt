@@ -1,4 +1,4 @@
-use Rattle.std.proofs.Common.{◌≡◌, ◌<◌, arith}
+use Rattle.std.proofs.Common.{arith}
 use Rattle.std.proofs.lemmas.Grind.{common_steps}
 use Rattle.build_base.proofs.PathLemmas.{is_path_rest}
 use Rattle.build_base.proofs.path.+is_path.Goals as goal
