@@ -7,6 +7,7 @@ use Rattle.build_base.specs.declared.fault.Fault.{Fault}
 use Rattle.build_base.specs.declared.fault.Place.{Place}
 use Rattle.build_base.specs.declared.lines.Taken.{Taken}
 use Rattle.meta_lexer.specs.Faults.{first_fault}
+use Rattle.meta_lexer.specs.Parts.{first_text}
 use Rattle.meta_lexer.specs.Words.{same_word}
 use Rattle.meta_lexer.specs.declared.head.Head.{Head}
 use Rattle.macro_conditions.specs.Unbuilt.{unbuilt_line}
@@ -65,12 +66,8 @@ kind_of (Some Defines) parts = if nat_lt 1 parts then Qualified else Plain
 kind_of (Some section) parts = Unbuilt
 kind_of None parts = Unknown
 
-abbrev pub head_name : List (List ℕ) → List ℕ
-head_name (name ∷ qualifiers) = name
-head_name [] = []
-
 unfoldable pub head_kind : Head → HeadKind
-head_kind head = kind_of (section_named (head_name head.parts)) (length head.parts)
+head_kind head = kind_of (section_named (first_text head.parts)) (length head.parts)
 
 abbrev pub is_unbuilt : HeadKind → Bool
 is_unbuilt Unbuilt = true
@@ -94,7 +91,7 @@ unknown_kind at name Unknown = Some (fault_of 226 at name)
 unknown_kind at name kind = None
 
 abbrev pub unknown_head : Place → Head → Option Fault
-unknown_head at head = unknown_kind at (head_name head.parts) (head_kind head)
+unknown_head at head = unknown_kind at (first_text head.parts) (head_kind head)
 
 abbrev pub heads_fault : Taken → List Head → Option Fault
 heads_fault line heads = first_of (unbuilt_fault line heads ∷ qualifier_fault line heads ∷ first_fault (unknown_head line.at) heads ∷ [])

@@ -3,11 +3,12 @@ ghost use Rattle.std.specs.Prelude.{◌≡◌, Option};
 ghost use Rattle.std.specs.List.{list_any};
 ghost use Rattle.build_base.specs.Answer.{Checks};
 ghost use Rattle.meta_lexer.specs.Faults.{first_fault};
-ghost use Rattle.dsc_platform.specs.Sections.{main_section, static_section, dynamic_section, dynamic_ex_section, pcd_section, passed_section, section_named, kind_of, head_name, head_kind, is_unbuilt, is_qualified, unknown_head, heads_fault};
+ghost use Rattle.dsc_platform.specs.Sections.{main_section, static_section, dynamic_section, dynamic_ex_section, pcd_section, passed_section, section_named, kind_of, head_kind, is_unbuilt, is_qualified, unknown_head, heads_fault};
 
 use build_base::{Place, Refusal, Taken, Text, refuse};
 use macro_conditions::unbuilt::refuse_unbuilt;
 use meta_lexer::head::Head;
+use meta_lexer::parts::first_text;
 use meta_lexer::words::same_word;
 use std::alloc::Global;
 
@@ -156,15 +157,6 @@ pub fn section_named(name: &[u8]) -> Option<SectionName>
     passed_section(name)
 }
 
-fn head_name(parts: &[Text]) -> &[u8]
-    ensures { result.now ≡ head_name parts.now }
-{
-    match parts {
-        [name, ..] => name.bytes(),
-        [] => b"".as_slice(),
-    }
-}
-
 fn kind_of(section: Option<SectionName>, parts: usize) -> HeadKind
     ensures { result ≡ kind_of section parts }
 {
@@ -187,7 +179,7 @@ pub fn head_kind(head: &Head) -> HeadKind
     ensures { result ≡ head_kind head.now }
 {
     let parts = head.parts.items();
-    kind_of(section_named(head_name(parts)), parts.len())
+    kind_of(section_named(first_text(parts)), parts.len())
 }
 
 fn is_unbuilt(head: &Head) -> bool
@@ -218,7 +210,7 @@ fn check_head(alloc: Global, at: &Place, head: &Head) -> Result<(), Refusal>
     ensures { Checks result (unknown_head at.now head.now) }
 {
     match head_kind(head) {
-        HeadKind::Unknown => Err(refuse(alloc, 226, at, head_name(head.parts.items()))),
+        HeadKind::Unknown => Err(refuse(alloc, 226, at, first_text(head.parts.items()))),
         HeadKind::Plain | HeadKind::Qualified | HeadKind::Unbuilt => Ok(()),
     }
 }

@@ -4,6 +4,11 @@ use Rattle.std.specs.List.{flat_map, slice_split}
 use Rattle.meta_lexer.specs.Fields.{parts_of, bytes_at}
 use Rattle.meta_lexer.specs.Lines.{is_blank, without_blanks}
 
+-- the first of some texts, empty where there is none
+abbrev pub first_text : List (List ℕ) → List ℕ
+first_text (text ∷ texts) = text
+first_text [] = []
+
 -- the fields between `|`, without their outer blanks
 unfoldable pub field_texts : List ℕ → List (List ℕ)
 field_texts text = map (λ span. without_blanks (bytes_at text span)) (parts_of true 124 text)

@@ -2,13 +2,23 @@
 ghost use Rattle.std.specs.Prelude.{◌≡◌, ◌++◌, IfOk, OnOk, map};
 ghost use Rattle.std.specs.List.{slice_split};
 ghost use Rattle.meta_lexer.specs.Lines.{is_blank};
-ghost use Rattle.meta_lexer.specs.Parts.{field_texts, word_at, words_among, words_of};
+ghost use Rattle.meta_lexer.specs.Parts.{first_text, field_texts, word_at, words_among, words_of};
 
 use crate::field::cut;
 use crate::head::bytes_at;
 use crate::line::{is_blank, trim};
 use build_base::{Rows, Text, WantOfMemory};
 use std::alloc::{AllocError, Global};
+
+/// The first of some texts, empty where there is none.
+pub fn first_text(texts: &[Text]) -> &[u8]
+    ensures { result.now ≡ first_text texts.now }
+{
+    match texts {
+        [text, ..] => text.bytes(),
+        [] => b"".as_slice(),
+    }
+}
 
 /// The fields between `|`, without their outer blanks.
 #[tactic(auto, unfolding(crate::specs::Parts::field_texts))]
