@@ -1,0 +1,17 @@
+//! A package's declarations, read from its lines (EDK II DEC specification).
+#![tactic(auto)]
+
+pub mod key;
+pub mod line;
+
+
+
+pub mod rows;
+
+pub mod section;
+
+
+
+
+
+
