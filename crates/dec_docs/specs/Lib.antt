@@ -1,3 +1,5 @@
 pub mod Keys
 pub mod Sections
 pub mod Lines
+pub mod PcdLines
+pub mod Saying

@@ -3,15 +3,7 @@
 
 pub mod key;
 pub mod line;
-
-
-
+pub mod pcd_line;
 pub mod rows;
-
+pub mod said;
 pub mod section;
-
-
-
-
-
-
