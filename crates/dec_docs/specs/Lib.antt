@@ -3,3 +3,4 @@ pub mod Sections
 pub mod Lines
 pub mod PcdLines
 pub mod Saying
+pub mod Stating

@@ -7,3 +7,4 @@ pub mod pcd_line;
 pub mod rows;
 pub mod said;
 pub mod section;
+pub mod stated;
