@@ -4,3 +4,6 @@ pub mod Lines
 pub mod PcdLines
 pub mod Saying
 pub mod Stating
+pub mod Repeats
+pub mod Package
+pub mod Reading

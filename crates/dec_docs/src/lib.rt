@@ -4,7 +4,11 @@
 pub mod key;
 pub mod line;
 pub mod pcd_line;
+pub mod reading;
+pub mod repeats;
 pub mod rows;
 pub mod said;
 pub mod section;
 pub mod stated;
+
+pub use reading::read_dec;
