@@ -12,3 +12,6 @@ pub mod section;
 pub mod stated;
 
 pub use reading::read_dec;
+
+#[cfg(test)]
+mod tests;

@@ -94,7 +94,17 @@ fn four_fields(
     let number = token_number(alloc, line, token)?;
     check_words(alloc, line, name, default, datum)?;
     let pcd = pcd_name_of(alloc, name)?;
-    pcd_found(alloc, line, arch, kind, pcd, default, datum_named(datum), token, number)
+    pcd_found(
+        alloc,
+        line,
+        arch,
+        kind,
+        pcd,
+        default,
+        datum_named(datum),
+        token,
+        number,
+    )
 }
 
 fn pcd_fields(

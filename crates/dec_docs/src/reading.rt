@@ -74,11 +74,7 @@ fn refuse_missing(alloc: Global, root: &Path, key: &[u8]) -> Refusal
     }
 }
 
-fn push_guid(
-    alloc: Global,
-    guids: &mut Rows<NamedGuid>,
-    row: &Declared,
-) -> Result<(), WantOfMemory>
+fn push_guid(alloc: Global, guids: &mut Rows<NamedGuid>, row: &Declared) -> Result<(), WantOfMemory>
     ensures { OnOk result (guids.new ≡ guids.old ++ guid_rows row.now) }
 {
     match row {

@@ -70,7 +70,9 @@ fn same_pcd(first: &PcdName, second: &PcdName) -> bool
 fn guid_differs(old: &NamedGuid, guid: &NamedGuid) -> bool
     ensures { result ≡ guid_differs old.now guid.now }
 {
-    same_text(&old.name, &guid.name) && meets(old.arch, guid.arch) && !same_guid(old.guid, guid.guid)
+    same_text(&old.name, &guid.name)
+        && meets(old.arch, guid.arch)
+        && !same_guid(old.guid, guid.guid)
 }
 
 #[tactic(auto, unfolding(crate::specs::Repeats::pcd_repeats))]
