@@ -5,5 +5,6 @@ pub mod PcdLines
 pub mod Saying
 pub mod Stating
 pub mod Repeats
+pub mod ByName
 pub mod Package
 pub mod Reading

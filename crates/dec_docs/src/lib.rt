@@ -1,6 +1,7 @@
 //! A package's declarations, read from its lines (EDK II DEC specification).
 #![tactic(auto)]
 
+pub mod by_name;
 pub mod key;
 pub mod line;
 pub mod pcd_line;

@@ -82,8 +82,8 @@ fn pcd_repeats(old: &DecPcd, pcd: &DecPcd) -> bool
     same_pcd(&old.pcd, &pcd.pcd) && meets(old.arch, pcd.arch) && same_kind(old.kind, pcd.kind)
 }
 
-// Whether a row may not stand below another.
-fn repeats(old: &Declared, row: &Declared) -> bool
+/// Whether a row may not stand below another.
+pub fn repeats(old: &Declared, row: &Declared) -> bool
     ensures { result ≡ repeats old.now row.now }
 {
     match (old, row) {
