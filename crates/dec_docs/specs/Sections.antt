@@ -50,6 +50,10 @@ passed_section name =
 unfoldable pub section_named : List ℕ → Option DecSection
 section_named name = first_of (main_section name ∷ static_section name ∷ dynamic_section name ∷ passed_section name ∷ [])
 
+-- without a qualifier
+abbrev pub for_all : DecSection → HeadKind
+for_all section = Entered (record { section = section; arch = Common })
+
 -- a qualifier is an architecture
 abbrev pub with_arch : DecSection → Option Arch → HeadKind
 with_arch section (Some arch) = Entered (record { section = section; arch = arch })
@@ -57,17 +61,17 @@ with_arch section None = Misqualified
 
 -- at most one qualifier
 abbrev pub qualified : DecSection → List (List ℕ) → HeadKind
-qualified section [] = with_arch section (Some Common)
+qualified section [] = for_all section
 qualified section (word ∷ []) = with_arch section (arch_named word)
 qualified section (word ∷ other ∷ words) = Misqualified
 
 -- [Defines] takes no qualifier, a section that is read past takes any
 abbrev pub kind_of : Option DecSection → List (List ℕ) → HeadKind
-kind_of (Some Defines) [] = with_arch Defines (Some Common)
+kind_of (Some Defines) [] = for_all Defines
 kind_of (Some Defines) (word ∷ words) = Misqualified
 kind_of (Some Guids) qualifiers = qualified Guids qualifiers
 kind_of (Some (Pcds kind)) qualifiers = qualified (Pcds kind) qualifiers
-kind_of (Some Passed) qualifiers = with_arch Passed (Some Common)
+kind_of (Some Passed) qualifiers = for_all Passed
 kind_of None qualifiers = Unknown
 
 abbrev pub parts_kind : List (List ℕ) → HeadKind

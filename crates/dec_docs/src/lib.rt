@@ -2,6 +2,7 @@
 #![tactic(auto)]
 
 pub mod by_name;
+pub mod check;
 pub mod key;
 pub mod line;
 pub mod pcd_line;

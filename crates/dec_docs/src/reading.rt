@@ -6,8 +6,8 @@ ghost use Rattle.macro_conditions.specs.Reading.{last_or};
 ghost use Rattle.dec_docs.specs.Stating.{names_in, guids_in, rows_in};
 ghost use Rattle.dec_docs.specs.Package.{enter, form_fault, given_by, missing_key, guid_rows, pcd_rows, with_required, document_of, package_of};
 
+use crate::check::check_repeats;
 use crate::line::{DecLine, dec_line};
-use crate::repeats::check_repeats;
 use crate::rows::Declared;
 use crate::section::{Entry, heads_entries};
 use crate::stated::Stated;

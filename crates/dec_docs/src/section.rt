@@ -3,7 +3,7 @@ ghost use Rattle.std.specs.Prelude.{◌≡◌, Option, map};
 ghost use Rattle.std.specs.List.{list_any};
 ghost use Rattle.build_base.specs.Answer.{Answers};
 ghost use Rattle.build_base.specs.First.{all_ok};
-ghost use Rattle.dec_docs.specs.Sections.{main_section, static_section, dynamic_section, passed_section, section_named, with_arch, qualified, kind_of, parts_kind, head_kind, head_name, is_misqualified, entry_of, heads_entries};
+ghost use Rattle.dec_docs.specs.Sections.{main_section, static_section, dynamic_section, passed_section, section_named, for_all, with_arch, qualified, kind_of, parts_kind, head_kind, head_name, is_misqualified, entry_of, heads_entries};
 
 use build_base::{Refusal, Rows, Taken, Text, refuse};
 use doc_types::arch::{Arch, arch_named};
@@ -122,6 +122,15 @@ pub fn section_named(name: &[u8]) -> Option<DecSection>
     passed_section(name)
 }
 
+fn for_all(section: DecSection) -> HeadKind
+    ensures { result ≡ for_all section }
+{
+    HeadKind::Entered(Entry {
+        section,
+        arch: Arch::Common,
+    })
+}
+
 fn with_arch(section: DecSection, arch: Option<Arch>) -> HeadKind
     ensures { result ≡ with_arch section arch }
 {
@@ -135,7 +144,7 @@ fn qualified(section: DecSection, qualifiers: &[Text]) -> HeadKind
     ensures { result ≡ qualified section qualifiers.now }
 {
     match qualifiers {
-        [] => with_arch(section, Some(Arch::Common)),
+        [] => for_all(section),
         [word] => with_arch(section, arch_named(word.bytes())),
         _ => HeadKind::Misqualified,
     }
@@ -147,14 +156,14 @@ fn kind_of(section: Option<DecSection>, qualifiers: &[Text]) -> HeadKind
     match section {
         Some(DecSection::Defines) => {
             if qualifiers.is_empty() {
-                with_arch(DecSection::Defines, Some(Arch::Common))
+                for_all(DecSection::Defines)
             } else {
                 HeadKind::Misqualified
             }
         }
         Some(DecSection::Guids) => qualified(DecSection::Guids, qualifiers),
         Some(DecSection::Pcds(kind)) => qualified(DecSection::Pcds(kind), qualifiers),
-        Some(DecSection::Passed) => with_arch(DecSection::Passed, Some(Arch::Common)),
+        Some(DecSection::Passed) => for_all(DecSection::Passed),
         None => HeadKind::Unknown,
     }
 }
