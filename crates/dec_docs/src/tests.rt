@@ -37,6 +37,16 @@ fn line(alloc: Global, number: u64, text: &str) -> Result<Taken, WantOfMemory> {
     })
 }
 
+fn read_rows(alloc: Global, rows: Rows<Taken>) -> Result<DecDoc, Refusal> {
+    let lines = Lines {
+        root: path(alloc)?,
+        rows,
+        macros: Rows::new(alloc),
+    };
+    let mut book = Book::new(alloc);
+    read_dec(alloc, book.grant(())?, &lines)
+}
+
 // What is read of the package with another text in one of its lines, or after them, and one more line.
 fn read(alloc: Global, number: u64, text: &str, last: &str) -> Result<DecDoc, Refusal> {
     let mut rows = Rows::new(alloc);
@@ -49,22 +59,32 @@ fn read(alloc: Global, number: u64, text: &str, last: &str) -> Result<DecDoc, Re
         rows.push(line(alloc, number, text)?)?;
     }
     rows.push(line(alloc, 9, last)?)?;
-    let lines = Lines {
-        root: path(alloc)?,
-        rows,
-        macros: Rows::new(alloc),
-    };
-    let mut book = Book::new(alloc);
-    read_dec(alloc, book.grant(())?, &lines)
+    read_rows(alloc, rows)
+}
+
+// What is read of the package with four lines more.
+fn read_more(alloc: Global, more: [&str; 4]) -> Result<DecDoc, Refusal> {
+    let mut rows = Rows::new(alloc);
+    for (i, stated) in PACKAGE.iter().enumerate() {
+        rows.push(line(alloc, i as u64 + 1, stated)?)?;
+    }
+    for (i, stated) in more.iter().enumerate() {
+        rows.push(line(alloc, i as u64 + 8, stated)?)?;
+    }
+    read_rows(alloc, rows)
 }
 
 // The text of the fault, or nothing.
-fn fault_of(alloc: Global, number: u64, text: &str, last: &str) -> Result<Text, WantOfMemory> {
-    match read(alloc, number, text, last) {
+fn text_of(alloc: Global, outcome: Result<DecDoc, Refusal>) -> Result<Text, WantOfMemory> {
+    match outcome {
         Err(Refusal::Bad(fault)) => fault_text(alloc, &fault),
         Err(Refusal::WantOfMemory) => Err(WantOfMemory),
         Ok(_document) => Text::of(alloc, b"".as_slice()),
     }
+}
+
+fn fault_of(alloc: Global, number: u64, text: &str, last: &str) -> Result<Text, WantOfMemory> {
+    text_of(alloc, read(alloc, number, text, last))
 }
 
 #[test]
@@ -257,6 +277,50 @@ fn repeats(rt: HostRuntime) -> Result<(), Fail> {
     for (head, last, expected) in cases {
         let told = fault_of(alloc, 8, head, last)?;
         assert!(rt; told.bytes() == expected.as_bytes(), "{head} {last}");
+    }
+    Ok(())
+}
+
+#[test]
+fn rows_of_one_name(rt: HostRuntime) -> Result<(), Fail> {
+    let alloc = rt.alloc();
+    let other = "gTs = {1,2,3,{4,5,6,7,8,9,10,12}}";
+    let cases: [([&str; 4], &str); 4] = [
+        (
+            [
+                "[PcdsDynamic.X64]",
+                "gTs.P|1|UINT8|1",
+                "[PcdsDynamic.IA32, PcdsDynamic.Arm]",
+                "gTs.P|1|UINT8|1",
+            ],
+            "",
+        ),
+        (
+            [
+                "[PcdsDynamic.X64, PcdsDynamic.IA32]",
+                "gTs.P|1|UINT8|1",
+                "[PcdsDynamic.Arm, PcdsDynamic.IA32]",
+                "gTs.P|1|UINT8|1",
+            ],
+            "T.dec(11): error 204: RepeatedName: gTs.P\n",
+        ),
+        (
+            [
+                "[Guids.X64]",
+                "gQ = {1,2,3,{4,5,6,7,8,9,10,11}}",
+                "[Ppis.IA32]",
+                "gQ = {1,2,3,{4,5,6,7,8,9,10,12}}",
+            ],
+            "",
+        ),
+        (
+            ["[Guids]", "gTs = {1,2,3,{4,5,6,7,8,9,10,11}}", "", other],
+            "T.dec(11): error 204: RepeatedName: gTs\n",
+        ),
+    ];
+    for (more, expected) in cases {
+        let told = text_of(alloc, read_more(alloc, more))?;
+        assert!(rt; told.bytes() == expected.as_bytes());
     }
     Ok(())
 }
