@@ -1,0 +1,109 @@
+//! What the rows come to.
+ghost use Rattle.std.specs.Prelude.{◌≡◌, ◌∷◌, [], OnOk};
+ghost use Rattle.build_base.specs.Answer.{Checks};
+ghost use Rattle.macro_conditions.specs.ValueFields.{fault_in, given};
+ghost use Rattle.inf_docs.specs.Rows.{row_of, rows_fault, rows_given};
+ghost use Rattle.inf_docs.specs.Modules.{no_tables, with_rows};
+
+use crate::row::{Row, row_of};
+use crate::section::Scope;
+use build_base::{Guid, Refusal, Rows, Taken, Text, WantOfMemory};
+use doc_types::module::{Named, Served, UsedPcd};
+use doc_types::module_type::ModuleType;
+use macro_conditions::value_fields::lesser_refusal;
+use std::alloc::Global;
+
+/// The last value of each key that holds once, and the lists.
+#[derive(Debug, Drop)]
+pub struct ModuleTables {
+    pub base_name: Option<Text>,
+    pub file_guid: Option<Guid>,
+    pub kind: Option<ModuleType>,
+    pub version: Option<Text>,
+    pub entry_points: Rows<Named>,
+    pub constructors: Rows<Named>,
+    pub destructors: Rows<Named>,
+    pub serves: Rows<Served>,
+    pub packages: Rows<Named>,
+    pub classes: Rows<Named>,
+    pub guids: Rows<Named>,
+    pub pcds: Rows<UsedPcd>,
+}
+
+impl ModuleTables {
+    /// No rows yet.
+    pub fn new(alloc: Global) -> ModuleTables
+        ensures { result ≡ no_tables }
+    {
+        ModuleTables {
+            base_name: None,
+            file_guid: None,
+            kind: None,
+            version: None,
+            entry_points: Rows::new(alloc),
+            constructors: Rows::new(alloc),
+            destructors: Rows::new(alloc),
+            serves: Rows::new(alloc),
+            packages: Rows::new(alloc),
+            classes: Rows::new(alloc),
+            guids: Rows::new(alloc),
+            pcds: Rows::new(alloc),
+        }
+    }
+
+    #[tactic(auto, unfolding(crate::specs::Modules::with_rows))]
+    fn push(&mut self, row: Row) -> Result<(), WantOfMemory>
+        ensures { OnOk result (self.new ≡ with_rows self.old (row ∷ [])) }
+    {
+        match row {
+            Row::Nothing => {}
+            Row::BaseName(name) => self.base_name = Some(name),
+            Row::FileGuid(guid) => self.file_guid = Some(guid),
+            Row::Kind(kind) => self.kind = Some(kind),
+            Row::Version(text) => self.version = Some(text),
+            Row::EntryPoint(named) => self.entry_points.push(named)?,
+            Row::Constructor(named) => self.constructors.push(named)?,
+            Row::Destructor(named) => self.destructors.push(named)?,
+            Row::Serves(served) => self.serves.push(served)?,
+            Row::Package(named) => self.packages.push(named)?,
+            Row::Class(named) => self.classes.push(named)?,
+            Row::GuidName(named) => self.guids.push(named)?,
+            Row::Pcd(used) => self.pcds.push(used)?,
+        }
+        Ok(())
+    }
+
+    // Takes what the line gives below one head.
+    fn take_below(&mut self, alloc: Global, scope: Scope, line: &Taken) -> Result<(), Refusal>
+        ensures fault { Checks result (fault_in (row_of scope line.now)) }
+        ensures rows { OnOk result (self.new ≡ with_rows self.old (given (row_of scope line.now))) }
+    {
+        let row = row_of(alloc, scope, line)?;
+        self.push(row)?;
+        Ok(())
+    }
+
+    /// Takes what the line gives below each head.
+    pub fn take(
+        &mut self,
+        alloc: Global,
+        scopes: &[Scope],
+        line: &Taken,
+    ) -> Result<(), Refusal>
+        ensures fault { Checks result (rows_fault scopes.now line.now) }
+        ensures rows { OnOk result (self.new ≡ with_rows self.old (rows_given scopes.now line.now)) }
+    {
+        match scopes {
+            [] => Ok(()),
+            [scope, others @ ..] => {
+                let first = self.take_below(alloc, *scope, line);
+                let rest = self.take(alloc, others, line);
+                match (first, rest) {
+                    (Ok(()), rest) => rest,
+                    (Err(refusal), Ok(())) => Err(refusal),
+                    (Err(refusal), Err(other)) => Err(lesser_refusal(refusal, other)),
+                }
+            }
+        }
+    }
+}
