@@ -88,7 +88,7 @@ arch_scope kind (word ∷ next ∷ more) = None
 abbrev pub both_named : Option Arch → Option ModuleType → Option Scope
 both_named (Some arch) (Some found) = Some (record { kind = Depex; arch = arch; for_type = Some found })
 both_named (Some arch) None = None
-both_named None for_type = None
+both_named None found = None
 
 -- at most two qualifiers, an architecture and then a type of modules
 abbrev pub depex_scope : List (List ℕ) → Option Scope

@@ -99,7 +99,8 @@ impl ModuleTables {
                 let first = self.take_below(alloc, *scope, line);
                 let rest = self.take(alloc, others, line);
                 match (first, rest) {
-                    (Ok(()), rest) => rest,
+                    (Ok(()), Ok(())) => Ok(()),
+                    (Ok(()), Err(refusal)) => Err(refusal),
                     (Err(refusal), Ok(())) => Err(refusal),
                     (Err(refusal), Err(other)) => Err(lesser_refusal(refusal, other)),
                 }
