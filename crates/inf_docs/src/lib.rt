@@ -11,3 +11,6 @@ pub mod tables;
 pub mod values;
 
 pub use reading::read_inf;
+
+#[cfg(test)]
+mod tests;
