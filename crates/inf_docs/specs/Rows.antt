@@ -1,7 +1,7 @@
 -- The row that a line gives below one head.
 use Rattle.std.specs.Prelude.{ℕ, List, map, Option, Some, None, Result, Ok, Err}
 use Rattle.std.specs.List.{flat_map}
-use Rattle.build_base.specs.First.{or_fault, and_then, unless}
+use Rattle.build_base.specs.First.{or_fault, unless}
 use Rattle.build_base.specs.declared.fault.Fault.{Fault}
 use Rattle.build_base.specs.declared.lines.Taken.{Taken}
 use Rattle.meta_lexer.specs.Words.{halves}

@@ -84,12 +84,7 @@ impl ModuleTables {
     }
 
     /// Takes what the line gives below each head.
-    pub fn take(
-        &mut self,
-        alloc: Global,
-        scopes: &[Scope],
-        line: &Taken,
-    ) -> Result<(), Refusal>
+    pub fn take(&mut self, alloc: Global, scopes: &[Scope], line: &Taken) -> Result<(), Refusal>
         ensures fault { Checks result (rows_fault scopes.now line.now) }
         ensures rows { OnOk result (self.new ≡ with_rows self.old (rows_given scopes.now line.now)) }
     {

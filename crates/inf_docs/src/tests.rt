@@ -119,7 +119,11 @@ fn faults_of_keys(rt: HostRuntime) -> Result<(), Fail> {
     let cases: [(u64, &str, &str); 17] = [
         (2, "", "m0.inf(0): error 211: MissingKey: BASE_NAME\n"),
         (3, "", "m0.inf(0): error 211: MissingKey: FILE_GUID\n"),
-        (4, "MODULE", "m0.inf(0): error 211: MissingKey: MODULE_TYPE\n"),
+        (
+            4,
+            "MODULE",
+            "m0.inf(0): error 211: MissingKey: MODULE_TYPE\n",
+        ),
         (
             1,
             "BASE_NAME = \"",
@@ -132,14 +136,26 @@ fn faults_of_keys(rt: HostRuntime) -> Result<(), Fail> {
             "m0.inf(2): error 127: UndefinedMacro: $(X)\n",
         ),
         (3, "FILE_GUID = 0-0", "m0.inf(3): error 212: BadGuid: 0-0\n"),
-        (4, "MODULE_TYPE = FOO", "m0.inf(4): error 213: BadType: FOO\n"),
+        (
+            4,
+            "MODULE_TYPE = FOO",
+            "m0.inf(4): error 213: BadType: FOO\n",
+        ),
         (
             5,
             "VERSION_STRING = $(V",
             "m0.inf(5): error 127: UndefinedMacro: $(V\n",
         ),
-        (5, "ENTRY_POINT = \"1", "m0.inf(5): error 111: OpenQuote: \"\n"),
-        (5, "DESTRUCTOR = a b", "m0.inf(5): error 217: BadName: a b\n"),
+        (
+            5,
+            "ENTRY_POINT = \"1",
+            "m0.inf(5): error 111: OpenQuote: \"\n",
+        ),
+        (
+            5,
+            "DESTRUCTOR = a b",
+            "m0.inf(5): error 217: BadName: a b\n",
+        ),
         (
             5,
             "LIBRARY_CLASS = a b",
@@ -197,7 +213,10 @@ fn faults_of_sections(rt: HostRuntime) -> Result<(), Fail> {
             "m0.inf(5): error 114: BadSection: [Pcd.X64.PEIM]\n",
         ),
         ("[Pcd]\ngTsP", "m0.inf(6): error 215: BadPcdName: gTsP\n"),
-        ("[Pcd]\ngTs.P|1|2", "m0.inf(6): error 215: BadPcdName: gTs.P\n"),
+        (
+            "[Pcd]\ngTs.P|1|2",
+            "m0.inf(6): error 215: BadPcdName: gTs.P\n",
+        ),
         ("[Pcd]\ngTs.P|", "m0.inf(6): error 215: BadPcdName: gTs.P\n"),
         ("[Packages]\na//b", "m0.inf(6): error 101: BadPath: a//b\n"),
         (

@@ -210,12 +210,7 @@ fn pcd_fields(
 
 /// The PCD that a line asks for.
 #[tactic(auto, unfolding(crate::specs::Values::pcd_value))]
-pub fn pcd_value(
-    alloc: Global,
-    line: &Taken,
-    arch: Arch,
-    asked: Asked,
-) -> Result<UsedPcd, Refusal>
+pub fn pcd_value(alloc: Global, line: &Taken, arch: Arch, asked: Asked) -> Result<UsedPcd, Refusal>
     ensures { Answers result (pcd_value line.now arch asked) }
 {
     let fields = field_texts(alloc, line.text.bytes())?;

@@ -1,4 +1,4 @@
-use Rattle.std.proofs.Common.{refl, sym, ◌∙◌}
+use Rattle.std.proofs.Common.{refl, ◌∙◌}
 use Rattle.inf_docs.specs.Modules.{no_tables}
 use Rattle.inf_docs.proofs.TableLemmas.{rows_none}
 use Rattle.inf_docs.proofs.reading.read_inf.Goals as goal
