@@ -1,3 +1,2 @@
-pub mod LeastLemmas
 pub mod More
 pub mod NamedLemmas

@@ -19,3 +19,4 @@ pub mod CountBound
 pub mod LeftFalls
 pub mod WantedPaths
 pub mod SegmentNameLemmas
+pub mod LeastLemmas

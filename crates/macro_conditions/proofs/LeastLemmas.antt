@@ -3,11 +3,7 @@ use Rattle.std.proofs.Common.{◌≡◌, ◌∙◌, ℕ, ◌+◌, ◌<◌, nat_l
 use Rattle.std.proofs.lemmas.Bool.Decides.{nat_tests}
 use Rattle.std.proofs.lemmas.List.{map-append, take_more}
 use Rattle.build_base.specs.declared.fault.Fault.{Fault}
-use Rattle.build_base.specs.declared.lines.Taken.{Taken}
-use Rattle.macro_conditions.specs.ValueFields.{lesser, least_of, fault_in}
-use Rattle.dec_docs.specs.declared.section.Entry.{Entry}
-use Rattle.dec_docs.specs.Saying.{says}
-use Rattle.dec_docs.specs.Stating.{body_fault}
+use Rattle.macro_conditions.specs.ValueFields.{lesser, least_of}
 
 pub lesser_none : (fault : Option Fault) → lesser fault None ≡ fault
 lesser_none None = refl
@@ -48,10 +44,9 @@ least_push : (fs : List (Option Fault)) (f : Option Fault) → least_of (fs ++ f
 least_push [] f = lesser_none f
 least_push (g ∷ fs) f = ap (lesser g) (least_push fs f) ∙ sym (lesser_assoc g (least_of fs) f)
 
--- with one head more
-pub least_more : (first : Option Fault) (line : Taken) (entries : List Entry) (i : ℕ) (d : Entry) → i < length entries
-    → lesser (lesser first (body_fault line (take i entries))) (fault_in (says line (get_or entries i d))) ≡ lesser first (body_fault line (take (i + 1) entries))
-least_more first line entries i d h =
-    let fault : Entry → Option Fault = λ entry. fault_in (says line entry) in
-    lesser_assoc first (body_fault line (take i entries)) (fault (get_or entries i d))
-    ∙ ap (lesser first) (sym (ap (λ es. body_fault line es) (take_more entries i d h) ∙ ap least_of (map-append fault (take i entries) (get_or entries i d ∷ [])) ∙ least_push (map fault (take i entries)) (fault (get_or entries i d))))
+-- with one more
+pub least_more : {X : Type 0} (fault : X → Option Fault) (first : Option Fault) (xs : List X) (i : ℕ) (d : X) → i < length xs
+    → lesser (lesser first (least_of (map fault (take i xs)))) (fault (get_or xs i d)) ≡ lesser first (least_of (map fault (take (i + 1) xs)))
+least_more fault first xs i d h =
+    lesser_assoc first (least_of (map fault (take i xs))) (fault (get_or xs i d))
+    ∙ ap (lesser first) (sym (ap (λ ys. least_of (map fault ys)) (take_more xs i d h) ∙ ap least_of (map-append fault (take i xs) (get_or xs i d ∷ [])) ∙ least_push (map fault (take i xs)) (fault (get_or xs i d))))
