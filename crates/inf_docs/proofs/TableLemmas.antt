@@ -1,16 +1,16 @@
 -- Tables with more rows.
-use Rattle.std.proofs.Common.{◌≡◌, ◌≤◌, ◌<◌, ◌-◌, List, [], ◌∷◌, ◌++◌, length, take, drop, slice_index_or, Option, refl, sym, ap, ◌∙◌, append_assoc, append-nil, arith}
+use Rattle.std.proofs.Common.{◌≡◌, ◌<◌, ◌≤◌, ◌+◌, ℕ, List, [], ◌++◌, length, get_or, drop, Option, None, refl, sym, ap, ◌∙◌, append_assoc, append-nil}
 use Rattle.std.specs.List.{flat_map}
 use Rattle.std.proofs.lemmas.Grind.{flat_map-append}
-use Rattle.std.proofs.lemmas.List.{take_all}
+use Rattle.std.proofs.lemmas.List.{drop_more, drop_all}
 use Rattle.build_base.specs.declared.lines.Taken.{Taken}
 use Rattle.macro_conditions.specs.Reading.{last_or}
-use Rattle.macro_conditions.specs.ValueFields.{given}
+use Rattle.macro_conditions.specs.ValueFields.{fault_in, given, lesser}
 use Rattle.macro_conditions.proofs.Turns.{last_or-append}
 use Rattle.inf_docs.specs.declared.row.Row.{Row}
 use Rattle.inf_docs.specs.declared.tables.ModuleTables.{ModuleTables}
 use Rattle.inf_docs.specs.declared.section.Scope.{Scope}
-use Rattle.inf_docs.specs.Rows.{row_of, rows_given}
+use Rattle.inf_docs.specs.Rows.{row_of, rows_fault, rows_given}
 use Rattle.inf_docs.specs.Modules.{base_name_in, file_guid_in, kind_in, version_in, entry_point_in, constructor_in, destructor_in, served_in, package_in, class_in, guid_in, pcd_in, with_rows}
 
 last_join : {R : Type 0} (f : Row → List R) (o : Option R) (xs ys : List Row) → last_or (last_or o (flat_map f xs)) (flat_map f ys) ≡ last_or o (flat_map f (xs ++ ys))
@@ -53,16 +53,19 @@ rows_none t =
       append-nil t.pcds,
     ) refl
 
--- a line below no heads
-pub below_none : (t : ModuleTables) (scopes : List Scope) (line : Taken) → length scopes < 1 → t ≡ with_rows t (rows_given scopes line)
-below_none t [] line l = rows_none t
-below_none t (scope ∷ scopes) line l = absurd (omega arith)
-
 -- a line below a head and others
-pub below_more : (old mid new : ModuleTables) (scopes : List Scope) (line : Taken) (other : Scope) → 1 ≤ length scopes
-    → mid ≡ with_rows old (given (row_of (slice_index_or scopes 0 other) line)) → new ≡ with_rows mid (rows_given (take (length scopes - 1) (drop 1 scopes)) line)
-    → new ≡ with_rows old (rows_given scopes line)
-below_more old mid new [] line other l m n = absurd (omega arith)
-below_more old mid new (scope ∷ scopes) line other l m n =
-    n ∙ ap (λ ss. with_rows mid (rows_given ss line)) (take_all (length (scope ∷ scopes) - 1) scopes (omega arith)) ∙ ap (λ t. with_rows t (rows_given scopes line)) m
-    ∙ rows_join old (given (row_of scope line)) (rows_given scopes line)
+pub below_more : (old mid : ModuleTables) (scopes : List Scope) (line : Taken) (i : ℕ) (d : Scope) → i < length scopes
+    → mid ≡ with_rows old (given (row_of (get_or scopes i d) line)) → with_rows mid (rows_given (drop (i + 1) scopes) line) ≡ with_rows old (rows_given (drop i scopes) line)
+below_more old mid scopes line i d h m =
+    ap (λ t. with_rows t (rows_given (drop (i + 1) scopes) line)) m
+    ∙ rows_join old (given (row_of (get_or scopes i d) line)) (rows_given (drop (i + 1) scopes) line)
+    ∙ sym (ap (λ ss. with_rows old (rows_given ss line)) (drop_more scopes i d h))
+
+pub fault_more : (scopes : List Scope) (line : Taken) (i : ℕ) (d : Scope) → i < length scopes → fault_in (row_of (get_or scopes i d) line) ≡ None
+    → rows_fault (drop (i + 1) scopes) line ≡ rows_fault (drop i scopes) line
+fault_more scopes line i d h e =
+    sym (ap (λ ss. rows_fault ss line) (drop_more scopes i d h) ∙ ap (λ f. lesser f (rows_fault (drop (i + 1) scopes) line)) e)
+
+-- a line below no further heads
+pub below_all : (t : ModuleTables) (scopes : List Scope) (line : Taken) (i : ℕ) → length scopes ≤ i → t ≡ with_rows t (rows_given (drop i scopes) line)
+below_all t scopes line i l = rows_none t ∙ sym (ap (λ ss. with_rows t (rows_given ss line)) (drop_all i scopes l))

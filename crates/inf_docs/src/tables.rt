@@ -1,7 +1,8 @@
 //! What the rows come to.
-ghost use Rattle.std.specs.Prelude.{◌≡◌, ◌∷◌, [], OnOk};
-ghost use Rattle.build_base.specs.Answer.{Checks};
-ghost use Rattle.macro_conditions.specs.ValueFields.{fault_in, given};
+ghost use Rattle.std.specs.Prelude.{◌≡◌, ◌∷◌, [], OnOk, Option};
+ghost use Rattle.build_base.specs.Answer.{Checks, Finds};
+ghost use Rattle.build_base.specs.declared.fault.Fault.{Fault as Found};
+ghost use Rattle.macro_conditions.specs.ValueFields.{fault_in, given, lesser};
 ghost use Rattle.inf_docs.specs.Rows.{row_of, rows_fault, rows_given};
 ghost use Rattle.inf_docs.specs.Modules.{no_tables, with_rows};
 
@@ -28,6 +29,27 @@ pub struct ModuleTables {
     pub classes: Rows<Named>,
     pub guids: Rows<Named>,
     pub pcds: Rows<UsedPcd>,
+}
+
+// The least of a refusal and that of a line below a head, if it has one there.
+fn with_head(alloc: Global, line: &Taken, refusal: Refusal, scope: Scope) -> Refusal
+    ensures { (fault : Option Found) → Finds refusal fault → Finds result (lesser fault (fault_in (row_of scope line.now))) }
+{
+    match row_of(alloc, scope, line) {
+        Ok(_) => refusal,
+        Err(other) => lesser_refusal(refusal, other),
+    }
+}
+
+// The least of a refusal and those of a line below further heads.
+fn least_refusal(alloc: Global, line: &Taken, refusal: Refusal, scopes: &[Scope]) -> Refusal
+    ensures { (fault : Option Found) → Finds refusal fault → Finds result (lesser fault (rows_fault scopes.now line.now)) }
+{
+    let mut least = refusal;
+    for scope in scopes {
+        least = with_head(alloc, line, least, *scope);
+    }
+    least
 }
 
 impl ModuleTables {
@@ -83,23 +105,16 @@ impl ModuleTables {
         Ok(())
     }
 
-    /// Takes what the line gives below each head.
+    /// Takes what the line gives below each head, or answers the least of its faults there.
     pub fn take(&mut self, alloc: Global, scopes: &[Scope], line: &Taken) -> Result<(), Refusal>
         ensures fault { Checks result (rows_fault scopes.now line.now) }
         ensures rows { OnOk result (self.new ≡ with_rows self.old (rows_given scopes.now line.now)) }
     {
-        match scopes {
-            [] => Ok(()),
-            [scope, others @ ..] => {
-                let first = self.take_below(alloc, *scope, line);
-                let rest = self.take(alloc, others, line);
-                match (first, rest) {
-                    (Ok(()), Ok(())) => Ok(()),
-                    (Ok(()), Err(refusal)) => Err(refusal),
-                    (Err(refusal), Ok(())) => Err(refusal),
-                    (Err(refusal), Err(other)) => Err(lesser_refusal(refusal, other)),
-                }
+        for (i, scope) in scopes.iter().enumerate() {
+            if let Err(refusal) = self.take_below(alloc, *scope, line) {
+                return Err(least_refusal(alloc, line, refusal, &scopes[i + 1..]));
             }
         }
+        Ok(())
     }
 }
