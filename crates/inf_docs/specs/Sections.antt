@@ -6,6 +6,7 @@ use Rattle.build_base.specs.First.{or_else, all_ok}
 use Rattle.build_base.specs.FaultText.{fault_of}
 use Rattle.build_base.specs.declared.fault.Fault.{Fault}
 use Rattle.build_base.specs.declared.lines.Taken.{Taken}
+use Rattle.meta_lexer.specs.Parts.{first_text}
 use Rattle.meta_lexer.specs.Words.{same_word}
 use Rattle.meta_lexer.specs.declared.head.Head.{Head}
 use Rattle.doc_types.specs.Arches.{arch_named}
@@ -115,10 +116,6 @@ abbrev pub meaning_of : Option SectionKind → List (List ℕ) → HeadMeaning
 meaning_of (Some kind) qualifiers = scoped (qualified kind qualifiers)
 meaning_of None qualifiers = Unknown
 
-abbrev pub head_name : List (List ℕ) → List ℕ
-head_name (name ∷ qualifiers) = name
-head_name [] = []
-
 abbrev pub meaning_named : List (List ℕ) → HeadMeaning
 meaning_named (name ∷ qualifiers) = meaning_of (section_named name) qualifiers
 meaning_named [] = Unknown
@@ -136,7 +133,7 @@ scope_found line name Misqualified = Err (fault_of 114 line.at line.text)
 scope_found line name Unknown = Err (fault_of 218 line.at name)
 
 abbrev pub head_scope : Taken → Head → Result Scope Fault
-head_scope line head = scope_found line (head_name head.parts) (head_meaning head)
+head_scope line head = scope_found line (first_text head.parts) (head_meaning head)
 
 -- a qualifier that may not stand there comes before a section that there isn't
 unfoldable pub scopes_of : Taken → List Head → Result (List Scope) Fault

@@ -6,7 +6,7 @@ use Rattle.build_base.specs.declared.fault.Fault.{Fault}
 use Rattle.build_base.specs.declared.fault.Place.{Place}
 use Rattle.build_base.specs.declared.lines.Taken.{Taken}
 use Rattle.meta_lexer.specs.Faults.{first_fault}
-use Rattle.meta_lexer.specs.Parts.{field_texts, words_of}
+use Rattle.meta_lexer.specs.Parts.{first_text, field_texts, words_of}
 use Rattle.meta_lexer.specs.Words.{is_identifier}
 use Rattle.macro_conditions.specs.ValueFields.{undefined_macro, path_value}
 use Rattle.doc_types.specs.ModuleTypes.{module_type_named}
@@ -102,10 +102,6 @@ pcd_fields line arch asked fields = or_fault (first_fault (undefined_macro line.
 unfoldable pub pcd_value : Taken → Arch → Asked → Result UsedPcd Fault
 pcd_value line arch asked = pcd_fields line arch asked (field_texts line.text)
 
-abbrev pub first_of_fields : List (List ℕ) → List ℕ
-first_of_fields (field ∷ fields) = field
-first_of_fields [] = []
-
 -- the fields after the first are read past
 unfoldable pub first_field : List ℕ → List ℕ
-first_field text = first_of_fields (field_texts text)
+first_field text = first_text (field_texts text)

@@ -4,13 +4,14 @@ ghost use Rattle.std.specs.List.{list_any};
 ghost use Rattle.build_base.specs.Answer.{Answers};
 ghost use Rattle.build_base.specs.First.{all_ok};
 ghost use Rattle.doc_types.specs.Arches.{arch_named};
-ghost use Rattle.inf_docs.specs.Sections.{main_section, guid_section, pcd_section, source_section, image_section, passed_section, section_named, whole_scope, plain_scope, arch_scope, both_named, depex_scope, qualified, scoped, meaning_named, meaning_of, head_name, head_meaning, is_misqualified, scope_found, head_scope, scopes_of};
+ghost use Rattle.inf_docs.specs.Sections.{main_section, guid_section, pcd_section, source_section, image_section, passed_section, section_named, whole_scope, plain_scope, arch_scope, both_named, depex_scope, qualified, scoped, meaning_named, meaning_of, head_meaning, is_misqualified, scope_found, head_scope, scopes_of};
 
 use build_base::{Refusal, Rows, Taken, Text, refuse};
 use doc_types::arch::{Arch, arch_named};
 use doc_types::module_type::{ModuleType, module_type_named};
 use doc_types::pcd::Asked;
 use meta_lexer::head::Head;
+use meta_lexer::parts::first_text;
 use meta_lexer::words::same_word;
 use std::alloc::Global;
 
@@ -250,15 +251,6 @@ fn meaning_of(section: Option<SectionKind>, qualifiers: &[Text]) -> HeadMeaning
     }
 }
 
-fn head_name(parts: &[Text]) -> &[u8]
-    ensures { result.now ≡ head_name parts.now }
-{
-    match parts {
-        [name, ..] => name.bytes(),
-        [] => b"".as_slice(),
-    }
-}
-
 /// What a head stands for.
 #[tactic(auto, unfolding(crate::specs::Sections::head_meaning))]
 pub fn head_meaning(head: &Head) -> HeadMeaning
@@ -288,7 +280,7 @@ fn head_scope(alloc: Global, line: &Taken, head: &Head) -> Result<Scope, Refusal
     match head_meaning(head) {
         HeadMeaning::Known(scope) => Ok(scope),
         HeadMeaning::Misqualified => Err(refuse(alloc, 114, &line.at, line.text.bytes())),
-        HeadMeaning::Unknown => Err(refuse(alloc, 218, &line.at, head_name(head.parts.items()))),
+        HeadMeaning::Unknown => Err(refuse(alloc, 218, &line.at, first_text(head.parts.items()))),
     }
 }
 

@@ -2,7 +2,7 @@
 ghost use Rattle.std.specs.Prelude.{◌≡◌, IfOk, map};
 ghost use Rattle.build_base.specs.Answer.{Answers};
 ghost use Rattle.build_base.specs.First.{all_ok};
-ghost use Rattle.inf_docs.specs.Values.{name_value, named, package_named, type_word, type_value, served_by_all, served_by, served_by_words, class_stated, class_of, class_value, pcd_of, pcd_stated, pcd_fields, pcd_value, first_of_fields, first_field};
+ghost use Rattle.inf_docs.specs.Values.{name_value, named, package_named, type_word, type_value, served_by_all, served_by, served_by_words, class_stated, class_of, class_value, pcd_of, pcd_stated, pcd_fields, pcd_value, first_field};
 
 use build_base::{Place, Refusal, Rows, Same, Taken, Text, WantOfMemory, refuse};
 use doc_types::arch::Arch;
@@ -10,7 +10,7 @@ use doc_types::module::{Named, Served, UsedPcd};
 use doc_types::module_type::{ModuleType, module_type_named};
 use doc_types::pcd::{Asked, pcd_name_of};
 use macro_conditions::value_fields::{path_value, undefined_macro, undefined_macros};
-use meta_lexer::parts::{field_texts, words};
+use meta_lexer::parts::{field_texts, first_text, words};
 use meta_lexer::words::is_identifier;
 use std::alloc::Global;
 
@@ -217,20 +217,11 @@ pub fn pcd_value(alloc: Global, line: &Taken, arch: Arch, asked: Asked) -> Resul
     pcd_fields(alloc, line, arch, asked, fields.items())
 }
 
-fn first_of_fields(alloc: Global, fields: &[Text]) -> Result<Text, WantOfMemory>
-    ensures { IfOk result (λ field. field ≡ first_of_fields fields.now) }
-{
-    match fields {
-        [field, ..] => field.copy(alloc),
-        [] => Text::of(alloc, b"".as_slice()),
-    }
-}
-
 /// The first field of a line.
 #[tactic(auto, unfolding(crate::specs::Values::first_field))]
 pub fn first_field(alloc: Global, text: &[u8]) -> Result<Text, WantOfMemory>
     ensures { IfOk result (λ field. field ≡ first_field text.now) }
 {
     let fields = field_texts(alloc, text)?;
-    first_of_fields(alloc, fields.items())
+    Text::of(alloc, first_text(fields.items()))
 }
