@@ -6,7 +6,7 @@ use Rattle.build_base.specs.declared.fault.Fault.{Fault}
 use Rattle.build_base.specs.declared.guid.Guid.{Guid as GuidBytes}
 use Rattle.build_base.specs.declared.lines.Taken.{Taken}
 use Rattle.meta_lexer.specs.GuidBraces.{guid_of_braces}
-use Rattle.meta_lexer.specs.Parts.{field_texts}
+use Rattle.meta_lexer.specs.Parts.{first_text, field_texts}
 use Rattle.meta_lexer.specs.Words.{halves, is_identifier}
 use Rattle.macro_conditions.specs.SegmentNames.{segment_name}
 use Rattle.macro_conditions.specs.ValueFields.{undefined_macro, open_quote, guid_value}
@@ -59,13 +59,9 @@ abbrev pub guid_pair : Taken → Arch → List ℕ → Option (List ℕ × List 
 guid_pair line arch field (Some p) = guid_declared line arch p.0 p.1
 guid_pair line arch field None = or_fault (undefined_macro line.at field) (Err (bad_pair line))
 
-abbrev pub first_field : List (List ℕ) → List ℕ
-first_field (field ∷ fields) = field
-first_field [] = []
-
 -- `Name = { .. }` in the first field, others are read past; an open quote comes before all else
 unfoldable pub guid_line : Taken → Arch → Result NamedGuid Fault
-guid_line line arch = or_fault (open_quote line.at line.text) (guid_pair line arch (first_field (field_texts line.text)) (halves 61 (first_field (field_texts line.text))))
+guid_line line arch = or_fault (open_quote line.at line.text) (guid_pair line arch (first_text (field_texts line.text)) (halves 61 (first_text (field_texts line.text))))
 
 abbrev pub said_in : Taken → Arch → DecSection → Result Said Fault
 said_in line arch Defines = key_line line

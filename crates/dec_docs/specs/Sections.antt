@@ -5,6 +5,7 @@ use Rattle.build_base.specs.First.{first_of, or_fault, all_ok}
 use Rattle.build_base.specs.FaultText.{fault_of}
 use Rattle.build_base.specs.declared.fault.Fault.{Fault}
 use Rattle.build_base.specs.declared.lines.Taken.{Taken}
+use Rattle.meta_lexer.specs.Parts.{first_text}
 use Rattle.meta_lexer.specs.Words.{same_word}
 use Rattle.meta_lexer.specs.declared.head.Head.{Head}
 use Rattle.doc_types.specs.Arches.{arch_named}
@@ -81,10 +82,6 @@ parts_kind [] = Unknown
 unfoldable pub head_kind : Head → HeadKind
 head_kind head = parts_kind head.parts
 
-abbrev pub head_name : List (List ℕ) → List ℕ
-head_name (name ∷ qualifiers) = name
-head_name [] = []
-
 abbrev pub is_misqualified : HeadKind → Bool
 is_misqualified Misqualified = true
 is_misqualified (Entered entry) = false
@@ -96,7 +93,7 @@ entry_found line name Misqualified = Err (fault_of 114 line.at line.text)
 entry_found line name Unknown = Err (fault_of 206 line.at name)
 
 unfoldable pub entry_of : Taken → Head → Result Entry Fault
-entry_of line head = entry_found line (head_name head.parts) (head_kind head)
+entry_of line head = entry_found line (first_text head.parts) (head_kind head)
 
 -- a qualifier that may not stand there, in any of the heads
 abbrev pub qualifier_fault : Taken → List Head → Option Fault

@@ -3,7 +3,7 @@ ghost use Rattle.std.specs.Prelude.{◌≡◌};
 ghost use Rattle.meta_lexer.specs.GuidBraces.{guid_of_braces};
 ghost use Rattle.meta_lexer.specs.Words.{halves};
 ghost use Rattle.build_base.specs.Answer.{Answers, Checks};
-ghost use Rattle.dec_docs.specs.Saying.{key_said, pair_said, key_line, guid_found, pair_fault, guid_declared, guid_pair, first_field, guid_line, said_in, says};
+ghost use Rattle.dec_docs.specs.Saying.{key_said, pair_said, key_line, guid_found, pair_fault, guid_declared, guid_pair, guid_line, said_in, says};
 
 use crate::key::{DecKey, key_named};
 use crate::pcd_line::pcd_line;
@@ -15,7 +15,7 @@ use doc_types::depex::NamedGuid;
 use macro_conditions::segment_name::segment_name;
 use macro_conditions::value_fields::{guid_value, open_quote, undefined_macro};
 use meta_lexer::guid_braces::guid_of_braces;
-use meta_lexer::parts::field_texts;
+use meta_lexer::parts::{field_texts, first_text};
 use meta_lexer::words::{halves, is_identifier};
 use std::alloc::Global;
 
@@ -106,15 +106,6 @@ fn guid_pair(alloc: Global, line: &Taken, arch: Arch, field: &[u8]) -> Result<Na
     }
 }
 
-fn first_field(fields: &[Text]) -> &[u8]
-    ensures { result.now ≡ first_field fields.now }
-{
-    match fields {
-        [field, ..] => field.bytes(),
-        [] => b"".as_slice(),
-    }
-}
-
 // The name that a line `Name = { .. }` declares, where further fields are read past.
 #[tactic(auto, unfolding(crate::specs::Saying::guid_line))]
 fn guid_line(alloc: Global, line: &Taken, arch: Arch) -> Result<NamedGuid, Refusal>
@@ -122,7 +113,7 @@ fn guid_line(alloc: Global, line: &Taken, arch: Arch) -> Result<NamedGuid, Refus
 {
     open_quote(alloc, &line.at, line.text.bytes())?;
     let fields = field_texts(alloc, line.text.bytes())?;
-    guid_pair(alloc, line, arch, first_field(fields.items()))
+    guid_pair(alloc, line, arch, first_text(fields.items()))
 }
 
 fn said_in(alloc: Global, line: &Taken, arch: Arch, section: DecSection) -> Result<Said, Refusal>

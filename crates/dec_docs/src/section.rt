@@ -3,12 +3,13 @@ ghost use Rattle.std.specs.Prelude.{◌≡◌, Option, map};
 ghost use Rattle.std.specs.List.{list_any};
 ghost use Rattle.build_base.specs.Answer.{Answers};
 ghost use Rattle.build_base.specs.First.{all_ok};
-ghost use Rattle.dec_docs.specs.Sections.{main_section, static_section, dynamic_section, passed_section, section_named, for_all, with_arch, qualified, kind_of, parts_kind, head_kind, head_name, is_misqualified, entry_of, heads_entries};
+ghost use Rattle.dec_docs.specs.Sections.{main_section, static_section, dynamic_section, passed_section, section_named, for_all, with_arch, qualified, kind_of, parts_kind, head_kind, is_misqualified, entry_of, heads_entries};
 
 use build_base::{Refusal, Rows, Taken, Text, refuse};
 use doc_types::arch::{Arch, arch_named};
 use doc_types::pcd::Kind;
 use meta_lexer::head::Head;
+use meta_lexer::parts::first_text;
 use meta_lexer::words::same_word;
 use std::alloc::Global;
 
@@ -185,15 +186,6 @@ pub fn head_kind(head: &Head) -> HeadKind
     parts_kind(head.parts.items())
 }
 
-fn head_name(parts: &[Text]) -> &[u8]
-    ensures { result.now ≡ head_name parts.now }
-{
-    match parts {
-        [name, ..] => name.bytes(),
-        [] => b"".as_slice(),
-    }
-}
-
 fn is_misqualified(head: &Head) -> bool
     ensures { result ≡ is_misqualified (head_kind head.now) }
 {
@@ -217,7 +209,7 @@ fn entry_of(alloc: Global, line: &Taken, head: &Head) -> Result<Entry, Refusal>
     match head_kind(head) {
         HeadKind::Entered(entry) => Ok(entry),
         HeadKind::Misqualified => Err(refuse(alloc, 114, &line.at, line.text.bytes())),
-        HeadKind::Unknown => Err(refuse(alloc, 206, &line.at, head_name(head.parts.items()))),
+        HeadKind::Unknown => Err(refuse(alloc, 206, &line.at, first_text(head.parts.items()))),
     }
 }
 
