@@ -8,5 +8,6 @@ pub mod UnitLemmas
 pub mod OutputLemmas
 pub mod ValueLemmas
 pub mod DocumentLemmas
+pub mod NotedLemmas
 pub mod WordLemmas
 pub mod CompleteLemmas

@@ -4,6 +4,7 @@ pub mod FileValues
 pub mod Defines
 pub mod Words
 pub mod Values
+pub mod Noted
 pub mod Outcome
 pub mod Statuses
 pub mod Outputs

@@ -41,6 +41,11 @@ abbrev pub made_outputs : Made → List Output
 made_outputs (Files files) = map output_of (files_in files)
 made_outputs (Faulty message) = text ToErr message ∷ []
 
+-- where it is all files
+abbrev pub OnFiles : Made → Type 0 → Type 0
+OnFiles (Files files) P = P
+OnFiles (Faulty message) P = Unit {0}
+
 -- what stands ready is that of an outcome
 pub record IsMade (made : Made) (outcome : Result (List FilePair) Fault) : Type 0 where
   pub status : made_status made ≡ status_of outcome

@@ -11,6 +11,11 @@ OnEnd Done P = P
 OnEnd FileFault P = P
 OnEnd _ P = Unit {0}
 
+-- where all outputs were written
+abbrev pub OnDone : Status → Type 0 → Type 0
+OnDone Done P = P
+OnDone _ P = Unit {0}
+
 -- where it stopped before its first emission
 abbrev pub OnUnwritten : Status → Type 0 → Type 0
 OnUnwritten ReadFault P = P

@@ -1,9 +1,10 @@
 //! The top call.
-ghost use Rattle.std.specs.Prelude.{◌≡◌, ◌⊎◌, map, None, string_bytes, IfSome, IsSomeAnd, IsSome, IfOk};
+ghost use Rattle.std.specs.Prelude.{◌≡◌, ◌⊎◌, ◌++◌, map, None, string_bytes, IfSome, IsSomeAnd, IsSome, IfOk};
 ghost use Rattle.build_base.specs.Outside.{Rose, TreeCause, Cause};
 ghost use Rattle.build_base.specs.Spelling.{Spelled, SpelledCut};
-ghost use Rattle.edk_build.specs.Outcome.{outcome, outputs_of, IsMade, made_status, made_outputs, IsBuilt, IsComplete};
-ghost use Rattle.edk_build.specs.Statuses.{OnEnd, OnUnwritten, OnUsage, OnReadFault, OnWriteFault, OnBuild, IsUsageTold};
+ghost use Rattle.edk_build.specs.Outcome.{outcome, outputs_of, IsMade, OnFiles, made_status, made_outputs, IsBuilt, IsComplete};
+ghost use Rattle.edk_build.specs.Statuses.{OnEnd, OnDone, OnUnwritten, OnUsage, OnReadFault, OnWriteFault, OnBuild, IsUsageTold};
+ghost use Rattle.edk_build.specs.Noted.{build_steps};
 ghost use Rattle.edk_build.specs.Values.{world_of};
 ghost use Rattle.edk_build.specs.Words.{words_job};
 
@@ -27,6 +28,7 @@ fn make<T: Tree>(
     job: &Job,
 ) -> Result<Made, TreeFailed>
     ensures made { IfSome (T.held tree.old) (λ files. IfOk result (λ made. IsMade made (outcome (world_of files job.now)))) }
+    ensures noted { IfSome (T.held tree.old) (λ files. IfOk result (λ made. OnFiles made (book.new ≡ book.old ++ build_steps (world_of files job.now)))) }
     ensures cause { TreeCause (T.faults tree.old) (T.faults tree.new) result }
     ensures held { T.held tree.new ≡ T.held tree.old }
 {
@@ -72,6 +74,7 @@ fn build<T: Tree, S: Sink>(
     ensures cut { OnWriteFault result (IfSome (T.held tree.old) (λ files. SpelledCut (S.written sink.old) (S.written sink.new) (outputs_of (outcome (world_of files job.now))))) }
     ensures held { T.held tree.new ≡ T.held tree.old }
     ensures no_usage { OnUsage result ⊥ }
+    ensures noted { OnDone result (IfSome (T.held tree.old) (λ files. book.new ≡ book.old ++ build_steps (world_of files job.now))) }
     ensures complete { IfSome (T.held tree.old) (λ files. IsComplete (outcome (world_of files job.now)) (Rose (T.faults tree.old) (T.faults tree.new)) (Rose (S.faults sink.old) (S.faults sink.new)) result) }
 {
     match make(alloc, tree, book, job) {
@@ -116,6 +119,8 @@ pub fn run<H: Threads + Sync, T: Tree, S: Sink, K: Keeper, G: Gate>(
     ensures complete { IfSome (words_job (map string_bytes words.now)) (λ job. IfSome (T.held tree.old) (λ files.
         IsComplete (outcome (world_of files job)) (Rose (T.faults tree.old) (T.faults tree.new)) (Rose (S.faults sink.old) (S.faults sink.new)) result)) }
     ensures keeper { keeper.new ≡ keeper.old }
+    ensures noted { OnDone result (IsSomeAnd (words_job (map string_bytes words.now)) (λ job. IfSome (T.held tree.old) (λ files.
+        book.new ≡ book.old ++ build_steps (world_of files job)))) }
 {
     match words_job(alloc, words) {
         Ok(Some(job)) => build(alloc, tree, sink, book, &job),

@@ -1,8 +1,10 @@
 //! The devices of a flash description.
-ghost use Rattle.std.specs.Prelude.{◌≡◌, IfOk, map, length, slice_get};
+ghost use Rattle.std.specs.Prelude.{◌≡◌, ◌++◌, ◌∷◌, [], IfOk, OnOk, map, length, slice_get};
 ghost use Rattle.build_base.specs.Answer.{Answers};
 ghost use Rattle.build_base.specs.First.{all_ok};
 ghost use Rattle.fd_regions.specs.Device.{device_of};
+ghost use Rattle.edk_build.specs.declared.key.Key.TheVariants.{Device};
+ghost use Rattle.edk_build.specs.Noted.{devices_steps};
 ghost use Rattle.edk_build.specs.Outputs.{bytes_of_file, content_among, image_among, device_file};
 ghost use Rattle.edk_build.specs.Values.{device_pair};
 
@@ -69,7 +71,8 @@ fn make_device(
     parts: &Rows<Text>,
 ) -> Result<Text, Refusal>
     requires { length plan.now.regions ≡ length parts.now }
-    ensures { Answers result (device_of plan.now parts.now) }
+    ensures value { Answers result (device_of plan.now parts.now) }
+    ensures noted { OnOk result (book.new ≡ book.old ++ Device number ∷ []) }
 {
     let permit = book.grant(Key::Device(number))?;
     match device(alloc, permit, plan, parts) {
@@ -88,7 +91,8 @@ fn device_image(
     number: u32,
     plan: &DevicePlan,
 ) -> Result<Text, Refusal>
-    ensures { Answers result (image_among flash.now volumes.now plan.now) }
+    ensures value { Answers result (image_among flash.now volumes.now plan.now) }
+    ensures noted { OnOk result (book.new ≡ book.old ++ Device number ∷ []) }
 {
     match contents_of(alloc, flash, volumes, plan.regions.items()) {
         Ok(parts) => make_device(alloc, book, number, plan, &parts),
@@ -117,7 +121,8 @@ fn device_file(
     number: u32,
     plan: &DevicePlan,
 ) -> Result<FileOut, Refusal>
-    ensures { Answers result (device_file folder.now flash.now volumes.now plan.now) }
+    ensures value { Answers result (device_file folder.now flash.now volumes.now plan.now) }
+    ensures noted { OnOk result (book.new ≡ book.old ++ Device number ∷ []) }
 {
     match device_image(alloc, book, flash, volumes, number, plan) {
         Ok(image) => Ok(make_file(alloc, folder, plan, image)?),
@@ -134,7 +139,8 @@ pub fn device_files(
     volumes: &[FileOut],
     plans: &[DevicePlan],
 ) -> Result<Rows<FileOut>, Refusal>
-    ensures { Answers result (all_ok (map (device_file folder.now flash.now volumes.now) plans.now)) }
+    ensures value { Answers result (all_ok (map (device_file folder.now flash.now volumes.now) plans.now)) }
+    ensures noted { OnOk result (book.new ≡ book.old ++ devices_steps 0 plans.now) }
 {
     let mut files = Rows::new(alloc);
     let mut number: u32 = 0;

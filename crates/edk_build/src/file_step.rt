@@ -241,6 +241,7 @@ fn make_image(
     requires { HaveGuids plan.now.body }
     ensures value { Answers result (file_of plan.now) }
     ensures shape { IfOk result IsFileImage }
+    ensures noted { OnOk result (book.new ≡ book.old ++ key ∷ []) }
 {
     let permit = book.grant(key)?;
     file_of(alloc, permit, plan)
@@ -257,6 +258,7 @@ fn plan_image(
     requires { HaveGuids body }
     ensures value { Answers result (file_of (image_plan erase plan.now body)) }
     ensures shape { IfOk result IsFileImage }
+    ensures noted { OnOk result (book.new ≡ book.old ++ key ∷ []) }
 {
     let image = image_plan(alloc, erase, plan, body)?;
     make_image(alloc, book, key, &image)
@@ -274,6 +276,7 @@ pub fn file_step<T: Tree>(
 ) -> Result<FileImage, Stop>
     ensures value { IfSome (T.held tree.old) (λ files. Gives result (file_value erase files plan.now)) }
     ensures shape { IfOk result IsFileImage }
+    ensures noted { OnOk result (book.new ≡ book.old ++ key ∷ []) }
     ensures count { Counts (T.faults tree.old) (T.faults tree.new) result }
     ensures held { T.held tree.new ≡ T.held tree.old }
 {
@@ -297,6 +300,7 @@ pub fn item_step<T: Tree>(
 ) -> Result<FileImage, Stop>
     ensures value { IfSome (T.held tree.old) (λ files. Gives result (item_value erase files item.now)) }
     ensures shape { IfOk result IsFileImage }
+    ensures noted { OnOk result (book.new ≡ book.old ++ key ∷ []) }
     ensures count { Counts (T.faults tree.old) (T.faults tree.new) result }
     ensures held { T.held tree.new ≡ T.held tree.old }
 {

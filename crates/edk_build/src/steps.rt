@@ -1,10 +1,12 @@
 //! The steps of a build.
-ghost use Rattle.std.specs.Prelude.{◌≡◌, ◌++◌, IfOk, IfSome, OnOk, map, Ok};
+ghost use Rattle.std.specs.Prelude.{◌≡◌, ◌++◌, ◌∷◌, IfOk, IfSome, OnOk, map, Ok};
 ghost use Rattle.build_base.specs.Answer.{Answers};
 ghost use Rattle.build_base.specs.Outside.{got_of, IsWithin};
 ghost use Rattle.build_base.specs.World.{file_limit};
+ghost use Rattle.edk_build.specs.declared.key.Key.TheVariants.{Platform, Flash};
+ghost use Rattle.edk_build.specs.Noted.{flash_steps, image_steps, steps_after, build_steps};
 ghost use Rattle.edk_build.specs.Stops.{Gives, GivesAs, NoFault, Counts};
-ghost use Rattle.edk_build.specs.Values.{world_of, lines_of, platform_lines, platform_value, macros_left, flash_from, all_value};
+ghost use Rattle.edk_build.specs.Values.{world_of, lines_of, platform_lines, platform_value, macros_left, flash_from, flash_value, all_value};
 ghost use Rattle.fdf_layout.specs.Shape.{HasShape};
 ghost use Rattle.edk_build.specs.Outputs.{files_in, files_among};
 ghost use Rattle.std.specs.Prelude.{Some, []};
@@ -66,7 +68,8 @@ pub fn read_bytes<T: Tree>(tree: &mut T, path: &Path) -> Result<Got, Stop>
 }
 
 fn make_platform(alloc: Global, book: &mut Book<Key>, lines: &Lines) -> Result<PlatformDoc, Refusal>
-    ensures { Answers result (platform_of lines.now) }
+    ensures value { Answers result (platform_of lines.now) }
+    ensures noted { OnOk result (book.new ≡ book.old ++ Platform ∷ []) }
 {
     let permit = book.grant(Key::Platform)?;
     read_platform(alloc, permit, lines)
@@ -75,6 +78,7 @@ fn make_platform(alloc: Global, book: &mut Book<Key>, lines: &Lines) -> Result<P
 fn make_flash(alloc: Global, book: &mut Book<Key>, lines: &Lines) -> Result<FlashDoc, Refusal>
     ensures value { Answers result (flash_of lines.now) }
     ensures shape { IfOk result HasShape }
+    ensures noted { OnOk result (book.new ≡ book.old ++ Flash ∷ []) }
 {
     let permit = book.grant(Key::Flash)?;
     read_flash(alloc, permit, lines)
@@ -102,6 +106,7 @@ fn read_flash_file<T: Tree>(
 ) -> Result<FlashDoc, Stop>
     ensures value { IfSome (T.held tree.old) (λ files. Gives result (and_then (lines_of (world_of files job.now) path.now macros.now) flash_of)) }
     ensures shape { IfOk result HasShape }
+    ensures noted { OnOk result (book.new ≡ book.old ++ Flash ∷ []) }
     ensures count { Counts (T.faults tree.old) (T.faults tree.new) result }
     ensures held { T.held tree.new ≡ T.held tree.old }
 {
@@ -126,6 +131,7 @@ fn flash_step<T: Tree>(
 ) -> Result<FlashDoc, Stop>
     ensures value { IfSome (T.held tree.old) (λ files. Gives result (flash_from (world_of files job.now) platform.now macros.now platform.now.flash)) }
     ensures shape { IfOk result HasShape }
+    ensures noted { OnOk result (book.new ≡ book.old ++ flash_steps platform.now.flash) }
     ensures count { Counts (T.faults tree.old) (T.faults tree.new) result }
     ensures held { T.held tree.new ≡ T.held tree.old }
 {
@@ -147,6 +153,7 @@ fn image_files<T: Tree>(
 ) -> Result<OutFiles, Stop>
     requires { HasShape flash.now }
     ensures value { IfSome (T.held tree.old) (λ files. GivesAs files_in result (files_among folder.now files flash.now)) }
+    ensures noted { OnOk result (book.new ≡ book.old ++ image_steps flash.now) }
     ensures count { Counts (T.faults tree.old) (T.faults tree.new) result }
     ensures held { T.held tree.new ≡ T.held tree.old }
 {
@@ -178,6 +185,7 @@ fn files_of_platform<T: Tree>(
     macros: &Rows<Macro>,
 ) -> Result<OutFiles, Stop>
     ensures value { IfSome (T.held tree.old) (λ files. platform_value (world_of files job.now) ≡ Ok platform.now → macros_left (platform_lines (world_of files job.now)) ≡ macros.now → GivesAs files_in result (all_value (world_of files job.now))) }
+    ensures noted { IfSome (T.held tree.old) (λ files. platform_value (world_of files job.now) ≡ Ok platform.now → macros_left (platform_lines (world_of files job.now)) ≡ macros.now → OnOk result (book.new ≡ book.old ++ steps_after platform.now (flash_value (world_of files job.now)))) }
     ensures count { Counts (T.faults tree.old) (T.faults tree.new) result }
     ensures held { T.held tree.new ≡ T.held tree.old }
 {
@@ -199,6 +207,7 @@ fn files_of_lines<T: Tree>(
     lines: &Lines,
 ) -> Result<OutFiles, Stop>
     ensures value { IfSome (T.held tree.old) (λ files. platform_lines (world_of files job.now) ≡ Ok lines.now → GivesAs files_in result (all_value (world_of files job.now))) }
+    ensures noted { IfSome (T.held tree.old) (λ files. platform_lines (world_of files job.now) ≡ Ok lines.now → OnOk result (book.new ≡ book.old ++ build_steps (world_of files job.now))) }
     ensures count { Counts (T.faults tree.old) (T.faults tree.new) result }
     ensures held { T.held tree.new ≡ T.held tree.old }
 {
@@ -216,6 +225,7 @@ pub fn all_files<T: Tree>(
     job: &Job,
 ) -> Result<OutFiles, Stop>
     ensures value { IfSome (T.held tree.old) (λ files. GivesAs files_in result (all_value (world_of files job.now))) }
+    ensures noted { IfSome (T.held tree.old) (λ files. OnOk result (book.new ≡ book.old ++ build_steps (world_of files job.now))) }
     ensures count { Counts (T.faults tree.old) (T.faults tree.new) result }
     ensures held { T.held tree.new ≡ T.held tree.old }
 {

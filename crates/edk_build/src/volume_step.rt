@@ -1,10 +1,12 @@
 //! The volumes of a flash description.
-ghost use Rattle.std.specs.Prelude.{◌≡◌, ◌++◌, ◌∷◌, IfOk, IfSome, OnOk, Ok, All, map, codes, List, ℕ};
+ghost use Rattle.std.specs.Prelude.{◌≡◌, ◌++◌, ◌∷◌, [], IfOk, IfSome, OnOk, Ok, All, map, codes, List, ℕ};
 ghost use Rattle.build_base.specs.Answer.{Answers};
 ghost use Rattle.build_base.specs.First.{and_then, all_ok};
 ghost use Rattle.ffs_sections.specs.File.{IsFileImage};
 ghost use Rattle.fv_compose.specs.Files.{AreAligned};
 ghost use Rattle.fv_compose.specs.Volume.{HasShape, volume_of};
+ghost use Rattle.edk_build.specs.declared.key.Key.TheVariants.{Volume};
+ghost use Rattle.edk_build.specs.Noted.{file_steps, volume_steps, volumes_steps};
 ghost use Rattle.edk_build.specs.Stops.{Gives, Counts};
 ghost use Rattle.edk_build.specs.FileValues.{item_value, volume_planned};
 ghost use Rattle.edk_build.specs.Outputs.{volume_file};
@@ -33,6 +35,7 @@ fn make_items<T: Tree>(
 ) -> Result<Rows<FileImage>, Stop>
     ensures value { IfSome (T.held tree.old) (λ files. Gives result (all_ok (map (item_value erase files) items.now))) }
     ensures shape { IfOk result (All IsFileImage) }
+    ensures noted { OnOk result (book.new ≡ book.old ++ file_steps volume 0 items.now) }
     ensures count { Counts (T.faults tree.old) (T.faults tree.new) result }
     ensures held { T.held tree.new ≡ T.held tree.old }
 {
@@ -59,7 +62,8 @@ fn make_volume(
 ) -> Result<Text, Refusal>
     requires head { HasShape head.now }
     requires images { All IsFileImage images.now }
-    ensures { Answers result (volume_of head.now images.now) }
+    ensures value { Answers result (volume_of head.now images.now) }
+    ensures noted { OnOk result (book.new ≡ book.old ++ Volume volume ∷ []) }
 {
     let permit = book.grant(Key::Volume(volume))?;
     match compose(alloc, permit, head, images) {
@@ -79,6 +83,7 @@ fn volume_image<T: Tree>(
 ) -> Result<Text, Stop>
     requires { HasShape plan.now.head }
     ensures value { IfSome (T.held tree.old) (λ files. Gives result (volume_planned files plan.now)) }
+    ensures noted { OnOk result (book.new ≡ book.old ++ volume_steps volume plan.now) }
     ensures count { Counts (T.faults tree.old) (T.faults tree.new) result }
     ensures held { T.held tree.new ≡ T.held tree.old }
 {
@@ -120,6 +125,7 @@ fn volume_file<T: Tree>(
 ) -> Result<FileOut, Stop>
     requires { HasShape plan.now.head }
     ensures value { IfSome (T.held tree.old) (λ files. Gives result (volume_file folder.now files plan.now)) }
+    ensures noted { OnOk result (book.new ≡ book.old ++ volume_steps volume plan.now) }
     ensures count { Counts (T.faults tree.old) (T.faults tree.new) result }
     ensures held { T.held tree.new ≡ T.held tree.old }
 {
@@ -142,6 +148,7 @@ pub fn volume_files<T: Tree>(
 ) -> Result<Rows<FileOut>, Stop>
     requires { All (λ plan. HasShape plan.head) plans.now }
     ensures value { IfSome (T.held tree.old) (λ files. Gives result (all_ok (map (volume_file folder.now files) plans.now))) }
+    ensures noted { OnOk result (book.new ≡ book.old ++ volumes_steps 0 plans.now) }
     ensures count { Counts (T.faults tree.old) (T.faults tree.new) result }
     ensures held { T.held tree.new ≡ T.held tree.old }
 {
