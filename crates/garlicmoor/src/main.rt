@@ -1,6 +1,10 @@
 //! The program: it hands the disk, the standard streams and the words of the command line to the build.
 #![tactic(auto)]
 
+ghost use Rattle.std.specs.Prelude.{◌≡◌, ◌⊎◌, None, map, string_bytes, IsSome};
+ghost use Rattle.edk_build.specs.Statuses.{OnUsage, OnBuild};
+ghost use Rattle.edk_build.specs.Words.{words_job};
+
 use build_base::Book;
 use build_base::disk_sink::DiskSink;
 use build_base::disk_tree::DiskTree;
@@ -12,6 +16,17 @@ use std::rt::Runtime;
 use std::thread::Threads;
 use std::{env, io};
 
+// What the program answers where the words of the command line can't be had: one isn't UTF-8, or memory was wanting.
+fn status_without_words(error: &io::Error) -> Status
+    ensures { (result ≡ Status.Usage) ⊎ (result ≡ Status.WantOfMemory) }
+{
+    match error.kind() {
+        io::ErrorKind::OutOfMemory => Status::WantOfMemory,
+        _ => Status::Usage,
+    }
+}
+
+// The words behind the program's name.
 fn words_of<H: Runtime + AllocGlobal>(rt: &H) -> io::Result<Vec<String>> {
     let mut words = Vec::new(rt.alloc());
     for word in env::args(rt)?.skip(1) {
@@ -20,7 +35,11 @@ fn words_of<H: Runtime + AllocGlobal>(rt: &H) -> io::Result<Vec<String>> {
     Ok(words)
 }
 
-fn status_of<H: Runtime + AllocGlobal + Threads + Sync + Copy>(rt: &H, words: &[String]) -> Status {
+// The status of a build over the disk.
+fn status_of<H: Runtime + AllocGlobal + Threads + Sync + Copy>(rt: &H, words: &[String]) -> Status
+    ensures usage { OnUsage result (words_job (map string_bytes words.now) ≡ None) }
+    ensures grammar { OnBuild result (IsSome (words_job (map string_bytes words.now))) }
+{
     let alloc = rt.alloc();
     let mut keeper = match SureKeeper::new(alloc, None, 0) {
         Ok(keeper) => keeper,
@@ -48,9 +67,12 @@ fn tell<H: Runtime>(rt: &H, text: &str) {
 fn main(rt: HostRuntime) -> ExitCode {
     let status = match words_of(&rt) {
         Ok(words) => status_of(&rt, words.as_slice()),
-        Err(_) => {
-            tell(&rt, "usage");
-            Status::Usage
+        Err(error) => {
+            let status = status_without_words(&error);
+            if status == Status::Usage {
+                tell(&rt, "usage");
+            }
+            status
         }
     };
     match status {
