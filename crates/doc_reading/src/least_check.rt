@@ -42,7 +42,8 @@ pub fn with_check(refusal: Refusal, check: Result<(), Refusal>) -> Refusal
     }
 }
 
-fn least(first: Result<(), Refusal>, rest: Result<(), Refusal>) -> Result<(), Refusal>
+/// The least of what a check and others find.
+pub fn lesser_check(first: Result<(), Refusal>, rest: Result<(), Refusal>) -> Result<(), Refusal>
     ensures { (fault other : Option Found) → Checks first fault → Checks rest other → Checks result (lesser fault other) }
 {
     match first {
@@ -55,14 +56,14 @@ fn least(first: Result<(), Refusal>, rest: Result<(), Refusal>) -> Result<(), Re
 pub fn least_of_one(check: Result<(), Refusal>) -> Result<(), Refusal>
     ensures { (fault : Option Found) → Checks check fault → Checks result (least_of (fault ∷ [])) }
 {
-    least(check, Ok(()))
+    lesser_check(check, Ok(()))
 }
 
 /// What two checks find: of their faults the one of the lesser code, of one code the first.
 pub fn least_of_two(first: Result<(), Refusal>, second: Result<(), Refusal>) -> Result<(), Refusal>
     ensures { (a b : Option Found) → Checks first a → Checks second b → Checks result (least_of (a ∷ b ∷ [])) }
 {
-    least(first, least_of_one(second))
+    lesser_check(first, least_of_one(second))
 }
 
 /// What three checks find.
@@ -73,7 +74,7 @@ pub fn least_of_three(
 ) -> Result<(), Refusal>
     ensures { (a b c : Option Found) → Checks first a → Checks second b → Checks third c → Checks result (least_of (a ∷ b ∷ c ∷ [])) }
 {
-    least(first, least_of_two(second, third))
+    lesser_check(first, least_of_two(second, third))
 }
 
 /// What four checks find.
@@ -85,7 +86,7 @@ pub fn least_of_four(
 ) -> Result<(), Refusal>
     ensures { (a b c d : Option Found) → Checks first a → Checks second b → Checks third c → Checks fourth d → Checks result (least_of (a ∷ b ∷ c ∷ d ∷ [])) }
 {
-    least(first, least_of_three(second, third, fourth))
+    lesser_check(first, least_of_three(second, third, fourth))
 }
 
 /// What five checks find.
@@ -98,5 +99,5 @@ pub fn least_of_five(
 ) -> Result<(), Refusal>
     ensures { (a b c d e : Option Found) → Checks first a → Checks second b → Checks third c → Checks fourth d → Checks fifth e → Checks result (least_of (a ∷ b ∷ c ∷ d ∷ e ∷ [])) }
 {
-    least(first, least_of_four(second, third, fourth, fifth))
+    lesser_check(first, least_of_four(second, third, fourth, fifth))
 }
