@@ -8,8 +8,8 @@ use std::io::{self, ErrorKind, Read};
 use std::rt::Runtime;
 use std::{fs, str};
 
-/// Reads below the current folder. A missing file or folder, and a folder in the place of a file,
-/// is `Absent`.
+/// Reads below the current folder. What is no regular file (a folder, a pipe, a device) is `Absent` and is never
+/// opened; so is a missing file or folder, and a name that the system can't have.
 #[derive(Drop)]
 pub struct DiskTree<R: Runtime + AllocGlobal> {
     rt: R,
@@ -48,6 +48,9 @@ fn read_file<R: Runtime + AllocGlobal>(rt: &R, path: &Path, limit: u64) -> io::R
         Ok(name) => name,
         Err(_) => return Err(ErrorKind::NotFound.into()),
     };
+    if !fs::metadata(rt, name)?.is_file() {
+        return Err(ErrorKind::NotFound.into());
+    }
     let mut file = fs::open(rt, name)?;
     let mut bytes = Vec::new(rt.alloc());
     read_bytes(&mut bytes, &mut file, limit as usize)?;
@@ -70,9 +73,10 @@ impl<R: Runtime + AllocGlobal> Tree for DiskTree<R> {
                 Ok(Got::File(Text::from_vec(bytes)))
             }
             Err(e) => match e.kind() {
-                ErrorKind::NotFound | ErrorKind::IsADirectory | ErrorKind::NotADirectory => {
-                    Ok(Got::Absent)
-                }
+                ErrorKind::NotFound
+                | ErrorKind::IsADirectory
+                | ErrorKind::NotADirectory
+                | ErrorKind::InvalidFilename => Ok(Got::Absent),
                 ErrorKind::OutOfMemory => Err(TreeFailed::WantOfMemory),
                 _ => {
                     self.faults = self.faults.saturating_add(1);

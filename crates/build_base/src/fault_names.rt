@@ -1,179 +1,134 @@
 //! The names of fault codes.
-ghost use Rattle.std.specs.Prelude.{◌≡◌};
+ghost use Rattle.std.specs.Prelude.{◌≡◌, map};
 ghost use Rattle.std.specs.Option.{option_map};
-ghost use Rattle.build_base.specs.FaultNames.{text_fault, module_fault, platform_fault, flash_fault, choice_fault, code_fault, image_fault, fault_name};
+ghost use Rattle.build_base.specs.FaultNames.{named, fault_name};
 
-/// The name of a code of texts, macros and directives.
-#[tactic(auto, unfolding(crate::specs::FaultNames::text_fault))]
-fn text_fault(code: u16) -> Option<&'static str>
-    ensures { option_map (λ name. name.now) result ≡ text_fault code }
-{
-    match code {
-        101 => Some("BadPath"),
-        102 => Some("FileTooLong"),
-        103 => Some("FileAbsent"),
-        110 => Some("BadByte"),
-        111 => Some("OpenQuote"),
-        112 => Some("LineTooLong"),
-        113 => Some("BadNumber"),
-        114 => Some("BadSection"),
-        120 => Some("Unbalanced"),
-        121 => Some("IncludeAbsent"),
-        122 => Some("IncludeTooDeep"),
-        123 => Some("IncludeLoop"),
-        124 => Some("BadExpression"),
-        125 => Some("ValueRange"),
-        126 => Some("ZeroDivisor"),
-        127 => Some("UndefinedMacro"),
-        128 => Some("TooManyMacros"),
-        129 => Some("BadDirective"),
-        131 => Some("ScriptAbsent"),
-        132 => Some("FromAbsent"),
-        199 => Some("NotBuilt"),
-        _ => None,
-    }
-}
+const NAMES: [(u16, &str); 112] = [
+    (101, "BadPath"),
+    (102, "FileTooLong"),
+    (103, "FileAbsent"),
+    (110, "BadByte"),
+    (111, "OpenQuote"),
+    (112, "LineTooLong"),
+    (113, "BadNumber"),
+    (114, "BadSection"),
+    (120, "Unbalanced"),
+    (121, "IncludeAbsent"),
+    (122, "IncludeTooDeep"),
+    (123, "IncludeLoop"),
+    (124, "BadExpression"),
+    (125, "ValueRange"),
+    (126, "ZeroDivisor"),
+    (127, "UndefinedMacro"),
+    (128, "TooManyMacros"),
+    (129, "BadDirective"),
+    (131, "ScriptAbsent"),
+    (132, "FromAbsent"),
+    (199, "NotBuilt"),
+    (201, "MissingKey"),
+    (202, "BadGuid"),
+    (203, "BadPcdLine"),
+    (204, "RepeatedName"),
+    (205, "BadToken"),
+    (206, "UnknownSection"),
+    (211, "MissingKey"),
+    (212, "BadGuid"),
+    (213, "BadType"),
+    (214, "BadClassLine"),
+    (215, "BadPcdName"),
+    (217, "BadName"),
+    (218, "UnknownSection"),
+    (221, "MissingKey"),
+    (222, "BadGuid"),
+    (223, "BadLibraryLine"),
+    (224, "BadComponent"),
+    (225, "BadPcdLine"),
+    (226, "UnknownSection"),
+    (227, "BadArch"),
+    (228, "DuplicateComponent"),
+    (229, "SkuUnknown"),
+    (230, "SkuLoop"),
+    (231, "BadSkuLine"),
+    (232, "ArchUnsupported"),
+    (241, "BadKey"),
+    (242, "MissingKey"),
+    (243, "StatementRefused"),
+    (244, "BadRegion"),
+    (246, "BadFile"),
+    (247, "BadRule"),
+    (248, "BadInfLine"),
+    (249, "SizeTooLarge"),
+    (250, "VolumeLoop"),
+    (251, "VolumeUnknown"),
+    (252, "CompressedRefused"),
+    (253, "RuleAbsent"),
+    (254, "ArchAmbiguous"),
+    (255, "BlocksDiffer"),
+    (256, "VolumeTwoSizes"),
+    (257, "RuleLineRefused"),
+    (258, "SectionAbsent"),
+    (259, "NotAComponent"),
+    (260, "ImageUnknown"),
+    (261, "RepeatedName"),
+    (262, "BadGuid"),
+    (263, "TooMany"),
+    (301, "ClassUnresolved"),
+    (302, "TypeNotServed"),
+    (303, "ClassNotServed"),
+    (304, "ConstructorLoop"),
+    (305, "TooManyInstances"),
+    (401, "BadValue"),
+    (402, "DoesNotFit"),
+    (403, "TextTooLong"),
+    (411, "NotDeclared"),
+    (412, "KindConflict"),
+    (413, "KindAsked"),
+    (414, "DatumConflict"),
+    (415, "DynamicInComponent"),
+    (416, "SkuOnFixed"),
+    (501, "BadTerm"),
+    (502, "GuidUnknown"),
+    (503, "BadPlace"),
+    (504, "TooDeep"),
+    (511, "GuidUnknown"),
+    (601, "NotPe"),
+    (602, "Truncated"),
+    (603, "AlignmentsDiffer"),
+    (604, "TooManySections"),
+    (605, "HeaderTooLong"),
+    (606, "SubsystemTooLarge"),
+    (611, "SectionTooLong"),
+    (612, "ImageFileTooLong"),
+    (613, "AlignmentRefused"),
+    (701, "VolumeFull"),
+    (702, "TopFileTwice"),
+    (703, "TopFileUnaligned"),
+    (704, "PadTooLong"),
+    (711, "RegionOrder"),
+    (712, "RegionOutside"),
+    (713, "DataTooLong"),
+    (721, "VpdOverlap"),
+    (722, "VpdTooLong"),
+    (731, "RelocBlock"),
+    (732, "RelocType"),
+    (733, "RelocOutside"),
+    (734, "NotInPlace"),
+    (735, "BaseRange"),
+    (741, "NoVolume"),
+    (742, "BadFile"),
+];
 
-/// The name of a code of DEC and INF files.
-#[tactic(auto, unfolding(crate::specs::FaultNames::module_fault))]
-fn module_fault(code: u16) -> Option<&'static str>
-    ensures { option_map (λ name. name.now) result ≡ module_fault code }
+#[tactic(auto, unfolding(crate::specs::FaultNames::named))]
+fn named(mut table: &[(u16, &'static str)], code: u16) -> Option<&'static str>
+    ensures { option_map (λ n. n.now) result ≡ named (map (λ e. (e.0, e.1.now)) table.entry.now) code }
 {
-    match code {
-        201 => Some("MissingKey"),
-        202 => Some("BadGuid"),
-        203 => Some("BadPcdLine"),
-        204 => Some("RepeatedName"),
-        205 => Some("BadToken"),
-        206 => Some("UnknownSection"),
-        211 => Some("MissingKey"),
-        212 => Some("BadGuid"),
-        213 => Some("BadType"),
-        214 => Some("BadClassLine"),
-        215 => Some("BadPcdName"),
-        217 => Some("BadName"),
-        218 => Some("UnknownSection"),
-        _ => None,
+    while let [entry, rest @ ..] = table {
+        if entry.0 == code {
+            return Some(entry.1);
+        }
+        table = rest;
     }
-}
-
-/// The name of a code of DSC files.
-#[tactic(auto, unfolding(crate::specs::FaultNames::platform_fault))]
-fn platform_fault(code: u16) -> Option<&'static str>
-    ensures { option_map (λ name. name.now) result ≡ platform_fault code }
-{
-    match code {
-        221 => Some("MissingKey"),
-        222 => Some("BadGuid"),
-        223 => Some("BadLibraryLine"),
-        224 => Some("BadComponent"),
-        225 => Some("BadPcdLine"),
-        226 => Some("UnknownSection"),
-        227 => Some("BadArch"),
-        228 => Some("DuplicateComponent"),
-        229 => Some("SkuUnknown"),
-        230 => Some("SkuLoop"),
-        231 => Some("BadSkuLine"),
-        232 => Some("ArchUnsupported"),
-        _ => None,
-    }
-}
-
-/// The name of a code of FDF files.
-#[tactic(auto, unfolding(crate::specs::FaultNames::flash_fault))]
-fn flash_fault(code: u16) -> Option<&'static str>
-    ensures { option_map (λ name. name.now) result ≡ flash_fault code }
-{
-    match code {
-        241 => Some("BadKey"),
-        242 => Some("MissingKey"),
-        243 => Some("StatementRefused"),
-        244 => Some("BadRegion"),
-        246 => Some("BadFile"),
-        247 => Some("BadRule"),
-        248 => Some("BadInfLine"),
-        249 => Some("SizeTooLarge"),
-        250 => Some("VolumeLoop"),
-        251 => Some("VolumeUnknown"),
-        252 => Some("CompressedRefused"),
-        253 => Some("RuleAbsent"),
-        254 => Some("ArchAmbiguous"),
-        255 => Some("BlocksDiffer"),
-        256 => Some("VolumeTwoSizes"),
-        257 => Some("RuleLineRefused"),
-        258 => Some("SectionAbsent"),
-        259 => Some("NotAComponent"),
-        260 => Some("ImageUnknown"),
-        261 => Some("RepeatedName"),
-        262 => Some("BadGuid"),
-        263 => Some("TooMany"),
-        _ => None,
-    }
-}
-
-/// The name of a code of libraries and PCDs.
-#[tactic(auto, unfolding(crate::specs::FaultNames::choice_fault))]
-fn choice_fault(code: u16) -> Option<&'static str>
-    ensures { option_map (λ name. name.now) result ≡ choice_fault code }
-{
-    match code {
-        301 => Some("ClassUnresolved"),
-        302 => Some("TypeNotServed"),
-        303 => Some("ClassNotServed"),
-        304 => Some("ConstructorLoop"),
-        305 => Some("TooManyInstances"),
-        401 => Some("BadValue"),
-        402 => Some("DoesNotFit"),
-        403 => Some("TextTooLong"),
-        411 => Some("NotDeclared"),
-        412 => Some("KindConflict"),
-        413 => Some("KindAsked"),
-        414 => Some("DatumConflict"),
-        415 => Some("DynamicInComponent"),
-        416 => Some("SkuOnFixed"),
-        _ => None,
-    }
-}
-
-/// The name of a code of dependency expressions and AutoGen texts.
-#[tactic(auto, unfolding(crate::specs::FaultNames::code_fault))]
-fn code_fault(code: u16) -> Option<&'static str>
-    ensures { option_map (λ name. name.now) result ≡ code_fault code }
-{
-    match code {
-        501 => Some("BadTerm"),
-        502 => Some("GuidUnknown"),
-        503 => Some("BadPlace"),
-        504 => Some("TooDeep"),
-        511 => Some("GuidUnknown"),
-        _ => None,
-    }
-}
-
-/// The name of a code of modules, files, volumes and devices.
-#[tactic(auto, unfolding(crate::specs::FaultNames::image_fault))]
-fn image_fault(code: u16) -> Option<&'static str>
-    ensures { option_map (λ name. name.now) result ≡ image_fault code }
-{
-    match code {
-        601 => Some("NotPe"),
-        602 => Some("Truncated"),
-        603 => Some("AlignmentsDiffer"),
-        604 => Some("TooManySections"),
-        605 => Some("HeaderTooLong"),
-        606 => Some("SubsystemTooLarge"),
-        611 => Some("SectionTooLong"),
-        612 => Some("ImageFileTooLong"),
-        613 => Some("AlignmentRefused"),
-        701 => Some("VolumeFull"),
-        702 => Some("TopFileTwice"),
-        703 => Some("TopFileUnaligned"),
-        704 => Some("PadTooLong"),
-        711 => Some("RegionOrder"),
-        712 => Some("RegionOutside"),
-        713 => Some("DataTooLong"),
-        _ => None,
-    }
+    None
 }
 
 /// The name of a fault code, as it stands in a fault's text.
@@ -181,23 +136,5 @@ fn image_fault(code: u16) -> Option<&'static str>
 pub fn fault_name(code: u16) -> Option<&'static str>
     ensures { option_map (λ name. name.now) result ≡ fault_name code }
 {
-    if let Some(name) = text_fault(code) {
-        return Some(name);
-    }
-    if let Some(name) = module_fault(code) {
-        return Some(name);
-    }
-    if let Some(name) = platform_fault(code) {
-        return Some(name);
-    }
-    if let Some(name) = flash_fault(code) {
-        return Some(name);
-    }
-    if let Some(name) = choice_fault(code) {
-        return Some(name);
-    }
-    if let Some(name) = code_fault(code) {
-        return Some(name);
-    }
-    image_fault(code)
+    named(&NAMES, code)
 }
