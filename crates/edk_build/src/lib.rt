@@ -22,5 +22,3 @@ pub use building::run;
 pub use key::Key;
 pub use status::Status;
 
-#[cfg(test)]
-mod tests;
