@@ -10,11 +10,11 @@ use crate::stated::Stated;
 use build_base::{
     Guid, Lines, Path, Permit, Place, Refusal, Rows, Same, Taken, Text, WantOfMemory, refuse,
 };
-use doc_types::arch::Arch;
-use doc_types::platform::PlatformDoc;
 use doc_reading::segment_name::SegmentName;
 use doc_reading::value_fields::open_quote;
 use doc_reading::{Reader, read_lines};
+use doc_types::arch::Arch;
+use doc_types::platform::PlatformDoc;
 use std::alloc::Global;
 
 /// What a reader of a platform holds: the section in which the next line stands, and what the keys state.

@@ -8,9 +8,9 @@ ghost use Rattle.dsc_platform.specs.declared.line.PlatformLine.TheVariants.{Keye
 use crate::arches::arches_value;
 use crate::key::PlatformKey;
 use build_base::{Guid, Path, Place, Refusal, Rows, Text};
-use doc_types::arch::Arch;
 use doc_reading::segment_name::{SegmentName, segment_name};
 use doc_reading::value_fields::{guid_value, path_value, text_value};
+use doc_types::arch::Arch;
 use std::alloc::Global;
 
 /// The last value of each key.

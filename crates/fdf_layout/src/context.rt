@@ -13,8 +13,8 @@ use crate::number::bad_line;
 use crate::statement::{FileHead, Part, SectionForm};
 use crate::volume_line::{begins_file, is_close};
 use build_base::{Path, Place, Refusal, Rows, Taken, Text, WantOfMemory, refuse};
-use doc_types::volume::{FilePlan, Item, SectionPlan};
 use doc_reading::unbuilt::refuse_unbuilt;
+use doc_types::volume::{FilePlan, Item, SectionPlan};
 use std::alloc::Global;
 use std::mem;
 

@@ -7,9 +7,9 @@ ghost use Rattle.fdf_layout.specs.Numbers.{bad_line, bad_value, field_count, one
 
 use crate::key::FlashKey;
 use build_base::{Refusal, Taken, Text, WantOfMemory, refuse};
-use itoa::Buffer;
 use doc_reading::unbuilt::refuse_unbuilt;
 use doc_reading::value_fields::number_value;
+use itoa::Buffer;
 use meta_lexer::field::cut;
 use std::alloc::Global;
 

@@ -21,9 +21,9 @@ use crate::line::{FlashLine, Zone, flash_line};
 use crate::tables::{Content, DeviceHead, DeviceTables, NamedVolume, StatedRegion, push_region};
 use crate::whole::document;
 use build_base::{Lines, Path, Permit, Place, Refusal, Rows, Same, Taken, Text, WantOfMemory};
-use doc_types::flash::FlashDoc;
 use doc_reading::least_check::lesser_refusal;
 use doc_reading::{Reader, read_lines};
+use doc_types::flash::FlashDoc;
 use std::alloc::Global;
 use std::mem;
 
