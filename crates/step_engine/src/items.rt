@@ -1,0 +1,60 @@
+//! What is under way.
+use build_base::book::Permit;
+use build_base::rows::Rows;
+use crate::rules::Turn;
+use crate::talk::{Ask, Entry, Talk};
+
+/// A step that is to make its next turn.
+#[derive(Drop)]
+pub struct Run<K, O> {
+    pub key: K,
+    pub talk: Talk<K, O>,
+    pub permit: Permit,
+}
+
+/// A step that made a turn.
+#[derive(Drop)]
+pub struct Turned<K, O> {
+    pub key: K,
+    pub talk: Talk<K, O>,
+    pub turn: Turn<K, O>,
+}
+
+/// A step that waits for the answers to its asks.
+#[derive(Drop)]
+pub struct Asked<K, O> {
+    pub key: K,
+    pub talk: Talk<K, O>,
+    pub permit: Permit,
+    pub asks: Rows<Ask<K>>,
+}
+
+/// An old entry of which the batches before this one are right.
+#[derive(Drop)]
+pub struct Check<K, O> {
+    pub entry: Entry<K, O>,
+    pub batch: usize,
+}
+
+/// A key under way.
+#[derive(Drop)]
+pub enum Item<K, O> {
+    Run(Run<K, O>),
+    Asked(Asked<K, O>),
+    Check(Check<K, O>),
+}
+
+/// Keys under way, and the parts that they want, of which the last one has the lowest rank.
+#[derive(Drop)]
+pub struct Level<K, O> {
+    pub items: Vec<Item<K, O>>,
+    pub wanted: Vec<K>,
+}
+
+/// What came of a check: the entry is valid, it isn't, or it is to be checked on.
+#[derive(Drop)]
+pub enum Checked<K, O> {
+    Right(Entry<K, O>),
+    Wrong(K),
+    Next(Check<K, O>),
+}
