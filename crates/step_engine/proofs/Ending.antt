@@ -30,7 +30,7 @@ use Rattle.step_engine.specs.Rounds.{IsGoing, IsEnd, IsOneEach, AreSame}
 use Rattle.step_engine.specs.Items.{IsReady}
 use Rattle.step_engine.specs.Reading.{read_at}
 use Rattle.build_base.specs.declared.outside.Got.{Got}
-use Rattle.step_engine.specs.Stacking.{IsBroughtTo}
+use Rattle.step_engine.specs.Settling.{IsBroughtTo}
 use Rattle.step_engine.specs.declared.places.Place.TheVariants.{Done}
 
 module _ {K O : Type 0} (s : Setting K O) (w : World) (here : IsHere s w) (top : K) (z : State K O) (added : List K) (r : Outcome O) (d : IsEnd s top z added r) where

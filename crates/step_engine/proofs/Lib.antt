@@ -15,5 +15,6 @@ pub mod Listing
 pub mod TakingLemmas
 pub mod OpeningLemmas
 pub mod WantingLemmas
-pub mod StackLemmas
+pub mod PoolLemmas
 pub mod Ending
+pub mod ScanLemmas

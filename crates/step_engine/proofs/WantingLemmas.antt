@@ -8,15 +8,14 @@ use Rattle.step_engine.specs.Turns.{AreLawful}
 use Rattle.step_engine.specs.Build.{Setting, IsHere}
 use Rattle.step_engine.specs.Engine.{State, IsNext}
 use Rattle.step_engine.proofs.Talks.{needed_through}
-use Rattle.step_engine.proofs.Moves.{needs_one}
+use Rattle.step_engine.proofs.Moves.{needs_one, none_in}
 use Rattle.step_engine.proofs.Steps.{part_asked, running_next}
 use Rattle.step_engine.specs.declared.talk.Ask.{Ask}
 use Rattle.step_engine.specs.declared.talk.Ask.TheVariants as ask
 use Rattle.step_engine.specs.declared.talk.Batch.{Batch}
 use Rattle.step_engine.specs.Rounds.{IsWanted}
 use Rattle.step_engine.specs.Items.{IsItem, item_key, AreItems, AreItemsWanted}
-use Rattle.step_engine.specs.Wanting.{AddsParts, ArePartsOf, IsAskedBy, WantsItem, AddsItemParts}
-use Rattle.std.proofs.lemmas.List.Sorted.{Contains-permutation, IsPermutation-sym}
+use Rattle.step_engine.specs.Wanting.{AddsParts, ArePartsOf, IsAskedBy, WantsItem}
 use Rattle.step_engine.specs.declared.items.Item.{Item}
 use Rattle.step_engine.specs.declared.items.Asked.{Asked}
 use Rattle.step_engine.specs.declared.items.Check.{Check}
@@ -30,25 +29,21 @@ parts_more {K} asks old mid new a c f h k d = elim (h k d) as (λ _. ArePartsOf 
   | inr r ↦ inr (subst (λ (a : Ask K). Contains asks a) r c)
 ]
 
--- one more item
-pub items_more : {K O : Type 0} (items : List (Item K O)) (mid new : List K) (a : Item K O) → Contains items a → ((k : K) → Contains mid k → AddsItemParts items k) → ((k : K) → Contains new k → WantsItem a mid k) → (k : K) → Contains new k → AddsItemParts items k
-items_more items mid new a c f h k d = elim (h k d) as (λ _. AddsItemParts items k) [ inl l ↦ f k l | inr r ↦ (a, c, r) ]
+pub asked_alone : {K O : Type 0} (k : K) (i : Item K O) (old : List K) → old ≡ [] → WantsItem i old k → IsAskedBy k i
+asked_alone k i old e (inl h) = absurd (none_in k (rw e at h))
+asked_alone k i old e (inr h) = h
 
 -- what a needed key asks next is needed
 next_wanted : {K O : Type 0} (s : Setting K O) (law : AreLawful s.means) (top k part : K) (asks : List (Ask K)) → IsWanted s top k → ((w : World) → IsHere s w → IsNext s.means w k asks) → Contains asks (ask.Part part) → IsWanted s top part
 next_wanted s law top k part asks wanted next c w i = needed_through s.means w (top ∷ []) (k ∷ []) part (needs_one s.means w (top ∷ []) k (wanted w i)) (part_asked s.means law w k (ask.Part part) part (asks, c, next w i) refl)
 
-item_part : {K O : Type 0} (s : Setting K O) (law : AreLawful s.means) (top k : K) (z : State K O) (a : Item K O) → IsItem s z a → IsWanted s top (item_key a) → IsAskedBy k a → IsWanted s top k
+pub item_part : {K O : Type 0} (s : Setting K O) (law : AreLawful s.means) (top k : K) (z : State K O) (a : Item K O) → IsItem s z a → IsWanted s top (item_key a) → IsAskedBy k a → IsWanted s top k
 item_part s law top k z (item.Run r) h wanted b = absurd b
 item_part s law top k z (item.Asked a) h wanted b = next_wanted s law top a.key k a.asks wanted (λ w i. running_next s a.key z a.talk.batches a.asks h.running h.next w i) b
 item_part s law top k z (item.Check c) h wanted b =
     let l = slice_get_within c.entry.talk.batches c.batch b.0 b.1 in
     let g = sym (get_or_from_slice_get c.entry.talk.batches c.batch b.0 b.0 b.1) in
     next_wanted s law top c.entry.key k (asks_of b.0.pairs) wanted (λ w i. check_asks s z c.entry c.batch h b.0 l g w i) b.2
-
--- the parts that a list of needed keys asks for are needed
-pub parts_wanted : {K O : Type 0} (s : Setting K O) (law : AreLawful s.means) (top : K) (z : State K O) (items : List (Item K O)) (k : K) → AreItems s z items → AreItemsWanted s top items → AddsItemParts items k → IsWanted s top k
-parts_wanted {K} {O} s law top z items k h w b = item_part s law top k z b.0 (All-contains (λ (a : Item K O). IsItem s z a) items b.0 h b.1) (All-contains (λ (a : Item K O). IsWanted s top (item_key a)) items b.0 w b.1) b.2
 
 pub want_one : {K : Type 0} (a : Ask K) (old : List K) (p q k : K) → a ≡ ask.Part q → p ≡ q → Contains (old ++ p ∷ []) k → AddsParts a old k
 want_one {K} a old p q k is same h = elim (Contains-push_cases old p k h) as (λ _. AddsParts a old k) [
@@ -63,6 +58,3 @@ pub want_check : {K O : Type 0} (i : Item K O) (c : Check K O) (xs : List (Batch
 want_check {K} {O} i c xs b old new e same l g f k h =
     let here : slice_get c.entry.talk.batches c.batch ≡ Some b = subst (λ (ys : List (Batch K O)). slice_get ys c.batch ≡ Some b) same (slice_get_read xs (length xs) c.batch b refl l g) in
     rw e (elim (f k h) as (λ _. WantsItem (item.Check c) old k) [ inl q ↦ inl q | inr q ↦ inr (b, here, q) ])
-
-pub permuted : {A : Type 0} (xs ys : List A) (P : A → Type 0) → IsPermutation xs ys → ((a : A) → Contains xs a → P a) → (a : A) → Contains ys a → P a
-permuted xs ys P p f a h = f a (Contains-permutation ys xs a (IsPermutation-sym xs ys p) h)

@@ -15,5 +15,6 @@ pub mod Items
 pub mod Taking
 pub mod Opening
 pub mod Wanting
-pub mod Stacking
-pub mod Pushing
+pub mod Pooling
+pub mod Scanning
+pub mod Settling

@@ -1,4 +1,4 @@
--- The parts that a list of keys wants.
+-- The parts that a key under way wants.
 use Rattle.std.specs.Prelude.{◌≡◌, ◌⊎◌, List, Contains, Some, slice_get}
 use Rattle.step_engine.specs.Meaning.{asks_of}
 use Rattle.step_engine.specs.declared.talk.Ask.{Ask}
@@ -24,7 +24,3 @@ IsAskedBy {K} {O} k (item.Check c) = (b : Batch K O) × (slice_get c.entry.talk.
 -- the key was wanted, or the item asks for it
 abbrev pub WantsItem : {K O : Type 0} → Item K O → List K → K → Type 0
 WantsItem a old k = Contains old k ⊎ IsAskedBy k a
-
--- an item asks for it
-abbrev pub AddsItemParts : {K O : Type 0} → List (Item K O) → K → Type 0
-AddsItemParts {K} {O} items k = (a : Item K O) × Contains items a × IsAskedBy k a

@@ -11,7 +11,7 @@ use crate::in_order::in_order;
 use crate::places::Places;
 use crate::refusal::EngineRefusal;
 use crate::rules::{Rules, StepKey};
-use crate::stack::settle_all;
+use crate::settle::settle;
 use crate::talk::{Entry, Outcome};
 use build_base::book::Book;
 use build_base::outside::{Gate, Tree};
@@ -111,7 +111,7 @@ pub fn bring<H: Threads + Sync, R: Rules, T: Tree, G: Gate>(
     let mut fresh = Vec::new(alloc);
     let mut places = Places::new(alloc);
     let mut files = FilesRead::new(alloc);
-    let result = settle_all(
+    let result = settle(
         rt,
         alloc,
         rules,

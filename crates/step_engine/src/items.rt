@@ -44,11 +44,17 @@ pub enum Item<K, O> {
     Check(Check<K, O>),
 }
 
-/// Keys under way, and the parts that they want, of which the last one has the lowest rank.
+/// A key under way with parts that it asks for, which may not be done; the last one is looked at first.
 #[derive(Drop)]
-pub struct Level<K, O> {
-    pub items: Vec<Item<K, O>>,
-    pub wanted: Vec<K>,
+pub struct Waiting<K, O> {
+    pub item: Item<K, O>,
+    pub parts: Vec<K>,
+}
+
+/// The keys that wait for one part.
+#[derive(Drop)]
+pub struct Queue<K, O> {
+    pub list: Vec<Waiting<K, O>>,
 }
 
 /// What came of a check: the entry is valid, it isn't, or it is to be checked on.

@@ -20,28 +20,34 @@ use crate::talk::Talk;
 fn open<K: StepKey, O: Same + Drop>(
     alloc: Global,
     old: &Cache<K, O>,
-    key: K,
+    key: &K,
     book: &mut Book<K>,
     places: &mut Places<K>,
 ) -> Result<Option<Item<K, O>>, WantOfMemory>
-    ensures ok { IfOk result (λ r. MatchOption r ((book.new ≡ book.old) × (place_at K.cmp places.new ≡ place_at K.cmp places.old)) (IsOpened key old.now book.old book.new (place_at K.cmp places.old) (place_at K.cmp places.new))) }
+    ensures ok { IfOk result (λ r. MatchOption r ((book.new ≡ book.old) × (place_at K.cmp places.new ≡ place_at K.cmp places.old)) (IsOpened key.now old.now book.old book.new (place_at K.cmp places.old) (place_at K.cmp places.new))) }
     ensures err { OnErr result (book.new ≡ book.old) }
 {
-    let None = places.get(&key) else {
+    let None = places.get(key) else {
         return Ok(None);
     };
-    match old.get(&key) {
+    match old.get(key) {
         Some(entry) => {
             let entry = entry.copy(alloc)?;
-            places.note(key, Place::Checking)?;
+            let noted = key.copy(alloc)?;
+            places.note(noted, Place::Checking)?;
             Ok(Some(Item::Check(Check { entry, batch: 0 })))
         }
         None => {
-            let permit = grant(alloc, &key, book, places)?;
+            let own = key.copy(alloc)?;
+            let permit = grant(alloc, key, book, places)?;
             let talk = Talk {
                 batches: Rows::new(alloc),
             };
-            Ok(Some(Item::Run(Run { key, talk, permit })))
+            Ok(Some(Item::Run(Run {
+                key: own,
+                talk,
+                permit,
+            })))
         }
     }
 }
@@ -50,12 +56,12 @@ fn open<K: StepKey, O: Same + Drop>(
 pub fn open_all<K: StepKey, O: Same + Drop>(
     alloc: Global,
     old: &Cache<K, O>,
-    keys: Vec<K>,
+    keys: &Vec<K>,
     book: &mut Book<K>,
     places: &mut Places<K>,
 ) -> Result<Vec<Item<K, O>>, WantOfMemory>
-    ensures ok { IfOk result (λ items. Opens keys.items old.now book.old (place_at K.cmp places.old) book.new (place_at K.cmp places.new) items.items) }
-    ensures noted { OpensNoted keys.items old.now book.old (place_at K.cmp places.old) book.new }
+    ensures ok { IfOk result (λ items. Opens keys.now.items old.now book.old (place_at K.cmp places.old) book.new (place_at K.cmp places.new) items.items) }
+    ensures noted { OpensNoted keys.now.items old.now book.old (place_at K.cmp places.old) book.new }
 {
     let mut items = Vec::new(alloc);
     for key in keys {

@@ -39,7 +39,7 @@ pub fn round<H: Threads + Sync, R: Rules, T: Tree, G: Gate>(
     files: &mut FilesRead,
     workers: u32,
     gate: &G,
-    wave: u64,
+    waves: &mut u64,
 ) -> Result<Vec<Item<R::Key, R::Out>>, EngineRefusal>
     requires some { 1 ≤ workers }
     requires most { workers ≤ 64 }
@@ -54,7 +54,7 @@ pub fn round<H: Threads + Sync, R: Rules, T: Tree, G: Gate>(
     let runs = advance_all(
         alloc, rules, job, old, items, fresh, places, tree, book, files, &mut left,
     )?;
-    let done = turns(rt, alloc, rules, runs, workers, gate, wave)?;
+    let done = turns(rt, alloc, rules, runs, workers, gate, waves)?;
     take_all(alloc, done, fresh, places, &mut left)?;
     Ok(left)
 }

@@ -16,7 +16,7 @@ use crate::rules::{Rules, StepKey, Turn};
 use crate::talk::Entry;
 use wave_pool::run_wave;
 
-/// The turns of a wave, in its order.
+/// The turns of a wave, in its order. Waves that have turns are numbered.
 pub fn turns<H: Threads + Sync, R: Rules, G: Gate>(
     rt: &H,
     alloc: Global,
@@ -24,12 +24,17 @@ pub fn turns<H: Threads + Sync, R: Rules, G: Gate>(
     runs: Vec<Run<R::Key, R::Out>>,
     workers: u32,
     gate: &G,
-    wave: u64,
+    waves: &mut u64,
 ) -> Result<Vec<Turned<R::Key, R::Out>>, WantOfMemory>
     requires some { 1 ≤ workers }
     requires most { workers ≤ 64 }
     ensures { IfOk result (λ done. AllZip (IsTurned R.means) runs.items done.items) }
 {
+    if runs.is_empty() {
+        return Ok(Vec::new(alloc));
+    }
+    let wave = *waves;
+    *waves = wave.wrapping_add(1);
     let work = |run: Run<R::Key, R::Out>| -> Result<Turned<R::Key, R::Out>, WantOfMemory>
         ensures { IfOk result (λ t. IsTurned R.means run t) }
     {

@@ -1,19 +1,19 @@
-//! The parts that a list of keys wants.
-ghost use Rattle.std.specs.Prelude.{◌≡◌, ◌≤◌, ◌++◌, OnOk, IfOk, Contains, vec_len};
+//! The parts that a key under way wants.
+ghost use Rattle.std.specs.Prelude.{OnOk, IfOk, Contains};
 ghost use Rattle.step_engine.specs.Meaning.{asks_of};
-ghost use Rattle.step_engine.specs.Wanting.{AddsParts, AddsItemParts, ArePartsOf, WantsItem};
+ghost use Rattle.step_engine.specs.Wanting.{AddsParts, ArePartsOf, IsAskedBy, WantsItem};
 
 use crate::items::Item;
-use crate::places::Places;
+use crate::places::{Place, Places};
 use build_base::rows::Rows;
 use build_base::same::Same;
 use build_base::text::WantOfMemory;
 use std::alloc::Global;
-use crate::rules::Rules;
+use crate::rules::{Rules, StepKey};
 use crate::answers::is_lower;
 use crate::talk::{Ask, Pair};
 
-// Adds the part of an ask, where it is of lower rank and wasn't met before.
+// Adds the part of an ask, where it is of lower rank and isn't done.
 fn want<R: Rules>(
     alloc: Global,
     rules: &R,
@@ -30,9 +30,9 @@ fn want<R: Rules>(
     let Ask::Part(part) = ask else {
         return Ok(());
     };
-    let None = places.get(part) else {
+    if let Some(Place::Done(_)) = places.get(part) {
         return Ok(());
-    };
+    }
     let part = part.copy(alloc)?;
     if wanted.push(part).is_err() {
         return Err(WantOfMemory);
@@ -100,52 +100,31 @@ fn want_item<R: Rules>(
     }
 }
 
-/// The parts of lower rank that a list of keys asks for and that weren't met before; the last one
-/// has the lowest rank.
-pub fn want_all<R: Rules>(
+/// The parts of lower rank that a key under way asks for and that aren't done.
+pub fn parts_of<R: Rules>(
     alloc: Global,
     rules: &R,
-    items: &Vec<Item<R::Key, R::Out>>,
+    item: &Item<R::Key, R::Out>,
     places: &Places<R::Key>,
 ) -> Result<Vec<R::Key>, WantOfMemory>
-    ensures { IfOk result (λ wanted. (k : R.Key) → Contains wanted.items k → AddsItemParts items.now.items k) }
+    ensures { IfOk result (λ parts. (k : R.Key) → Contains parts.items k → IsAskedBy k item.now) }
 {
-    let mut wanted = Vec::new(alloc);
-    for item in items {
-        want_item(alloc, rules, item, places, &mut wanted)?;
-    }
-    let sorted = wanted.sort_by_key(|key: &R::Key| -> u64 { u64::MAX - rules.rank(key) });
-    if sorted.is_err() {
-        return Err(WantOfMemory);
-    }
-    Ok(wanted)
+    let mut parts = Vec::new(alloc);
+    want_item(alloc, rules, item, places, &mut parts)?;
+    Ok(parts)
 }
 
-// Where the keys of the lowest rank begin.
-fn cut_of<R: Rules>(rules: &R, wanted: &Vec<R::Key>) -> usize
-    ensures { result ≤ vec_len wanted.now }
-{
-    let mut cut = wanted.len();
-    let Some(last) = wanted.last() else {
-        return cut;
-    };
-    let rank = rules.rank(last);
-    while cut > 0 {
-        if rules.rank(&wanted[cut - 1]) != rank {
-            return cut;
+/// Whether an entry of the key was made.
+pub fn is_done<K: StepKey>(key: &K, places: &Places<K>) -> bool {
+    matches!(places.get(key), Some(Place::Done(_)))
+}
+
+/// The last of the parts that isn't done; those behind it are dropped.
+pub fn missing<K: StepKey>(parts: &mut Vec<K>, places: &Places<K>) -> Option<K> {
+    while let Some(part) = parts.pop() {
+        if !is_done(&part, places) {
+            return Some(part);
         }
-        cut -= 1;
     }
-    cut
-}
-
-/// Takes out the keys of the lowest rank.
-pub fn lowest<R: Rules>(rules: &R, wanted: &mut Vec<R::Key>) -> Result<Vec<R::Key>, WantOfMemory>
-    ensures { IfOk result (λ keys. wanted.old.items ≡ wanted.new.items ++ keys.items) }
-{
-    let cut = cut_of(rules, wanted);
-    match wanted.split_off(cut) {
-        Ok(keys) => Ok(keys),
-        Err(_) => Err(WantOfMemory),
-    }
+    None
 }

@@ -1,0 +1,135 @@
+//! A build from visit to visit, until its key is done.
+ghost use Rattle.std.specs.Prelude.{◌≡◌, ◌≤◌, IfOk, [], ◌∷◌};
+ghost use Rattle.step_engine.specs.Build.{setting, Counts};
+ghost use Rattle.step_engine.specs.Engine.{state};
+ghost use Rattle.step_engine.specs.Reading.{read_at};
+ghost use Rattle.step_engine.specs.Table.{place_at};
+ghost use Rattle.step_engine.specs.Items.{IsReady};
+ghost use Rattle.step_engine.specs.Taking.{ListNotes};
+ghost use Rattle.step_engine.specs.Scanning.{AreUnderWay, AreAllWanted};
+ghost use Rattle.step_engine.specs.Settling.{IsVisited, IsBroughtTo, TopNotes, Begins};
+ghost use Rattle.step_engine.specs.Opening.{OpensNoted};
+
+use crate::cache::Cache;
+use crate::files::FilesRead;
+use crate::open::open_all;
+use crate::places::Places;
+use crate::pool::Pool;
+use crate::refusal::EngineRefusal;
+use crate::round::round;
+use crate::rules::{Rules, StepKey};
+use crate::scan::{put_back, take_able};
+use crate::table::result_of;
+use crate::talk::{Entry, Outcome};
+use build_base::book::Book;
+use build_base::outside::{Gate, Tree};
+use build_base::rows::Rows;
+use build_base::same::Same;
+use build_base::text::{Text, WantOfMemory};
+use std::alloc::Global;
+use std::collections::BTreeMap;
+use std::thread::Threads;
+
+// All keys that are able to go on do, those that are to make a turn in one wave.
+fn visit<H: Threads + Sync, R: Rules, T: Tree, G: Gate>(
+    rt: &H,
+    alloc: Global,
+    rules: &R,
+    job: &Rows<Text>,
+    old: &Cache<R::Key, R::Out>,
+    fresh: &mut Vec<Entry<R::Key, R::Out>>,
+    places: &mut Places<R::Key>,
+    tree: &mut T,
+    book: &mut Book<R::Key>,
+    files: &mut FilesRead,
+    workers: u32,
+    gate: &G,
+    waves: &mut u64,
+    pool: &mut Pool<R::Key, R::Out>,
+) -> Result<(), EngineRefusal>
+    requires some { 1 ≤ workers }
+    requires most { workers ≤ 64 }
+    requires ready { IsReady (setting R.means (T.held tree.old) job.now old.now) (state fresh.old.items (read_at files.old) book.old (T.reads tree.old)) (place_at R.Key.cmp places.old) }
+    requires items { AreUnderWay R.Key.cmp (setting R.means (T.held tree.old) job.now old.now) (state fresh.old.items (read_at files.old) book.old (T.reads tree.old)) pool.old }
+    ensures held { T.held tree.new ≡ T.held tree.old }
+    ensures count { Counts (T.faults tree.old) (T.faults tree.new) result }
+    ensures notes { ListNotes (setting R.means (T.held tree.old) job.now old.now) (state fresh.old.items (read_at files.old) book.old (T.reads tree.old)) (state fresh.new.items (read_at files.new) book.new (T.reads tree.new)) (place_at R.Key.cmp places.old) (λ top. AreAllWanted R.Key.cmp (setting R.means (T.held tree.old) job.now old.now) top pool.old) }
+    ensures ok { IfOk result (λ _. IsVisited R.Key.cmp (setting R.means (T.held tree.old) job.now old.now) (state fresh.old.items (read_at files.old) book.old (T.reads tree.old)) (state fresh.new.items (read_at files.new) book.new (T.reads tree.new)) (place_at R.Key.cmp places.old) (place_at R.Key.cmp places.new) pool.old pool.new) }
+{
+    let able = take_able(alloc, rules, old, pool, places, book)?;
+    let first = fresh.len();
+    let left = round(
+        rt, alloc, rules, job, old, able, fresh, places, tree, book, files, workers, gate, waves,
+    )?;
+    put_back(alloc, left, fresh, first, pool)?;
+    Ok(())
+}
+
+// One key under way.
+fn begin<K: StepKey, O: Same + Drop>(
+    alloc: Global,
+    old: &Cache<K, O>,
+    top: &K,
+    places: &mut Places<K>,
+    book: &mut Book<K>,
+) -> Result<Pool<K, O>, WantOfMemory>
+    ensures noted { OpensNoted (top.now ∷ []) old.now book.old (place_at K.cmp places.old) book.new }
+    ensures ok { IfOk result (λ pool. Begins K.cmp top.now old.now book.old (place_at K.cmp places.old) book.new (place_at K.cmp places.new) pool) }
+{
+    let key = top.copy(alloc)?;
+    let mut keys = Vec::new(alloc);
+    if keys.push(key).is_err() {
+        return Err(WantOfMemory);
+    }
+    let news = open_all(alloc, old, &keys, book, places)?;
+    Ok(Pool {
+        news,
+        woken: Vec::new(alloc),
+        parked: BTreeMap::new(alloc),
+    })
+}
+
+/// The outcome of a key, for the sake of which other keys are brought.
+///
+/// A visit takes all new and all woken keys, so a visit that leaves none of either is the last one.
+/// A key waits only for parts of lower rank, so one of those under way is always able to go on, and
+/// the top key is done before that.
+pub fn settle<H: Threads + Sync, R: Rules, T: Tree, G: Gate>(
+    rt: &H,
+    alloc: Global,
+    rules: &R,
+    job: &Rows<Text>,
+    old: &Cache<R::Key, R::Out>,
+    top: &R::Key,
+    fresh: &mut Vec<Entry<R::Key, R::Out>>,
+    places: &mut Places<R::Key>,
+    tree: &mut T,
+    book: &mut Book<R::Key>,
+    files: &mut FilesRead,
+    workers: u32,
+    gate: &G,
+) -> Result<Outcome<R::Out>, EngineRefusal>
+    requires some { 1 ≤ workers }
+    requires most { workers ≤ 64 }
+    requires ready { IsReady (setting R.means (T.held tree.old) job.now old.now) (state fresh.old.items (read_at files.old) book.old (T.reads tree.old)) (place_at R.Key.cmp places.old) }
+    ensures held { T.held tree.new ≡ T.held tree.old }
+    ensures count { Counts (T.faults tree.old) (T.faults tree.new) result }
+    ensures notes { TopNotes (setting R.means (T.held tree.old) job.now old.now) top.now (state fresh.old.items (read_at files.old) book.old (T.reads tree.old)) (state fresh.new.items (read_at files.new) book.new (T.reads tree.new)) (place_at R.Key.cmp places.old) }
+    ensures ok { IfOk result (λ r. IsBroughtTo (setting R.means (T.held tree.old) job.now old.now) top.now (state fresh.old.items (read_at files.old) book.old (T.reads tree.old)) (state fresh.new.items (read_at files.new) book.new (T.reads tree.new)) (place_at R.Key.cmp places.old) (place_at R.Key.cmp places.new) r) }
+{
+    let mut pool = begin(alloc, old, top, places, book)?;
+    let mut waves = 0;
+    for _number in 0..u64::MAX {
+        if let Some(outcome) = result_of(top, fresh, places) {
+            return Ok(outcome.copy(alloc)?);
+        }
+        if pool.is_at_rest() {
+            return Err(EngineRefusal::WantOfMemory);
+        }
+        visit(
+            rt, alloc, rules, job, old, fresh, places, tree, book, files, workers, gate,
+            &mut waves, &mut pool,
+        )?;
+    }
+    Err(EngineRefusal::WantOfMemory)
+}
