@@ -12,9 +12,9 @@ use Rattle.step_engine.specs.Entries.{IsSound, IsValid}
 use Rattle.step_engine.specs.Needed.{IsNeededBy}
 use Rattle.step_engine.specs.Needed.IsNeededBy.{asked}
 use Rattle.step_engine.specs.Turns.{AreLawful}
-use Rattle.step_engine.specs.Build.{Setting, setting, IsHere}
+use Rattle.step_engine.specs.Build.{Setting, setting, IsHere, IsEntryOf}
 use Rattle.step_engine.specs.Engine.{State, AreKept, IsKnown, HasParts, HasTalkParts, AddsPaths, Adds, Moves, IsNext, IsPathAsked, Grows, IsSettled, IsAnswered, AreAnswered, IsCheckedBatch, IsChecked}
-use Rattle.step_engine.proofs.Loops.{IsUnderWay, IsAnswering, IsCheckingBatch, IsChecking, IsRunning}
+use Rattle.step_engine.specs.Loops.{IsUnderWay, IsAnswering, IsCheckingBatch, IsChecking, IsRunning}
 use Rattle.step_engine.proofs.Talks.{follows_front, follows_push, next_asked}
 use Rattle.step_engine.proofs.Moves.{none_in, one_in, added_none, moves_none, moves_then, adds_then, moves_under, has_key_grows, needed_itself}
 use Rattle.step_engine.specs.declared.talk.Ask.{Ask}
@@ -75,18 +75,18 @@ answered_field {K} {O} s k i x text q e = record {
 }
 
 -- a part
-pub answered_part : {K O : Type 0} (s : Setting K O) (k part : K) (x y : State K O) (r : Outcome O) → s.means.rank part < s.means.rank k → ((w : World) → IsHere s w → IsNeededBy s.means w (k ∷ []) part) → IsSettled s part x y r → IsAnswered s k (ask.Part part) x y (answer.Part r)
-answered_part {K} {O} s k part x y r low n d =
-    let e = d.entry.0 in
+pub answered_part : {K O : Type 0} (s : Setting K O) (k part : K) (x : State K O) (r : Outcome O) → AreKept s x → IsEntryOf part r x.fresh → IsAnswered s k (ask.Part part) x x (answer.Part r)
+answered_part {K} {O} s k part x r q f =
+    let e = f.0 in
     record {
-      moves = moves_under s k part (s.means.rank k) (s.means.rank part + 1) x y (omega arith) n d.moves;
-      kept = d.kept;
+      moves = moves_none s (k ∷ []) (s.means.rank k) x;
+      kept = q;
       right = λ w h.
-          let sound : IsSound s.means e = All-contains (IsSound s.means) y.fresh e (d.kept.sound h.sound) d.entry.1 in
-          let valid : IsValid s.means w e = All-contains (IsValid s.means w) y.fresh e (d.kept.right w h) d.entry.1 in
-          ap answer.Part (sym d.entry.3 ∙ (sym (sound.value w h.world valid) ∙ ap (λ (k : K). s.means.value k w) d.entry.2));
+          let sound : IsSound s.means e = All-contains (IsSound s.means) x.fresh e (q.sound h.sound) f.1 in
+          let valid : IsValid s.means w e = All-contains (IsValid s.means w) x.fresh e (q.right w h) f.1 in
+          ap answer.Part (sym f.3 ∙ (sym (sound.value w h.world valid) ∙ ap (λ (k : K). s.means.value k w) f.2));
       small = tt;
-      parts = λ p f. (e, d.entry.1, d.entry.2 ∙ (let same : part ≡ p = cc in same));
+      parts = λ p h. (e, f.1, f.2 ∙ (let same : part ≡ p = cc in same));
     }
 
 -- a file

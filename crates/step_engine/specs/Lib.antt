@@ -8,3 +8,13 @@ pub mod Reading
 pub mod Build
 pub mod SmallRules
 pub mod SmallLaws
+pub mod Loops
+pub mod Table
+pub mod Rounds
+pub mod Items
+pub mod Taking
+pub mod Opening
+pub mod Wanting
+pub mod Pooling
+pub mod Scanning
+pub mod Settling

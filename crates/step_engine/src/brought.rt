@@ -7,6 +7,8 @@ ghost use Rattle.step_engine.specs.Build.{setting, Counts, IsEntryOf, Ran, RanAl
 
 use crate::cache::Cache;
 use crate::files::FilesRead;
+use crate::in_order::in_order;
+use crate::places::Places;
 use crate::refusal::EngineRefusal;
 use crate::rules::{Rules, StepKey};
 use crate::settle::settle;
@@ -106,14 +108,28 @@ pub fn bring<H: Threads + Sync, R: Rules, T: Tree, G: Gate>(
     // Where the tree tells what it holds and the cache is sound.
     ensures built { IfOk result (λ b. Built R.Key.cmp (setting R.means (T.held tree.old) job.now cache) top b.result b.cache b.needed) }
 {
-    let mut fresh = Cache::new(alloc);
+    let mut fresh = Vec::new(alloc);
+    let mut places = Places::new(alloc);
     let mut files = FilesRead::new(alloc);
     let result = settle(
-        alloc, rules, job, &cache, &top, tree, book, &mut fresh, &mut files,
+        rt,
+        alloc,
+        rules,
+        job,
+        &cache,
+        &top,
+        &mut fresh,
+        &mut places,
+        tree,
+        book,
+        &mut files,
+        workers,
+        gate,
     )?;
-    let needed = fresh.entries().len() as u64;
+    let made = in_order(alloc, fresh)?;
+    let needed = made.entries().len() as u64;
     if is_bad(&result) {
-        let cache = joined(alloc, &cache, fresh)?;
+        let cache = joined(alloc, &cache, made)?;
         return Ok(Brought {
             result,
             cache,
@@ -122,7 +138,7 @@ pub fn bring<H: Threads + Sync, R: Rules, T: Tree, G: Gate>(
     }
     Ok(Brought {
         result,
-        cache: fresh,
+        cache: made,
         needed,
     })
 }

@@ -1,16 +1,28 @@
 //! Cached steps over any rules: conversations, entries, and builds that run a step only where none of its entries is valid.
 #![tactic(auto)]
 
+mod advance;
+mod answers;
 pub mod brought;
 pub mod cache;
 mod files;
+mod in_order;
+mod items;
+mod open;
 mod place;
+mod places;
 mod read;
 pub mod refusal;
+mod round;
 pub mod rules;
 mod same;
+mod scan;
 mod settle;
+mod pool;
+mod table;
 pub mod talk;
+mod turns;
+mod wanted;
 
 pub use brought::{Brought, bring};
 pub use cache::Cache;

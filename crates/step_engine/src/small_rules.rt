@@ -1,4 +1,4 @@
-//! The rules of the tests: a step asks for a file and a field, or for the outcomes of two such steps.
+//! The rules of the tests: a step asks for a file and a field, or for the outcomes of step 0 and of the step before it.
 ghost use Rattle.std.specs.Prelude.{◌≡◌, ◌∷◌, ◌++◌, [], IfOk};
 ghost use Rattle.step_engine.specs.SmallRules.{first_ask, second_ask, path_of, absent, whole_file, together, finish, finish_pairs, is_file};
 ghost use Rattle.step_engine.specs.declared.talk.Outcome.TheVariants.{Good, Bad};
@@ -32,7 +32,7 @@ impl Rules for SmallRules {
     ghost means = { small };
 
     fn rank(&self, key: &u32) -> u64 {
-        if *key < 2 { 0 } else { 1 }
+        (*key as u64).saturating_sub(1)
     }
 
     fn turn(
@@ -75,7 +75,7 @@ fn asks(alloc: Global, key: u32) -> Result<Rows<Ask<u32>>, WantOfMemory>
         return Ok(asks);
     }
     asks.push(Ask::Part(0))?;
-    asks.push(Ask::Part(1))?;
+    asks.push(Ask::Part(key - 1))?;
     Ok(asks)
 }
 

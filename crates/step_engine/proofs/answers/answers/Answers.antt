@@ -1,0 +1,33 @@
+-- One more answer.
+use Rattle.step_engine.proofs.Steps.{way_none, way_more, way_adds, here_on, answering_none, answering_more, answering_all}
+use Rattle.step_engine.proofs.Asking.{still_then}
+use Rattle.step_engine.proofs.answers.answers.Goals as goal
+
+pub loop-ask-init : goal.loop-ask-init
+loop-ask-init g c = record { way = way_none _ _ _ _ c.requires.kept; here = rw c.new-pairs.ensures (answering_none _ _ _) }
+
+pub returns-in_err-found-clause-adds : goal.returns-in_err-found-clause-adds
+returns-in_err-found-clause-adds g c = way_adds _ _ _ _ _ _ _ _ c.loop-ask.invariant.way c.answer.ensures.adds
+
+pub returns-in_default-clause-adds : goal.returns-in_default-clause-adds
+returns-in_default-clause-adds g c = way_adds _ _ _ _ _ _ _ _ c.loop-ask.invariant.way c.answer.ensures.adds
+
+pub returns-in_default-clause-ok : goal.returns-in_default-clause-ok
+returns-in_default-clause-ok g c = still_then _ _ _ _ _ _ _ _ c.loop-ask.invariant.way (rw c.in_default.is at c.in_ok-found.ensures.ok)
+
+pub returns-in_err-ask-clause-adds : goal.returns-in_err-ask-clause-adds
+returns-in_err-ask-clause-adds g c = way_adds _ _ _ _ _ _ _ _ c.loop-ask.invariant.way c.answer.ensures.adds
+
+pub returns-in_err-add_pair-clause-adds : goal.returns-in_err-add_pair-clause-adds
+returns-in_err-add_pair-clause-adds g c = way_adds _ _ _ _ _ _ _ _ c.loop-ask.invariant.way c.answer.ensures.adds
+
+pub loop-ask-preserved : goal.loop-ask-preserved
+loop-ask-preserved g c =
+    let d = rw c.in-Some.is at c.in_ok-found.ensures.ok in
+    let way = c.loop-ask.invariant.way in record {
+      way = way_more _ _ _ _ _ _ _ _ way _ _ d.moves d.kept c.answer.ensures.held c.in_ok-found.ensures.count;
+      here = rw (c.in_ok-add_pair.ensures, c.in_ok-ask.ensures) (answering_more _ _ _ _ _ _ _ _ c.loop-ask.invariant.here c.loop-ask-test.true c.ask-item.is d.moves.grows (λ w i. d.right w (here_on _ _ _ _ _ _ _ way w i)) d.small d.parts);
+    }
+
+pub returns-clause-ok : goal.returns-clause-ok
+returns-clause-ok g c = answering_all _ _ _ _ _ _ _ _ _ _ _ c.loop-ask.invariant.way c.loop-ask.invariant.here c.items-ask-items.ensures c.loop-ask-test.false

@@ -1,0 +1,205 @@
+//! One step forward for a key under way.
+ghost use Rattle.std.specs.Prelude.{◌≡◌, IfOk, OnOk, [], ◌∷◌};
+ghost use Rattle.step_engine.specs.Build.{setting, Counts};
+ghost use Rattle.step_engine.specs.Engine.{state, AreKept, Adds};
+ghost use Rattle.step_engine.specs.Reading.{read_at};
+ghost use Rattle.step_engine.specs.Table.{place_at, Finds};
+ghost use Rattle.step_engine.specs.Items.{IsAsked, IsCheck, IsResumed, IsCheckedOn, IsReady, IsAdvanced, IsItem, item_key, Notes, AreItems, AreItemsWanted};
+ghost use Rattle.step_engine.specs.Taking.{SortsIn, IsList, ListNotes};
+
+use crate::answers::{answers, check_batch};
+use crate::items::{Asked, Check, Checked, Item, Run};
+use crate::places::Places;
+use crate::table::{make_old, rerun};
+use build_base::book::Book;
+use build_base::outside::Tree;
+use build_base::rows::Rows;
+use build_base::text::{Text, WantOfMemory};
+use std::alloc::Global;
+use crate::cache::Cache;
+use crate::files::FilesRead;
+use crate::refusal::EngineRefusal;
+use crate::rules::Rules;
+use crate::talk::{Batch, Entry};
+
+// A step that asked is answered where all has an answer by now, and else it waits on.
+fn resume<R: Rules, T: Tree>(
+    alloc: Global,
+    rules: &R,
+    job: &Rows<Text>,
+    old: &Cache<R::Key, R::Out>,
+    asked: Asked<R::Key, R::Out>,
+    fresh: &Vec<Entry<R::Key, R::Out>>,
+    places: &Places<R::Key>,
+    tree: &mut T,
+    files: &mut FilesRead,
+) -> Result<Item<R::Key, R::Out>, EngineRefusal>
+    requires kept { AreKept (setting R.means (T.held tree.old) job.now old.now) (state fresh.now.items (read_at files.old) [] (T.reads tree.old)) }
+    requires finds { Finds (place_at R.Key.cmp places.now) fresh.now.items }
+    requires asked { IsAsked (setting R.means (T.held tree.old) job.now old.now) (state fresh.now.items (read_at files.old) [] (T.reads tree.old)) asked.key asked.talk.batches asked.asks }
+    ensures held { T.held tree.new ≡ T.held tree.old }
+    ensures count { Counts (T.faults tree.old) (T.faults tree.new) result }
+    ensures adds { Adds (setting R.means (T.held tree.old) job.now old.now) (asked.key ∷ []) (R.means.rank asked.key) (state fresh.now.items (read_at files.old) [] (T.reads tree.old)) (state fresh.now.items (read_at files.new) [] (T.reads tree.new)) }
+    ensures ok { IfOk result (IsResumed (setting R.means (T.held tree.old) job.now old.now) asked.key (state fresh.now.items (read_at files.old) [] (T.reads tree.old)) (state fresh.now.items (read_at files.new) [] (T.reads tree.new))) }
+{
+    let Asked {
+        key,
+        talk,
+        permit,
+        asks,
+    } = asked;
+    let found = answers(
+        alloc, rules, job, old, &key, &asks, fresh, places, tree, files,
+    )?;
+    let Some(pairs) = found else {
+        return Ok(Item::Asked(Asked {
+            key,
+            talk,
+            permit,
+            asks,
+        }));
+    };
+    let mut talk = talk;
+    talk.batches.push(Batch { pairs })?;
+    Ok(Item::Run(Run { key, talk, permit }))
+}
+
+// The next batch of an old entry is checked where all has an answer by now.
+fn check_next<R: Rules, T: Tree>(
+    alloc: Global,
+    rules: &R,
+    job: &Rows<Text>,
+    old: &Cache<R::Key, R::Out>,
+    check: Check<R::Key, R::Out>,
+    fresh: &Vec<Entry<R::Key, R::Out>>,
+    places: &Places<R::Key>,
+    tree: &mut T,
+    files: &mut FilesRead,
+) -> Result<Checked<R::Key, R::Out>, EngineRefusal>
+    requires kept { AreKept (setting R.means (T.held tree.old) job.now old.now) (state fresh.now.items (read_at files.old) [] (T.reads tree.old)) }
+    requires finds { Finds (place_at R.Key.cmp places.now) fresh.now.items }
+    requires check { IsCheck (setting R.means (T.held tree.old) job.now old.now) (state fresh.now.items (read_at files.old) [] (T.reads tree.old)) check.entry check.batch }
+    ensures held { T.held tree.new ≡ T.held tree.old }
+    ensures count { Counts (T.faults tree.old) (T.faults tree.new) result }
+    ensures adds { Adds (setting R.means (T.held tree.old) job.now old.now) (check.entry.key ∷ []) (R.means.rank check.entry.key) (state fresh.now.items (read_at files.old) [] (T.reads tree.old)) (state fresh.now.items (read_at files.new) [] (T.reads tree.new)) }
+    ensures ok { IfOk result (IsCheckedOn (setting R.means (T.held tree.old) job.now old.now) check.entry.key (state fresh.now.items (read_at files.old) [] (T.reads tree.old)) (state fresh.now.items (read_at files.new) [] (T.reads tree.new))) }
+{
+    let Check { entry, batch } = check;
+    let found = match entry.talk.batches.items().get(batch) {
+        Some(batch) => {
+            let pairs = &batch.pairs;
+            check_batch(
+                alloc, rules, job, old, &entry.key, pairs, fresh, places, tree, files,
+            )?
+        }
+        None => return Ok(Checked::Right(entry)),
+    };
+    match found {
+        Some(true) => Ok(Checked::Next(Check {
+            entry,
+            batch: batch + 1,
+        })),
+        Some(false) => Ok(Checked::Wrong(entry.key)),
+        None => Ok(Checked::Next(Check { entry, batch })),
+    }
+}
+
+/// One step forward for a key under way, and what is left of it: nothing where its entry is made.
+pub fn advance<R: Rules, T: Tree>(
+    alloc: Global,
+    rules: &R,
+    job: &Rows<Text>,
+    old: &Cache<R::Key, R::Out>,
+    item: Item<R::Key, R::Out>,
+    fresh: &mut Vec<Entry<R::Key, R::Out>>,
+    places: &mut Places<R::Key>,
+    tree: &mut T,
+    book: &mut Book<R::Key>,
+    files: &mut FilesRead,
+) -> Result<Option<Item<R::Key, R::Out>>, EngineRefusal>
+    requires ready { IsReady (setting R.means (T.held tree.old) job.now old.now) (state fresh.old.items (read_at files.old) book.old (T.reads tree.old)) (place_at R.Key.cmp places.old) }
+    requires item { IsItem (setting R.means (T.held tree.old) job.now old.now) (state fresh.old.items (read_at files.old) book.old (T.reads tree.old)) item }
+    ensures held { T.held tree.new ≡ T.held tree.old }
+    ensures count { Counts (T.faults tree.old) (T.faults tree.new) result }
+    ensures notes { Notes (setting R.means (T.held tree.old) job.now old.now) (item_key item) (state fresh.old.items (read_at files.old) book.old (T.reads tree.old)) (state fresh.new.items (read_at files.new) book.new (T.reads tree.new)) (place_at R.Key.cmp places.old) }
+    ensures ok { IfOk result (IsAdvanced (setting R.means (T.held tree.old) job.now old.now) (item_key item) (state fresh.old.items (read_at files.old) book.old (T.reads tree.old)) (state fresh.new.items (read_at files.new) book.new (T.reads tree.new)) (place_at R.Key.cmp places.old) (place_at R.Key.cmp places.new)) }
+{
+    match item {
+        Item::Run(run) => Ok(Some(Item::Run(run))),
+        Item::Asked(asked) => {
+            let item = resume(alloc, rules, job, old, asked, fresh, places, tree, files)?;
+            Ok(Some(item))
+        }
+        Item::Check(check) => {
+            let checked = check_next(alloc, rules, job, old, check, fresh, places, tree, files)?;
+            match checked {
+                Checked::Right(entry) => {
+                    make_old(alloc, entry, fresh, places)?;
+                    Ok(None)
+                }
+                Checked::Wrong(key) => {
+                    let item = rerun(alloc, key, book, places)?;
+                    Ok(item)
+                }
+                Checked::Next(check) => Ok(Some(Item::Check(check))),
+            }
+        }
+    }
+}
+
+// What is left of a key is put to the runs or to the rest.
+fn sort_in<K: Drop, O: Drop>(
+    left: Option<Item<K, O>>,
+    runs: &mut Vec<Run<K, O>>,
+    rest: &mut Vec<Item<K, O>>,
+) -> Result<(), WantOfMemory>
+    ensures { OnOk result (SortsIn left runs.old.items runs.new.items rest.old.items rest.new.items) }
+{
+    match left {
+        None => Ok(()),
+        Some(Item::Run(run)) => {
+            if runs.push(run).is_err() {
+                return Err(WantOfMemory);
+            }
+            Ok(())
+        }
+        Some(item) => {
+            if rest.push(item).is_err() {
+                return Err(WantOfMemory);
+            }
+            Ok(())
+        }
+    }
+}
+
+/// One step forward for each key under way: the runs that are to make their next turns, and the rest.
+pub fn advance_all<R: Rules, T: Tree>(
+    alloc: Global,
+    rules: &R,
+    job: &Rows<Text>,
+    old: &Cache<R::Key, R::Out>,
+    items: Vec<Item<R::Key, R::Out>>,
+    fresh: &mut Vec<Entry<R::Key, R::Out>>,
+    places: &mut Places<R::Key>,
+    tree: &mut T,
+    book: &mut Book<R::Key>,
+    files: &mut FilesRead,
+    rest: &mut Vec<Item<R::Key, R::Out>>,
+) -> Result<Vec<Run<R::Key, R::Out>>, EngineRefusal>
+    requires ready { IsReady (setting R.means (T.held tree.old) job.now old.now) (state fresh.old.items (read_at files.old) book.old (T.reads tree.old)) (place_at R.Key.cmp places.old) }
+    requires items { AreItems (setting R.means (T.held tree.old) job.now old.now) (state fresh.old.items (read_at files.old) book.old (T.reads tree.old)) items.items }
+    requires none { rest.old.items ≡ [] }
+    ensures held { T.held tree.new ≡ T.held tree.old }
+    ensures count { Counts (T.faults tree.old) (T.faults tree.new) result }
+    ensures notes { ListNotes (setting R.means (T.held tree.old) job.now old.now) (state fresh.old.items (read_at files.old) book.old (T.reads tree.old)) (state fresh.new.items (read_at files.new) book.new (T.reads tree.new)) (place_at R.Key.cmp places.old) (λ top. AreItemsWanted (setting R.means (T.held tree.old) job.now old.now) top items.items) }
+    ensures ok { IfOk result (λ runs. IsList (setting R.means (T.held tree.old) job.now old.now) (state fresh.old.items (read_at files.old) book.old (T.reads tree.old)) (state fresh.new.items (read_at files.new) book.new (T.reads tree.new)) (place_at R.Key.cmp places.old) (place_at R.Key.cmp places.new) (λ top. AreItemsWanted (setting R.means (T.held tree.old) job.now old.now) top items.items) runs.items rest.new.items) }
+{
+    let mut runs = Vec::new(alloc);
+    for item in items {
+        let left = advance(
+            alloc, rules, job, old, item, fresh, places, tree, book, files,
+        )?;
+        sort_in(left, &mut runs, rest)?;
+    }
+    Ok(runs)
+}

@@ -1,0 +1,64 @@
+//! The entries of a build as a cache.
+ghost use Rattle.std.specs.Prelude.{IfOk, OnOk, IsPermutation};
+ghost use Rattle.step_engine.specs.Caches.{PutsMissing};
+ghost use Rattle.step_engine.specs.Rounds.{IsOneEach, AreSame};
+
+use build_base::same::Same;
+use build_base::text::WantOfMemory;
+use std::alloc::Global;
+use std::cmp::Ordering;
+use crate::cache::Cache;
+use crate::rules::StepKey;
+use crate::talk::Entry;
+
+// The entries in ascending order of their keys.
+fn sorted<K: StepKey, O: Drop>(entries: Vec<Entry<K, O>>) -> Result<Vec<Entry<K, O>>, WantOfMemory>
+    ensures { IfOk result (λ v. IsPermutation entries.items v.items) }
+{
+    let mut entries = entries;
+    let done = entries.sort_by(|a: &Entry<K, O>, b: &Entry<K, O>| -> Ordering {
+        a.key.cmp(&b.key)
+    });
+    if done.is_err() {
+        return Err(WantOfMemory);
+    }
+    Ok(entries)
+}
+
+// Puts an entry where none has its key.
+fn put_new<K: StepKey, O: Same + Drop>(
+    entry: Entry<K, O>,
+    cache: &mut Cache<K, O>,
+) -> Result<(), WantOfMemory>
+    ensures { OnOk result (PutsMissing K.cmp entry cache.old cache.new) }
+{
+    if let Some(_found) = cache.get(&entry.key) {
+        return Ok(());
+    }
+    cache.put(entry)
+}
+
+// The cache of these entries. It is fast where they come in their order.
+fn put_all<K: StepKey, O: Same + Drop>(
+    alloc: Global,
+    entries: Vec<Entry<K, O>>,
+) -> Result<Cache<K, O>, WantOfMemory>
+    ensures { IsOneEach entries.items → IfOk result (λ cache. AreSame entries.items cache) }
+{
+    let mut cache = Cache::new(alloc);
+    for entry in entries {
+        put_new(entry, &mut cache)?;
+    }
+    Ok(cache)
+}
+
+/// The cache of these entries, one for a key.
+pub fn in_order<K: StepKey, O: Same + Drop>(
+    alloc: Global,
+    entries: Vec<Entry<K, O>>,
+) -> Result<Cache<K, O>, WantOfMemory>
+    ensures { IsOneEach entries.items → IfOk result (λ cache. AreSame entries.items cache) }
+{
+    let entries = sorted(entries)?;
+    put_all(alloc, entries)
+}

@@ -1,0 +1,76 @@
+//! The keys under way.
+ghost use Rattle.std.specs.Prelude.{◌≡◌, ◌⊎◌, OnOk};
+ghost use Rattle.step_engine.specs.Pooling.{Holds, Parks};
+ghost use Rattle.step_engine.specs.declared.items.Item.{Item};
+
+use crate::items::{Item, Queue, Waiting};
+use crate::rules::StepKey;
+use build_base::text::WantOfMemory;
+use std::alloc::Global;
+use std::collections::BTreeMap;
+
+/// The keys under way: new ones, those of which a part was done just now, and those that wait for a
+/// part, by that part.
+#[derive(Drop)]
+pub struct Pool<K: StepKey, O: Drop> {
+    pub news: Vec<Item<K, O>>,
+    pub woken: Vec<Waiting<K, O>>,
+    pub parked: BTreeMap<K, Queue<K, O>>,
+}
+
+impl<K: StepKey, O: Drop> Pool<K, O> {
+    /// Whether no key is to be looked at.
+    pub fn is_at_rest(&self) -> bool {
+        self.news.is_empty() && self.woken.is_empty()
+    }
+}
+
+/// Takes out the keys that wait for a part.
+pub fn taken<K: StepKey, O: Drop>(
+    alloc: Global,
+    part: &K,
+    parked: &mut BTreeMap<K, Queue<K, O>>,
+) -> Vec<Waiting<K, O>>
+    ensures out { (a : Item K O) → Holds result.items a → Parks K.cmp parked.old a }
+    ensures less { (a : Item K O) → Parks K.cmp parked.new a → Parks K.cmp parked.old a }
+{
+    match parked.remove(part) {
+        Some(queue) => queue.list,
+        None => Vec::new(alloc),
+    }
+}
+
+/// The key waits for the part.
+pub fn park<K: StepKey, O: Drop>(
+    alloc: Global,
+    part: K,
+    waiting: Waiting<K, O>,
+    parked: &mut BTreeMap<K, Queue<K, O>>,
+) -> Result<(), WantOfMemory>
+    ensures { OnOk result ((a : Item K O) → Parks K.cmp parked.new a → (waiting.item ≡ a) ⊎ Parks K.cmp parked.old a) }
+{
+    let mut list = taken(alloc, &part, parked);
+    if list.push(waiting).is_err() {
+        return Err(WantOfMemory);
+    }
+    if parked.insert(part, Queue { list }).is_err() {
+        return Err(WantOfMemory);
+    }
+    Ok(())
+}
+
+/// The keys that wait for a part wait no longer.
+pub fn wake<K: StepKey, O: Drop>(
+    alloc: Global,
+    part: &K,
+    parked: &mut BTreeMap<K, Queue<K, O>>,
+    woken: &mut Vec<Waiting<K, O>>,
+) -> Result<(), WantOfMemory>
+    ensures { OnOk result ((a : Item K O) → Parks K.cmp parked.new a ⊎ Holds woken.new.items a → Parks K.cmp parked.old a ⊎ Holds woken.old.items a) }
+{
+    let mut list = taken(alloc, part, parked);
+    if woken.append(&mut list).is_err() {
+        return Err(WantOfMemory);
+    }
+    Ok(())
+}
