@@ -1,5 +1,5 @@
 //! Writing an image, run by run.
-ghost use Rattle.std.specs.Prelude.{◌≡◌, ◌+◌, ◌++◌, [], true, length, replicate, OnOk};
+ghost use Rattle.std.specs.Prelude.{◌≡◌, ◌≤◌, ◌+◌, ◌-◌, ◌++◌, [], true, length, replicate, OnOk};
 ghost use Rattle.build_base.specs.Runs.{free_byte, runs_bytes, kept_bytes, are_blank, is_blank, run_bytes, run_kept, Written};
 
 use crate::blank::free_byte;
@@ -70,6 +70,9 @@ impl RunWriter {
         ensures kept { OnOk result (self.new.kept ≡ self.old.kept) }
         ensures free { OnOk result (self.new.free ≡ self.old.free) }
     {
+        if count == 0 {
+            return Ok(());
+        }
         let byte = self.free;
         self.append(Run::Fill { byte, count }, count)?;
         Ok(())
@@ -83,6 +86,18 @@ impl RunWriter {
     {
         let count = bytes.bytes().len() as u64;
         self.append(Run::Bytes(bytes), count)?;
+        Ok(())
+    }
+
+    /// Writes the free space before a place, and the bytes that stand there.
+    pub fn put_at(&mut self, start: u64, bytes: Text) -> Result<(), WantOfMemory>
+        requires { length self.old.bytes ≤ start }
+        ensures bytes { OnOk result (self.new.bytes ≡ (self.old.bytes ++ replicate (start - length self.old.bytes) self.old.free) ++ bytes) }
+        ensures kept { OnOk result (self.new.kept ≡ self.old.kept + length bytes) }
+        ensures free { OnOk result (self.new.free ≡ self.old.free) }
+    {
+        self.fill(start - self.length())?;
+        self.put(bytes)?;
         Ok(())
     }
 
