@@ -5,7 +5,7 @@ use Rattle.std.proofs.lemmas.List.{length-replicate, drop_all, take_all}
 use Rattle.build_base.proofs.Steps.{head_drop}
 use Rattle.build_base.specs.declared.run.Run.{Run}
 use Rattle.build_base.specs.declared.run.Run.TheVariants.{Fill, Bytes}
-use Rattle.build_base.specs.Runs.{run_bytes, runs_bytes, run_kept, kept_bytes, is_blank, are_blank}
+use Rattle.build_base.specs.Runs.{run_bytes, runs_bytes, run_kept, kept_bytes, is_blank, are_blank, Written}
 
 -- one run more
 pub runs_more : (runs : List Run) (run : Run) → runs_bytes (runs ++ run ∷ []) ≡ runs_bytes runs ++ run_bytes run
@@ -75,3 +75,27 @@ runs_end runs k h = ap runs_bytes (drop_all k runs h) ∙ runs_none
 pub front_none : (xs ys : List ℕ) → xs ++ ys ≡ [] → xs ≡ []
 front_none [] ys h = refl
 front_none (x ∷ xs) ys h = absurd cc
+
+run_kept_less : (run : Run) → run_kept run ≤ length (run_bytes run)
+run_kept_less (Fill byte count) = omega arith
+run_kept_less (Bytes bytes) = omega arith
+
+-- what is written so far and the runs that are left
+pub record Copied (old now : Written) (runs rest : List Run) : Type 0 where
+  pub bytes : now.bytes ++ runs_bytes rest ≡ old.bytes ++ runs_bytes runs
+  pub kept : now.kept + length (runs_bytes rest) ≤ old.kept + length (runs_bytes runs)
+  pub free : now.free ≡ old.free
+  pub blank : are_blank rest ≡ true
+
+pub copied_more : (old now next : Written) (runs : List Run) (i : ℕ) (run copy : Run) → Copied old now runs (drop i runs) → i < length runs → run ≡ get_or runs i run → copy ≡ run
+    → next.bytes ≡ now.bytes ++ run_bytes copy → next.kept ≡ now.kept + run_kept copy → next.free ≡ now.free → Copied old next runs (drop (i + 1) runs)
+copied_more old now next runs i run copy s h e p b k f =
+    let rest : List Run = drop (i + 1) runs in
+    let l = runs_left runs i run h e in
+    let n = ap length l ∙ length-append (run_bytes run) (runs_bytes rest) in
+    record {
+      bytes = rw (b, p) (append_assoc now.bytes (run_bytes run) (runs_bytes rest) ∙ ap (λ z. now.bytes ++ z) (sym l) ∙ s.bytes);
+      kept = let w : next.kept ≡ now.kept + run_kept run = rw p at k in omega (arith, n, s.kept, run_kept_less run);
+      free = f ∙ s.free;
+      blank = (blank_left runs i run h e s.blank).1;
+    }

@@ -1,6 +1,6 @@
 //! An image as runs, seen by contracts as its bytes.
 ghost use Rattle.std.specs.Prelude.{◌≡◌, ◌<◌, ◌^◌, true, length};
-ghost use Rattle.build_base.specs.Runs.{runs_bytes, run_bytes, are_blank};
+ghost use Rattle.build_base.specs.Runs.{runs_bytes, are_blank};
 
 use crate::pieces::Pieces;
 use crate::rows::Rows;
@@ -25,22 +25,13 @@ impl Model for Image {
     ghost invariant = { λ i. (i.size ≡ length (runs_bytes i.runs)) × (are_blank i.runs ≡ true) };
 }
 
-fn length_of(run: &Run) -> u64
-    ensures { result ≡ length (run_bytes run.now) }
-{
-    match run {
-        Run::Fill { byte: _, count } => *count,
-        Run::Bytes(bytes) => bytes.bytes().len() as u64,
-    }
-}
-
 fn total(runs: &[Run]) -> u64
     requires { length (runs_bytes runs.now) < 2 ^ 64 }
     ensures { result ≡ length (runs_bytes runs.now) }
 {
     let mut size = 0;
     for run in runs {
-        size += length_of(run);
+        size += run.length();
     }
     size
 }

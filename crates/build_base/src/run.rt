@@ -1,4 +1,7 @@
 //! The runs of an image: stretches of one byte, and bytes.
+ghost use Rattle.std.specs.Prelude.{◌≡◌, length};
+ghost use Rattle.build_base.specs.Runs.{run_bytes};
+
 use crate::same::Same;
 use crate::text::{Text, WantOfMemory};
 use std::alloc::Global;
@@ -8,6 +11,18 @@ use std::alloc::Global;
 pub enum Run {
     Fill { byte: u8, count: u64 },
     Bytes(Text),
+}
+
+impl Run {
+    /// How many bytes it stands for.
+    pub fn length(&self) -> u64
+        ensures { result ≡ length (run_bytes self.now) }
+    {
+        match self {
+            Run::Fill { byte: _, count } => *count,
+            Run::Bytes(bytes) => bytes.bytes().len() as u64,
+        }
+    }
 }
 
 impl Same for Run {

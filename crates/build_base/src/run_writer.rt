@@ -1,10 +1,11 @@
 //! Writing an image, run by run.
-ghost use Rattle.std.specs.Prelude.{◌≡◌, ◌≤◌, ◌+◌, ◌-◌, ◌++◌, [], true, length, replicate, OnOk};
+ghost use Rattle.std.specs.Prelude.{◌≡◌, ◌≤◌, ◌<◌, ◌^◌, ◌+◌, ◌-◌, ◌++◌, [], true, length, replicate, OnOk};
 ghost use Rattle.build_base.specs.Runs.{free_byte, runs_bytes, kept_bytes, are_blank, is_blank, run_bytes, run_kept, Written};
 
 use crate::blank::free_byte;
 use crate::rows::Rows;
 use crate::run::Run;
+use crate::same::Same;
 use crate::text::{Text, WantOfMemory};
 use std::alloc::Global;
 use std::marker::Model;
@@ -101,11 +102,25 @@ impl RunWriter {
         Ok(())
     }
 
+    /// Writes what these runs stand for.
+    pub fn put_runs(&mut self, alloc: Global, runs: &[Run]) -> Result<(), WantOfMemory>
+        requires { are_blank runs.now ≡ true }
+        ensures bytes { OnOk result (self.new.bytes ≡ self.old.bytes ++ runs_bytes runs.now) }
+        ensures kept { OnOk result (self.new.kept ≤ self.old.kept + length (runs_bytes runs.now)) }
+        ensures free { OnOk result (self.new.free ≡ self.old.free) }
+    {
+        for run in runs {
+            self.append(run.copy(alloc)?, run.length())?;
+        }
+        Ok(())
+    }
+
     /// What is written.
     pub fn finish(self) -> Rows<Run>
         ensures bytes { runs_bytes result ≡ self.bytes }
         ensures kept { kept_bytes result ≡ self.kept }
         ensures blank { are_blank result ≡ true }
+        ensures short { length (runs_bytes result) < 2 ^ 64 }
     {
         self.runs
     }

@@ -1,5 +1,5 @@
 //! A device made from the content of its regions.
-ghost use Rattle.std.specs.Prelude.{◌≡◌, ◌≤◌, ◌<◌, ◌+◌, ◌-◌, ◌++◌, length, replicate, codes, decimal, IfOk, OnOk, None, Some, slice_index_or, [], true};
+ghost use Rattle.std.specs.Prelude.{◌≡◌, ◌≤◌, ◌<◌, ◌^◌, ◌+◌, ◌-◌, ◌++◌, length, replicate, codes, decimal, IfOk, OnOk, None, Some, slice_index_or, [], true};
 ghost use Rattle.std.specs.List.{sum_by};
 ghost use Rattle.build_base.specs.Answer.{AnswersAs, Checks};
 ghost use Rattle.build_base.specs.Runs.{runs_bytes, kept_bytes, are_blank, free_byte, Written};
@@ -24,6 +24,7 @@ pub fn device<C: Contents>(
     ensures value { AnswersAs runs_bytes result (device_of plan.now (C.contents parts.now)) }
     ensures kept { IfOk result (λ runs. kept_bytes runs ≤ sum_by length (C.contents parts.now)) }
     ensures blank { IfOk result (λ runs. are_blank runs ≡ true) }
+    ensures short { IfOk result (λ runs. length (runs_bytes runs) < 2 ^ 64) }
 {
     let _spent = permit;
     let regions = plan.regions.items();
@@ -119,6 +120,7 @@ fn image<C: Contents>(
     ensures value { IfOk result (λ runs. runs_bytes runs ≡ device_image plan.now (C.contents parts.now)) }
     ensures kept { IfOk result (λ runs. kept_bytes runs ≤ sum_by length (C.contents parts.now)) }
     ensures blank { IfOk result (λ runs. are_blank runs ≡ true) }
+    ensures short { IfOk result (λ runs. length (runs_bytes runs) < 2 ^ 64) }
 {
     let mut out = RunWriter::new(alloc, plan.erase);
     let mut at: u64 = 0;

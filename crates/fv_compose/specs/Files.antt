@@ -1,10 +1,10 @@
 -- The files of a volume in their places, and the pad files between them.
-use Rattle.std.specs.Prelude.{◌≡◌, ℕ, ◌+◌, ◌-◌, ◌*◌, ◌≤◌, ◌==◌, Bool, true, not, nat_lt, if◌then◌else◌, List, [], ◌∷◌, ◌++◌, length, replicate, All, Option, Some, None}
+use Rattle.std.specs.Prelude.{◌≡◌, ℕ, ◌+◌, ◌-◌, ◌*◌, ◌^◌, ◌<◌, ◌≤◌, ◌==◌, Bool, true, not, nat_lt, if◌then◌else◌, List, [], ◌∷◌, ◌++◌, length, replicate, All, Option, Some, None}
 use Rattle.std.specs.List.{filter, find}
 use Rattle.std.specs.Str.{bytes_eq}
 use Rattle.build_base.specs.First.{first_holding, or_else}
 use Rattle.build_base.specs.Pieces.{Piece}
-use Rattle.build_base.specs.Runs.{free_byte, kept_bytes, are_blank}
+use Rattle.build_base.specs.Runs.{free_byte, runs_bytes, kept_bytes, are_blank}
 use Rattle.build_base.specs.declared.run.Run.{Run}
 use Rattle.build_base.specs.declared.fault.Fault.{Fault}
 use Rattle.doc_types.specs.declared.image.FileImage.{FileImage}
@@ -98,3 +98,4 @@ top_bytes (Some file) = length file.bytes
 pub record AreRunsOf (files : List FileImage) (runs : List Run) : Type 0 where
   pub kept : kept_bytes runs ≤ 116 + bytes_in files + 32 * (length files + 1)
   pub blank : are_blank runs ≡ true
+  pub short : length (runs_bytes runs) < 2 ^ 64

@@ -53,4 +53,5 @@ returns-clause-runs c =
     record {
       kept = omega (arith, c.finish.ensures.kept, c.in_ok-fill.ensures.kept, c.in_ok-put_files.ensures.kept);
       blank = c.finish.ensures.blank;
+      short = c.finish.ensures.short;
     }
