@@ -12,3 +12,4 @@ pub mod OptionLemmas
 pub mod AllBelow
 pub mod ChoiceLemmas
 pub mod ResultLemmas
+pub mod RunLemmas

@@ -1,5 +1,6 @@
 -- Emissions, one after another.
-use Rattle.std.proofs.Common.{◌≡◌, refl, sym, ap, ◌∙◌, ◌++◌, List, [], ◌∷◌, ℕ, Option, None, Some, Result, Ok, Err, append_assoc, append-nil, inl, inr}
+use Rattle.std.proofs.Common.{◌≡◌, refl, sym, ap, ◌∙◌, ◌++◌, List, [], ◌∷◌, ℕ, Option, None, Some, Result, Ok, Err, append_assoc, append-nil, inl, inr, ◌≤◌, length, arith, length-append}
+use Rattle.std.proofs.lemmas.List.Elements.{All-push}
 use Rattle.std.specs.List.{concat}
 use Rattle.std.proofs.lemmas.List.Folds.{concat-append}
 use Rattle.build_base.specs.declared.outside.Target.{Target}
@@ -18,12 +19,12 @@ more_of-append : (path : List ℕ) (xs ys : List (List ℕ)) → more_of path (x
 more_of-append path [] ys = refl
 more_of-append path (x ∷ xs) ys = ap (λ z. (More path, x) ∷ z) (more_of-append path xs ys)
 
-pub SpelledFile-start : (a b : Option (List Emission)) (path first : List ℕ) → Grew a b ((Start path, first) ∷ []) → SpelledFile a b path first
-SpelledFile-start a b path first g =
-    ((Start path, first) ∷ [], record { first = first; pieces = []; bytes_are = sym (append-nil first); emissions_are = refl }, g)
+pub SpelledFile-start : (a b : Option (List Emission)) (path first : List ℕ) → length first ≤ 65536 → Grew a b ((Start path, first) ∷ []) → SpelledFile a b path first
+SpelledFile-start a b path first l g =
+    ((Start path, first) ∷ [], record { first = first; pieces = []; bytes_are = sym (append-nil first); emissions_are = refl; short = All-push (λ piece. length piece ≤ 65536) [] first (λ k d h. absurd (omega arith)) l }, g)
 
-pub SpelledFile-more : (a b c : Option (List Emission)) (path bytes piece : List ℕ) → SpelledFile a b path bytes → Grew b c ((More path, piece) ∷ []) → SpelledFile a c path (bytes ++ piece)
-SpelledFile-more a b c path bytes piece s g =
+pub SpelledFile-more : (a b c : Option (List Emission)) (path bytes piece : List ℕ) → SpelledFile a b path bytes → length piece ≤ 65536 → Grew b c ((More path, piece) ∷ []) → SpelledFile a c path (bytes ++ piece)
+SpelledFile-more a b c path bytes piece s l g =
     let more : List Emission = (More path, piece) ∷ [] in (
       s.0 ++ more,
       record {
@@ -33,6 +34,7 @@ SpelledFile-more a b c path bytes piece s g =
             ap (λ z. z ++ piece) s.1.bytes_are ∙ append_assoc s.1.first (concat s.1.pieces) piece
             ∙ ap (λ z. s.1.first ++ z) (sym (concat-append s.1.pieces (piece ∷ []) ∙ ap (λ z. concat s.1.pieces ++ z) (append-nil piece)));
         emissions_are = ap (λ z. z ++ more) s.1.emissions_are ∙ ap (λ z. (Start path, s.1.first) ∷ z) (sym (more_of-append path s.1.pieces (piece ∷ [])));
+        short = All-push (λ x. length x ≤ 65536) (s.1.first ∷ s.1.pieces) piece s.1.short l;
       },
       Grew-then a b c s.0 more s.2 g,
     )
@@ -49,24 +51,27 @@ Spelled-text a b target bytes g = ((target, bytes) ∷ [], ((target, bytes) ∷ 
 pub SpelledCut-text : (a b : Option (List Emission)) (target : Target) (bytes kept rest : List ℕ) → bytes ≡ kept ++ rest → Grew a b ((target, kept) ∷ []) → SpelledCut a b (text target bytes ∷ [])
 SpelledCut-text a b target bytes kept rest e g = ((target, kept) ∷ [], inr (inl (text target kept, (refl, (rest, e)), refl)), g)
 
+prefix_short : (xs ys zs : List ℕ) → zs ≡ xs ++ ys → length zs ≤ 65536 → length xs ≤ 65536
+prefix_short xs ys zs e l = omega (arith, ap length e ∙ length-append xs ys)
+
 -- what a failed start leaves of a file
-pub first_cut : (a b : Option (List Emission)) (path bytes front tail : List ℕ) → bytes ≡ front ++ tail → GrewCut a b (Start path) front
+pub first_cut : (a b : Option (List Emission)) (path bytes front tail : List ℕ) → bytes ≡ front ++ tail → length front ≤ 65536 → GrewCut a b (Start path) front
     → (kept : List ℕ) × (rest : List ℕ) × (bytes ≡ kept ++ rest) × SpelledFile a b path kept
-first_cut a b path bytes front tail e g = (
+first_cut a b path bytes front tail e l g = (
   g.0,
   g.1 ++ tail,
   e ∙ ap (λ z. z ++ tail) g.2 ∙ append_assoc g.0 g.1 tail,
-  SpelledFile-start a b path g.0 g.3,
+  SpelledFile-start a b path g.0 (prefix_short g.0 g.1 front g.2 l) g.3,
 )
 
 -- what a failed further piece leaves of it
-pub later_cut : (a b c : Option (List Emission)) (path bytes front piece tail : List ℕ) → bytes ≡ front ++ (piece ++ tail) → SpelledFile a b path front → GrewCut b c (More path) piece
+pub later_cut : (a b c : Option (List Emission)) (path bytes front piece tail : List ℕ) → bytes ≡ front ++ (piece ++ tail) → SpelledFile a b path front → length piece ≤ 65536 → GrewCut b c (More path) piece
     → (kept : List ℕ) × (rest : List ℕ) × (bytes ≡ kept ++ rest) × SpelledFile a c path kept
-later_cut a b c path bytes front piece tail e s g = (
+later_cut a b c path bytes front piece tail e s l g = (
   front ++ g.0,
   g.1 ++ tail,
   e ∙ ap (λ z. front ++ (z ++ tail)) g.2 ∙ ap (λ z. front ++ z) (append_assoc g.0 g.1 tail) ∙ sym (append_assoc front g.0 (g.1 ++ tail)),
-  SpelledFile-more a b c path front g.0 s g.3,
+  SpelledFile-more a b c path front g.0 s (prefix_short g.0 g.1 piece g.2 l) g.3,
 )
 
 pub Writes-text : (E : Type 0) (a b : Option (List Emission)) (target : Target) (bytes : List ℕ) (r : Result (Unit {0}) E) → Emits a b target bytes r → Writes a b (text target bytes ∷ []) r

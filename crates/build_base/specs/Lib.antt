@@ -14,3 +14,4 @@ pub mod Pieces
 pub mod Least
 pub mod World
 pub mod GivesPiece
+pub mod Runs

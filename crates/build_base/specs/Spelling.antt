@@ -1,5 +1,5 @@
 -- Lists of emissions that spell lists of outputs.
-use Rattle.std.specs.Prelude.{◌≡◌, ◌⊎◌, ◌++◌, ℕ, Result, Ok, Err, List, [], ◌∷◌, Option}
+use Rattle.std.specs.Prelude.{◌≡◌, ◌≤◌, ◌⊎◌, ◌++◌, ℕ, length, All, Result, Ok, Err, List, [], ◌∷◌, Option}
 use Rattle.std.specs.List.{concat}
 use Rattle.build_base.specs.declared.outside.Target.{Target}
 use Rattle.build_base.specs.declared.outside.Target.TheVariants.{Start, More}
@@ -14,12 +14,13 @@ abbrev pub more_of : List ℕ → List (List ℕ) → List Emission
 more_of path [] = []
 more_of path (piece ∷ pieces) = (More path, piece) ∷ more_of path pieces
 
--- a file in pieces: one start, and any number of further pieces
+-- a file in pieces of at most 65,536 bytes: one start, and any number of further pieces
 pub record SpellsFile (path bytes : List ℕ) (emissions : List Emission) : Type 0 where
   pub first : List ℕ
   pub pieces : List (List ℕ)
   pub bytes_are : bytes ≡ first ++ concat pieces
   pub emissions_are : emissions ≡ (Start path, first) ∷ more_of path pieces
+  pub short : All (λ piece. length piece ≤ 65536) (first ∷ pieces)
 
 abbrev pub SpellsOne : Output → List Emission → Type 0
 SpellsOne (file path bytes) emissions = SpellsFile path bytes emissions

@@ -6,6 +6,7 @@ use Rattle.build_base.specs.First.{and_then, all_ok}
 use Rattle.build_base.specs.Outside.{Files}
 use Rattle.doc_types.specs.declared.flash.FlashDoc.{FlashDoc}
 use Rattle.doc_types.specs.declared.flash.DevicePlan.{DevicePlan}
+use Rattle.doc_types.specs.declared.flash.Region.{Region}
 use Rattle.doc_types.specs.declared.flash.RegionKind.{RegionKind}
 use Rattle.doc_types.specs.declared.flash.RegionKind.TheVariants.{Empty, Bytes, Volume}
 use Rattle.doc_types.specs.declared.volume.VolumePlan.{VolumePlan}
@@ -28,6 +29,19 @@ abbrev pub content_among : FlashDoc → List FilePair → RegionKind → Result 
 content_among flash volumes Empty = Ok []
 content_among flash volumes (Bytes bytes) = Ok bytes
 content_among flash volumes (Volume n) = bytes_of_file flash (slice_get volumes n)
+
+-- the same, where each volume that a region names is there
+abbrev pub bytes_or_none : Option FilePair → List ℕ
+bytes_or_none (Some file) = file.bytes
+bytes_or_none None = []
+
+abbrev pub placed : List FilePair → RegionKind → List ℕ
+placed volumes Empty = []
+placed volumes (Bytes bytes) = bytes
+placed volumes (Volume n) = bytes_or_none (slice_get volumes n)
+
+abbrev pub all_placed : List FilePair → List Region → List (List ℕ)
+all_placed volumes regions = map (λ region. placed volumes region.kind) regions
 
 unfoldable pub image_among : FlashDoc → List FilePair → DevicePlan → Result (List ℕ) Fault
 image_among flash volumes plan = and_then (all_ok (map (λ region. content_among flash volumes region.kind) plan.regions)) (λ parts. device_of plan parts)

@@ -1,66 +1,146 @@
 //! The devices of a flash description.
-ghost use Rattle.std.specs.Prelude.{◌≡◌, ◌++◌, ◌∷◌, [], IfOk, OnOk, map, length, slice_get};
-ghost use Rattle.build_base.specs.Answer.{Answers};
+ghost use Rattle.std.specs.Prelude.{◌≡◌, ◌≤◌, ◌<◌, ◌+◌, ◌++◌, ◌∷◌, [], IfOk, OnOk, map, length, slice_get};
+ghost use Rattle.build_base.specs.Answer.{Answers, AnswersAs};
+ghost use Rattle.build_base.specs.Runs.{Written};
 ghost use Rattle.build_base.specs.First.{all_ok};
 ghost use Rattle.fd_regions.specs.Device.{device_of};
 ghost use Rattle.edk_build.specs.declared.key.Key.TheVariants.{Device};
 ghost use Rattle.edk_build.specs.Noted.{devices_steps};
-ghost use Rattle.edk_build.specs.Outputs.{bytes_of_file, content_among, image_among, device_file};
+ghost use Rattle.edk_build.specs.Outputs.{bytes_of_file, bytes_or_none, content_among, placed, all_placed, image_among, device_file};
 ghost use Rattle.edk_build.specs.Values.{device_pair};
 
 use crate::file_out::FileOut;
 use crate::key::Key;
 use crate::output_path::image_path;
-use build_base::{Book, Path, Refusal, Rows, Same, Text, WantOfMemory, refuse};
+use build_base::{Book, Image, Path, Refusal, Rows, RunWriter, Same, WantOfMemory, refuse};
 use doc_types::flash::{DevicePlan, FlashDoc, Region, RegionKind};
-use fd_regions::device;
+use fd_regions::{Contents, device};
 use std::alloc::Global;
 
-fn volume_bytes(
-    alloc: Global,
-    flash: &FlashDoc,
-    volumes: &[FileOut],
-    number: u32,
-) -> Result<Text, Refusal>
-    ensures { Answers result (bytes_of_file flash.now (slice_get volumes.now number)) }
-{
-    match volumes.get(number as usize) {
-        Some(file) => Ok(file.copy_bytes(alloc)?),
-        None => Err(refuse(alloc, 251, &flash.at, b"".as_slice())),
-    }
-}
-
-fn content_of(
+// Refuses a volume that isn't there.
+fn check_content(
     alloc: Global,
     flash: &FlashDoc,
     volumes: &[FileOut],
     kind: &RegionKind,
-) -> Result<Text, Refusal>
-    ensures { Answers result (content_among flash.now volumes.now kind.now) }
+) -> Result<(), Refusal>
+    ensures { AnswersAs (λ _. placed volumes.now kind.now) result (content_among flash.now volumes.now kind.now) }
 {
     match kind {
-        RegionKind::Empty => Ok(Text::of(alloc, b"".as_slice())?),
-        RegionKind::Bytes(bytes) => Ok(bytes.copy(alloc)?),
-        RegionKind::Volume(number) => volume_bytes(alloc, flash, volumes, *number),
+        RegionKind::Empty => Ok(()),
+        RegionKind::Bytes(_) => Ok(()),
+        RegionKind::Volume(number) => check_volume(alloc, flash, volumes, *number),
     }
 }
 
-fn contents_of(
+fn check_volume(
+    alloc: Global,
+    flash: &FlashDoc,
+    volumes: &[FileOut],
+    number: u32,
+) -> Result<(), Refusal>
+    ensures { AnswersAs (λ _. bytes_or_none (slice_get volumes.now number)) result (bytes_of_file flash.now (slice_get volumes.now number)) }
+{
+    match volumes.get(number as usize) {
+        Some(_) => Ok(()),
+        None => Err(refuse(alloc, 251, &flash.at, b"".as_slice())),
+    }
+}
+
+fn check_contents(
     alloc: Global,
     flash: &FlashDoc,
     volumes: &[FileOut],
     regions: &[Region],
-) -> Result<Rows<Text>, Refusal>
-    ensures { Answers result (all_ok (map (λ region. content_among flash.now volumes.now region.kind) regions.now)) }
+) -> Result<(), Refusal>
+    ensures { AnswersAs (λ _. all_placed volumes.now regions.now) result (all_ok (map (λ region. content_among flash.now volumes.now region.kind) regions.now)) }
 {
-    let mut parts = Rows::new(alloc);
     for region in regions {
-        match content_of(alloc, flash, volumes, &region.kind) {
-            Ok(part) => parts.push(part)?,
-            Err(refusal) => return Err(refusal),
+        if let Err(refusal) = check_content(alloc, flash, volumes, &region.kind) {
+            return Err(refusal);
         }
     }
-    Ok(parts)
+    Ok(())
+}
+
+// The regions of a device, among the volumes that are made.
+#[derive(Drop)]
+struct Placed<'a> {
+    regions: &'a [Region],
+    volumes: &'a [FileOut],
+}
+
+fn volume_length(volumes: &[FileOut], number: u32) -> u64
+    ensures { result ≡ length (bytes_or_none (slice_get volumes.now number)) }
+{
+    match volumes.get(number as usize) {
+        Some(file) => file.image().length(),
+        None => 0,
+    }
+}
+
+fn content_length(volumes: &[FileOut], kind: &RegionKind) -> u64
+    ensures { result ≡ length (placed volumes.now kind.now) }
+{
+    match kind {
+        RegionKind::Empty => 0,
+        RegionKind::Bytes(bytes) => bytes.bytes().len() as u64,
+        RegionKind::Volume(number) => volume_length(volumes, *number),
+    }
+}
+
+fn write_volume(
+    alloc: Global,
+    volumes: &[FileOut],
+    number: u32,
+    out: &mut RunWriter,
+) -> Result<(), WantOfMemory>
+    ensures bytes { OnOk result (out.new.bytes ≡ out.old.bytes ++ bytes_or_none (slice_get volumes.now number)) }
+    ensures kept { OnOk result (out.new.kept ≤ out.old.kept + length (bytes_or_none (slice_get volumes.now number))) }
+    ensures free { OnOk result (out.new.free ≡ out.old.free) }
+{
+    match volumes.get(number as usize) {
+        Some(file) => {
+            out.put_runs(alloc, file.image().runs())?;
+            Ok(())
+        }
+        None => Ok(()),
+    }
+}
+
+fn write_content(
+    alloc: Global,
+    volumes: &[FileOut],
+    kind: &RegionKind,
+    out: &mut RunWriter,
+) -> Result<(), WantOfMemory>
+    ensures bytes { OnOk result (out.new.bytes ≡ out.old.bytes ++ placed volumes.now kind.now) }
+    ensures kept { OnOk result (out.new.kept ≤ out.old.kept + length (placed volumes.now kind.now)) }
+    ensures free { OnOk result (out.new.free ≡ out.old.free) }
+{
+    match kind {
+        RegionKind::Empty => Ok(()),
+        RegionKind::Bytes(bytes) => {
+            out.put(bytes.copy(alloc)?)?;
+            Ok(())
+        }
+        RegionKind::Volume(number) => write_volume(alloc, volumes, *number, out),
+    }
+}
+
+impl<'a> Contents for Placed<'a> {
+    ghost use Rattle.edk_build.specs.Outputs.{all_placed};
+
+    ghost contents = { λ p. all_placed p.volumes.now p.regions.now };
+
+    fn length(&self, region: usize) -> u64 {
+        content_length(self.volumes, &self.regions[region].kind)
+    }
+
+    fn write(&self, alloc: Global, region: usize, out: &mut RunWriter) -> Result<(), WantOfMemory> {
+        write_content(alloc, self.volumes, &self.regions[region].kind, out)?;
+        Ok(())
+    }
 }
 
 fn make_device(
@@ -68,21 +148,21 @@ fn make_device(
     book: &mut Book<Key>,
     number: u32,
     plan: &DevicePlan,
-    parts: &Rows<Text>,
-) -> Result<Text, Refusal>
-    requires { length plan.now.regions ≡ length parts.now }
-    ensures value { Answers result (device_of plan.now parts.now) }
+    volumes: &[FileOut],
+) -> Result<Image, Refusal>
+    ensures value { Answers result (device_of plan.now (all_placed volumes.now plan.now.regions)) }
     ensures noted { OnOk result (book.new ≡ book.old ++ Device number ∷ []) }
 {
     let permit = book.grant(Key::Device(number))?;
-    match device(alloc, permit, plan, parts) {
-        Ok(device) => Ok(device.into_text()),
+    let regions = plan.regions.items();
+    match device(alloc, permit, plan, &Placed { regions, volumes }) {
+        Ok(runs) => Ok(Image::of_runs(runs)),
         Err(refusal) => Err(refusal),
     }
 }
 
 // The image of a device.
-#[tactic(auto, unfolding(crate::specs::Outputs::image_among), using(crate::proofs::AllOkLemmas::all_ok_length))]
+#[tactic(auto, unfolding(crate::specs::Outputs::image_among))]
 fn device_image(
     alloc: Global,
     book: &mut Book<Key>,
@@ -90,12 +170,12 @@ fn device_image(
     volumes: &[FileOut],
     number: u32,
     plan: &DevicePlan,
-) -> Result<Text, Refusal>
+) -> Result<Image, Refusal>
     ensures value { Answers result (image_among flash.now volumes.now plan.now) }
     ensures noted { OnOk result (book.new ≡ book.old ++ Device number ∷ []) }
 {
-    match contents_of(alloc, flash, volumes, plan.regions.items()) {
-        Ok(parts) => make_device(alloc, book, number, plan, &parts),
+    match check_contents(alloc, flash, volumes, plan.regions.items()) {
+        Ok(()) => make_device(alloc, book, number, plan, volumes),
         Err(refusal) => Err(refusal),
     }
 }
@@ -104,7 +184,7 @@ fn make_file(
     alloc: Global,
     folder: &Path,
     plan: &DevicePlan,
-    image: Text,
+    image: Image,
 ) -> Result<FileOut, WantOfMemory>
     ensures { IfOk result (λ f. f ≡ device_pair folder.now plan.now image) }
 {

@@ -1,10 +1,10 @@
 //! Files that stand ready, and how they are written: it takes no memory.
-ghost use Rattle.std.specs.Prelude.{◌≡◌, IfOk, map, List, ℕ};
+ghost use Rattle.std.specs.Prelude.{◌≡◌, ◌≤◌, ◌++◌, IfOk, map, length, List, ℕ};
 ghost use Rattle.build_base.specs.Outside.{Cause};
 ghost use Rattle.build_base.specs.Spelling.{WritesFile, Writes};
 ghost use Rattle.edk_build.specs.FilePair.{output_of};
 
-use build_base::{Path, Same, Sink, SinkFailed, Target, Text, WantOfMemory};
+use build_base::{Image, Path, Pieces, Same, Sink, SinkFailed, Target, WantOfMemory};
 use std::alloc::Global;
 use std::marker::Model;
 
@@ -12,7 +12,7 @@ use std::marker::Model;
 pub struct FileOut {
     start: Target,
     more: Target,
-    bytes: Text,
+    image: Image,
 }
 
 impl Model for FileOut {
@@ -23,50 +23,58 @@ impl Model for FileOut {
 
     ghost Value = { FilePair };
 
-    ghost view = { λ f. record { path = path_of f.start; bytes = f.bytes } };
+    ghost view = { λ f. record { path = path_of f.start; bytes = f.image } };
 
     ghost invariant = { λ f. (f.start ≡ Start (path_of f.start)) × (f.more ≡ More (path_of f.start)) };
 }
 
 impl FileOut {
-    pub fn new(alloc: Global, path: Path, bytes: Text) -> Result<FileOut, WantOfMemory>
-        ensures { IfOk result (λ f. f ≡ record { path = path; bytes = bytes }) }
+    pub fn new(alloc: Global, path: Path, image: Image) -> Result<FileOut, WantOfMemory>
+        ensures { IfOk result (λ f. f ≡ record { path = path; bytes = image }) }
     {
         let more = Target::More(path.copy(alloc)?);
         let start = Target::Start(path);
-        Ok(FileOut { start, more, bytes })
+        Ok(FileOut { start, more, image })
     }
 
-    /// A copy of its bytes.
-    pub fn copy_bytes(&self, alloc: Global) -> Result<Text, WantOfMemory>
-        ensures { IfOk result (λ t. t ≡ self.now.bytes) }
+    /// Its image.
+    pub fn image(&self) -> &Image
+        ensures { result.now ≡ self.now.bytes }
     {
-        self.bytes.copy(alloc)
+        &self.image
     }
 }
 
-const PIECE: usize = 65536;
+// The first piece, of no bytes where none is left.
+fn first_piece<'a>(pieces: &mut Pieces<'a>) -> &'a [u8]
+    ensures whole { pieces.old ≡ result.now ++ pieces.new }
+    ensures short { length result.now ≤ 65536 }
+{
+    match pieces.next() {
+        Some(piece) => piece,
+        None => b"".as_slice(),
+    }
+}
 
 fn write_pieces<S: Sink>(
     sink: &mut S,
     start: &Target,
     more: &Target,
-    bytes: &[u8],
+    image: &Image,
 ) -> Result<(), SinkFailed>
     ensures written { (path : List ℕ) → start.now ≡ Target.Start path → more.now ≡ Target.More path →
-        WritesFile (S.written sink.old) (S.written sink.new) path bytes.now result }
+        WritesFile (S.written sink.old) (S.written sink.new) path image.now result }
     ensures cause { Cause (S.faults sink.old) (S.faults sink.new) result }
 {
-    let mut at = bytes.len().min(PIECE);
-    if let Err(failed) = sink.emit(start, &bytes[..at]) {
+    let mut pieces = image.pieces();
+    let first = first_piece(&mut pieces);
+    if let Err(failed) = sink.emit(start, first) {
         return Err(failed);
     }
-    while at < bytes.len() {
-        let end = at + (bytes.len() - at).min(PIECE);
-        if let Err(failed) = sink.emit(more, &bytes[at..end]) {
+    while let Some(piece) = pieces.next() {
+        if let Err(failed) = sink.emit(more, piece) {
             return Err(failed);
         }
-        at = end;
     }
     Ok(())
 }
@@ -75,7 +83,7 @@ pub fn write_file<S: Sink>(sink: &mut S, out: &FileOut) -> Result<(), SinkFailed
     ensures written { WritesFile (S.written sink.old) (S.written sink.new) out.now.path out.now.bytes result }
     ensures cause { Cause (S.faults sink.old) (S.faults sink.new) result }
 {
-    write_pieces(sink, &out.start, &out.more, out.bytes.bytes())
+    write_pieces(sink, &out.start, &out.more, &out.image)
 }
 
 /// Writes all files, in order.

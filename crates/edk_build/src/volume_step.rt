@@ -17,7 +17,7 @@ use crate::file_step::item_step;
 use crate::key::Key;
 use crate::output_path::image_path;
 use crate::stop::Stop;
-use build_base::{Book, Path, Refusal, Rows, Text, Tree, WantOfMemory};
+use build_base::{Book, Image, Path, Refusal, Rows, Tree, WantOfMemory};
 use doc_types::image::FileImage;
 use doc_types::volume::{Item, VolumePlan};
 use doc_types::volume_head::VolumeHead;
@@ -59,7 +59,7 @@ fn make_volume(
     volume: u32,
     head: &VolumeHead,
     images: &Rows<FileImage>,
-) -> Result<Text, Refusal>
+) -> Result<Image, Refusal>
     requires head { HasShape head.now }
     requires images { All IsFileImage images.now }
     ensures value { Answers result (volume_of head.now images.now) }
@@ -67,7 +67,7 @@ fn make_volume(
 {
     let permit = book.grant(Key::Volume(volume))?;
     match compose(alloc, permit, head, images) {
-        Ok(volume) => Ok(volume.into_text()),
+        Ok(runs) => Ok(Image::of_runs(runs)),
         Err(refusal) => Err(refusal),
     }
 }
@@ -80,7 +80,7 @@ fn volume_image<T: Tree>(
     book: &mut Book<Key>,
     volume: u32,
     plan: &VolumePlan,
-) -> Result<Text, Stop>
+) -> Result<Image, Stop>
     requires { HasShape plan.now.head }
     ensures value { IfSome (T.held tree.old) (λ files. Gives result (volume_planned files plan.now)) }
     ensures noted { OnOk result (book.new ≡ book.old ++ volume_steps volume plan.now) }
@@ -107,7 +107,7 @@ fn make_file(
     alloc: Global,
     folder: &Path,
     plan: &VolumePlan,
-    image: Text,
+    image: Image,
 ) -> Result<FileOut, WantOfMemory>
     ensures { IfOk result (λ f. f ≡ volume_pair folder.now plan.now image) }
 {

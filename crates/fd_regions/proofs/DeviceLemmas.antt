@@ -1,6 +1,6 @@
 -- The regions of a device, one after another.
 use Rattle.std.proofs.Common.{◌≡◌, ℕ, ◌+◌, ◌-◌, ◌<◌, ◌≤◌, List, [], ◌∷◌, ◌++◌, length, get_or, drop, replicate, Option, None, Some, refl, ap, sym, ◌∙◌, arith, length-append}
-use Rattle.std.proofs.lemmas.List.{drop_more, drop_all, length-replicate}
+use Rattle.std.proofs.lemmas.List.{drop_more, drop_all, length-replicate, get_or_default}
 use Rattle.std.proofs.lemmas.Bool.Decides.{nat_tests}
 use Rattle.build_base.proofs.Steps.{head_drop}
 use Rattle.build_base.specs.First.{or_else}
@@ -8,7 +8,8 @@ use Rattle.build_base.specs.Pieces.{piece_end}
 use Rattle.build_base.proofs.PieceLemmas.{Laid, Laid-one, Laid-none, laid_size, Rest, rest_start, rest_put, rest_end}
 use Rattle.doc_types.specs.declared.flash.Region.{Region}
 use Rattle.doc_types.specs.declared.flash.DevicePlan.{DevicePlan}
-use Rattle.fd_regions.specs.Device.{region_fault, device_fault, device_image, free_byte, region_piece, region_pieces}
+use Rattle.fd_regions.specs.Device.{region_fault, device_fault, device_image, region_piece, region_pieces}
+use Rattle.build_base.specs.Runs.{free_byte}
 
 -- what is left begins with the next region and part
 pub fault_next : (size at : ℕ) (rs : List Region) (ps : List (List ℕ)) (i : ℕ) (r : Region) (p : List ℕ) → i < length rs → i < length ps → r ≡ get_or rs i r → p ≡ get_or ps i p
@@ -22,7 +23,7 @@ pub record Fits (size at : ℕ) (r : Region) (p : List ℕ) (rs : List Region) (
   pub short : length p ≤ r.size
   pub rest : device_fault size (r.offset + r.size) rs ps ≡ None
 
-no_region_fault : (size at : ℕ) (r : Region) (p : List ℕ) → region_fault size at r p ≡ None → (at ≤ r.offset) × (r.offset + r.size ≤ size) × (length p ≤ r.size)
+no_region_fault : (size at : ℕ) (r : Region) (p : List ℕ) → region_fault size at r (length p) ≡ None → (at ≤ r.offset) × (r.offset + r.size ≤ size) × (length p ≤ r.size)
 unfolding region_fault
 no_region_fault size at r p h = (grind (arith, nat_tests, h), grind (arith, nat_tests, h), grind (arith, nat_tests, h))
 
@@ -33,12 +34,12 @@ no_or_else (Some x) b h = absurd cc
 pub fits : (size at : ℕ) (rs : List Region) (ps : List (List ℕ)) (r : Region) (p : List ℕ) → device_fault size at (r ∷ rs) (p ∷ ps) ≡ None → Fits size at r p rs ps
 unfolding device_fault
 fits size at rs ps r p h =
-    let both : (region_fault size at r p ≡ None) × (device_fault size (r.offset + r.size) rs ps ≡ None) = no_or_else (region_fault size at r p) (device_fault size (r.offset + r.size) rs ps) h in
+    let both : (region_fault size at r (length p) ≡ None) × (device_fault size (r.offset + r.size) rs ps ≡ None) = no_or_else (region_fault size at r (length p)) (device_fault size (r.offset + r.size) rs ps) h in
     let s : (at ≤ r.offset) × (r.offset + r.size ≤ size) × (length p ≤ r.size) = no_region_fault size at r p both.0 in
     record { after = s.0; inside = s.1; short = s.2; rest = both.1 }
 
 pub fault_more : (size at : ℕ) (rs : List Region) (ps : List (List ℕ)) (i : ℕ) (r : Region) (p : List ℕ) → i < length rs → i < length ps → r ≡ get_or rs i r → p ≡ get_or ps i p
-    → device_fault size at (drop i rs) (drop i ps) ≡ or_else (region_fault size at r p) (device_fault size (r.offset + r.size) (drop (i + 1) rs) (drop (i + 1) ps))
+    → device_fault size at (drop i rs) (drop i ps) ≡ or_else (region_fault size at r (length p)) (device_fault size (r.offset + r.size) (drop (i + 1) rs) (drop (i + 1) ps))
 unfolding device_fault
 fault_more size at rs ps i r p h k e f = fault_next size at rs ps i r p h k e f
 
@@ -98,3 +99,7 @@ left_end whole out empty size at i rs ps s h =
 
 pub left_small : (whole out : List ℕ) (empty size at : ℕ) (rs : List Region) (ps : List (List ℕ)) → Left whole out empty size at rs ps → at ≤ size
 left_small whole out empty size at rs ps s = omega (arith, s.at_is, laid_size (length out) size (region_pieces empty rs ps) s.rest.laid)
+
+-- the part of a place, whatever stands past the end
+pub same_part : (ps : List (List ℕ)) (i : ℕ) → i < length ps → get_or ps i [] ≡ get_or ps i (get_or ps i [])
+same_part ps i h = get_or_default ps i [] (get_or ps i []) h

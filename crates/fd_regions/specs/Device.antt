@@ -1,15 +1,12 @@
--- The bytes of a flash device, by the region that holds each place.
+-- The bytes of a flash device, by the region that holds each place (EDK II FDF specification, section 2.4, FD regions).
 use Rattle.std.specs.Prelude.{ℕ, ◌+◌, ◌-◌, ◌==◌, nat_lt, if◌then◌else◌, List, [], ◌∷◌, ◌++◌, length, Option, None, Result, codes, decimal, replicate}
 use Rattle.build_base.specs.declared.fault.Place.{Place}
 use Rattle.build_base.specs.declared.fault.Fault.{Fault}
 use Rattle.build_base.specs.First.{first_holding, or_else, unless}
 use Rattle.build_base.specs.Pieces.{Piece, image_of}
+use Rattle.build_base.specs.Runs.{free_byte}
 use Rattle.doc_types.specs.declared.flash.Region.{Region}
 use Rattle.doc_types.specs.declared.flash.DevicePlan.{DevicePlan}
-
--- the erase byte of a polarity
-abbrev pub free_byte : ℕ → ℕ
-free_byte erase = if erase == 0 then 0 else 255
 
 -- the bytes of a region: its content, and the erase byte up to its size
 abbrev pub region_piece : ℕ → Region → List ℕ → Piece
@@ -31,13 +28,13 @@ compared first sign second = decimal first ++ sign ++ decimal second
 abbrev pub compared_at : ℕ → Place → ℕ → List ℕ → ℕ → Fault
 compared_at code place first sign second = record { code = code; place = place; detail = compared first sign second }
 
--- the first fault of a region that is to start at a place or later, in a device of this size
-unfoldable pub region_fault : ℕ → ℕ → Region → List ℕ → Option Fault
-region_fault size at region part =
+-- the first fault of a region that is to start at a place or later, in a device of this size, and to hold so many bytes
+unfoldable pub region_fault : ℕ → ℕ → Region → ℕ → Option Fault
+region_fault size at region wanted =
     first_holding (
     (nat_lt region.offset at, compared_at 711 region.at region.offset (codes " < ") at)
     ∷ (nat_lt size (region.offset + region.size), compared_at 712 region.at (region.offset + region.size) (codes " > ") size)
-    ∷ (nat_lt region.size (length part), compared_at 713 region.at (length part) (codes " > ") region.size)
+    ∷ (nat_lt region.size wanted, compared_at 713 region.at wanted (codes " > ") region.size)
     ∷ [])
 
 -- the first fault of regions, each of which is to start at the end of the one above or later
@@ -45,7 +42,7 @@ unfoldable pub device_fault : ℕ → ℕ → List Region → List (List ℕ) �
 device_fault size at [] parts = None
 device_fault size at (region ∷ regions) [] = None
 device_fault size at (region ∷ regions) (part ∷ parts) =
-    or_else (region_fault size at region part) (device_fault size (region.offset + region.size) regions parts)
+    or_else (region_fault size at region (length part)) (device_fault size (region.offset + region.size) regions parts)
 
 -- the device, or its first fault
 unfoldable pub device_of : DevicePlan → List (List ℕ) → Result (List ℕ) Fault

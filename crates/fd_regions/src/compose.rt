@@ -1,42 +1,50 @@
 //! A device made from the content of its regions.
-ghost use Rattle.std.specs.Prelude.{◌≡◌, ◌≤◌, ◌+◌, ◌-◌, ◌++◌, length, replicate, codes, decimal, IfOk, OnOk, None, Some};
-ghost use Rattle.build_base.specs.Answer.{Answers, Checks};
-ghost use Rattle.fd_regions.specs.Device.{device_of, device_fault, device_image, compared, region_fault, free_byte};
+ghost use Rattle.std.specs.Prelude.{◌≡◌, ◌≤◌, ◌<◌, ◌^◌, ◌+◌, ◌-◌, ◌++◌, length, replicate, codes, decimal, IfOk, OnOk, None, Some, slice_index_or, [], true};
+ghost use Rattle.std.specs.List.{sum_by};
+ghost use Rattle.build_base.specs.Answer.{AnswersAs, Checks};
+ghost use Rattle.build_base.specs.Runs.{runs_bytes, kept_bytes, are_blank, free_byte, Written};
+ghost use Rattle.fd_regions.specs.Device.{device_of, device_fault, device_image, compared, region_fault};
 
-use crate::image::Device;
-use build_base::bytes::fill;
-use build_base::{Fault, Permit, Place, Refusal, Rows, Same, Text, WantOfMemory};
+use crate::contents::Contents;
+use build_base::{Fault, Permit, Place, Refusal, Rows, Run, RunWriter, Same, Text, WantOfMemory};
 use doc_types::flash::{DevicePlan, Region};
 use itoa::Buffer;
 use std::alloc::Global;
 
-/// The device of a plan, from the content of each of its regions. `RegionOrder`, `RegionOutside` and
+/// The device of a plan, from the content of each of its regions, as runs. `RegionOrder`, `RegionOutside` and
 /// `DataTooLong` stand at the region's line, and their details compare the two numbers concerned.
 #[tactic(auto, unfolding(crate::specs::Device::device_of))]
-pub fn device(
+pub fn device<C: Contents>(
     alloc: Global,
     permit: Permit,
     plan: &DevicePlan,
-    parts: &Rows<Text>,
-) -> Result<Device, Refusal>
-    requires { length plan.now.regions ≡ length parts.now }
-    ensures { Answers result (device_of plan.now parts.now) }
+    parts: &C,
+) -> Result<Rows<Run>, Refusal>
+    requires { length plan.now.regions ≡ length (C.contents parts.now) }
+    ensures value { AnswersAs runs_bytes result (device_of plan.now (C.contents parts.now)) }
+    ensures kept { IfOk result (λ runs. kept_bytes runs ≤ sum_by length (C.contents parts.now)) }
+    ensures blank { IfOk result (λ runs. are_blank runs ≡ true) }
+    ensures short { IfOk result (λ runs. length (runs_bytes runs) < 2 ^ 64) }
 {
     let _spent = permit;
     let regions = plan.regions.items();
-    check(alloc, plan.size, regions, parts.items())?;
-    let bytes = image(alloc, plan, regions, parts.items())?;
-    Ok(Device::of(Text::from_vec(bytes)))
+    check(alloc, plan.size, regions, parts)?;
+    Ok(image(alloc, plan, regions, parts)?)
 }
 
 // The first fault.
-fn check(alloc: Global, size: u64, regions: &[Region], parts: &[Text]) -> Result<(), Refusal>
-    requires { length regions.now ≡ length parts.now }
-    ensures { Checks result (device_fault size 0 regions.now parts.now) }
+fn check<C: Contents>(
+    alloc: Global,
+    size: u64,
+    regions: &[Region],
+    parts: &C,
+) -> Result<(), Refusal>
+    requires { length regions.now ≡ length (C.contents parts.now) }
+    ensures { Checks result (device_fault size 0 regions.now (C.contents parts.now)) }
 {
     let mut at: u64 = 0;
     for (i, region) in regions.iter().enumerate() {
-        if let Err(refusal) = check_region(alloc, region, parts[i].bytes(), at, size) {
+        if let Err(refusal) = check_region(alloc, region, parts.length(i), at, size) {
             return Err(refusal);
         }
         at = region.offset + region.size;
@@ -48,11 +56,11 @@ fn check(alloc: Global, size: u64, regions: &[Region], parts: &[Text]) -> Result
 fn check_region(
     alloc: Global,
     region: &Region,
-    part: &[u8],
+    wanted: u64,
     at: u64,
     size: u64,
 ) -> Result<(), Refusal>
-    ensures fault { Checks result (region_fault size at region.now part.now) }
+    ensures fault { Checks result (region_fault size at region.now wanted) }
     ensures inside { OnOk result (region.now.offset + region.now.size ≤ size) }
 {
     if region.offset < at {
@@ -64,9 +72,8 @@ fn check_region(
         return bad(alloc, 712, &region.at, end, b" > ", size as u128);
     }
     let given = region.size as u128;
-    let wanted = part.len() as u128;
-    if wanted > given {
-        return bad(alloc, 713, &region.at, wanted, b" > ", given);
+    if wanted > region.size {
+        return bad(alloc, 713, &region.at, wanted as u128, b" > ", given);
     }
     Ok(())
 }
@@ -101,51 +108,50 @@ fn compared(alloc: Global, first: u128, sign: &[u8], second: u128) -> Result<Tex
     Ok(Text::from_vec(out))
 }
 
-// The erase byte of a polarity.
-fn free_byte(erase: u8) -> u8
-    ensures { result ≡ free_byte erase }
-{
-    if erase == 0 { 0 } else { 255 }
-}
-
-fn image(
+fn image<C: Contents>(
     alloc: Global,
     plan: &DevicePlan,
     regions: &[Region],
-    parts: &[Text],
-) -> Result<Vec<u8>, WantOfMemory>
+    parts: &C,
+) -> Result<Rows<Run>, WantOfMemory>
     requires own { regions.now ≡ plan.now.regions }
-    requires as_many { length regions.now ≡ length parts.now }
-    requires checked { device_fault plan.now.size 0 regions.now parts.now ≡ None }
-    ensures { IfOk result (λ v. v.items ≡ device_image plan.now parts.now) }
+    requires as_many { length regions.now ≡ length (C.contents parts.now) }
+    requires checked { device_fault plan.now.size 0 regions.now (C.contents parts.now) ≡ None }
+    ensures value { IfOk result (λ runs. runs_bytes runs ≡ device_image plan.now (C.contents parts.now)) }
+    ensures kept { IfOk result (λ runs. kept_bytes runs ≤ sum_by length (C.contents parts.now)) }
+    ensures blank { IfOk result (λ runs. are_blank runs ≡ true) }
+    ensures short { IfOk result (λ runs. length (runs_bytes runs) < 2 ^ 64) }
 {
-    let size = plan.size;
-    let free = free_byte(plan.erase);
-    let mut out = Vec::new(alloc);
+    let mut out = RunWriter::new(alloc, plan.erase);
     let mut at: u64 = 0;
     for (i, region) in regions.iter().enumerate() {
-        put_region(&mut out, at, region, parts[i].bytes(), free)?;
+        put_region(alloc, &mut out, at, region, parts, i)?;
         at = region.offset + region.size;
     }
-    fill(&mut out, size - at, free)?;
-    Ok(out)
+    out.fill(plan.size - at)?;
+    Ok(out.finish())
 }
 
-// Appends the free space before a region, its content, and the free space behind it.
-fn put_region(
-    out: &mut Vec<u8>,
+// Writes the free space before a region, its content, and the free space behind it.
+fn put_region<C: Contents>(
+    alloc: Global,
+    out: &mut RunWriter,
     at: u64,
     region: &Region,
-    part: &[u8],
-    free: u8,
+    parts: &C,
+    i: usize,
 ) -> Result<(), WantOfMemory>
+    requires there { i < length (C.contents parts.now) }
     requires after { at ≤ region.now.offset }
-    requires fits { length part.now ≤ region.now.size }
-    ensures { OnOk result (out.new.items ≡ (out.old.items ++ replicate (region.now.offset - at) free) ++ (part.now ++ replicate (region.now.size - length part.now) free)) }
+    requires fits { length (slice_index_or (C.contents parts.now) i []) ≤ region.now.size }
+    ensures bytes { let part = slice_index_or (C.contents parts.now) i [] in
+        OnOk result (out.new.bytes ≡ (out.old.bytes ++ replicate (region.now.offset - at) out.old.free)
+        ++ (part ++ replicate (region.now.size - length part) out.old.free)) }
+    ensures kept { OnOk result (out.new.kept ≤ out.old.kept + length (slice_index_or (C.contents parts.now) i [])) }
+    ensures free { OnOk result (out.new.free ≡ out.old.free) }
 {
-    fill(out, region.offset - at, free)?;
-    let len = part.len() as u64;
-    out.extend_from_slice(part)?;
-    fill(out, region.size - len, free)?;
+    out.fill(region.offset - at)?;
+    parts.write(alloc, i, out)?;
+    out.fill(region.size - parts.length(i))?;
     Ok(())
 }

@@ -1,14 +1,14 @@
 //! A device's image.
-ghost use Rattle.std.specs.Prelude.{◌≡◌, length};
+ghost use Rattle.std.specs.Prelude.{◌≡◌, ◌<◌, ◌^◌, true, length};
+ghost use Rattle.build_base.specs.Runs.{runs_bytes, are_blank};
 
-use build_base::{Pieces, Same, Text, WantOfMemory};
-use std::alloc::Global;
+use build_base::{Image, Pieces, Rows, Run};
 use std::marker::Model;
 
-/// The bytes of a flash device, from its base address on.
+/// A flash device, from its base address on, seen by contracts as its bytes.
 #[derive(Debug, Drop)]
 pub struct Device {
-    bytes: Text,
+    image: Image,
 }
 
 impl Model for Device {
@@ -16,46 +16,47 @@ impl Model for Device {
 
     ghost Value = { List ℕ };
 
-    ghost view = { λ d. d.bytes };
+    ghost view = { λ d. d.image };
 }
 
 impl Device {
-    pub(crate) fn of(bytes: Text) -> Device
-        ensures { result ≡ bytes }
+    /// The device of these runs.
+    pub fn of_runs(runs: Rows<Run>) -> Device
+        requires short { length (runs_bytes runs) < 2 ^ 64 }
+        requires blank { are_blank runs ≡ true }
+        ensures { result ≡ runs_bytes runs }
     {
-        Device { bytes }
+        Device {
+            image: Image::of_runs(runs),
+        }
+    }
+
+    /// Its runs, in order.
+    pub fn runs(&self) -> &[Run]
+        ensures bytes { runs_bytes result.now ≡ self.now }
+        ensures blank { are_blank result.now ≡ true }
+    {
+        self.image.runs()
     }
 
     /// How many bytes it has.
     pub fn length(&self) -> u64
         ensures { result ≡ length self.now }
     {
-        self.bytes.bytes().len() as u64
-    }
-
-    /// Its bytes.
-    pub fn into_text(self) -> Text
-        ensures { result ≡ self }
-    {
-        self.bytes
+        self.image.length()
     }
 
     /// Its bytes, piece by piece.
     pub fn pieces(&self) -> Pieces<'_>
         ensures { result ≡ self.now }
     {
-        Pieces::of(self.bytes.bytes())
-    }
-}
-
-impl Same for Device {
-    fn copy(&self, alloc: Global) -> Result<Device, WantOfMemory> {
-        Ok(Device {
-            bytes: self.bytes.copy(alloc)?,
-        })
+        self.image.pieces()
     }
 
-    fn same(&self, other: &Device) -> bool {
-        self.bytes.same(&other.bytes)
+    /// Its image.
+    pub fn into_image(self) -> Image
+        ensures { result ≡ self }
+    {
+        self.image
     }
 }

@@ -2,10 +2,9 @@
 #![tactic(auto)]
 
 pub mod compose;
+pub mod contents;
 pub mod image;
 
 pub use compose::device;
+pub use contents::Contents;
 pub use image::Device;
-
-#[cfg(test)]
-mod tests;

@@ -12,8 +12,9 @@ use Rattle.ffs_sections.specs.Alignment.{IsAlignment}
 use Rattle.ffs_sections.specs.File.{state_of}
 use Rattle.ffs_sections.proofs.HeadLemmas.{length_head}
 use Rattle.fv_compose.specs.Place.{start_of, up}
-use Rattle.fv_compose.specs.Files.{is_top, top_of, plain_files, end_of, file_end, pad_fault, pads_fault, AreAligned, placed_pieces, files_pieces, pad_bytes, free_byte, top_start}
-use Rattle.fv_compose.specs.Turns.{next_end, own_pad_fault, own_pieces}
+use Rattle.fv_compose.specs.Files.{is_top, top_of, plain_files, end_of, file_end, pad_fault, pads_fault, AreAligned, placed_pieces, files_pieces, pad_bytes, top_start, bytes_in, top_bytes}
+use Rattle.build_base.specs.Runs.{free_byte}
+use Rattle.fv_compose.specs.Turns.{next_end, own_pad_fault, own_pieces, own_bytes}
 use Rattle.fv_compose.specs.Volume.{holds, taken_by}
 use Rattle.fv_compose.proofs.PlaceLemmas.{Known, known_alignment, start_near, start_is, up_after}
 use Rattle.fv_compose.proofs.LengthLemmas.{holds_room, holds_space}
@@ -237,3 +238,21 @@ length_top free erase out next file size h e =
     let room = holds_room true (taken_by (length out) (Some file)) size h in
     let l = length_placed free erase out (top_start file size) file.bytes (top_spaced (length out) file size h).1 in
     omega (arith, ap length e)
+
+pub bytes_more : (files : List FileImage) (i : ℕ) (file : FileImage) → i < length files → file ≡ get_or files i file → bytes_in (plain_files (drop i files)) ≡ own_bytes file + bytes_in (plain_files (drop (i + 1) files))
+unfolding bytes_in
+bytes_more files i file h e =
+    let rest : List FileImage = plain_files (drop (i + 1) files) in
+    rw (plain_more files i file h e)
+    (elim (is_top file) as (λ b. bytes_in (if b then rest else file ∷ rest) ≡ (if b then 0 else length file.bytes) + bytes_in rest) [ true ↦ omega arith | false ↦ refl ])
+
+-- the files but the first top file, and the top file, have no more bytes than all
+pub bytes_with_top : (files : List FileImage) → bytes_in (plain_files files) + top_bytes (top_of files) ≤ bytes_in files
+unfolding bytes_in plain_files
+bytes_with_top [] = omega arith
+bytes_with_top (file ∷ files) =
+    let ih : bytes_in (plain_files files) + top_bytes (top_of files) ≤ bytes_in files = bytes_with_top files in
+    elim (is_top file) as (λ b. bytes_in (cond (not b) (file ∷ plain_files files) (plain_files files)) + top_bytes (cond b (Some file) (top_of files)) ≤ length file.bytes + bytes_in files) [
+      | true ↦ omega arith
+      | false ↦ omega arith
+    ]

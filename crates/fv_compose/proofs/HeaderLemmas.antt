@@ -6,7 +6,7 @@ use Rattle.doc_types.specs.declared.volume_head.VolumeHead.{VolumeHead}
 use Rattle.ffs_sections.proofs.HeadLemmas.{length_head}
 use Rattle.ffs_sections.specs.File.{state_of}
 use Rattle.fv_compose.specs.Header.{head_of, head_list, head_front, head_start, head_back, extended_bytes, extended_pieces, start_pieces}
-use Rattle.fv_compose.specs.Files.{free_byte}
+use Rattle.build_base.specs.Runs.{free_byte}
 
 pub head_length : (plan : VolumeHead) (size : ℕ) → length (head_of plan size) ≡ 72
 unfolding head_of head_list head_front head_start head_back

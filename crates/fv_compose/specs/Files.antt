@@ -1,9 +1,11 @@
 -- The files of a volume in their places, and the pad files between them.
-use Rattle.std.specs.Prelude.{ℕ, ◌+◌, ◌-◌, ◌==◌, Bool, not, nat_lt, if◌then◌else◌, List, [], ◌∷◌, ◌++◌, length, replicate, All, Option, Some, None}
+use Rattle.std.specs.Prelude.{◌≡◌, ℕ, ◌+◌, ◌-◌, ◌*◌, ◌^◌, ◌<◌, ◌≤◌, ◌==◌, Bool, true, not, nat_lt, if◌then◌else◌, List, [], ◌∷◌, ◌++◌, length, replicate, All, Option, Some, None}
 use Rattle.std.specs.List.{filter, find}
 use Rattle.std.specs.Str.{bytes_eq}
 use Rattle.build_base.specs.First.{first_holding, or_else}
 use Rattle.build_base.specs.Pieces.{Piece}
+use Rattle.build_base.specs.Runs.{free_byte, runs_bytes, kept_bytes, are_blank}
+use Rattle.build_base.specs.declared.run.Run.{Run}
 use Rattle.build_base.specs.declared.fault.Fault.{Fault}
 use Rattle.doc_types.specs.declared.image.FileImage.{FileImage}
 use Rattle.ffs_sections.specs.Alignment.{IsAlignment}
@@ -11,13 +13,10 @@ use Rattle.ffs_sections.specs.File.{file_head, state_of}
 use Rattle.ffs_sections.specs.Sections.{sized}
 use Rattle.fv_compose.specs.Place.{start_of, up}
 
--- the byte of erased flash under an erase polarity
-abbrev pub free_byte : ℕ → ℕ
-free_byte erase = if erase == 0 then 0 else 255
-
 -- EFI_FFS_VOLUME_TOP_FILE_GUID, 1BA0062E-C779-4582-8566-336AE8F78F09
 abbrev pub top_name : List ℕ
-top_name = 46 ∷ 6 ∷ 160 ∷ 27 ∷ 121 ∷ 199 ∷ 130 ∷ 69 ∷ 133 ∷ 102 ∷ 51 ∷ 106 ∷ 232 ∷ 247 ∷ 143 ∷ 9 ∷ []
+top_name =
+    0x2E ∷ 0x06 ∷ 0xA0 ∷ 0x1B ∷ 0x79 ∷ 0xC7 ∷ 0x82 ∷ 0x45 ∷ 0x85 ∷ 0x66 ∷ 0x33 ∷ 0x6A ∷ 0xE8 ∷ 0xF7 ∷ 0x8F ∷ 0x09 ∷ []
 
 -- whether a file is the volume top file
 unfoldable pub is_top : FileImage → Bool
@@ -34,9 +33,13 @@ top_of files = find is_top files
 unfoldable pub plain_files : List FileImage → List FileImage
 plain_files files = filter (λ file. not (is_top file)) files
 
+-- the header of a pad file: a name of ones, no checksum of the body, and the type EFI_FV_FILETYPE_FFS_PAD
+abbrev pub pad_header : ℕ → ℕ → List ℕ
+pad_header erase size = file_head (replicate 16 0xFF) 0xAA 0xF0 0 size (state_of erase)
+
 -- a pad file of this size
 unfoldable pub pad_bytes : ℕ → ℕ → List ℕ
-pad_bytes erase size = file_head (replicate 16 255) 170 240 0 size (state_of erase) ++ replicate (size - 24) (free_byte erase)
+pad_bytes erase size = pad_header erase size ++ replicate (size - 24) (free_byte erase)
 
 -- a file at its start, and between an end and it a pad file where there is space
 unfoldable pub placed_pieces : ℕ → ℕ → ℕ → List ℕ → List Piece
@@ -81,3 +84,18 @@ top_pad_fault at (Some file) size = pad_fault at (top_start file size) file
 
 unfoldable pub AreAligned : List FileImage → Type 0
 AreAligned files = All (λ file. IsAlignment file.align) files
+
+-- how many bytes files have
+unfoldable pub bytes_in : List FileImage → ℕ
+bytes_in [] = 0
+bytes_in (file ∷ files) = length file.bytes + bytes_in files
+
+abbrev pub top_bytes : Option FileImage → ℕ
+top_bytes None = 0
+top_bytes (Some file) = length file.bytes
+
+-- The runs of a volume keep as bytes no more than its headers, its files, and a header for each pad file; each fill is of erased flash.
+pub record AreRunsOf (files : List FileImage) (runs : List Run) : Type 0 where
+  pub kept : kept_bytes runs ≤ 116 + bytes_in files + 32 * (length files + 1)
+  pub blank : are_blank runs ≡ true
+  pub short : length (runs_bytes runs) < 2 ^ 64

@@ -1,5 +1,5 @@
 -- What each file adds to a volume where its files are gone through in order: the top file adds nothing among the others.
-use Rattle.std.specs.Prelude.{ℕ, if◌then◌else◌, List, [], Option, Some, None}
+use Rattle.std.specs.Prelude.{ℕ, if◌then◌else◌, length, List, [], Option, Some, None}
 use denote.Ref.{Bor}
 use Rattle.build_base.specs.Pieces.{Piece}
 use Rattle.build_base.specs.declared.fault.Fault.{Fault}
@@ -20,3 +20,6 @@ own_pad_fault at file = if is_top file then None else pad_fault at (start_of at 
 
 abbrev pub own_pieces : ℕ → ℕ → FileImage → List Piece
 own_pieces erase at file = if is_top file then [] else placed_pieces erase at (start_of at file.align) file.bytes
+
+abbrev pub own_bytes : FileImage → ℕ
+own_bytes file = if is_top file then 0 else length file.bytes

@@ -3,13 +3,14 @@ use Rattle.std.specs.Prelude.{◌≡◌, ℕ, ◌+◌, ◌%◌, ◌==◌, ◌≤
 use Rattle.std.specs.List.{range_with_len, find}
 use Rattle.build_base.specs.First.{first_holding, or_else, unless, and_then}
 use Rattle.build_base.specs.Pieces.{image_of}
+use Rattle.build_base.specs.Runs.{free_byte}
 use Rattle.build_base.specs.declared.fault.Place.{Place}
 use Rattle.build_base.specs.declared.fault.Fault.{Fault}
 use Rattle.doc_types.specs.declared.image.FileImage.{FileImage}
 use Rattle.doc_types.specs.declared.volume_head.VolumeHead.{VolumeHead}
 use Rattle.fv_compose.specs.Place.{up}
 use Rattle.fv_compose.specs.Header.{start_pieces, first_end}
-use Rattle.fv_compose.specs.Files.{free_byte, top_files, top_of, plain_files, files_pieces, end_of, top_start, top_pieces, pads_fault, top_pad_fault}
+use Rattle.fv_compose.specs.Files.{top_files, top_of, plain_files, files_pieces, end_of, top_start, top_pieces, pads_fault, top_pad_fault}
 pub use Rattle.doc_types.specs.Volumes.{SizeFits, HasShape}
 
 -- the end of the files but the top file

@@ -1,17 +1,17 @@
 //! The files of a volume in their places, and the pad files between them.
-ghost use Rattle.std.specs.Prelude.{◌≡◌, ◌≤◌, ◌<◌, ◌+◌, ◌^◌, ◌++◌, ◌⊎◌, length, vec_len, OnOk, None, if◌then◌else◌, is_some, true, is_none};
+ghost use Rattle.std.specs.Prelude.{◌≡◌, ◌≤◌, ◌<◌, ◌+◌, ◌^◌, ◌++◌, ◌*◌, ◌⊎◌, length, OnOk, IfOk, None, if◌then◌else◌, is_some, true, is_none};
 ghost use Rattle.build_base.specs.Answer.{Checks};
 ghost use Rattle.build_base.specs.Pieces.{put_pieces};
+ghost use Rattle.build_base.specs.Runs.{free_byte, Written};
 ghost use Rattle.ffs_sections.specs.Alignment.{IsAlignment};
 ghost use Rattle.fv_compose.specs.Place.{up, start_of};
-ghost use Rattle.fv_compose.specs.Files.{free_byte, is_top, top_of, plain_files, pad_bytes, placed_pieces, file_end, files_pieces, end_of, top_pieces, pad_fault, pads_fault, top_pad_fault, AreAligned};
-ghost use Rattle.fv_compose.specs.Turns.{pointed, next_end, own_pad_fault, own_pieces};
+ghost use Rattle.fv_compose.specs.Files.{is_top, top_of, plain_files, pad_header, pad_bytes, bytes_in, top_bytes, placed_pieces, file_end, files_pieces, end_of, top_pieces, pad_fault, pads_fault, top_pad_fault, AreAligned};
+ghost use Rattle.fv_compose.specs.Turns.{pointed, next_end, own_pad_fault, own_pieces, own_bytes};
 ghost use Rattle.fv_compose.specs.Volume.{taken_by, holds};
 
 use crate::header::{NO_CHECK, PAD, PAD_NAME};
 use crate::place::{place_of, start, up};
-use build_base::bytes::{fill, put};
-use build_base::{Refusal, WantOfMemory};
+use build_base::{Refusal, RunWriter, Same, Text, WantOfMemory};
 use doc_types::image::FileImage;
 use ffs_sections::faults::sized;
 use ffs_sections::header::{Head, append_head, state_of};
@@ -24,13 +24,6 @@ static TOP_NAME: [u8; 16] = [
 
 /// The greatest size of a pad file.
 const PAD_LIMIT: u64 = 0xFF_FFFF;
-
-/// The byte of erased flash under this erase polarity.
-pub(crate) fn free_byte(erase: u8) -> u8
-    ensures { result ≡ free_byte erase }
-{
-    if erase == 0 { 0x00 } else { 0xFF }
-}
 
 /// Whether a file is the volume top file.
 #[tactic(auto, unfolding(crate::specs::Files::is_top))]
@@ -153,90 +146,131 @@ pub(crate) fn taken_by(end: u128, top: Option<&FileImage>) -> u128
     }
 }
 
-// Appends a pad file.
-fn put_pad(alloc: Global, out: &mut Vec<u8>, size: u64, erase: u8) -> Result<(), WantOfMemory>
+// Writes a pad file.
+fn put_pad(
+    alloc: Global,
+    out: &mut RunWriter,
+    size: u64,
+    erase: u8,
+) -> Result<(), WantOfMemory>
     requires least { 24 ≤ size }
     requires most { size ≤ 16777215 }
-    ensures items { OnOk result (out.new.items ≡ out.old.items ++ pad_bytes erase size) }
-    ensures len { OnOk result (vec_len out.new ≡ vec_len out.old + size) }
+    requires free { out.old.free ≡ free_byte erase }
+    ensures bytes { OnOk result (out.new.bytes ≡ out.old.bytes ++ pad_bytes erase size) }
+    ensures len { OnOk result (length out.new.bytes ≡ length out.old.bytes + size) }
+    ensures kept { OnOk result (out.new.kept ≡ out.old.kept + 24) }
+    ensures free { OnOk result (out.new.free ≡ out.old.free) }
 {
-    append_pad(alloc, out, size, erase)?;
+    let head = pad_head(alloc, size as u32, erase)?;
+    put_pad_file(out, Text::from_vec(head), size, erase)?;
     Ok(())
 }
 
-#[tactic(auto, unfolding(crate::specs::Files::pad_bytes))]
-fn append_pad(alloc: Global, out: &mut Vec<u8>, size: u64, erase: u8) -> Result<(), WantOfMemory>
-    requires least { 24 ≤ size }
-    requires most { size ≤ 16777215 }
-    ensures { OnOk result (out.new.items ≡ out.old.items ++ pad_bytes erase size) }
+// The header of a pad file.
+fn pad_head(alloc: Global, size: u32, erase: u8) -> Result<Vec<u8>, WantOfMemory>
+    ensures bytes { IfOk result (λ head. head.items ≡ pad_header erase size) }
+    ensures length { IfOk result (λ head. length head.items ≡ 24) }
 {
     let head = Head {
         check: NO_CHECK,
         kind: PAD,
         attributes: 0,
-        size: size as u32,
+        size,
         state: state_of(erase),
     };
-    append_head(alloc, out, &PAD_NAME, &head)?;
-    fill(out, size - 24, free_byte(erase))
+    let mut bytes = Vec::new(alloc);
+    append_head(alloc, &mut bytes, &PAD_NAME, &head)?;
+    Ok(bytes)
 }
 
-// Appends a file at its start, with a pad file before it where there is space.
+#[tactic(auto, unfolding(crate::specs::Files::pad_bytes))]
+fn put_pad_file(
+    out: &mut RunWriter,
+    head: Text,
+    size: u64,
+    erase: u8,
+) -> Result<(), WantOfMemory>
+    requires least { 24 ≤ size }
+    requires head { head ≡ pad_header erase size }
+    requires short { length head ≡ 24 }
+    requires free { out.old.free ≡ free_byte erase }
+    ensures bytes { OnOk result (out.new.bytes ≡ out.old.bytes ++ pad_bytes erase size) }
+    ensures kept { OnOk result (out.new.kept ≡ out.old.kept + 24) }
+    ensures free { OnOk result (out.new.free ≡ out.old.free) }
+{
+    out.put(head)?;
+    out.fill(size - 24)?;
+    Ok(())
+}
+
+// Writes a file at its start, with a pad file before it where there is space.
 #[tactic(auto, unfolding(crate::specs::Files::placed_pieces, build_base::specs::Pieces::put_pieces))]
 fn put_placed(
     alloc: Global,
-    out: &mut Vec<u8>,
+    out: &mut RunWriter,
     start: u64,
-    bytes: &[u8],
+    bytes: &Text,
     erase: u8,
 ) -> Result<(), WantOfMemory>
-    requires near { vec_len out.old ≤ 2 ^ 28 }
-    requires room { (start ≡ up 8 (vec_len out.old)) ⊎ (up 8 (vec_len out.old) + 24 ≤ start) }
-    requires pad { start ≤ up 8 (vec_len out.old) + 16777215 }
-    ensures { OnOk result (out.new.items ≡ put_pieces (free_byte erase) out.old.items (placed_pieces erase (length out.old.items) start bytes.now)) }
+    requires near { length out.old.bytes ≤ 2 ^ 28 }
+    requires room { (start ≡ up 8 (length out.old.bytes)) ⊎ (up 8 (length out.old.bytes) + 24 ≤ start) }
+    requires pad { start ≤ up 8 (length out.old.bytes) + 16777215 }
+    requires free { out.old.free ≡ free_byte erase }
+    ensures bytes { OnOk result (out.new.bytes ≡ put_pieces (free_byte erase) out.old.bytes (placed_pieces erase (length out.old.bytes) start bytes.now)) }
+    ensures kept { OnOk result (out.new.kept ≤ out.old.kept + length bytes.now + 32) }
+    ensures free { OnOk result (out.new.free ≡ out.old.free) }
 {
-    let free = free_byte(erase);
-    let first = up(8, out.len() as u128) as u64;
+    let first = up(8, out.length() as u128) as u64;
+    let copy = bytes.copy(alloc)?;
     if start == first {
-        return put(out, start, bytes, free);
+        out.put_at(start, copy)?;
+        return Ok(());
     }
-    let gap = first - out.len() as u64;
-    fill(out, gap, free)?;
+    let gap = first - out.length();
+    out.fill(gap)?;
     put_pad(alloc, out, start - first, erase)?;
-    put(out, start, bytes, free)
+    out.put_at(start, copy)?;
+    Ok(())
 }
 
-// Appends a file in its place, unless it is the top file.
+// Writes a file in its place, unless it is the top file.
 fn put_file(
     alloc: Global,
-    out: &mut Vec<u8>,
+    out: &mut RunWriter,
     file: &FileImage,
     erase: u8,
 ) -> Result<(), WantOfMemory>
-    requires near { vec_len out.old ≤ 2 ^ 28 }
+    requires near { length out.old.bytes ≤ 2 ^ 28 }
     requires aligned { IsAlignment file.now.align }
-    requires pad { own_pad_fault (vec_len out.old) file.now ≡ None }
-    ensures { OnOk result (out.new.items ≡ put_pieces (free_byte erase) out.old.items (own_pieces erase (length out.old.items) file.now)) }
+    requires pad { own_pad_fault (length out.old.bytes) file.now ≡ None }
+    requires free { out.old.free ≡ free_byte erase }
+    ensures bytes { OnOk result (out.new.bytes ≡ put_pieces (free_byte erase) out.old.bytes (own_pieces erase (length out.old.bytes) file.now)) }
+    ensures kept { OnOk result (out.new.kept ≤ out.old.kept + own_bytes file.now + 32) }
+    ensures free { OnOk result (out.new.free ≡ out.old.free) }
 {
     if is_top(file) {
         return Ok(());
     }
-    let placed = place_of(out.len() as u64, file.align);
-    put_placed(alloc, out, placed.file, file.bytes.bytes(), erase)
+    let placed = place_of(out.length(), file.align);
+    put_placed(alloc, out, placed.file, &file.bytes, erase)?;
+    Ok(())
 }
 
-/// Appends the files, the top file apart, behind the header.
+/// Writes the files, the top file apart, behind the header.
 pub(crate) fn put_files(
     alloc: Global,
-    out: &mut Vec<u8>,
+    out: &mut RunWriter,
     files: &[FileImage],
     erase: u8,
 ) -> Result<(), WantOfMemory>
     requires aligned { AreAligned files.now }
-    requires short { end_of (vec_len out.old) (plain_files files.now) ≤ 2 ^ 28 }
-    requires pads { pads_fault (vec_len out.old) (plain_files files.now) ≡ None }
-    ensures items { OnOk result (out.new.items ≡ put_pieces (free_byte erase) out.old.items (files_pieces erase (length out.old.items) (plain_files files.now))) }
-    ensures len { OnOk result (vec_len out.new ≡ end_of (vec_len out.old) (plain_files files.now)) }
+    requires short { end_of (length out.old.bytes) (plain_files files.now) ≤ 2 ^ 28 }
+    requires pads { pads_fault (length out.old.bytes) (plain_files files.now) ≡ None }
+    requires free { out.old.free ≡ free_byte erase }
+    ensures bytes { OnOk result (out.new.bytes ≡ put_pieces (free_byte erase) out.old.bytes (files_pieces erase (length out.old.bytes) (plain_files files.now))) }
+    ensures len { OnOk result (length out.new.bytes ≡ end_of (length out.old.bytes) (plain_files files.now)) }
+    ensures kept { OnOk result (out.new.kept ≤ out.old.kept + bytes_in (plain_files files.now) + 32 * length files.now) }
+    ensures free { OnOk result (out.new.free ≡ out.old.free) }
 {
     for image in files {
         put_file(alloc, out, image, erase)?;
@@ -244,25 +278,28 @@ pub(crate) fn put_files(
     Ok(())
 }
 
-/// Appends the top file so that it ends at the volume's last byte.
+/// Writes the top file so that it ends at the volume's last byte.
 pub(crate) fn put_top(
     alloc: Global,
-    out: &mut Vec<u8>,
+    out: &mut RunWriter,
     top: Option<&FileImage>,
     size: u64,
     erase: u8,
 ) -> Result<(), WantOfMemory>
     requires near { size ≤ 2 ^ 28 }
-    requires room { holds (is_some (pointed top)) (taken_by (vec_len out.old) (pointed top)) size ≡ true }
-    requires pad { top_pad_fault (vec_len out.old) (pointed top) size ≡ None }
-    ensures items { OnOk result (out.new.items ≡ put_pieces (free_byte erase) out.old.items (top_pieces erase (length out.old.items) (pointed top.entry) size)) }
-    ensures len { OnOk result (vec_len out.new ≤ size) }
+    requires room { holds (is_some (pointed top)) (taken_by (length out.old.bytes) (pointed top)) size ≡ true }
+    requires pad { top_pad_fault (length out.old.bytes) (pointed top) size ≡ None }
+    requires free { out.old.free ≡ free_byte erase }
+    ensures bytes { OnOk result (out.new.bytes ≡ put_pieces (free_byte erase) out.old.bytes (top_pieces erase (length out.old.bytes) (pointed top.entry) size)) }
+    ensures len { OnOk result (length out.new.bytes ≤ size) }
+    ensures kept { OnOk result (out.new.kept ≤ out.old.kept + top_bytes (pointed top.entry) + 32) }
+    ensures free { OnOk result (out.new.free ≡ out.old.free) }
 {
     match top {
         None => Ok(()),
         Some(file) => {
-            let bytes = file.bytes.bytes();
-            put_placed(alloc, out, size - bytes.len() as u64, bytes, erase)?;
+            let len = file.bytes.bytes().len() as u64;
+            put_placed(alloc, out, size - len, &file.bytes, erase)?;
             Ok(())
         }
     }

@@ -2,7 +2,7 @@
 ghost use Rattle.std.specs.Prelude.{◌≡◌, ◌≤◌, ◌<◌, ◌+◌, ◌%◌, ◌^◌, ◌++◌, ◌∷◌, [], vec_len, OnOk, IfOk};
 ghost use Rattle.byteorder.specs.Endian.{little_bytes};
 ghost use Rattle.build_base.specs.Pieces.{put_pieces};
-ghost use Rattle.fv_compose.specs.Files.{free_byte};
+ghost use Rattle.build_base.specs.Runs.{free_byte};
 ghost use Rattle.fv_compose.specs.Header.{words_sum, zero_word, head_start, head_front, head_back, head_list, head_of, extended_place, extended_bytes, start_pieces, first_end};
 
 use build_base::bytes::fill;

@@ -1,20 +1,19 @@
 //! The image of a volume: header, files, pads and free space.
 ghost use Rattle.std.specs.Prelude.{◌≡◌, ◌≤◌, ◌%◌, ◌+◌, ◌^◌, ◌↔◌, IsTrue, IfOk, IfSome, Some, None, is_some, true};
-ghost use Rattle.build_base.specs.Answer.{Answers, Checks};
+ghost use Rattle.build_base.specs.Answer.{AnswersAs, Checks};
+ghost use Rattle.build_base.specs.Runs.{runs_bytes};
 ghost use Rattle.ffs_sections.specs.Alignment.{IsAlignment};
 ghost use Rattle.fv_compose.specs.Header.{first_end};
-ghost use Rattle.fv_compose.specs.Files.{plain_files, top_of, AreAligned};
+ghost use Rattle.fv_compose.specs.Files.{plain_files, top_of, AreAligned, AreRunsOf};
 ghost use Rattle.fv_compose.specs.Turns.{pointed};
 ghost use Rattle.fv_compose.specs.Volume.{last_end, taken_by, holds, named, twice_fault, start_fault, top_fault, place_fault, volume_image, with_length, length_of, volume_of, HasShape, IsLength};
 
 use crate::files::{
-    check_pads, check_top_pad, end_of, free_byte, is_top, put_files, put_top, taken_by, top_of,
+    check_pads, check_top_pad, end_of, is_top, put_files, put_top, taken_by, top_of,
 };
 use crate::header::{first_end, start_bytes};
 use crate::length::{full, length_for};
-use crate::volume::Volume;
-use build_base::bytes::fill;
-use build_base::{Fault, Permit, Place, Refusal, Rows, Same, Text, WantOfMemory};
+use build_base::{Fault, Permit, Place, Refusal, Rows, Run, RunWriter, Same, Text, WantOfMemory};
 use doc_types::image::FileImage;
 use doc_types::volume_head::VolumeHead;
 use ffs_sections::alignment::is_alignment;
@@ -150,19 +149,22 @@ fn image(
     files: &[FileImage],
     top: Option<&FileImage>,
     size: u64,
-) -> Result<Volume, WantOfMemory>
+) -> Result<Rows<Run>, WantOfMemory>
     requires aligned { AreAligned files.now }
     requires top { pointed top ≡ top_of files.now }
     requires length { IsLength plan.now.block_size (is_some (pointed top)) (taken_by (last_end plan.now files.now) (pointed top)) size }
     requires places { place_fault plan.now files.now size ≡ None }
-    ensures { IfOk result (λ v. v ≡ volume_image plan.now files.now size) }
+    ensures value { IfOk result (λ runs. runs_bytes runs ≡ volume_image plan.now files.now size) }
+    ensures runs { IfOk result (AreRunsOf files.now) }
 {
-    let mut out = start_bytes(alloc, plan, size)?;
+    let head = start_bytes(alloc, plan, size)?;
+    let mut out = RunWriter::new(alloc, plan.erase);
+    out.put(Text::from_vec(head))?;
     put_files(alloc, &mut out, files, plan.erase)?;
     put_top(alloc, &mut out, top, size, plan.erase)?;
-    let len = out.len() as u64;
-    fill(&mut out, size - len, free_byte(plan.erase))?;
-    Ok(Volume::of(Text::from_vec(out)))
+    let len = out.length();
+    out.fill(size - len)?;
+    Ok(out.finish())
 }
 
 fn composed(
@@ -172,27 +174,29 @@ fn composed(
     top: Option<&FileImage>,
     end: u64,
     size: u64,
-) -> Result<Volume, Refusal>
+) -> Result<Rows<Run>, Refusal>
     requires aligned { AreAligned files.now }
     requires top { pointed top ≡ top_of files.now }
     requires end { end ≡ last_end plan.now files.now }
     requires length { IsLength plan.now.block_size (is_some (pointed top)) (taken_by end (pointed top)) size }
-    ensures { Answers result (with_length plan.now files.now (Some size)) }
+    ensures value { AnswersAs runs_bytes result (with_length plan.now files.now (Some size)) }
+    ensures runs { IfOk result (AreRunsOf files.now) }
 {
     if let Err(refusal) = check_places(alloc, plan, files, top, end, size) {
         return Err(refusal);
     }
     match image(alloc, plan, files, top, size) {
-        Ok(volume) => Ok(volume),
+        Ok(runs) => Ok(runs),
         Err(_) => Err(Refusal::WantOfMemory),
     }
 }
 
 // The volume of files of which at most one is a top file.
-fn volume(alloc: Global, plan: &VolumeHead, files: &[FileImage]) -> Result<Volume, Refusal>
+fn volume(alloc: Global, plan: &VolumeHead, files: &[FileImage]) -> Result<Rows<Run>, Refusal>
     requires shape { HasShape plan.now }
     requires aligned { AreAligned files.now }
-    ensures { Answers result (with_length plan.now files.now (length_of plan.now files.now)) }
+    ensures value { AnswersAs runs_bytes result (with_length plan.now files.now (length_of plan.now files.now)) }
+    ensures runs { IfOk result (AreRunsOf files.now) }
 {
     let top = top_of(files);
     let end = end_of(first_end(&plan.name_guid) as u128, files);
@@ -203,19 +207,20 @@ fn volume(alloc: Global, plan: &VolumeHead, files: &[FileImage]) -> Result<Volum
     }
 }
 
-/// The volume of a head and its files, each at the least place that it may start at. The first fault is
-/// that of a second top file (702), of want of space (701), of the top file's place (703) or of a pad
-/// that is too long (704).
+/// The volume of a head and its files, each at the least place that it may start at, as runs. The first
+/// fault is that of a second top file (702), of want of space (701), of the top file's place (703) or of
+/// a pad that is too long (704).
 #[tactic(auto, unfolding(crate::specs::Volume::volume_of))]
 pub fn compose(
     alloc: Global,
     permit: Permit,
     plan: &VolumeHead,
     files: &Rows<FileImage>,
-) -> Result<Volume, Refusal>
+) -> Result<Rows<Run>, Refusal>
     requires shape { HasShape plan.now }
     requires aligned { AreAligned files.now }
-    ensures { Answers result (volume_of plan.now files.now) }
+    ensures value { AnswersAs runs_bytes result (volume_of plan.now files.now) }
+    ensures runs { IfOk result (AreRunsOf files.now) }
 {
     let _spent = permit;
     match check_tops(alloc, plan, files.items()) {

@@ -6,8 +6,6 @@ pub mod header;
 pub mod image;
 pub mod length;
 pub mod place;
-#[cfg(test)]
-mod tests;
 pub mod volume;
 
 pub use build_base::Pieces;

@@ -1,14 +1,14 @@
-//! A volume, seen by contracts as its bytes.
-ghost use Rattle.std.specs.Prelude.{◌≡◌, length};
+//! A volume's image.
+ghost use Rattle.std.specs.Prelude.{◌≡◌, ◌<◌, ◌^◌, true, length};
+ghost use Rattle.build_base.specs.Runs.{runs_bytes, are_blank};
 
-use build_base::{Pieces, Same, Text, WantOfMemory};
-use std::alloc::Global;
+use build_base::{Image, Pieces, Rows, Run};
 use std::marker::Model;
 
-/// The image of a firmware volume.
+/// The image of a firmware volume, seen by contracts as its bytes.
 #[derive(Debug, Drop)]
 pub struct Volume {
-    bytes: Text,
+    image: Image,
 }
 
 impl Model for Volume {
@@ -16,46 +16,47 @@ impl Model for Volume {
 
     ghost Value = { List ℕ };
 
-    ghost view = { λ v. v.bytes };
+    ghost view = { λ v. v.image };
 }
 
 impl Volume {
-    // The volume of these bytes.
-    pub(crate) fn of(bytes: Text) -> Volume
-        ensures { result ≡ bytes }
+    /// The volume of these runs.
+    pub fn of_runs(runs: Rows<Run>) -> Volume
+        requires short { length (runs_bytes runs) < 2 ^ 64 }
+        requires blank { are_blank runs ≡ true }
+        ensures { result ≡ runs_bytes runs }
     {
-        Volume { bytes }
+        Volume {
+            image: Image::of_runs(runs),
+        }
     }
 
-    /// Its length in bytes.
+    /// Its runs, in order.
+    pub fn runs(&self) -> &[Run]
+        ensures bytes { runs_bytes result.now ≡ self.now }
+        ensures blank { are_blank result.now ≡ true }
+    {
+        self.image.runs()
+    }
+
+    /// How many bytes it has.
     pub fn length(&self) -> u64
         ensures { result ≡ length self.now }
     {
-        self.bytes.bytes().len() as u64
-    }
-
-    /// Its bytes, whole.
-    pub fn into_text(self) -> Text
-        ensures { result ≡ self }
-    {
-        self.bytes
+        self.image.length()
     }
 
     /// Its bytes, piece by piece.
     pub fn pieces(&self) -> Pieces<'_>
         ensures { result ≡ self.now }
     {
-        Pieces::of(self.bytes.bytes())
-    }
-}
-
-impl Same for Volume {
-    fn copy(&self, alloc: Global) -> Result<Volume, WantOfMemory> {
-        let bytes = self.bytes.copy(alloc)?;
-        Ok(Volume { bytes })
+        self.image.pieces()
     }
 
-    fn same(&self, other: &Volume) -> bool {
-        self.bytes.same(&other.bytes)
+    /// Its image.
+    pub fn into_image(self) -> Image
+        ensures { result ≡ self }
+    {
+        self.image
     }
 }

@@ -100,3 +100,6 @@ pe_checks file =
 -- SectionAlignment, or the first check up to the magic that fails.
 unfoldable pub section_alignment_of : List ℕ → Result ℕ PeFault
 section_alignment_of file = unless (first_holding (pe_checks file)) (section_alignment file)
+
+unfoldable pub file_alignment_of : List ℕ → Result ℕ PeFault
+file_alignment_of file = unless (first_holding (pe_checks file)) (file_alignment file)

@@ -7,7 +7,7 @@ mod pe;
 mod te;
 
 pub use fault::PeFault;
-pub use pe::section_alignment;
+pub use pe::{file_alignment, section_alignment};
 pub use te::{TeHead, strip_at, te_header};
 
 #[cfg(test)]

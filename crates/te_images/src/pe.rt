@@ -3,7 +3,7 @@ ghost use Rattle.std.specs.Prelude.{◌≡◌, ◌+◌, ◌==◌, ◌⊎◌, IfO
 ghost use Rattle.build_base.specs.First.{first_holding, unless};
 ghost use Rattle.te_images.specs.declared.fault.PeFault.TheVariants.{NotPe, Truncated};
 ghost use Rattle.te_images.specs.Headers.{AreHeaders};
-ghost use Rattle.te_images.specs.Pe.{e_magic, machine, number_of_sections, address_of_entry_point, base_of_code, image_base, section_alignment, file_alignment, subsystem, number_of_rva_and_sizes, data_directory, section_table, section_alignment_of, pe_checks};
+ghost use Rattle.te_images.specs.Pe.{e_magic, machine, number_of_sections, address_of_entry_point, base_of_code, image_base, section_alignment, file_alignment, subsystem, number_of_rva_and_sizes, data_directory, section_table, section_alignment_of, file_alignment_of, pe_checks};
 
 use crate::fault::PeFault;
 use crate::number::{u16_at, u32_at, u64_at};
@@ -32,6 +32,18 @@ pub fn section_alignment(file: &[u8]) -> Result<u32, PeFault>
 {
     match PeHeaders::of_file(file) {
         Ok(headers) => Ok(headers.section_alignment(file)),
+        Err(fault) => Err(fault),
+    }
+}
+
+/// FileAlignment of a PE file: what its sections lie at multiples of, in the file.
+#[tactic(auto, unfolding(crate::specs::Pe::file_alignment_of))]
+pub fn file_alignment(file: &[u8]) -> Result<u32, PeFault>
+    ensures value { result ≡ file_alignment_of file.now }
+    ensures only { IfErr result (λ fault. (fault ≡ NotPe) ⊎ (fault ≡ Truncated)) }
+{
+    match PeHeaders::of_file(file) {
+        Ok(headers) => Ok(headers.file_alignment(file)),
         Err(fault) => Err(fault),
     }
 }

@@ -41,6 +41,7 @@ pub struct TeHead {
 pub fn te_header(file: &[u8]) -> Result<TeHead, PeFault>
     ensures value { result ≡ te_of file.now }
     ensures inside { IfOk result (λ head. head.stripped ≤ length file.now) }
+    ensures least { IfOk result (λ head. 120 ≤ head.stripped) }
 {
     match PeHeaders::of_file(file) {
         Ok(headers) => te_head(file, headers),
@@ -61,6 +62,7 @@ fn te_head(file: &[u8], headers: PeHeaders) -> Result<TeHead, PeFault>
     requires { AreHeaders file.now headers }
     ensures value { result ≡ unless (first_holding (te_limits file.now)) (te_head_of file.now) }
     ensures inside { IfOk result (λ head. head.stripped ≤ length file.now) }
+    ensures least { IfOk result (λ head. 120 ≤ head.stripped) }
 {
     let table = headers.section_table();
     if table > 65_535 {

@@ -6,4 +6,4 @@ use Rattle.fv_compose.proofs.files.put_pad.Goals as goal
 pub returns-clause-len : goal.returns-clause-len
 returns-clause-len c =
     let l = length_pad c.args.erase c.args.size c.requires.least in
-    let e = ap length c.in_ok-append_pad.ensures in grind (arith, common_steps)
+    let e = ap length c.in_ok-put_pad_file.ensures.bytes in grind (arith, common_steps)
