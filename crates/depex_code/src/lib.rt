@@ -21,6 +21,3 @@ mod words;
 pub use compiler::compile;
 pub use law::compiled_reads_back;
 pub use reader::read_back;
-
-#[cfg(test)]
-mod tests;

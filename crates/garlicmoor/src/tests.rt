@@ -97,9 +97,3 @@ fn files_are_read(rt: HostRuntime) -> Result<(), Fail> {
     fs::remove_dir_all(&rt, "disk_read")?;
     Ok(())
 }
-
-#[test]
-fn no_path_leaves_the_folder(rt: HostRuntime) {
-    let above = Path::new(rt.alloc(), b"a/../b");
-    assert!(rt; matches!(above, Err(PathRefusal::BadPath)));
-}

@@ -9,6 +9,3 @@ mod te;
 pub use fault::PeFault;
 pub use pe::{file_alignment, section_alignment};
 pub use te::{TeHead, strip_at, te_header};
-
-#[cfg(test)]
-mod tests;
