@@ -1,2 +1,2 @@
 pub mod TableLemmas
-pub mod More
+pub mod SectionLemmas

@@ -1,8 +1,9 @@
 pub mod Sections
 pub mod Keys
-pub mod Values
-pub mod Rows
-pub mod Lines
+pub mod Names
+pub mod Classes
+pub mod Pcds
 pub mod Depex
+pub mod Rows
 pub mod Modules
 pub mod Reading

@@ -1,85 +1,40 @@
 -- A module's document, or its first fault.
-use Rattle.std.specs.Prelude.{ℕ, Bool, ◌++◌, List, [], ◌∷◌, Option, Some, None, unwrap_or, Result, Ok, Err, codes, fold}
+use Rattle.std.specs.Prelude.{ℕ, ◌++◌, List, [], ◌∷◌, Option, Some, None, unwrap_or, Result, Ok, Err, codes}
 use Rattle.std.specs.List.{flat_map}
-use Rattle.std.specs.Option.{option_map}
-use Rattle.build_base.specs.First.{or_fault}
-use Rattle.build_base.specs.FaultText.{fault_of}
+use Rattle.build_base.specs.First.{and_then}
 use Rattle.build_base.specs.declared.guid.Guid.{Guid as GuidBytes}
 use Rattle.build_base.specs.declared.fault.Fault.{Fault}
-use Rattle.build_base.specs.declared.lines.Taken.{Taken}
 use Rattle.build_base.specs.declared.lines.Lines.{Lines}
-use Rattle.macro_conditions.specs.Reading.{lines_fault, each, last_or}
+use Rattle.doc_reading.specs.Grammar.{Grammar, Read, reading, rows_of}
+use Rattle.doc_reading.specs.Meanings.{meaning_faults, meaning_scope}
+use Rattle.doc_reading.specs.Missing.{missing_key}
+use Rattle.doc_reading.specs.Reading.{last_or}
 use Rattle.doc_types.specs.declared.depex.DepexPart.{DepexPart}
 use Rattle.doc_types.specs.declared.module.InfDoc.{InfDoc}
 use Rattle.doc_types.specs.declared.module.Named.{Named}
 use Rattle.doc_types.specs.declared.module.Served.{Served}
 use Rattle.doc_types.specs.declared.module.UsedPcd.{UsedPcd}
 use Rattle.doc_types.specs.declared.module_type.ModuleType.{ModuleType}
-use Rattle.inf_docs.specs.declared.depex.OpenSection.{OpenSection}
-use Rattle.inf_docs.specs.declared.line.ModuleLine.{ModuleLine}
-use Rattle.inf_docs.specs.declared.line.ModuleLine.TheVariants.{Blank, Heads, Body}
 use Rattle.inf_docs.specs.declared.row.Row.{Row}
 use Rattle.inf_docs.specs.declared.row.Row.TheVariants.{BaseName, FileGuid, Kind, Version, EntryPoint, Constructor, Destructor, Serves, Package, Class, GuidName, Pcd}
+use Rattle.inf_docs.specs.declared.section.Scope.{Scope}
 use Rattle.inf_docs.specs.declared.tables.ModuleTables.{ModuleTables}
-use Rattle.inf_docs.specs.Depex.{with_terms, parts_in}
-use Rattle.inf_docs.specs.Lines.{module_line, read_as}
-use Rattle.inf_docs.specs.Rows.{rows_fault, rows_given}
+use Rattle.inf_docs.specs.Depex.{all_parts}
+use Rattle.inf_docs.specs.Rows.{line_faults, line_row}
+use Rattle.inf_docs.specs.Sections.{head_meaning}
 
--- the section in which the line below stands
-abbrev pub after : Option OpenSection → Taken → ModuleLine → Option OpenSection
-after section line Blank = section
-after section line (Heads scopes) = Some (record { at = line.at; scopes = scopes; terms = [] })
-after section line Body = option_map (with_terms line.text) section
-
-abbrev pub enter : Option OpenSection → Taken → Option OpenSection
-enter section line = after section line (read_as line)
-
-abbrev pub section_below : List Taken → Option OpenSection
-section_below lines = fold enter None lines
-
--- a line before the first head is in no section
-abbrev pub body_fault : Option OpenSection → Taken → Option Fault
-body_fault (Some section) line = rows_fault section.scopes line
-body_fault None line = Some (fault_of 218 line.at line.text)
-
-abbrev pub form_fault : Option OpenSection → Taken → ModuleLine → Option Fault
-form_fault section line Blank = None
-form_fault section line (Heads scopes) = None
-form_fault section line Body = body_fault section line
-
-abbrev pub read_fault : Option OpenSection → Taken → Result ModuleLine Fault → Option Fault
-read_fault section line (Ok form) = form_fault section line form
-read_fault section line (Err fault) = Some fault
-
-abbrev pub line_fault : List Taken → Taken → Bool → Option Fault
-line_fault above line last = read_fault (section_below above) line (module_line line)
-
--- the rows that a line gives
-abbrev pub body_rows : Option OpenSection → Taken → List Row
-body_rows (Some section) line = rows_given section.scopes line
-body_rows None line = []
-
-abbrev pub rows_at : Option OpenSection → Taken → ModuleLine → List Row
-rows_at section line Blank = []
-rows_at section line (Heads scopes) = []
-rows_at section line Body = body_rows section line
-
--- line by line, and for each line by its section's heads
-abbrev pub rows_of : List Taken → List Row
-rows_of lines = each enter (λ section line. rows_at section line (read_as line)) None lines
-
--- a head gives the parts of the section above it
-abbrev pub parts_at : Option OpenSection → ModuleLine → List DepexPart
-parts_at section Blank = []
-parts_at section (Heads scopes) = parts_in section
-parts_at section Body = []
-
-abbrev pub parts_above : List Taken → List DepexPart
-parts_above lines = each enter (λ section line. parts_at section (read_as line)) None lines
-
--- with those of the last section
-abbrev pub all_parts : List Taken → List DepexPart
-all_parts lines = parts_above lines ++ parts_in (section_below lines)
+-- nothing is ever open
+abbrev pub inf_grammar : Grammar Scope Row
+inf_grammar =
+    record {
+      head_faults = λ line head. meaning_faults 218 line head (head_meaning head);
+      scope_of = λ head. meaning_scope (head_meaning head);
+      stray = 218;
+      faults = λ above line scope. line_faults line scope;
+      row_of = λ above line scope. line_row line scope;
+      at_heads = λ above line heads. None;
+      left_open = λ above line. None;
+    }
 
 -- what a row is
 abbrev pub base_name_in : Row → List (List ℕ)
@@ -165,12 +120,9 @@ with_rows tables rows =
       pcds = tables.pcds ++ flat_map pcd_in rows;
     }
 
-abbrev pub tables_of : List Taken → ModuleTables
-tables_of lines = with_rows no_tables (rows_of lines)
-
--- a key that no line states
-abbrev pub missing_key : List ℕ → List ℕ → Fault
-missing_key root key = fault_of 211 (record { path = root; line = 0 }) key
+-- what the rows of the lines come to
+abbrev pub tables_of : List (Read Scope Row) → ModuleTables
+tables_of reads = with_rows no_tables (rows_of reads)
 
 abbrev pub with_required : List ℕ → ModuleTables → List DepexPart → List ℕ → GuidBytes → ModuleType → InfDoc
 with_required root tables parts name guid kind =
@@ -192,9 +144,9 @@ with_required root tables parts name guid kind =
     }
 
 abbrev pub required : List ℕ → ModuleTables → List DepexPart → Option (List ℕ) → Option GuidBytes → Option ModuleType → Result InfDoc Fault
-required root tables parts None guid kind = Err (missing_key root (codes "BASE_NAME"))
-required root tables parts (Some name) None kind = Err (missing_key root (codes "FILE_GUID"))
-required root tables parts (Some name) (Some guid) None = Err (missing_key root (codes "MODULE_TYPE"))
+required root tables parts None guid kind = Err (missing_key 211 root (codes "BASE_NAME"))
+required root tables parts (Some name) None kind = Err (missing_key 211 root (codes "FILE_GUID"))
+required root tables parts (Some name) (Some guid) None = Err (missing_key 211 root (codes "MODULE_TYPE"))
 required root tables parts (Some name) (Some guid) (Some kind) = Ok (with_required root tables parts name guid kind)
 
 -- the document, where each required key is stated
@@ -203,4 +155,6 @@ document_of root tables parts = required root tables parts tables.base_name tabl
 
 -- the fault of the first line that has one, else the document, where it is whole
 unfoldable pub module_of : Lines → Result InfDoc Fault
-module_of lines = or_fault (lines_fault line_fault [] lines.rows) (document_of lines.root (tables_of lines.rows) (all_parts lines.rows))
+module_of lines =
+    and_then (reading inf_grammar lines.rows)
+    (λ reads. document_of lines.root (tables_of reads) (all_parts reads))

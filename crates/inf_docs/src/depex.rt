@@ -1,10 +1,16 @@
 //! The terms of [Depex] sections, and the parts that they make.
-ghost use Rattle.std.specs.Prelude.{◌≡◌, ◌++◌, IfOk, OnOk, Option};
-ghost use Rattle.std.specs.List.{flat_map, list_any};
-ghost use Rattle.inf_docs.specs.Depex.{apart, terms_of, is_depex, any_depex, terms_below, with_terms, part_of, parts_of, parts_in};
+ghost use Rattle.std.specs.Prelude.{◌≡◌, ◌++◌, [], IfOk, OnOk, Option, Some, option_map};
+ghost use Rattle.std.specs.List.{flat_map};
+ghost use Rattle.build_base.specs.Answer.{Answers};
+ghost use Rattle.doc_reading.specs.Gathering.{judged};
+ghost use Rattle.doc_reading.specs.Grammar.{entered};
+ghost use Rattle.inf_docs.specs.Depex.{apart, terms_of, terms_faults, has_terms, terms_in, line_terms, opened, with_terms, is_depex, part_of, parts_of, parts_in};
 
+use crate::row::Row;
 use crate::section::{Scope, SectionKind};
-use build_base::{Place, Rows, Same, Text, WantOfMemory};
+use build_base::{Place, Refusal, Rows, Same, Taken, Text, WantOfMemory};
+use doc_reading::least_check::least_of_one;
+use doc_reading::value_fields::{open_quote, undefined_macro};
 use doc_types::depex::DepexPart;
 use meta_lexer::parts::words;
 use std::alloc::Global;
@@ -38,25 +44,29 @@ fn spaced(alloc: Global, text: &[u8]) -> Result<Vec<u8>, WantOfMemory>
     Ok(out)
 }
 
-/// The terms of a line.
 #[tactic(auto, unfolding(crate::specs::Depex::terms_of))]
-pub fn terms_of(alloc: Global, text: &[u8]) -> Result<Rows<Text>, WantOfMemory>
+fn terms_of(alloc: Global, text: &[u8]) -> Result<Rows<Text>, WantOfMemory>
     ensures { IfOk result (λ terms. terms ≡ terms_of text.now) }
 {
     let text = spaced(alloc, text)?;
     words(alloc, text.as_slice())
 }
 
+/// The terms of a line.
+#[tactic(auto, unfolding(crate::specs::Depex::terms_faults))]
+pub fn terms_line(alloc: Global, line: &Taken) -> Result<Rows<Text>, Refusal>
+    ensures { Answers result (judged (terms_faults line.now) (terms_of line.now.text)) }
+{
+    open_quote(alloc, &line.at, line.text.bytes())?;
+    least_of_one(undefined_macro(alloc, &line.at, line.text.bytes()))?;
+    let terms = terms_of(alloc, line.text.bytes())?;
+    Ok(terms)
+}
+
 fn is_depex(scope: Scope) -> bool
     ensures { result ≡ is_depex scope.kind }
 {
     scope.kind == SectionKind::Depex
-}
-
-fn any_depex(scopes: &[Scope]) -> bool
-    ensures { result ≡ any_depex scopes.now }
-{
-    scopes.iter().any(|scope| is_depex(*scope))
 }
 
 fn push_all(alloc: Global, terms: &mut Rows<Text>, more: &[Text]) -> Result<(), WantOfMemory>
@@ -68,24 +78,64 @@ fn push_all(alloc: Global, terms: &mut Rows<Text>, more: &[Text]) -> Result<(), 
     Ok(())
 }
 
-/// The section with the terms of one line more.
-pub fn with_terms(
-    alloc: Global,
-    section: OpenSection,
-    text: &[u8],
-) -> Result<OpenSection, WantOfMemory>
-    ensures { IfOk result (λ s. s ≡ with_terms text.now section) }
+fn has_terms(row: &Row) -> bool
+    ensures { result ≡ has_terms row.now }
 {
-    let OpenSection {
-        at,
-        scopes,
-        mut terms,
-    } = section;
-    if any_depex(scopes.items()) {
-        let more = terms_of(alloc, text)?;
-        push_all(alloc, &mut terms, more.items())?;
+    match row {
+        Row::Terms(_) => true,
+        _ => false,
     }
-    Ok(OpenSection { at, scopes, terms })
+}
+
+fn push_row(alloc: Global, terms: &mut Rows<Text>, row: &Row) -> Result<(), WantOfMemory>
+    ensures { OnOk result (terms.new ≡ terms.old ++ terms_in row.now) }
+{
+    match row {
+        Row::Terms(more) => push_all(alloc, terms, more.items()),
+        _ => Ok(()),
+    }
+}
+
+// Adds the terms of a line, of which these are the rows.
+#[tactic(auto, unfolding(crate::specs::Depex::line_terms))]
+fn push_terms(alloc: Global, terms: &mut Rows<Text>, mut rows: &[Row]) -> Result<(), WantOfMemory>
+    ensures { OnOk result (terms.new ≡ terms.old ++ line_terms rows.entry.now) }
+{
+    while let [row, rest @ ..] = rows {
+        if has_terms(row) {
+            return push_row(alloc, terms, row);
+        }
+        rows = rest;
+    }
+    Ok(())
+}
+
+/// Adds the terms of a line, of which these are the rows, to the section at hand.
+pub fn add_terms(
+    alloc: Global,
+    section: &mut Option<OpenSection>,
+    rows: &[Row],
+) -> Result<(), WantOfMemory>
+    ensures { OnOk result (section.new ≡ option_map (with_terms rows.now) section.old) }
+{
+    match section {
+        Some(section) => {
+            push_terms(alloc, &mut section.terms, rows)?;
+            Ok(())
+        }
+        None => Ok(()),
+    }
+}
+
+/// The section of these heads, without a line.
+pub fn opened(alloc: Global, at: &Place, scopes: &[Scope]) -> Result<OpenSection, WantOfMemory>
+    ensures { IfOk result (λ section. opened (entered at.now scopes.now) [] ≡ Some section) }
+{
+    Ok(OpenSection {
+        at: at.copy(alloc)?,
+        scopes: Rows::from_vec(Vec::from_slice(alloc, scopes)?),
+        terms: Rows::new(alloc),
+    })
 }
 
 fn push_part(

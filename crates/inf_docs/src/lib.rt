@@ -1,14 +1,17 @@
 //! A module's description, read from its lines (EDK II INF specification).
 #![tactic(auto)]
 
-pub mod depex;
-pub mod key;
-pub mod line;
-pub mod reading;
-pub mod row;
-pub mod section;
-pub mod tables;
-pub mod values;
+mod class;
+mod depex;
+mod key;
+mod key_line;
+mod module;
+mod names;
+mod pcd_line;
+mod reading;
+mod row;
+mod section;
+mod tables;
 
 pub use reading::read_inf;
 

@@ -1,17 +1,11 @@
 //! What the rows come to.
-ghost use Rattle.std.specs.Prelude.{◌≡◌, ◌∷◌, [], OnOk, Option};
-ghost use Rattle.build_base.specs.Answer.{Checks, Finds};
-ghost use Rattle.build_base.specs.declared.fault.Fault.{Fault as Found};
-ghost use Rattle.macro_conditions.specs.ValueFields.{fault_in, given, lesser};
-ghost use Rattle.inf_docs.specs.Rows.{row_of, rows_fault, rows_given};
+ghost use Rattle.std.specs.Prelude.{◌≡◌, ◌∷◌, [], OnOk};
 ghost use Rattle.inf_docs.specs.Modules.{no_tables, with_rows};
 
-use crate::row::{Row, row_of};
-use crate::section::Scope;
-use build_base::{Guid, Refusal, Rows, Taken, Text, WantOfMemory};
+use crate::row::Row;
+use build_base::{Guid, Rows, Text, WantOfMemory};
 use doc_types::module::{Named, Served, UsedPcd};
 use doc_types::module_type::ModuleType;
-use macro_conditions::value_fields::lesser_refusal;
 use std::alloc::Global;
 
 /// The last value of each key that holds once, and the lists.
@@ -29,27 +23,6 @@ pub struct ModuleTables {
     pub classes: Rows<Named>,
     pub guids: Rows<Named>,
     pub pcds: Rows<UsedPcd>,
-}
-
-// The least of a refusal and that of a line below a head, if it has one there.
-fn with_head(alloc: Global, line: &Taken, refusal: Refusal, scope: Scope) -> Refusal
-    ensures { (fault : Option Found) → Finds refusal fault → Finds result (lesser fault (fault_in (row_of scope line.now))) }
-{
-    match row_of(alloc, scope, line) {
-        Ok(_) => refusal,
-        Err(other) => lesser_refusal(refusal, other),
-    }
-}
-
-// The least of a refusal and those of a line below further heads.
-fn least_refusal(alloc: Global, line: &Taken, refusal: Refusal, scopes: &[Scope]) -> Refusal
-    ensures { (fault : Option Found) → Finds refusal fault → Finds result (lesser fault (rows_fault scopes.now line.now)) }
-{
-    let mut least = refusal;
-    for scope in scopes {
-        least = with_head(alloc, line, least, *scope);
-    }
-    least
 }
 
 impl ModuleTables {
@@ -78,7 +51,6 @@ impl ModuleTables {
         ensures { OnOk result (self.new ≡ with_rows self.old (row ∷ [])) }
     {
         match row {
-            Row::Nothing => {}
             Row::BaseName(name) => self.base_name = Some(name),
             Row::FileGuid(guid) => self.file_guid = Some(guid),
             Row::Kind(kind) => self.kind = Some(kind),
@@ -91,29 +63,18 @@ impl ModuleTables {
             Row::Class(named) => self.classes.push(named)?,
             Row::GuidName(named) => self.guids.push(named)?,
             Row::Pcd(used) => self.pcds.push(used)?,
+            Row::Terms(_terms) => {}
         }
         Ok(())
     }
 
-    // Takes what the line gives below one head.
-    fn take_below(&mut self, alloc: Global, scope: Scope, line: &Taken) -> Result<(), Refusal>
-        ensures fault { Checks result (fault_in (row_of scope line.now)) }
-        ensures rows { OnOk result (self.new ≡ with_rows self.old (given (row_of scope line.now))) }
+    /// Takes the rows of a line.
+    #[tactic(auto, using(crate::proofs::TableLemmas::rows_join, crate::proofs::TableLemmas::rows_none))]
+    pub fn take(&mut self, rows: Vec<Row>) -> Result<(), WantOfMemory>
+        ensures { OnOk result (self.new ≡ with_rows self.old rows.items) }
     {
-        let row = row_of(alloc, scope, line)?;
-        self.push(row)?;
-        Ok(())
-    }
-
-    /// Takes what the line gives below each head, or answers the least of its faults there.
-    pub fn take(&mut self, alloc: Global, scopes: &[Scope], line: &Taken) -> Result<(), Refusal>
-        ensures fault { Checks result (rows_fault scopes.now line.now) }
-        ensures rows { OnOk result (self.new ≡ with_rows self.old (rows_given scopes.now line.now)) }
-    {
-        for (i, scope) in scopes.iter().enumerate() {
-            if let Err(refusal) = self.take_below(alloc, *scope, line) {
-                return Err(least_refusal(alloc, line, refusal, &scopes[i + 1..]));
-            }
+        for row in rows {
+            self.push(row)?;
         }
         Ok(())
     }

@@ -36,7 +36,7 @@ quoted_by : (text : List ℕ) (b : Bool) → ends_quoted text ≡ b → IsValueO
 quoted_by text true e = inl (refl, e)
 quoted_by text false e = value_by text e (run (Some (wanting [])) (symbols_of text)) refl
 
-value_is : (text : List ℕ) → IsValueOf text (value_of_text text)
+pub value_is : (text : List ℕ) → IsValueOf text (value_of_text text)
 unfolding value_of_text tokens_of
 value_is text = quoted_by text (ends_quoted text) refl
 

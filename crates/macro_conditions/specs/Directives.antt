@@ -1,7 +1,9 @@
--- Directives and definitions, by the first word of a line.
-use Rattle.std.specs.Prelude.{ℕ, ◌+◌, Bool, ◌&&◌, ◌||◌, ◌==◌, if◌then◌else◌, List, length, take, drop, slice_index, codes, Option, Some, None}
+-- Directives and definitions, by the first word of a line (EDK II DSC specification, conditional directive
+-- statements, `!include` and `DEFINE`).
+use Rattle.std.specs.Prelude.{ℕ, ◌+◌, Bool, ◌&&◌, ◌||◌, ◌==◌, if◌then◌else◌, List, [], ◌∷◌, length, take, drop, slice_index, codes, Option, Some, None, unwrap_or}
 use Rattle.meta_lexer.specs.Lines.{without_blanks}
 use Rattle.meta_lexer.specs.Tokens.{word_size}
+use Rattle.meta_lexer.specs.Lookup.{lookup}
 use Rattle.meta_lexer.specs.Words.{same_word, is_identifier, halves}
 use Rattle.macro_conditions.specs.Macros.{use_at}
 use Rattle.macro_conditions.specs.declared.directive.Kind.{Kind}
@@ -24,18 +26,15 @@ directive_word text = first_word (drop 1 text)
 unfoldable pub directive_rest : List ℕ → List ℕ
 directive_rest text = after_word (drop 1 text)
 
--- the words of directives count without regard to case
-abbrev pub begins_choice : List ℕ → Bool
-begins_choice word = same_word word (codes "if") || same_word word (codes "ifdef") || same_word word (codes "ifndef")
+-- the directives of conditionals; their words count without regard to case
+abbrev pub directives : List (List ℕ × Kind)
+directives =
+    (codes "if", If) ∷ (codes "ifdef", If) ∷ (codes "ifndef", If) ∷ (codes "elseif", Elseif) ∷
+    (codes "else", Else) ∷ (codes "endif", Endif) ∷ []
 
 -- what a directive does to the conditionals
 unfoldable pub kind_by : List ℕ → Kind
-kind_by word =
-    if begins_choice word then If
-    else if same_word word (codes "elseif") then Elseif
-    else if same_word word (codes "else") then Else
-    else if same_word word (codes "endif") then Endif
-    else Act
+kind_by word = unwrap_or (lookup directives word) Act
 
 -- what a line does to the conditionals
 unfoldable pub kind_of : List ℕ → Kind

@@ -12,7 +12,7 @@ use Rattle.build_base.specs.Path.{path_field}
 use Rattle.build_base.specs.FaultText.{fault_of}
 use Rattle.meta_lexer.specs.Faults.{Spot}
 use Rattle.meta_lexer.specs.Words.{same_word}
-use Rattle.meta_lexer.specs.Lines.{TextLine, lines_of}
+use Rattle.meta_lexer.specs.Lines.{TextLine, lines_of, without_blanks}
 use Rattle.macro_conditions.specs.declared.macros.Undefined.TheVariants.{Kept, Zero}
 use Rattle.macro_conditions.specs.declared.expression.Value.{Value}
 use Rattle.macro_conditions.specs.declared.expression.Value.TheVariants.{Number, Word}
@@ -92,7 +92,7 @@ module _ (fixed : List Macro) where
   defined line e (Some pair) = with_macro line e pair.0 pair.1
 
   abbrev pub written : Line → Env → Env
-  written line e = record { rows = e.rows ++ record { at = line.at; text = replaced Kept (scope e) line.text } ∷ []; macros = e.macros; open_files = e.open_files }
+  written line e = record { rows = e.rows ++ record { at = line.at; text = without_blanks (replaced Kept (scope e) line.text) } ∷ []; macros = e.macros; open_files = e.open_files }
 
   -- what a line does that is no include: a directive that there isn't, a definition, or a line with its macros replaced
   unfoldable pub acted : Line → Env → Result Env Fault

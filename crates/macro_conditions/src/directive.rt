@@ -1,10 +1,11 @@
 //! Directives and definitions, by the first word of a line.
 ghost use Rattle.std.specs.Prelude.{◌≡◌, ◌≤◌, ◌+◌, length, codes, slice_index, drop, Some};
 ghost use Rattle.std.specs.Option.{option_map};
-ghost use Rattle.macro_conditions.specs.Directives.{first_word, after_word, is_directive, directive_word, directive_rest, begins_choice, kind_by, kind_of, is_include, is_definition, named, definition_of, macro_named};
+ghost use Rattle.macro_conditions.specs.Directives.{first_word, after_word, is_directive, directive_word, directive_rest, kind_by, kind_of, is_include, is_definition, named, definition_of, macro_named};
 
 use crate::macros::use_at;
 use meta_lexer::line::trim;
+use meta_lexer::lookup;
 use meta_lexer::token::word_size;
 use meta_lexer::words::{halves, is_identifier, same_word};
 
@@ -60,28 +61,22 @@ pub fn directive_rest(text: &[u8]) -> &[u8]
     after_word(behind_mark(text))
 }
 
-fn begins_choice(word: &[u8]) -> bool
-    ensures { result ≡ begins_choice word.now }
-{
-    same_word(word, b"if".as_slice())
-        || same_word(word, b"ifdef".as_slice())
-        || same_word(word, b"ifndef".as_slice())
-}
+const DIRECTIVES: [(&[u8], Kind); 6] = [
+    (b"if", Kind::If),
+    (b"ifdef", Kind::If),
+    (b"ifndef", Kind::If),
+    (b"elseif", Kind::Elseif),
+    (b"else", Kind::Else),
+    (b"endif", Kind::Endif),
+];
 
 #[tactic(auto, unfolding(crate::specs::Directives::kind_by))]
 fn kind_by(word: &[u8]) -> Kind
     ensures { result ≡ kind_by word.now }
 {
-    if begins_choice(word) {
-        Kind::If
-    } else if same_word(word, b"elseif".as_slice()) {
-        Kind::Elseif
-    } else if same_word(word, b"else".as_slice()) {
-        Kind::Else
-    } else if same_word(word, b"endif".as_slice()) {
-        Kind::Endif
-    } else {
-        Kind::Act
+    match lookup(&DIRECTIVES, word) {
+        Some(kind) => kind,
+        None => Kind::Act,
     }
 }
 

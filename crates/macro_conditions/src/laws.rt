@@ -1,4 +1,4 @@
-//! Laws of the expansion.
+//! Laws of the expansion and of expressions.
 ghost use Rattle.std.specs.Prelude.{◌≡◌, ◌<◌, ℕ, List, None, Err};
 ghost use Rattle.build_base.specs.declared.lines.Macro.{Macro};
 ghost use Rattle.build_base.specs.declared.outside.Got.{Got};
@@ -7,11 +7,18 @@ ghost use Rattle.macro_conditions.specs.Sources.{Source, answer};
 ghost use Rattle.macro_conditions.specs.Expansion.{expansion, need};
 ghost use Rattle.macro_conditions.specs.Counting.{left, with_answer, AreWithin};
 ghost use Rattle.build_base.specs.declared.lines.Taken.{Taken as Line};
+ghost use Rattle.macro_conditions.specs.Expressions.{IsValueOf, value_of_text};
 ghost use Rattle.macro_conditions.specs.LineTree.{tree_of, written};
 
 /// The items of a file's tree, written out in order, are its lines.
 pub fn tree_is_whole()
     ensures { (lines : List Line) → written (tree_of lines) ≡ lines }
+{}
+
+/// What the text of an expression comes to, after `!if` and in a numeric field, is the value of its tree, or the
+/// fault that the tree has.
+pub fn values_are_of_trees()
+    ensures { (text : List ℕ) → IsValueOf text (value_of_text text) }
 {}
 
 /// The answer to the path that is wanted makes less left.

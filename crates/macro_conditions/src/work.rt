@@ -14,6 +14,7 @@ use crate::macros::{Scope, Undefined, replace, value_from};
 use build_base::{
     Fault, Macro, Path, Place, Refusal, Rows, Same, Taken, Text, WantOfMemory, refuse,
 };
+use meta_lexer::line::trim;
 use meta_lexer::words::same_word;
 use std::alloc::Global;
 
@@ -246,12 +247,10 @@ fn take(
     ensures open_files { OnOk result (work.new.open_files.items ≡ work.old.open_files.items) }
     ensures cause { IfErr result (λ e. e ≡ Stopped.WantOfMemory) }
 {
-    let text = replace(alloc, Undefined::Kept, work.scope(fixed), line.text)?;
+    let written = replace(alloc, Undefined::Kept, work.scope(fixed), line.text)?;
+    let text = Text::of(alloc, trim(written.as_slice()))?;
     let at = place(alloc, line)?;
-    work.rows.push(Taken {
-        at,
-        text: Text::from_vec(text),
-    })?;
+    work.rows.push(Taken { at, text })?;
     Ok(())
 }
 
