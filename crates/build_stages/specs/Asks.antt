@@ -5,6 +5,7 @@ use Rattle.std.specs.Cmp.Lexicographic.{slice_cmp}
 use Rattle.std.specs.BTreeMap.{is_at}
 use Rattle.std.specs.Map.{lookup}
 use Rattle.std.specs.declared.cmp.Ordering.{Ordering}
+use Rattle.build_base.specs.First.{or_else}
 use Rattle.step_engine.specs.declared.talk.Ask.{Ask}
 use Rattle.step_engine.specs.declared.talk.Ask.TheVariants as ask
 
@@ -23,10 +24,6 @@ abbrev pub found_at : {K V : Type 0} → (K → K → Ordering) → Tables K V �
 found_at cmp t (ask.File p) = lookup (is_at (slice_cmp nat_cmp p)) t.0
 found_at cmp t (ask.Field i) = lookup (is_at (nat_cmp i)) t.1
 found_at cmp t (ask.Part k) = lookup (is_at (cmp k)) t.2
-
-abbrev pub or_else : {A : Type 0} → Option A → Option A → Option A
-or_else (Some x) y = Some x
-or_else None y = y
 
 -- what the first has, and else the second
 abbrev pub over : {K V : Type 0} → (Ask K → Option V) → (Ask K → Option V) → Ask K → Option V

@@ -2,10 +2,11 @@
 use Rattle.std.specs.Bool.{if◌then◌else◌}
 use Rattle.std.proofs.Common.{Bool, true, false, ◌≡◌, ℕ, ◌<◌, ◌≤◌, ◌+◌, ◌-◌, arith, refl, map, [], ◌∷◌, Some, None, Result, Ok, Err, All}
 use Rattle.std.proofs.lemmas.List.Elements.{All-nil, All-cons}
+use Rattle.build_base.specs.First.{and_then}
 use Rattle.build_base.specs.declared.fault.Fault.{Fault}
 use Rattle.step_engine.specs.declared.talk.Ask.{Ask}
 use Rattle.step_engine.specs.declared.talk.Answer.{Answer}
-use Rattle.build_stages.specs.Stages.{Stages, end, stage, bind, Fits, Known, first_stop, unless_stopped, run, gather, after, advance, AreLower, IsWithin}
+use Rattle.build_stages.specs.Stages.{Stages, end, stage, bind, Fits, Known, first_stop, unless_stopped, run, gather, advance, AreLower, IsWithin}
 use Rattle.build_stages.specs.Writing.{attempt}
 
 pub attempt_lower : {K O A B : Type 0} (rank : K → ℕ) (bound : ℕ) (r : Result A Fault) (next : A → Stages K O B) → ((x : A) → AreLower rank bound (next x)) → AreLower rank bound (attempt r next)
@@ -39,20 +40,20 @@ bind_within {K} {O} {A} {B} fits n m (stage asks next) f w h = (
 )
 
 -- what one after the other gives by known answers, and in a world
-pub advance_bind : {K O A B : Type 0} (same : Ask K → Ask K → Bool) (fits : Fits K O) (known : Known K O) (s : Stages K O A) (f : A → Stages K O B) → advance same fits known (bind s f) ≡ after (advance same fits known s) (λ x. advance same fits known (f x))
+pub advance_bind : {K O A B : Type 0} (same : Ask K → Ask K → Bool) (fits : Fits K O) (known : Known K O) (s : Stages K O A) (f : A → Stages K O B) → advance same fits known (bind s f) ≡ and_then (advance same fits known s) (λ x. advance same fits known (f x))
 advance_bind same fits known (end (Ok x)) f = refl
 advance_bind same fits known (end (Err fault)) f = refl
 advance_bind {K} {O} {A} {B} same fits known (stage asks next) f =
-    elim (gather same fits known asks) as (λ g. after g (λ answers. advance same fits known (bind (next answers) f)) ≡ after (after g (λ answers. advance same fits known (next answers))) (λ x. advance same fits known (f x))) [
+    elim (gather same fits known asks) as (λ g. and_then g (λ answers. advance same fits known (bind (next answers) f)) ≡ and_then (and_then g (λ answers. advance same fits known (next answers))) (λ x. advance same fits known (f x))) [
       | Ok answers ↦ advance_bind same fits known (next answers) f
       | Err h ↦ refl
     ]
 
-pub run_bind : {K O A B : Type 0} (fits : Fits K O) (answers : Ask K → Answer O) (s : Stages K O A) (f : A → Stages K O B) → run fits answers (bind s f) ≡ after (run fits answers s) (λ x. run fits answers (f x))
+pub run_bind : {K O A B : Type 0} (fits : Fits K O) (answers : Ask K → Answer O) (s : Stages K O A) (f : A → Stages K O B) → run fits answers (bind s f) ≡ and_then (run fits answers s) (λ x. run fits answers (f x))
 run_bind fits answers (end (Ok x)) f = refl
 run_bind fits answers (end (Err fault)) f = refl
 run_bind {K} {O} {A} {B} fits answers (stage asks next) f =
-    elim (first_stop fits asks (map answers asks)) as (λ q. unless_stopped q Err (run fits answers (bind (next (map answers asks)) f)) ≡ after (unless_stopped q Err (run fits answers (next (map answers asks)))) (λ x. run fits answers (f x))) [
+    elim (first_stop fits asks (map answers asks)) as (λ q. unless_stopped q Err (run fits answers (bind (next (map answers asks)) f)) ≡ and_then (unless_stopped q Err (run fits answers (next (map answers asks)))) (λ x. run fits answers (f x))) [
       | Some fault ↦ refl
       | None ↦ run_bind fits answers (next (map answers asks)) f
     ]

@@ -3,6 +3,7 @@
 use Rattle.std.specs.Prelude.{◌≡◌, ℕ, zero, suc, ◌<◌, ◌-◌, List, [], ◌∷◌, ◌++◌, Option, Some, None, Result, Ok, Err, Bool, true, false, map, All, codes, if◌then◌else◌}
 use Rattle.std.specs.Option.{is_some}
 use Rattle.std.specs.declared.cmp.Ordering.{Ordering}
+use Rattle.build_base.specs.First.{and_then, or_else}
 use Rattle.build_base.specs.World.{World, got, field}
 use Rattle.build_base.specs.declared.fault.Fault.{Fault}
 use Rattle.step_engine.specs.Meaning.{Meaning, answer_of}
@@ -52,16 +53,12 @@ abbrev pub stop_of : {O : Type 0} → Bool → Answer O → Option Fault
 stop_of true x = fault_in x
 stop_of false x = Some misfit
 
-abbrev pub first_of : Option Fault → Option Fault → Option Fault
-first_of (Some fault) rest = Some fault
-first_of None rest = rest
-
 -- the first fault of a part among answers, in the order of the asks; an answer that doesn't fit counts as one
 abbrev pub first_stop : {K O : Type 0} → Fits K O → List (Ask K) → List (Answer O) → Option Fault
 first_stop fits [] answers = None
 first_stop fits (a ∷ asks) [] = Some misfit
 first_stop fits (a ∷ asks) (x ∷ answers) =
-    first_of (stop_of (fits a x) x) (first_stop fits asks answers)
+    or_else (stop_of (fits a x) x) (first_stop fits asks answers)
 
 abbrev pub unless_stopped : {A : Type 0} → Option Fault → (Fault → A) → A → A
 unless_stopped (Some fault) f x = f fault
@@ -112,10 +109,6 @@ abbrev pub gather : {K O : Type 0} → (Ask K → Ask K → Bool) → Fits K O �
     → Result (List (Answer O)) (Halt K)
 gather same fits known asks = gathered fits asks (missing same known asks) (answered known asks)
 
-abbrev pub after : {A B E : Type 0} → Result A E → (A → Result B E) → Result B E
-after (Ok x) f = f x
-after (Err e) f = Err e
-
 abbrev pub ended : {A K : Type 0} → Result A Fault → Result A (Halt K)
 ended (Ok x) = Ok x
 ended (Err fault) = Err (fails fault)
@@ -125,7 +118,7 @@ abbrev pub advance : {K O A : Type 0} → (Ask K → Ask K → Bool) → Fits K 
     → Result A (Halt K)
 advance same fits known (end r) = ended r
 advance same fits known (stage asks next) =
-    after (gather same fits known asks) (λ answers. advance same fits known (next answers))
+    and_then (gather same fits known asks) (λ answers. advance same fits known (next answers))
 
 -- the answers of pairs, the first of each ask
 abbrev pub known_pairs : {K O : Type 0} → (Ask K → Ask K → Bool) → List (Pair K O) → Known K O

@@ -3,6 +3,7 @@
 use Rattle.std.proofs.Common.{sym, ◌∙◌, Result, ◌≡◌, ℕ, zero, suc, ◌≤◌, List, [], ◌∷◌, Some, None, Ok, Err, Bool, map, All, arith, refl, ap}
 use Rattle.std.proofs.lemmas.List.Elements.{All-head, All-tail}
 use Rattle.std.specs.declared.cmp.Ordering.{Ordering}
+use Rattle.build_base.specs.First.{and_then}
 use Rattle.build_base.specs.World.{World}
 use Rattle.build_base.specs.declared.fault.Fault.{Fault}
 use Rattle.step_engine.specs.Meaning.{right}
@@ -12,7 +13,7 @@ use Rattle.step_engine.specs.declared.talk.Answer.{Answer}
 use Rattle.step_engine.specs.declared.talk.Answer.TheVariants as answer
 use Rattle.step_engine.specs.declared.talk.Outcome.{Outcome}
 use Rattle.step_engine.specs.declared.talk.Outcome.TheVariants.{Bad}
-use Rattle.build_stages.specs.Stages.{outcome_of, Stages, end, stage, Known, Fits, fails, misfit, first_stop, unless_stopped, run, cons_both, answered, missing, judged, gathered, after, advance, IsLower, AreLower, Staged, oracle, value_by, meaning_of, AreBounded}
+use Rattle.build_stages.specs.Stages.{outcome_of, Stages, end, stage, Known, Fits, fails, misfit, first_stop, unless_stopped, run, cons_both, answered, missing, judged, gathered, advance, IsLower, AreLower, Staged, oracle, value_by, meaning_of, AreBounded}
 
 -- what a key gives by right answers depends on those to asks of lower rank alone
 maps_same : {K O : Type 0} (rank : K → ℕ) (bound : ℕ) (f g : Ask K → Answer O)
@@ -89,11 +90,11 @@ pub advance_run : {K O A : Type 0} (same : Ask K → Ask K → Bool) (fits : Fit
 advance_run same fits known f g (end (Ok x)) r e = let same : x ≡ r = cc in ap Ok same
 advance_run same fits known f g (end (Err fault)) r e = absurd (cc)
 advance_run {K} {O} {A} same fits known f g (stage asks next) r e =
-    (elim (answered known asks) as (λ o. answered known asks ≡ o → after (gathered fits asks (missing same known asks) o) (λ answers. advance same fits known (next answers)) ≡ Ok r → run fits f (stage asks next) ≡ Ok r) [
+    (elim (answered known asks) as (λ o. answered known asks ≡ o → and_then (gathered fits asks (missing same known asks) o) (λ answers. advance same fits known (next answers)) ≡ Ok r → run fits f (stage asks next) ≡ Ok r) [
       | None ↦ λ o e. absurd (cc)
       | Some answers ↦ λ o e.
           let is : answers ≡ map f asks = answered_map known f g asks answers o in
-          (elim (first_stop fits asks answers) as (λ q. first_stop fits asks answers ≡ q → after (judged q answers) (λ answers. advance same fits known (next answers)) ≡ Ok r → run fits f (stage asks next) ≡ Ok r) [
+          (elim (first_stop fits asks answers) as (λ q. first_stop fits asks answers ≡ q → and_then (judged q answers) (λ answers. advance same fits known (next answers)) ≡ Ok r → run fits f (stage asks next) ≡ Ok r) [
             | Some fault ↦ λ q e. absurd (cc)
             | None ↦ λ q e.
                 let h : run fits f (next answers) ≡ Ok r = advance_run same fits known f g (next answers) r e in
@@ -106,11 +107,11 @@ advance_fails same fits known f g (end (Ok x)) fault e = absurd (cc)
 advance_fails same fits known f g (end (Err other)) fault e =
     let same : other ≡ fault = cc in ap Err same
 advance_fails {K} {O} {A} same fits known f g (stage asks next) fault e =
-    (elim (answered known asks) as (λ o. answered known asks ≡ o → after (gathered fits asks (missing same known asks) o) (λ answers. advance same fits known (next answers)) ≡ Err (fails fault) → run fits f (stage asks next) ≡ Err fault) [
+    (elim (answered known asks) as (λ o. answered known asks ≡ o → and_then (gathered fits asks (missing same known asks) o) (λ answers. advance same fits known (next answers)) ≡ Err (fails fault) → run fits f (stage asks next) ≡ Err fault) [
       | None ↦ λ o e. absurd (cc)
       | Some answers ↦ λ o e.
           let is : answers ≡ map f asks = answered_map known f g asks answers o in
-          (elim (first_stop fits asks answers) as (λ q. first_stop fits asks answers ≡ q → after (judged q answers) (λ answers. advance same fits known (next answers)) ≡ Err (fails fault) → run fits f (stage asks next) ≡ Err fault) [
+          (elim (first_stop fits asks answers) as (λ q. first_stop fits asks answers ≡ q → and_then (judged q answers) (λ answers. advance same fits known (next answers)) ≡ Err (fails fault) → run fits f (stage asks next) ≡ Err fault) [
             | Some other ↦ λ q e. let same : other ≡ fault = cc in rw (← is) (rw q (rw same refl))
             | None ↦ λ q e.
                 let h : run fits f (next answers) ≡ Err fault = advance_fails same fits known f g (next answers) fault e in

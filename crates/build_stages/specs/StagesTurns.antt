@@ -1,6 +1,7 @@
 -- By this project's own form of steps: the asks of a turn are new and of lower rank, and a number falls.
 use Rattle.std.proofs.Common.{Ok, ◌≡◌, ◌⊎◌, inl, inr, ℕ, zero, suc, ◌≤◌, ◌<◌, ◌-◌, ◌++◌, List, [], ◌∷◌, Some, None, Err, Bool, true, false, cond, All, Contains, arith, refl, sym, ap, ◌∙◌, subst, append_assoc}
 use Rattle.std.proofs.lemmas.List.Elements.{All-head, All-tail, All-append, All-nil}
+use Rattle.build_base.specs.First.{and_then}
 use Rattle.build_base.specs.World.{World}
 use Rattle.step_engine.specs.Meaning.{Meaning, right, asks_of, AreRight, IsRight}
 use Rattle.step_engine.specs.declared.talk.Ask.{Ask}
@@ -8,7 +9,7 @@ use Rattle.step_engine.specs.declared.talk.Answer.{Answer}
 use Rattle.step_engine.specs.declared.talk.Pair.{Pair}
 use Rattle.step_engine.specs.declared.talk.Batch.{Batch}
 use Rattle.std.specs.Option.{is_some}
-use Rattle.build_stages.specs.Stages.{Stages, end, stage, Known, Fits, wants, first_stop, unless_stopped, cons_both, answered, either, unseen, missing, judged, gathered, after, advance, known_pairs, all_pairs, known_in, IsLower, AreLower, IsWithin, left_with, left_at}
+use Rattle.build_stages.specs.Stages.{Stages, end, stage, Known, Fits, wants, first_stop, unless_stopped, cons_both, answered, either, unseen, missing, judged, gathered, advance, known_pairs, all_pairs, known_in, IsLower, AreLower, IsWithin, left_with, left_at}
 use Rattle.build_stages.specs.StagesLaws.{Agrees}
 
 -- two asks are the same exactly where the test says so
@@ -89,9 +90,9 @@ pub wants_new : {K O A : Type 0} (same : Ask K → Ask K → Bool) (fits : Fits 
 wants_new same fits known (end (Ok out)) asks e a c = absurd (cc)
 wants_new same fits known (end (Err fault)) asks e a c = absurd (cc)
 wants_new {K} {O} {A} same fits known (stage here next) asks e a c =
-    (elim (answered known here) as (λ o. after (gathered fits here (missing same known here) o) (λ answers. advance same fits known (next answers)) ≡ Err (wants asks) → is_some (known a) ≡ false) [
+    (elim (answered known here) as (λ o. and_then (gathered fits here (missing same known here) o) (λ answers. advance same fits known (next answers)) ≡ Err (wants asks) → is_some (known a) ≡ false) [
       | None ↦ λ e. let is : missing same known here ≡ asks = cc in unseen_new same (λ a. is_some (known a)) here a (subst (λ (l : List (Ask K)). Contains l a) (sym is) c)
-      | Some answers ↦ λ e. (elim (first_stop fits here answers) as (λ q. after (judged q answers) (λ answers. advance same fits known (next answers)) ≡ Err (wants asks) → is_some (known a) ≡ false) [
+      | Some answers ↦ λ e. (elim (first_stop fits here answers) as (λ q. and_then (judged q answers) (λ answers. advance same fits known (next answers)) ≡ Err (wants asks) → is_some (known a) ≡ false) [
         | Some fault ↦ λ e. absurd (cc)
         | None ↦ λ e. wants_new same fits known (next answers) asks e a c
       ]) e
@@ -101,9 +102,9 @@ pub wants_lower : {K O A : Type 0} (same : Ask K → Ask K → Bool) (fits : Fit
 wants_lower same fits rank bound known (end (Ok out)) asks l e a c = absurd (cc)
 wants_lower same fits rank bound known (end (Err fault)) asks l e a c = absurd (cc)
 wants_lower {K} {O} {A} same fits rank bound known (stage here next) asks l e a c =
-    (elim (answered known here) as (λ o. after (gathered fits here (missing same known here) o) (λ answers. advance same fits known (next answers)) ≡ Err (wants asks) → IsLower rank bound a) [
+    (elim (answered known here) as (λ o. and_then (gathered fits here (missing same known here) o) (λ answers. advance same fits known (next answers)) ≡ Err (wants asks) → IsLower rank bound a) [
       | None ↦ λ e. let is : missing same known here ≡ asks = cc in unseen_keeps (IsLower rank bound) same (λ a. is_some (known a)) here l.0 a (subst (λ (l : List (Ask K)). Contains l a) (sym is) c)
-      | Some answers ↦ λ e. (elim (first_stop fits here answers) as (λ q. after (judged q answers) (λ answers. advance same fits known (next answers)) ≡ Err (wants asks) → IsLower rank bound a) [
+      | Some answers ↦ λ e. (elim (first_stop fits here answers) as (λ q. and_then (judged q answers) (λ answers. advance same fits known (next answers)) ≡ Err (wants asks) → IsLower rank bound a) [
         | Some fault ↦ λ e. absurd (cc)
         | None ↦ λ e. wants_lower same fits rank bound known (next answers) asks (l.1 answers) e a c
       ]) e
@@ -245,7 +246,7 @@ left_falls same exact fits known known' g n (end (Ok out)) asks w e h = absurd (
 left_falls same exact fits known known' g n (end (Err fault)) asks w e h = absurd (cc)
 left_falls {K} {O} {A} same exact fits known known' g n (stage here next) asks w e h =
     let rest : Known K O → List (Answer O) → ℕ = λ k answers. left_at fits k (n - 1) (next answers) in
-    (elim (answered known here) as (λ o. answered known here ≡ o → after (gathered fits here (missing same known here) o) (λ answers. advance same fits known (next answers)) ≡ Err (wants asks) → left_with fits n here (rest known') (answered known' here) < left_with fits n here (rest known) o) [
+    (elim (answered known here) as (λ o. answered known here ≡ o → and_then (gathered fits here (missing same known here) o) (λ answers. advance same fits known (next answers)) ≡ Err (wants asks) → left_with fits n here (rest known') (answered known' here) < left_with fits n here (rest known) o) [
       | None ↦ λ o e.
           let is : missing same known here ≡ asks = cc in
           (elim (answered known' here) as (λ p. answered known' here ≡ p → left_with fits n here (rest known') p < n) [
@@ -256,7 +257,7 @@ left_falls {K} {O} {A} same exact fits known known' g n (stage here next) asks w
             ])
           ]) refl
       | Some answers ↦ λ o e. rw (answered_grows known known' g here answers o) (
-          (elim (first_stop fits here answers) as (λ q. first_stop fits here answers ≡ q → after (judged q answers) (λ answers. advance same fits known (next answers)) ≡ Err (wants asks) → unless_stopped q (λ fault. 0) (rest known' answers) < unless_stopped q (λ fault. 0) (rest known answers)) [
+          (elim (first_stop fits here answers) as (λ q. first_stop fits here answers ≡ q → and_then (judged q answers) (λ answers. advance same fits known (next answers)) ≡ Err (wants asks) → unless_stopped q (λ fault. 0) (rest known' answers) < unless_stopped q (λ fault. 0) (rest known answers)) [
             | Some fault ↦ λ q e. absurd (cc)
             | None ↦ λ q e. left_falls same exact fits known known' g (n - 1) (next answers) asks (w.1 answers q) e h
           ]) refl e)

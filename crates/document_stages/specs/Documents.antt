@@ -1,5 +1,6 @@
 -- The lines of a document, include by include (EDK II DSC specification, !include statements).
 use Rattle.std.specs.Prelude.{ℕ, zero, suc, ◌+◌, ◌*◌, List, [], ◌∷◌, Result, Ok, Err, Bool, true, false, length, nat_le}
+use Rattle.build_base.specs.First.{and_then}
 use Rattle.build_base.specs.World.{file_limit}
 use Rattle.build_base.specs.declared.fault.Fault.{Fault}
 use Rattle.build_base.specs.declared.lines.Lines.{Lines}
@@ -14,7 +15,7 @@ use Rattle.step_engine.specs.declared.talk.Ask.{Ask}
 use Rattle.step_engine.specs.declared.talk.Ask.TheVariants as ask
 use Rattle.step_engine.specs.declared.talk.Answer.{Answer}
 use Rattle.step_engine.specs.declared.talk.Answer.TheVariants as answers
-use Rattle.build_stages.specs.Stages.{Stages, end, stage, misfit, Fits, Halt, gather, after, ended, Known as Answers}
+use Rattle.build_stages.specs.Stages.{Stages, end, stage, misfit, Fits, Halt, gather, ended, Known as Answers}
 use Rattle.build_stages.specs.Writing.{attempt, file_at}
 
 abbrev pub if_small : Bool → List ℕ → Result Got Fault
@@ -59,4 +60,4 @@ lines_of root macros fixed = lines_after most_files root macros fixed []
 abbrev pub got_step : {K O : Type 0} → (Ask K → Ask K → Bool) → Fits K O → Answers K O → List ℕ
     → Result Got (Halt K)
 got_step same fits known path =
-    after (gather same fits known (ask.File path ∷ [])) (λ given. after (ended (file_at given 0)) (λ x. ended (got_in x)))
+    and_then (gather same fits known (ask.File path ∷ [])) (λ given. and_then (ended (file_at given 0)) (λ x. ended (got_in x)))
