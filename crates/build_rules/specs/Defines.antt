@@ -1,4 +1,5 @@
--- The macros that a job defines, which hold above those of all files (EDK II Build specification, -D, -b and -t).
+-- The macros that a job defines, which hold above those of all files (EDK II Build specification,
+-- -D, -b and -t).
 use Rattle.std.specs.Prelude.{ℕ, ◌+◌, ◌==◌, List, [], ◌∷◌, ◌++◌, length, take, drop, map, codes, Option, Some, None, if◌then◌else◌}
 use Rattle.std.specs.List.{position, slice_split}
 use Rattle.build_base.specs.declared.lines.Macro.{Macro}
@@ -25,6 +26,7 @@ target_of text = record { name = codes "TARGET"; value = or_default text (codes 
 abbrev pub tag_of : List ℕ → Macro
 tag_of text = record { name = codes "TOOL_CHAIN_TAG"; value = or_default text (codes "GCC") }
 
--- those of the words in order, and then the target and the tool chain's tag: of one name the last holds
+-- those of the words in order, and then the target and the tool chain's tag: of one name the last
+-- holds
 unfoldable pub macros_of_job : List ℕ → List ℕ → List ℕ → List Macro
 macros_of_job target tag texts = macros_of texts ++ target_of target ∷ tag_of tag ∷ []

@@ -1,4 +1,5 @@
--- Which answers a world can give to an ask of a build, as far as a step looks. The rule is this project's own.
+-- Which answers a world can give to an ask of a build, as far as a step looks. The rule is this
+-- project's own.
 use Rattle.std.specs.Prelude.{ℕ, Bool, true, false, ◌==◌}
 use Rattle.step_engine.specs.declared.talk.Ask.{Ask}
 use Rattle.step_engine.specs.declared.talk.Ask.TheVariants as ask

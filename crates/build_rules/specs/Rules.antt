@@ -1,4 +1,5 @@
--- The steps of a build as rules: what each key asks and gives, and its rank. The rule is this project's own.
+-- The steps of a build as rules: what each key asks and gives, and its rank. The rule is this
+-- project's own.
 use Rattle.std.specs.Prelude.{ℕ, ◌+◌, ◌*◌, Bool, List, [], Result, slice_index_or}
 use Rattle.std.specs.Option.{is_some}
 use Rattle.build_base.specs.Path.{path_field}

@@ -1,4 +1,5 @@
--- The bounds of the steps of a build: what they ask is of lower rank, and how many batches they ask.
+-- The bounds of the steps of a build: what they ask is of lower rank, and how many batches they
+-- ask.
 use Rattle.std.proofs.Common.{◌≡◌, ℕ, ◌+◌, ◌-◌, ◌≤◌, arith, List, [], ◌∷◌, Result, subst}
 use Rattle.std.proofs.lemmas.List.Elements.{All-cons}
 use Rattle.build_base.specs.declared.lines.Macro.{Macro}

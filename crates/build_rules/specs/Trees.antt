@@ -1,5 +1,6 @@
--- What the step of each key asks, and what comes of the answers, stage by stage; the rule is this project's own. What the lines of a
--- document come to is told by the EDK II DEC and INF specifications.
+-- What the step of each key asks, and what comes of the answers, stage by stage; the rule is this
+-- project's own. What the lines of a document come to is told by the EDK II DEC and INF
+-- specifications.
 use Rattle.std.specs.Prelude.{List, [], ◌∷◌, ℕ, Option, Some, None, Result, Ok, Err}
 use Rattle.build_base.specs.First.{and_then}
 use Rattle.build_base.specs.Path.{path_field}
@@ -54,7 +55,9 @@ root_in given = and_then (field_at given 0) (λ text. path_named (path_field tex
 -- the macros of the target, the tool chain's tag and the words, which stand behind the first answer
 abbrev pub macros_in : List (Answer Out) → Result (List Macro) Fault
 macros_in given =
-    and_then (field_at given 1) (λ target. and_then (field_at given 2) (λ tag. and_then (field_at given 3) (λ texts. Ok (macros_of_job target tag texts))))
+    and_then (field_at given 1) (λ target.
+    and_then (field_at given 2) (λ tag.
+    and_then (field_at given 3) (λ texts. Ok (macros_of_job target tag texts))))
 
 -- the platform's path, the target, the tag and the macros
 abbrev pub platform_asks : List (Ask Key)
@@ -62,7 +65,8 @@ platform_asks = ask.Field 0 ∷ ask.Field 2 ∷ ask.Field 3 ∷ ask.Field 5 ∷ 
 
 abbrev pub platform_given : List (Answer Out) → EdkStages
 platform_given given =
-    attempt (root_in given) (λ path. attempt (macros_in given) (λ fixed. document_stages out.Platform platform_of fixed path))
+    attempt (root_in given) (λ path.
+    attempt (macros_in given) (λ fixed. document_stages out.Platform platform_of fixed path))
 
 abbrev pub platform_stages : EdkStages
 platform_stages = stage platform_asks platform_given

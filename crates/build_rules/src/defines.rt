@@ -1,6 +1,7 @@
 //! The macros that a job defines.
 ghost use Rattle.std.specs.Prelude.{◌≡◌, ◌<◌, ◌==◌, length, map, IfOk, IfSome};
 ghost use Rattle.std.specs.List.{position, slice_split};
+ghost use Rattle.build_stages.specs.Known.{shown};
 ghost use Rattle.build_rules.specs.Defines.{macro_of, macros_of, or_default, target_of, tag_of, macros_of_job};
 
 use build_base::{Macro, Rows, Text, WantOfMemory};
@@ -42,7 +43,7 @@ fn macro_of(alloc: Global, text: &[u8]) -> Result<Macro, WantOfMemory>
 }
 
 fn each_macro(alloc: Global, texts: &[&[u8]]) -> Result<Rows<Macro>, WantOfMemory>
-    ensures { IfOk result (λ ms. ms ≡ map macro_of (map (λ text. text.now) texts.now)) }
+    ensures { IfOk result (λ ms. ms ≡ map macro_of (shown texts.now)) }
 {
     let mut macros = Rows::new(alloc);
     for text in texts {
@@ -52,7 +53,7 @@ fn each_macro(alloc: Global, texts: &[&[u8]]) -> Result<Rows<Macro>, WantOfMemor
 }
 
 fn cut_at_feeds(alloc: Global, texts: &[u8]) -> Result<Vec<&[u8]>, AllocError>
-    ensures { IfOk result (λ parts. map (λ part. part.now) parts.items ≡ slice_split (λ byte. byte == 10) texts.now) }
+    ensures { IfOk result (λ parts. shown parts.items ≡ slice_split (λ b. b == 10) texts.now) }
 {
     texts.split(|byte| *byte == b'\n').collect(alloc)
 }

@@ -1,4 +1,5 @@
--- The bounds of stages, word by word, and what stages one after the other give; the form is this project's own.
+-- The bounds of stages, word by word, and what stages one after the other give; the form is this
+-- project's own.
 use Rattle.std.specs.Bool.{if◌then◌else◌}
 use Rattle.std.proofs.Common.{Bool, true, false, ◌≡◌, ℕ, ◌<◌, ◌≤◌, ◌+◌, ◌-◌, arith, refl, map, [], ◌∷◌, Some, None, Result, Ok, Err, All}
 use Rattle.std.proofs.lemmas.List.Elements.{All-nil, All-cons}

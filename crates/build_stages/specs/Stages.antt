@@ -17,7 +17,8 @@ use Rattle.step_engine.specs.declared.talk.Pair.{Pair}
 use Rattle.step_engine.specs.declared.talk.Batch.{Batch}
 use Rattle.build_stages.specs.Asks.{same_ask}
 
--- the end with a result or a fault, or asks and what comes after their answers, which stand in the order of the asks
+-- the end with a result or a fault, or asks and what comes after their answers, which stand in the
+-- order of the asks
 pub data Stages (K O A : Type 0) : Type 0 where
   end : Result A Fault → Stages K O A
   stage : List (Ask K) → (List (Answer O) → Stages K O A) → Stages K O A
@@ -53,7 +54,8 @@ abbrev pub stop_of : {O : Type 0} → Bool → Answer O → Option Fault
 stop_of true x = fault_in x
 stop_of false x = Some misfit
 
--- the first fault of a part among answers, in the order of the asks; an answer that doesn't fit counts as one
+-- the first fault of a part among answers, in the order of the asks; an answer that doesn't fit
+-- counts as one
 abbrev pub first_stop : {K O : Type 0} → Fits K O → List (Ask K) → List (Answer O) → Option Fault
 first_stop fits [] answers = None
 first_stop fits (a ∷ asks) [] = Some misfit
@@ -164,7 +166,8 @@ left_at fits known n (end r) = 0
 left_at fits known n (stage asks next) =
     left_with fits n asks (λ answers. left_at fits known (n - 1) (next answers)) (answered known asks)
 
--- Rules that are written as stages: what each key asks, its rank, how many batches it asks at most, and which answers fit.
+-- Rules that are written as stages: what each key asks, its rank, how many batches it asks at most,
+-- and which answers fit.
 pub record Staged (K O : Type 0) : Type 0 where
   pub stages : K → Stages K O O
   pub rank : K → ℕ

@@ -1,5 +1,5 @@
--- What stages give in a world, by this project's own form: it is determined by the answers that they ask,
--- and values that give it are the values of the rules.
+-- What stages give in a world, by this project's own form: it is determined by the answers that
+-- they ask, and values that give it are the values of the rules.
 use Rattle.std.proofs.Common.{sym, ◌∙◌, Result, ◌≡◌, ℕ, zero, suc, ◌≤◌, List, [], ◌∷◌, Some, None, Ok, Err, Bool, map, All, arith, refl, ap}
 use Rattle.std.proofs.lemmas.List.Elements.{All-head, All-tail}
 use Rattle.std.specs.declared.cmp.Ordering.{Ordering}
@@ -119,7 +119,8 @@ advance_fails {K} {O} {A} same fits known f g (stage asks next) fault e =
           ]) refl e
     ]) refl e
 
--- Values that give what their stages give by them are the values: definitions written without stages need this equation alone.
+-- Values that give what their stages give by them are the values: definitions written without
+-- stages need this equation alone.
 unique_at : {K O : Type 0} (c : Staged K O) → AreBounded c → (v : K → Outcome O) (w : World)
     → ((k : K) → v k ≡ outcome_of (run c.fits (oracle v w) (c.stages k))) → (n : ℕ) (k : K)
     → c.rank k ≤ n → value_by c n w k ≡ v k

@@ -1,5 +1,5 @@
--- By this project's own form of steps: rules that are written as stages are lawful, and what a turn of
--- them answers.
+-- By this project's own form of steps: rules that are written as stages are lawful, and what a turn
+-- of them answers.
 use Rattle.std.proofs.Common.{◌≡◌, ◌++◌, List, [], ◌∷◌, Some, None, Result, Ok, Err, true, false, ap, ◌∙◌, subst}
 use Rattle.std.specs.Ordering.{is_eq}
 use Rattle.std.specs.Cmp.{IsTotalOrder, tied_itself, nat_cmp_total}

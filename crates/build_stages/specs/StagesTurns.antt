@@ -1,4 +1,5 @@
--- By this project's own form of steps: the asks of a turn are new and of lower rank, and a number falls.
+-- By this project's own form of steps: the asks of a turn are new and of lower rank, and a number
+-- falls.
 use Rattle.std.proofs.Common.{Ok, ◌≡◌, ◌⊎◌, inl, inr, ℕ, zero, suc, ◌≤◌, ◌<◌, ◌-◌, ◌++◌, List, [], ◌∷◌, Some, None, Err, Bool, true, false, cond, All, Contains, arith, refl, sym, ap, ◌∙◌, subst, append_assoc}
 use Rattle.std.proofs.lemmas.List.Elements.{All-head, All-tail, All-append, All-nil}
 use Rattle.build_base.specs.First.{and_then}

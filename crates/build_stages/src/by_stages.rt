@@ -11,7 +11,8 @@ use build_base::{Fault, Path, Permit, Place, Text, WantOfMemory};
 use std::alloc::Global;
 use step_engine::{Outcome, Talk, Turn};
 
-// The outcome after an answer that no world gives: a fault of code 0, which no fault of a build has.
+// The outcome after an answer that no world gives: a fault of code 0, which no fault of a build
+// has.
 fn misfit<O>(alloc: Global) -> Result<Outcome<O>, WantOfMemory>
     ensures { IfOk result (λ outcome. outcome ≡ Bad misfit) }
 {

@@ -46,8 +46,9 @@ fn judge<S: Shapes>(
     Ok(())
 }
 
-/// The answers to the asks of a stage, in their order, and the permit again. Those that aren't known are wanted, each
-/// once; of the known ones the first that no world gives, or that is the fault of a part, stops the step.
+/// The answers to the asks of a stage, in their order, and the permit again. Those that aren't
+/// known are wanted, each once; of the known ones the first that no world gives, or that is the
+/// fault of a part, stops the step.
 pub fn gather<'a, S: Shapes>(
     alloc: Global,
     rules: &S,

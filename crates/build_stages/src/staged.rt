@@ -10,8 +10,8 @@ use build_base::{Permit, Same};
 use std::alloc::Global;
 use step_engine::{Answer, Ask, StepKey};
 
-/// What the steps of a set ask and give, and which answers a world can give them. It stands apart from
-/// `StagedRules` so that a step's function may gather answers.
+/// What the steps of a set ask and give, and which answers a world can give them. It stands apart
+/// from `StagedRules` so that a step's function may gather answers.
 pub trait Shapes: Sync {
     type Key: StepKey;
 
@@ -39,7 +39,7 @@ pub trait StagedRules: Shapes {
         known: &Known<'_, Self::Key, Self::Out>,
         permit: Permit,
     ) -> Result<Self::Out, Stop<Self::Key>>
-        ensures { Gives (λ out. out) result (outcome_at Self.Key.cmp Self.staged known.now key.now) };
+        ensures { Gives (λ x. x) result (outcome_at Self.Key.cmp Self.staged known.now key.now) };
 
     ghost bounded: { AreBounded Self.staged };
 }

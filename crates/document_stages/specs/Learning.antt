@@ -21,9 +21,9 @@ Learned step path old new =
     (got : Got) × (step ≡ Ok got) × (new ≡ with_answer old path got) × IsWithin file_limit got
 
 -- what a table tells of one file
-abbrev pub got_at : {K O : Type 0} → (K → K → Ordering) → Fits K O → Table K O → List ℕ
+abbrev pub gets : {K O : Type 0} → (K → K → Ordering) → Fits K O → Table K O → List ℕ
     → Result Got (Halt K)
-got_at cmp fits t path = got_step (same_ask cmp) fits (known_at cmp t) path
+gets cmp fits t path = got_step (same_ask cmp) fits (known_at cmp t) path
 
 abbrev pub Learns : {K : Type 0} → Result Permit (Stop K) → (List ℕ → Result Got (Halt K)) → List ℕ
     → List Known → List Known → Type 0

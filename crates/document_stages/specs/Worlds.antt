@@ -1,4 +1,5 @@
--- The lines of a document in a world, which tells of every path what is got (EDK II DSC specification, !include statements).
+-- The lines of a document in a world, which tells of every path what is got (EDK II DSC
+-- specification, !include statements).
 use Rattle.std.specs.Prelude.{◌≡◌, ℕ, List, Result, Ok, Err, true}
 use Rattle.build_base.specs.Outside.{IsWithin}
 use Rattle.build_base.specs.World.{file_limit}

@@ -2,7 +2,7 @@
 ghost use Rattle.std.specs.Prelude.{◌≡◌};
 ghost use Rattle.build_stages.specs.Gives.{GivesIn};
 ghost use Rattle.document_stages.specs.Documents.{got_in};
-ghost use Rattle.document_stages.specs.Learning.{got_at, Learns, GivesLines};
+ghost use Rattle.document_stages.specs.Learning.{gets, Learns, GivesLines};
 
 use build_base::{FILE_LIMIT, Got, Lines, Macro, Path, Permit, Rows, Same};
 use build_stages::{Known as KnownAnswers, Shapes, Stop, gather};
@@ -36,7 +36,7 @@ fn learn<S: Shapes>(
     path: &Path,
     permit: Permit,
 ) -> Result<Permit, Stop<S::Key>>
-    ensures { Learns result (got_at S.Key.cmp S.staged.fits known.now) path.now files.old files.new }
+    ensures { Learns result (gets S.Key.cmp S.staged.fits known.now) path.now files.old files.new }
 {
     let mut asks = Rows::new(alloc);
     asks.push(Ask::File(path.copy(alloc)?))?;
@@ -47,8 +47,8 @@ fn learn<S: Shapes>(
     Ok(permit)
 }
 
-/// The lines of a document, and the permit again. Each path that an include line comes to is asked for, one after
-/// another, the document's own first.
+/// The lines of a document, and the permit again. Each path that an include line comes to is asked
+/// for, one after another, the document's own first.
 pub fn lines_of<S: Shapes>(
     alloc: Global,
     rules: &S,

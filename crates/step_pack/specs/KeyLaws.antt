@@ -1,4 +1,5 @@
--- The order of keys is total, and keys that compare equal are the same; the rules are this project's own.
+-- The order of keys is total, and keys that compare equal are the same; the rules are this
+-- project's own.
 use Rattle.std.proofs.Common.{◌≡◌, ℕ, List, [], ◌∷◌, refl, sym, ap, ◌∙◌, true≢false, slice_index_or}
 use Rattle.std.specs.Cmp.{IsTotalOrder, then_total, on_total, nat_cmp_total}
 use Rattle.std.specs.Cmp.Lexicographic.{nat_list_cmp_total}

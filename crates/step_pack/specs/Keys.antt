@@ -1,5 +1,6 @@
--- The order of the keys of steps. It is this project's own, and that of the bytes of their packed form: a key's variant, and then its
--- fields, where a number has its bytes lowest first, and a path the eight bytes of its length before its own.
+-- The order of the keys of steps. It is this project's own, and that of the bytes of their packed
+-- form: a key's variant, and then its fields, where a number has its bytes lowest first, and a path
+-- the eight bytes of its length before its own.
 use Rattle.std.specs.Prelude.{ℕ, List, [], ◌∷◌, length}
 use Rattle.std.specs.Cmp.Lexicographic.{slice_cmp}
 use Rattle.std.specs.Int.{to_le_bytes, w32, w64}
@@ -69,8 +70,8 @@ second_of _ = 0
 abbrev pub text_cmp : List ℕ → List ℕ → Ordering
 text_cmp = slice_cmp nat_cmp
 
--- The order of numbers by their bytes, lowest first. Numbers below 2^32 that have the same bytes are the same; so that this holds of
--- all numbers, they are compared too.
+-- The order of numbers by their bytes, lowest first. Numbers below 2^32 that have the same bytes
+-- are the same; so that this holds of all numbers, they are compared too.
 unfoldable pub number_cmp : ℕ → ℕ → Ordering
 number_cmp = then_cmp (on (to_le_bytes w32) text_cmp) nat_cmp
 

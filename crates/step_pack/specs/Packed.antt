@@ -1,11 +1,12 @@
--- The packed form of a key: a byte for the variant, and then its fields. A number has its bytes lowest first, a path the eight bytes of
--- its length before its own. The form is this project's own.
-use Rattle.std.specs.Prelude.{ℕ, ◌<◌, ◌^◌, List, [], ◌∷◌, ◌++◌, length}
+-- The packed form of a key: a byte for the variant, and then its fields. A number has its bytes
+-- lowest first, a path the eight bytes of its length before its own. The form is this project's
+-- own.
+use Rattle.std.specs.Prelude.{◌≡◌, ℕ, ◌<◌, ◌^◌, List, [], ◌∷◌, ◌++◌, length}
 use Rattle.std.specs.Int.{to_le_bytes, w32, w64}
 use Rattle.doc_types.specs.declared.choice.Module.{Module}
 use Rattle.step_pack.specs.declared.key.Key.{Key}
 use Rattle.step_pack.specs.declared.key.Key.TheVariants as key
-use Rattle.step_pack.specs.Keys.{arch_byte, variant}
+use Rattle.step_pack.specs.Keys.{arch_byte, variant, text_cmp, key_cmp}
 
 abbrev pub packed_number : ℕ → List ℕ
 packed_number n = to_le_bytes w32 n
@@ -37,3 +38,7 @@ HasNumbers (key.File v i) = (v < 2 ^ 32) × (i < 2 ^ 32)
 HasNumbers (key.Volume v) = v < 2 ^ 32
 HasNumbers (key.Device d) = d < 2 ^ 32
 HasNumbers _ = Unit {0}
+
+-- their order is that of their packed forms, byte by byte
+abbrev pub StandByBytes : Key → Key → Type 0
+StandByBytes a b = text_cmp (packed a) (packed b) ≡ key_cmp a b

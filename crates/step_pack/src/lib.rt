@@ -1,4 +1,5 @@
-//! The keys of a build's steps, what the steps give, and the order of the keys by their packed form.
+//! The keys of a build's steps, what the steps give, and the order of the keys by their packed
+//! form.
 #![tactic(auto)]
 
 pub mod key;

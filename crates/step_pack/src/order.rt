@@ -41,7 +41,8 @@ fn length_cmp(ours: u64, other: u64) -> Ordering
         .cmp(other.to_le_bytes().as_slice())
 }
 
-/// The order of paths by the eight bytes of their lengths, the lowest first, and then by their bytes.
+/// The order of paths by the eight bytes of their lengths, the lowest first, and then by their
+/// bytes.
 #[tactic(auto, unfolding(crate::specs::Keys::path_cmp))]
 pub fn path_cmp(ours: &[u8], other: &[u8]) -> Ordering
     ensures { result ≡ path_cmp ours.now other.now }

@@ -11,7 +11,8 @@ use doc_types::texts::Texts;
 use doc_types::values::Values;
 use std::alloc::Global;
 
-/// A file of the build, and the step that gives its bytes. `part` is 1 for the second of two texts, the header, else 0.
+/// A file of the build, and the step that gives its bytes. `part` is 1 for the second of two texts,
+/// the header, else 0.
 #[derive(Debug, Drop)]
 pub struct Output {
     pub path: Path,
