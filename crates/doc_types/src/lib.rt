@@ -2,6 +2,7 @@
 #![tactic(auto)]
 
 pub mod arch;
+pub mod choice;
 pub mod depex;
 pub mod flash;
 pub mod image;
@@ -10,5 +11,7 @@ pub mod module_type;
 pub mod package;
 pub mod pcd;
 pub mod platform;
+pub mod texts;
+pub mod values;
 pub mod volume;
 pub mod volume_head;

@@ -1,0 +1,63 @@
+-- The steps of a build as rules: what each key asks and gives, and its rank. The rule is this
+-- project's own.
+use Rattle.std.specs.Prelude.{ℕ, ◌+◌, ◌*◌, Bool, List, [], Result, slice_index_or}
+use Rattle.std.specs.Option.{is_some}
+use Rattle.build_base.specs.Path.{path_field}
+use Rattle.build_base.specs.World.{World}
+use Rattle.step_engine.specs.declared.talk.Outcome.{Outcome}
+use Rattle.build_stages.specs.Gives.{Gives}
+use Rattle.build_stages.specs.Known.{Table, advance_at}
+use Rattle.build_stages.specs.Stages.{Staged, meaning_of}
+use Rattle.build_stages.specs.declared.stop.Stop.{Stop}
+use Rattle.document_stages.specs.Documents.{most_files}
+use Rattle.step_pack.specs.Keys.{key_cmp}
+use Rattle.step_pack.specs.declared.key.Key.{Key}
+use Rattle.step_pack.specs.declared.key.Key.TheVariants as key
+use Rattle.step_pack.specs.declared.out.Out.{Out}
+use Rattle.build_rules.specs.Fits.{fits}
+use Rattle.build_rules.specs.Trees.{EdkStages, dec_stages, inf_stages, platform_stages, unbuilt}
+
+abbrev pub stages_of : Key → EdkStages
+stages_of (key.Dec path) = dec_stages path
+stages_of (key.Inf path) = inf_stages path
+stages_of key.Platform = platform_stages
+stages_of _ = unbuilt
+
+-- a volume's number is below 2^32, so that a device's rank is above those of all volumes
+abbrev pub rank_of : Key → ℕ
+rank_of (key.Dec path) = 1
+rank_of (key.Inf path) = 1
+rank_of key.Platform = 2
+rank_of key.Flash = 3
+rank_of (key.Choice m) = 4
+rank_of key.PlatformPcds = 5
+rank_of (key.Values m) = 6
+rank_of (key.Code m) = 7
+rank_of (key.Depex m) = 7
+rank_of (key.File v i) = 8 + 2 * v
+rank_of (key.Volume v) = 9 + 2 * v
+rank_of (key.Device d) = 0x400000000
+rank_of key.Report = 0x400000001
+rank_of key.All = 0x400000002
+
+-- how many batches each asks at most
+abbrev pub most_of : Key → ℕ
+most_of (key.Dec path) = most_files
+most_of (key.Inf path) = most_files
+most_of key.Platform = 1 + most_files
+most_of _ = 0
+
+-- the field 0 of a job names a file
+abbrev pub is_job : List (List ℕ) → Bool
+is_job fields = is_some (path_field (slice_index_or fields 0 []))
+
+abbrev pub edk : Staged Key Out
+edk = record { stages = stages_of; rank = rank_of; most = most_of; fits = fits; is_job = is_job }
+
+-- a step's function answers what its stages give by what is known, unless memory was wanting
+abbrev pub Comes : Table Key Out → EdkStages → Result Out (Stop Key) → Type 0
+Comes known stages r = Gives (λ out. out) r (advance_at key_cmp fits known stages)
+
+-- the value of a step in a world
+abbrev pub value_in : World → Key → Outcome Out
+value_in w k = (meaning_of key_cmp edk).value k w

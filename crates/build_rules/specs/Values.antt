@@ -1,0 +1,53 @@
+-- The values of the documents of a build in a world: what their lines come to (EDK II DSC, DEC and
+-- INF specifications).
+use Rattle.std.specs.Prelude.{◌≡◌, ℕ, List, [], Result, Ok, Err}
+use Rattle.build_base.specs.First.{and_then}
+use Rattle.build_base.specs.World.{World, got, field}
+use Rattle.build_base.specs.declared.fault.Fault.{Fault}
+use Rattle.build_base.specs.declared.lines.Lines.{Lines}
+use Rattle.build_base.specs.declared.lines.Macro.{Macro}
+use Rattle.macro_conditions.specs.Expansion.{expansion}
+use Rattle.macro_conditions.specs.Worlds.{told}
+use Rattle.document_stages.specs.Worlds.{world_lines}
+use Rattle.dec_docs.specs.Package.{package_of}
+use Rattle.inf_docs.specs.Modules.{module_of}
+use Rattle.doc_types.specs.declared.package.DecDoc.{DecDoc}
+use Rattle.doc_types.specs.declared.module.InfDoc.{InfDoc}
+use Rattle.doc_types.specs.declared.platform.PlatformDoc.{PlatformDoc}
+use Rattle.dsc_platform.specs.Platform.{platform_of}
+use Rattle.build_stages.specs.Stages.{outcome_of}
+use Rattle.step_pack.specs.declared.key.Key.TheVariants as key
+use Rattle.step_pack.specs.declared.out.Out.TheVariants as out
+use Rattle.build_rules.specs.Defines.{macros_of_job}
+use Rattle.build_rules.specs.Rules.{value_in}
+use Rattle.build_rules.specs.Trees.{given_as}
+
+-- the lines of a document with these macros before its first, and these above all
+abbrev pub lines_in : World → List ℕ → List Macro → List Macro → Result Lines Fault
+lines_in w path macros fixed = world_lines (expansion (told (got w)) path macros fixed)
+
+abbrev pub dec_value : World → List ℕ → Result DecDoc Fault
+dec_value w path = and_then (lines_in w path [] []) package_of
+
+abbrev pub inf_value : World → List ℕ → Result InfDoc Fault
+inf_value w path = and_then (lines_in w path [] []) module_of
+
+-- the macros of the job's fields, which hold above those of all files
+abbrev pub job_macros : World → List Macro
+job_macros w = macros_of_job (field w 2) (field w 3) (field w 5)
+
+abbrev pub platform_value : World → Result PlatformDoc Fault
+platform_value w = and_then (lines_in w (field w 0) [] (job_macros w)) platform_of
+
+-- the step of a document gives its value
+abbrev pub GivesPackage : World → List ℕ → Type 0
+GivesPackage w path =
+    value_in w (key.Dec path) ≡ outcome_of (given_as out.Dec (dec_value w path))
+
+abbrev pub GivesModule : World → List ℕ → Type 0
+GivesModule w path =
+    value_in w (key.Inf path) ≡ outcome_of (given_as out.Inf (inf_value w path))
+
+abbrev pub GivesPlatform : World → Type 0
+GivesPlatform w =
+    value_in w key.Platform ≡ outcome_of (given_as out.Platform (platform_value w))

@@ -1,0 +1,47 @@
+//! The turns of rules that are written as stages.
+ghost use Rattle.std.specs.Prelude.{◌≡◌, IfOk};
+ghost use Rattle.build_stages.specs.Stages.{misfit, meaning_of};
+ghost use Rattle.step_engine.specs.Turns.{IsTurn};
+ghost use Rattle.step_engine.specs.declared.talk.Outcome.TheVariants.{Bad};
+
+use crate::known::Known;
+use crate::staged::StagedRules;
+use crate::stop::Stop;
+use build_base::{Fault, Path, Permit, Place, Text, WantOfMemory};
+use std::alloc::Global;
+use step_engine::{Outcome, Talk, Turn};
+
+// The outcome after an answer that no world gives: a fault of code 0, which no fault of a build
+// has.
+fn misfit<O>(alloc: Global) -> Result<Outcome<O>, WantOfMemory>
+    ensures { IfOk result (λ outcome. outcome ≡ Bad misfit) }
+{
+    match Path::new(alloc, b"talk") {
+        Ok(path) => Ok(Outcome::Bad(Fault {
+            code: 0,
+            place: Place { path, line: 0 },
+            detail: Text::of(alloc, b"")?,
+        })),
+        Err(_) => Err(WantOfMemory),
+    }
+}
+
+/// The next turn of a step after a talk, for `Rules::turn`.
+pub fn turn_by<S: StagedRules>(
+    alloc: Global,
+    rules: &S,
+    key: &S::Key,
+    talk: &Talk<S::Key, S::Out>,
+    permit: Permit,
+) -> Result<Turn<S::Key, S::Out>, WantOfMemory>
+    ensures { IfOk result (IsTurn (meaning_of S.Key.cmp S.staged) key.now talk.now.batches) }
+{
+    let known = Known::of(alloc, talk)?;
+    match rules.outcome(alloc, key, &known, permit) {
+        Ok(out) => Ok(Turn::Done(Outcome::Good(out))),
+        Err(Stop::Wants(asks, permit)) => Ok(Turn::Ask(asks, permit)),
+        Err(Stop::Fails(fault)) => Ok(Turn::Done(Outcome::Bad(fault))),
+        Err(Stop::Misfit) => Ok(Turn::Done(misfit(alloc)?)),
+        Err(Stop::WantOfMemory) => Err(WantOfMemory),
+    }
+}

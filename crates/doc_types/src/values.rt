@@ -1,0 +1,43 @@
+//! The values of PCDs (EDK II DSC specification, PCD sections).
+use crate::pcd::{Datum, Kind, PcdName};
+use build_base::{Rows, Same, Text, WantOfMemory, all_same, copied};
+use std::alloc::Global;
+
+/// A PCD's value for one SKU: its token, the most bytes that it may have, and the rank of what stated it.
+#[derive(Debug, Drop)]
+pub struct PcdRow {
+    pub pcd: PcdName,
+    pub kind: Kind,
+    pub datum: Datum,
+    pub token: u32,
+    pub max: u32,
+    pub rank: u8,
+    pub sku: Text,
+    pub value: Text,
+}
+
+/// Values by their PCDs' token spaces and names, and for each PCD in the order of the chosen SKUs.
+#[derive(Debug, Drop)]
+pub struct Values {
+    pub rows: Rows<PcdRow>,
+}
+
+impl Same for PcdRow {
+    fn copy(&self, alloc: Global) -> Result<PcdRow, WantOfMemory> {
+        copied!(PcdRow, self, alloc; pcd, kind, datum, token, max, rank, sku, value)
+    }
+
+    fn same(&self, other: &PcdRow) -> bool {
+        all_same!(self, other; pcd, kind, datum, token, max, rank, sku, value)
+    }
+}
+
+impl Same for Values {
+    fn copy(&self, alloc: Global) -> Result<Values, WantOfMemory> {
+        copied!(Values, self, alloc; rows)
+    }
+
+    fn same(&self, other: &Values) -> bool {
+        all_same!(self, other; rows)
+    }
+}

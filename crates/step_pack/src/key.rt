@@ -1,0 +1,170 @@
+//! The keys of a build's steps.
+ghost use Rattle.std.specs.Prelude.{◌≡◌};
+ghost use Rattle.std.proofs.Common.{rules};
+ghost use Rattle.std.specs.Cmp.{eq_by_cmp_equiv, partial_equiv_from_equiv, partial_order_from_total};
+ghost use Rattle.std.specs.Ordering.{as_partial_cmp, eq_by_cmp};
+ghost use Rattle.step_pack.specs.KeyLaws.{keys_total};
+ghost use Rattle.step_pack.specs.Keys.{key_cmp, variant, arch_of, path_of, first_of, second_of};
+
+use crate::order::{arch_byte, number_cmp, path_cmp};
+use build_base::{Path, Same, WantOfMemory};
+use doc_types::choice::Module;
+use std::alloc::Global;
+use std::cmp::Ordering;
+
+/// A step of a build. `File(v, i)` is item i of volume v; volumes, items and devices count from 0.
+#[derive(Debug, Drop)]
+pub enum Key {
+    Dec(Path),
+    Inf(Path),
+    Platform,
+    Flash,
+    Choice(Module),
+    PlatformPcds,
+    Values(Module),
+    Code(Module),
+    Depex(Module),
+    File(u32, u32),
+    Volume(u32),
+    Device(u32),
+    Report,
+    All,
+}
+
+impl Key {
+    // The number of the variant, in the order of declaration.
+    pub(crate) fn variant(&self) -> u8
+        ensures { result ≡ variant self.now }
+    {
+        match self {
+            Key::Dec(_) => 0,
+            Key::Inf(_) => 1,
+            Key::Platform => 2,
+            Key::Flash => 3,
+            Key::Choice(_) => 4,
+            Key::PlatformPcds => 5,
+            Key::Values(_) => 6,
+            Key::Code(_) => 7,
+            Key::Depex(_) => 8,
+            Key::File(_, _) => 9,
+            Key::Volume(_) => 10,
+            Key::Device(_) => 11,
+            Key::Report => 12,
+            Key::All => 13,
+        }
+    }
+
+    // The byte of the architecture, where there is one, else 0.
+    pub(crate) fn arch(&self) -> u8
+        ensures { result ≡ arch_of self.now }
+    {
+        match self {
+            Key::Choice(module) | Key::Values(module) | Key::Code(module) | Key::Depex(module) => {
+                arch_byte(module.arch)
+            }
+            _ => 0,
+        }
+    }
+
+    // The path, where there is one, else none of its bytes.
+    pub(crate) fn path(&self) -> &[u8]
+        ensures { result.now ≡ path_of self.now }
+    {
+        match self {
+            Key::Dec(path) | Key::Inf(path) => path.bytes(),
+            Key::Choice(module) | Key::Values(module) | Key::Code(module) | Key::Depex(module) => {
+                module.inf.bytes()
+            }
+            _ => b"".as_slice(),
+        }
+    }
+
+    // The first number, where there is one, else 0.
+    pub(crate) fn first(&self) -> u32
+        ensures { result ≡ first_of self.now }
+    {
+        match self {
+            Key::File(number, _) | Key::Volume(number) | Key::Device(number) => *number,
+            _ => 0,
+        }
+    }
+
+    // The second number, where there is one, else 0.
+    pub(crate) fn second(&self) -> u32
+        ensures { result ≡ second_of self.now }
+    {
+        match self {
+            Key::File(_, number) => *number,
+            _ => 0,
+        }
+    }
+}
+
+impl PartialEq for Key {
+    ghost eq = { eq_by_cmp key_cmp };
+
+    ghost laws = { partial_equiv_from_equiv (eq_by_cmp_equiv keys_total) };
+
+    fn eq(&self, other: &Key) -> bool {
+        self.cmp(other).is_eq()
+    }
+}
+
+impl Eq for Key {
+    ghost laws = { eq_by_cmp_equiv keys_total };
+}
+
+impl PartialOrd for Key {
+    ghost partial_cmp = { as_partial_cmp key_cmp };
+
+    ghost laws = { partial_order_from_total keys_total };
+
+    fn partial_cmp(&self, other: &Key) -> Option<Ordering> {
+        Some(self.cmp(other))
+    }
+}
+
+impl Ord for Key {
+    ghost cmp = { key_cmp };
+
+    ghost total = { keys_total };
+
+    ghost matches_partial_cmp = { Prim.search rules };
+
+    ghost matches_eq = { Prim.search rules };
+
+    #[tactic(auto, unfolding(crate::specs::Keys::key_cmp))]
+    fn cmp(&self, other: &Key) -> Ordering {
+        let second = number_cmp(self.second(), other.second());
+        let numbers = number_cmp(self.first(), other.first()).then(second);
+        let paths = path_cmp(self.path(), other.path()).then(numbers);
+        let arches = self.arch().cmp(&other.arch()).then(paths);
+        self.variant().cmp(&other.variant()).then(arches)
+    }
+}
+
+impl Same for Key {
+    fn copy(&self, alloc: Global) -> Result<Key, WantOfMemory> {
+        match self {
+            Key::Dec(path) => Ok(Key::Dec(path.copy(alloc)?)),
+            Key::Inf(path) => Ok(Key::Inf(path.copy(alloc)?)),
+            Key::Platform => Ok(Key::Platform),
+            Key::Flash => Ok(Key::Flash),
+            Key::Choice(module) => Ok(Key::Choice(module.copy(alloc)?)),
+            Key::PlatformPcds => Ok(Key::PlatformPcds),
+            Key::Values(module) => Ok(Key::Values(module.copy(alloc)?)),
+            Key::Code(module) => Ok(Key::Code(module.copy(alloc)?)),
+            Key::Depex(module) => Ok(Key::Depex(module.copy(alloc)?)),
+            Key::File(volume, item) => Ok(Key::File(*volume, *item)),
+            Key::Volume(number) => Ok(Key::Volume(*number)),
+            Key::Device(number) => Ok(Key::Device(*number)),
+            Key::Report => Ok(Key::Report),
+            Key::All => Ok(Key::All),
+        }
+    }
+
+    #[tactic(auto, using(crate::proofs::KeyLemmas::same_by_order))]
+    fn same(&self, other: &Key) -> bool {
+        self.cmp(other).is_eq()
+    }
+}

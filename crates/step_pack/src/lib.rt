@@ -1,0 +1,14 @@
+//! The keys of a build's steps, what the steps give, and the order of the keys by their packed
+//! form.
+#![tactic(auto)]
+
+pub mod key;
+pub mod laws;
+pub mod order;
+pub mod out;
+pub mod pack;
+pub mod step_key;
+
+pub use key::Key;
+pub use out::{Out, Output};
+pub use pack::pack_key;
