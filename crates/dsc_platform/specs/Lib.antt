@@ -1,6 +1,10 @@
-pub mod Sections
-pub mod Keys
 pub mod Arches
-pub mod Lines
-pub mod Platform
-pub mod Reading
+pub mod ComponentLines
+pub mod Forms
+pub mod KeyLines
+pub mod LibraryLines
+pub mod PcdLines
+pub mod Sections
+pub mod SkuLines
+pub mod SkuNames
+pub mod Standing

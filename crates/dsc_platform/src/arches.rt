@@ -5,8 +5,8 @@ ghost use Rattle.build_base.specs.First.{all_ok};
 ghost use Rattle.dsc_platform.specs.Arches.{is_common, arch_value, arches_value};
 
 use build_base::{Place, Refusal, Rows, Text, refuse};
-use doc_types::arch::{Arch, arch_named};
 use doc_reading::value_fields::undefined_macros;
+use doc_types::arch::{Arch, arch_named};
 use meta_lexer::parts::field_texts;
 use std::alloc::Global;
 

@@ -2,13 +2,16 @@
 #![tactic(auto)]
 
 pub mod arches;
-pub mod key;
-pub mod line;
-pub mod reading;
+pub mod component_line;
+pub mod form;
+pub mod key_line;
+pub mod library_line;
+pub mod open_mark;
+pub mod output_folder;
+pub mod pcd_form;
+pub mod pcd_line;
+pub mod pcd_store;
+pub mod rows;
 pub mod section;
-pub mod stated;
-
-pub use reading::read_platform;
-
-#[cfg(test)]
-mod tests;
+pub mod sku_line;
+pub mod sku_names;
