@@ -1,0 +1,4 @@
+pub mod BlockLemmas
+pub mod PlaceLemmas
+pub mod RepeatLemmas
+pub mod StatedLemmas

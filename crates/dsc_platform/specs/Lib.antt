@@ -1,10 +1,17 @@
 pub mod Arches
 pub mod ComponentLines
+pub mod Cutting
 pub mod Forms
+pub mod Holding
 pub mod KeyLines
 pub mod LibraryLines
 pub mod PcdLines
+pub mod Platform
+pub mod Repeats
 pub mod Sections
 pub mod SkuLines
 pub mod SkuNames
+pub mod SkuUses
+pub mod SkuWalks
 pub mod Standing
+pub mod Stating

@@ -3,7 +3,9 @@
 
 pub mod arches;
 pub mod component_line;
+pub mod components;
 pub mod form;
+pub mod format;
 pub mod key_line;
 pub mod library_line;
 pub mod open_mark;
@@ -11,7 +13,11 @@ pub mod output_folder;
 pub mod pcd_form;
 pub mod pcd_line;
 pub mod pcd_store;
+pub mod repeats;
 pub mod rows;
 pub mod section;
 pub mod sku_line;
 pub mod sku_names;
+pub mod sku_uses;
+pub mod sku_walks;
+pub mod stated;

@@ -19,7 +19,7 @@ use meta_lexer::parts::{field_texts, first_text};
 use std::alloc::Global;
 
 fn check_number(alloc: Global, line: &Taken, text: Option<&[u8]>) -> Result<(), Refusal>
-    ensures { Checks result (number_fault line.now (option_map (λ t. t.now) text)) }
+    ensures { Checks result (number_fault line.now (option_map (λ t. t.now) text.entry)) }
 {
     match text {
         Some(text) => {

@@ -1,7 +1,9 @@
 //! Tables of names.
-ghost use Rattle.std.specs.Prelude.{◌≡◌, ◌++◌, ◌∷◌, [], List, ℕ, length, OnOk, IfOk};
+ghost use Rattle.std.specs.Prelude.{◌≡◌, ◌++◌, ◌∷◌, [], List, ℕ, length, Some, cond, OnOk, IfOk};
+ghost use Rattle.std.specs.Global.{Vec as Bytes};
+ghost use Rattle.std.specs.HashMap.{get};
 ghost use Rattle.dsc_platform.specs.SkuLines.{place_of};
-ghost use Rattle.dsc_platform.specs.SkuNames.{Placed};
+ghost use Rattle.dsc_platform.specs.SkuNames.{same_key, Placed};
 
 use build_base::WantOfMemory;
 use indexmap::IndexMap;
@@ -28,6 +30,19 @@ pub fn place_of(
     Ok(place_at(table, &key))
 }
 
+fn insert_place(
+    table: &mut IndexMap<Vec<u8>, usize>,
+    key: Vec<u8>,
+    place: usize,
+) -> Result<(), WantOfMemory>
+    ensures { OnOk result ((q : Bytes ℕ) → get same_key table.new q ≡ cond (same_key key q) (Some place) (get same_key table.old q)) }
+{
+    match table.insert(key, place) {
+        Ok(_) => Ok(()),
+        Err(_) => Err(WantOfMemory),
+    }
+}
+
 /// Takes a name that stands at a place behind those of a table.
 pub fn add_name(
     alloc: Global,
@@ -38,11 +53,11 @@ pub fn add_name(
     ensures { (names : List (List ℕ)) → place ≡ length names → Placed names table.old → OnOk result (Placed (names ++ name.now ∷ []) table.new) }
 {
     let key = Vec::from_slice(alloc, name)?;
-    if place_at(table, &key).is_some() {
-        return Ok(());
-    }
-    match table.insert(key, place) {
-        Ok(_) => Ok(()),
-        Err(_) => Err(WantOfMemory),
+    match place_at(table, &key) {
+        Some(_) => Ok(()),
+        None => {
+            insert_place(table, key, place)?;
+            Ok(())
+        }
     }
 }

@@ -1,0 +1,126 @@
+-- A platform's document, or its first fault (EDK II DSC specification, chapter 3).
+use Rattle.std.specs.Prelude.{ℕ, ◌++◌, if◌then◌else◌, List, [], ◌∷◌, map, Option, Some, None, unwrap_or, Result, Err, codes}
+use Rattle.std.specs.List.{list_any}
+use Rattle.std.specs.Option.{option_map}
+use Rattle.build_base.specs.First.{or_fault, unless, first_of}
+use Rattle.build_base.specs.FaultText.{fault_of}
+use Rattle.build_base.specs.declared.guid.Guid.{Guid as GuidBytes}
+use Rattle.build_base.specs.declared.fault.Fault.{Fault}
+use Rattle.build_base.specs.declared.lines.Taken.{Taken}
+use Rattle.build_base.specs.declared.lines.Lines.{Lines}
+use Rattle.doc_reading.specs.Grammar.{Grammar, Read, first_fault, read_of, rows_of}
+use Rattle.doc_reading.specs.Missing.{missing_key}
+use Rattle.doc_types.specs.declared.arch.Arch.{Arch}
+use Rattle.doc_types.specs.declared.platform.Component.{Component}
+use Rattle.doc_types.specs.declared.platform.PlatformDoc.{PlatformDoc}
+use Rattle.doc_types.specs.declared.platform.Sku as sku_type
+use Rattle.dsc_platform.specs.declared.open_mark.Open.{Open}
+use Rattle.dsc_platform.specs.declared.open_mark.Open.TheVariants.{Shut, Untagged, Tagged}
+use Rattle.dsc_platform.specs.declared.rows.Said.{Said}
+use Rattle.dsc_platform.specs.declared.rows.Said.TheVariants.{Sku, Library, Pcd, Part}
+use Rattle.dsc_platform.specs.declared.rows.SkuLine.{SkuLine}
+use Rattle.dsc_platform.specs.declared.section.Scope.{Scope}
+use Rattle.dsc_platform.specs.declared.section.Scope.TheVariants.{Defines, SkuIds, Libraries, Components, Pcds}
+use Rattle.dsc_platform.specs.declared.sku_uses.SkuUse.{SkuUse}
+use Rattle.dsc_platform.specs.declared.stated.Keys.{Keys}
+use Rattle.dsc_platform.specs.declared.stated.Stated.{Stated}
+use Rattle.dsc_platform.specs.ComponentLines.{component_faults, component_part}
+use Rattle.dsc_platform.specs.Cutting.{components_of}
+use Rattle.dsc_platform.specs.KeyLines.{key_line_faults, key_line_row}
+use Rattle.dsc_platform.specs.LibraryLines.{library_faults, library_of}
+use Rattle.dsc_platform.specs.PcdLines.{pcd_faults, pcd_of}
+use Rattle.dsc_platform.specs.Repeats.{repeats_fault}
+use Rattle.dsc_platform.specs.Sections.{head_faults, scope_of}
+use Rattle.dsc_platform.specs.SkuLines.{is_default, sku_faults, sku_of}
+use Rattle.dsc_platform.specs.SkuUses.{uses_of, uses_fault}
+use Rattle.dsc_platform.specs.SkuWalks.{loops_fault}
+use Rattle.dsc_platform.specs.Standing.{open_below}
+use Rattle.dsc_platform.specs.Stating.{nothing, with_rows, names_of, names_in}
+
+-- the faults of a line below a head, one for each code, where SKUs of these names stand above and this is open
+abbrev pub scope_faults : List (List ℕ) → Open → Taken → Scope → List (Option Fault)
+scope_faults names standing line Defines = key_line_faults line
+scope_faults names standing line SkuIds = sku_faults names line
+scope_faults names standing line (Libraries arch kind) = library_faults line
+scope_faults names standing line (Components arch) = component_faults line standing
+scope_faults names standing line (Pcds p) = pcd_faults line p.store
+
+-- what it says there
+abbrev pub scope_row : Open → Taken → Scope → Option Said
+scope_row standing line Defines = key_line_row line
+scope_row standing line SkuIds = option_map Sku (sku_of line)
+scope_row standing line (Libraries arch kind) = option_map Library (library_of line arch kind)
+scope_row standing line (Components arch) = option_map Part (component_part line arch standing)
+scope_row standing line (Pcds p) = option_map Pcd (pcd_of line p.kind p.store p.arch p.sku)
+
+unfoldable pub line_faults : List (List ℕ) → Open → Taken → Scope → List (Option Fault)
+line_faults names standing line scope = scope_faults names standing line scope
+
+unfoldable pub line_row : Open → Taken → Scope → Option Said
+line_row standing line scope = scope_row standing line scope
+
+-- an open brace, at a head or at the end
+abbrev pub open_fault : Taken → Open → Option Fault
+open_fault line Shut = None
+open_fault line Untagged = Some (fault_of 224 line.at (codes "{"))
+open_fault line (Tagged tag) = Some (fault_of 224 line.at (codes "{"))
+
+abbrev pub dsc_grammar : Grammar Scope Said
+dsc_grammar =
+    record {
+      head_faults = λ line head. head_faults line head;
+      scope_of = λ head. scope_of head;
+      stray = 226;
+      faults = λ above line scope. line_faults (names_in (rows_of above)) (open_below (rows_of above)) line scope;
+      row_of = λ above line scope. line_row (open_below (rows_of above)) line scope;
+      at_heads = λ above line heads. open_fault line (open_below (rows_of above));
+      left_open = λ above line. open_fault line (open_below (rows_of above));
+    }
+
+abbrev pub default_sku : sku_type.Sku
+default_sku = record { id = 0; name = codes "DEFAULT"; parent = [] }
+
+-- DEFAULT stands first where no line states it
+abbrev pub skus_of : List SkuLine → List sku_type.Sku
+skus_of lines =
+    if list_any (λ line. is_default line.sku.name) lines then map (λ line. line.sku) lines else default_sku ∷ map (λ line. line.sku) lines
+
+-- the folder of outputs is the stated one, or `Build/` and the platform's name
+abbrev pub with_required : Lines → Stated → List Component → List ℕ → GuidBytes → List Arch → PlatformDoc
+with_required lines stated components name guid arches =
+    record {
+      at = record { path = lines.root; line = 0 };
+      name = name;
+      guid = guid;
+      output = unwrap_or stated.keys.output (codes "Build/" ++ name);
+      arches = arches;
+      sku_choice = unwrap_or stated.keys.sku_choice (codes "DEFAULT");
+      flash = stated.keys.flash;
+      skus = skus_of stated.skus;
+      libraries = stated.libraries;
+      components = components;
+      pcds = stated.pcds;
+      macros = lines.macros;
+    }
+
+-- the faults of the whole, in the order of their codes
+abbrev pub whole_fault : Stated → List Component → List SkuUse → Option Fault
+whole_fault stated components uses = first_of (repeats_fault components ∷ uses_fault (names_of stated.skus) uses ∷ loops_fault stated.skus ∷ [])
+
+abbrev pub required : Lines → Stated → List Component → List SkuUse → Option (List ℕ) → Option GuidBytes → Option (List Arch) → Result PlatformDoc Fault
+required lines stated components uses None guid arches = Err (missing_key 221 lines.root (codes "PLATFORM_NAME"))
+required lines stated components uses (Some name) None arches = Err (missing_key 221 lines.root (codes "PLATFORM_GUID"))
+required lines stated components uses (Some name) (Some guid) None = Err (missing_key 221 lines.root (codes "SUPPORTED_ARCHITECTURES"))
+required lines stated components uses (Some name) (Some guid) (Some arches) =
+    unless (whole_fault stated components uses) (with_required lines stated components name guid arches)
+
+-- the document, where each required key is stated and nothing is at fault in the whole
+unfoldable pub document_of : Lines → Stated → List Component → List SkuUse → Result PlatformDoc Fault
+document_of lines stated components uses = required lines stated components uses stated.keys.name stated.keys.guid stated.keys.arches
+
+abbrev pub document_read : Lines → List (Read Scope Said) → Result PlatformDoc Fault
+document_read lines reads = document_of lines (with_rows nothing (rows_of reads)) (components_of reads) (uses_of reads)
+
+-- the fault of the first line that has one, else the document, where it is whole
+unfoldable pub platform_of : Lines → Result PlatformDoc Fault
+platform_of lines = or_fault (first_fault dsc_grammar lines.rows) (document_read lines (read_of dsc_grammar lines.rows))
