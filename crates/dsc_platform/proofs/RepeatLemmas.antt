@@ -32,11 +32,11 @@ arched_none table e = λ key. rw e refl
 
 chosen : (t : Bool) (arches new : List Arch) (old : Option (List Arch)) (arch : Arch) → (t ≡ true → arches ≡ unwrap_or old []) → new ≡ arches ++ arch ∷ []
     → unwrap_or (cond t (Some new) (cond t None old)) [] ≡ unwrap_or old [] ++ (if t then arch ∷ [] else [])
-chosen true arches new old arch here n = n ∙ ap (λ as. as ++ arch ∷ []) (here refl)
+chosen true arches new old arch here n = n ∙ ap (λ zs. zs ++ arch ∷ []) (here refl)
 chosen false arches new old arch here n = sym (append-nil (unwrap_or old []))
 
 one_more : (key : List ℕ) (above : List Component) (component : Component) → flat_map (arch_at key) (above ++ component ∷ []) ≡ flat_map (arch_at key) above ++ arch_at key component
-one_more key above component = flat_map-append (arch_at key) above (component ∷ []) ∙ ap (λ as. flat_map (arch_at key) above ++ as) (append-nil (arch_at key component))
+one_more key above component = flat_map-append (arch_at key) above (component ∷ []) ∙ ap (λ zs. flat_map (arch_at key) above ++ zs) (append-nil (arch_at key component))
 
 -- with a component more
 pub arched_added : {S : Type 0} (above : List Component) (component : Component) (k : Vec ℕ) (arches new_arches : List Arch) (old mid new : HashMap (Vec ℕ) (List Arch) S)
@@ -51,6 +51,6 @@ arched_added above component k arches new_arches old mid new named taken pushed 
     λ t. taken ∙ h k ∙ ap (λ inf. flat_map (arch_at inf) above) (bytes_same k.items key.items t) ∙ sym (h key) in
     ap (λ o. unwrap_or o []) (put key ∙ ap (cond (same_key k key) (Some new_arches)) (out key))
     ∙ chosen (bytes_eq k.items key.items) arches new_arches (get same_key old key) component.arch same pushed
-    ∙ ap (λ as. as ++ (if bytes_eq k.items key.items then component.arch ∷ [] else [])) (h key)
+    ∙ ap (λ zs. zs ++ (if bytes_eq k.items key.items then component.arch ∷ [] else [])) (h key)
     ∙ ap (λ inf. flat_map (arch_at key.items) above ++ (if bytes_eq inf key.items then component.arch ∷ [] else [])) named
     ∙ sym (one_more key.items above component)

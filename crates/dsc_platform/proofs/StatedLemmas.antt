@@ -12,6 +12,10 @@ use Rattle.dsc_platform.specs.declared.rows.Part.{Part}
 use Rattle.dsc_platform.specs.Standing.{parts_in}
 use Rattle.dsc_platform.specs.Stating.{name_in, guid_in, arches_in, output_in, choice_in, flash_in, sku_in, library_in, pcd_in, with_rows, sku_name, names_of}
 
+-- what a list gives, with one more
+pub flat_push : {X T : Type 0} (f : X → List T) (xs : List X) (x : X) → flat_map f (xs ++ x ∷ []) ≡ flat_map f xs ++ f x
+flat_push f xs x = flat_map-append f xs (x ∷ []) ∙ ap (λ ys. flat_map f xs ++ ys) (append-nil (f x))
+
 last_join : {R : Type 0} (f : Said → List R) (o : Option R) (xs ys : List Said) → last_or (last_or o (flat_map f xs)) (flat_map f ys) ≡ last_or o (flat_map f (xs ++ ys))
 last_join f o xs ys = sym (ap (last_or o) (flat_map-append f xs ys) ∙ last_or-append o (flat_map f xs) (flat_map f ys))
 
@@ -25,9 +29,9 @@ rows_join s xs ys =
       last_join name_in s.keys.name xs ys,
       last_join guid_in s.keys.guid xs ys,
       last_join arches_in s.keys.arches xs ys,
-      last_join output_in s.keys.output xs ys,
-      last_join choice_in s.keys.sku_choice xs ys,
-      last_join flash_in s.keys.flash xs ys,
+      last_join output_in s.keys.options.output xs ys,
+      last_join choice_in s.keys.options.sku_choice xs ys,
+      last_join flash_in s.keys.options.flash xs ys,
       list_join sku_in s.skus xs ys,
       list_join library_in s.libraries xs ys,
       list_join pcd_in s.pcds xs ys,
@@ -44,5 +48,4 @@ names_push skus sku = map-append sku_name skus (sku ∷ [])
 -- the parts of components among some rows, with one more
 pub parts_more : (old : List Part) (rows : List Said) (row : Said) → (old ++ flat_map parts_in rows) ++ parts_in row ≡ old ++ flat_map parts_in (rows ++ row ∷ [])
 parts_more old rows row =
-    append_assoc old (flat_map parts_in rows) (parts_in row)
-    ∙ ap (λ ps. old ++ ps) (sym (flat_map-append parts_in rows (row ∷ []) ∙ ap (λ ps. flat_map parts_in rows ++ ps) (append-nil (parts_in row))))
+    append_assoc old (flat_map parts_in rows) (parts_in row) ∙ ap (λ ps. old ++ ps) (sym (flat_push parts_in rows row))

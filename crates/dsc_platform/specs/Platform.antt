@@ -12,6 +12,8 @@ use Rattle.doc_reading.specs.Grammar.{Grammar, Read, first_fault, read_of, rows_
 use Rattle.doc_reading.specs.Missing.{missing_key}
 use Rattle.doc_types.specs.declared.arch.Arch.{Arch}
 use Rattle.doc_types.specs.declared.platform.Component.{Component}
+use Rattle.doc_types.specs.declared.platform.LibraryLine.{LibraryLine}
+use Rattle.doc_types.specs.declared.platform.PcdLine.{PcdLine}
 use Rattle.doc_types.specs.declared.platform.PlatformDoc.{PlatformDoc}
 use Rattle.doc_types.specs.declared.platform.Sku as sku_type
 use Rattle.dsc_platform.specs.declared.open_mark.Open.{Open}
@@ -22,7 +24,7 @@ use Rattle.dsc_platform.specs.declared.rows.SkuLine.{SkuLine}
 use Rattle.dsc_platform.specs.declared.section.Scope.{Scope}
 use Rattle.dsc_platform.specs.declared.section.Scope.TheVariants.{Defines, SkuIds, Libraries, Components, Pcds}
 use Rattle.dsc_platform.specs.declared.sku_uses.SkuUse.{SkuUse}
-use Rattle.dsc_platform.specs.declared.stated.Keys.{Keys}
+use Rattle.dsc_platform.specs.declared.stated.Options.{Options}
 use Rattle.dsc_platform.specs.declared.stated.Stated.{Stated}
 use Rattle.dsc_platform.specs.ComponentLines.{component_faults, component_part}
 use Rattle.dsc_platform.specs.Cutting.{components_of}
@@ -81,38 +83,41 @@ abbrev pub default_sku : sku_type.Sku
 default_sku = record { id = 0; name = codes "DEFAULT"; parent = [] }
 
 -- DEFAULT stands first where no line states it
+abbrev pub front_of : List SkuLine → List sku_type.Sku
+front_of lines = if list_any (λ line. is_default line.sku.name) lines then [] else default_sku ∷ []
+
 abbrev pub skus_of : List SkuLine → List sku_type.Sku
-skus_of lines =
-    if list_any (λ line. is_default line.sku.name) lines then map (λ line. line.sku) lines else default_sku ∷ map (λ line. line.sku) lines
+skus_of lines = front_of lines ++ map (λ line. line.sku) lines
 
 -- the folder of outputs is the stated one, or `Build/` and the platform's name
-abbrev pub with_required : Lines → Stated → List Component → List ℕ → GuidBytes → List Arch → PlatformDoc
-with_required lines stated components name guid arches =
+abbrev pub with_required : Lines → Options → List SkuLine → List LibraryLine → List PcdLine → List Component → List ℕ → GuidBytes → List Arch → PlatformDoc
+with_required lines options skus libraries pcds components name guid arches =
     record {
       at = record { path = lines.root; line = 0 };
       name = name;
       guid = guid;
-      output = unwrap_or stated.keys.output (codes "Build/" ++ name);
+      output = unwrap_or options.output (codes "Build/" ++ name);
       arches = arches;
-      sku_choice = unwrap_or stated.keys.sku_choice (codes "DEFAULT");
-      flash = stated.keys.flash;
-      skus = skus_of stated.skus;
-      libraries = stated.libraries;
+      sku_choice = unwrap_or options.sku_choice (codes "DEFAULT");
+      flash = options.flash;
+      skus = skus_of skus;
+      libraries = libraries;
       components = components;
-      pcds = stated.pcds;
+      pcds = pcds;
       macros = lines.macros;
     }
 
 -- the faults of the whole, in the order of their codes
-abbrev pub whole_fault : Stated → List Component → List SkuUse → Option Fault
-whole_fault stated components uses = first_of (repeats_fault components ∷ uses_fault (names_of stated.skus) uses ∷ loops_fault stated.skus ∷ [])
+abbrev pub whole_fault : List SkuLine → List Component → List SkuUse → Option Fault
+whole_fault skus components uses = first_of (repeats_fault components ∷ uses_fault (names_of skus) uses ∷ loops_fault skus ∷ [])
 
 abbrev pub required : Lines → Stated → List Component → List SkuUse → Option (List ℕ) → Option GuidBytes → Option (List Arch) → Result PlatformDoc Fault
 required lines stated components uses None guid arches = Err (missing_key 221 lines.root (codes "PLATFORM_NAME"))
 required lines stated components uses (Some name) None arches = Err (missing_key 221 lines.root (codes "PLATFORM_GUID"))
 required lines stated components uses (Some name) (Some guid) None = Err (missing_key 221 lines.root (codes "SUPPORTED_ARCHITECTURES"))
 required lines stated components uses (Some name) (Some guid) (Some arches) =
-    unless (whole_fault stated components uses) (with_required lines stated components name guid arches)
+    unless (whole_fault stated.skus components uses)
+    (with_required lines stated.keys.options stated.skus stated.libraries stated.pcds components name guid arches)
 
 -- the document, where each required key is stated and nothing is at fault in the whole
 unfoldable pub document_of : Lines → Stated → List Component → List SkuUse → Result PlatformDoc Fault

@@ -55,15 +55,18 @@ keys_with keys rows =
       name = last_or keys.name (flat_map name_in rows);
       guid = last_or keys.guid (flat_map guid_in rows);
       arches = last_or keys.arches (flat_map arches_in rows);
-      output = last_or keys.output (flat_map output_in rows);
-      sku_choice = last_or keys.sku_choice (flat_map choice_in rows);
-      flash = last_or keys.flash (flat_map flash_in rows);
+      options =
+          record {
+            output = last_or keys.options.output (flat_map output_in rows);
+            sku_choice = last_or keys.options.sku_choice (flat_map choice_in rows);
+            flash = last_or keys.options.flash (flat_map flash_in rows);
+          };
     }
 
 abbrev pub nothing : Stated
 nothing =
     record {
-      keys = record { name = None; guid = None; arches = None; output = None; sku_choice = None; flash = None };
+      keys = record { name = None; guid = None; arches = None; options = record { output = None; sku_choice = None; flash = None } };
       skus = [];
       libraries = [];
       pcds = [];

@@ -13,6 +13,7 @@ pub mod output_folder;
 pub mod pcd_form;
 pub mod pcd_line;
 pub mod pcd_store;
+pub mod reading;
 pub mod repeats;
 pub mod rows;
 pub mod section;
@@ -21,3 +22,5 @@ pub mod sku_names;
 pub mod sku_uses;
 pub mod sku_walks;
 pub mod stated;
+
+pub use reading::read_platform;

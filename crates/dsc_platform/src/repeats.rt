@@ -1,5 +1,5 @@
 //! The check that each module stands once for an architecture.
-ghost use Rattle.std.specs.Prelude.{◌≡◌, ◌∷◌, ◌++◌, [], ℕ, List, None, cond, unwrap_or, OnOk};
+ghost use Rattle.std.specs.Prelude.{◌≡◌, ◌∷◌, ◌++◌, [], ℕ, List, None, cond, unwrap_or, OnOk, IfOk};
 ghost use Rattle.std.specs.Global.{Vec as Bytes};
 ghost use Rattle.std.specs.HashMap.{get};
 ghost use Rattle.std.specs.List.{list_any};
@@ -80,6 +80,12 @@ fn add_component(
     }
 }
 
+fn key_of(alloc: Global, component: &Component) -> Result<Vec<u8>, WantOfMemory>
+    ensures { IfOk result (λ key. key.items ≡ component.now.inf) }
+{
+    Ok(Vec::from_slice(alloc, component.inf.bytes())?)
+}
+
 // Refuses a component that repeats one of those in a table, or adds it.
 fn check_component(
     alloc: Global,
@@ -89,7 +95,7 @@ fn check_component(
     ensures fault { (above : List Part) → Arched above table.old → Checks result (repeat_fault above component.now) }
     ensures table { (above : List Part) → Arched above table.old → OnOk result (Arched (above ++ component.now ∷ []) table.new) }
 {
-    let key = Vec::from_slice(alloc, component.inf.bytes())?;
+    let key = key_of(alloc, component)?;
     if is_repeated(table, &key, component) {
         return Err(refuse(alloc, 228, &component.at, component.inf.bytes()));
     }

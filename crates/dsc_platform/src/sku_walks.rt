@@ -1,5 +1,5 @@
 //! The check that each SKU's walk by parents comes to DEFAULT.
-ghost use Rattle.std.specs.Prelude.{◌≡◌, ℕ, List, map, IfOk};
+ghost use Rattle.std.specs.Prelude.{◌≡◌, ◌++◌, ◌∷◌, [], ℕ, List, map, OnOk, IfOk};
 ghost use Rattle.build_base.specs.Answer.{Checks};
 ghost use Rattle.dsc_platform.specs.SkuNames.{Placed};
 ghost use Rattle.dsc_platform.specs.SkuWalks.{parent_place, parents_of, next_of, comes_by, is_loop, loop_fault, loops_from, loops_fault};
@@ -26,6 +26,15 @@ fn parent_place(
     Ok(place)
 }
 
+fn push_place(places: &mut Vec<Option<usize>>, place: Option<usize>) -> Result<(), WantOfMemory>
+    ensures { OnOk result (places.new.items ≡ places.old.items ++ place ∷ []) }
+{
+    match places.push(place) {
+        Ok(()) => Ok(()),
+        Err(_) => Err(WantOfMemory),
+    }
+}
+
 fn parents_among(
     alloc: Global,
     names: &IndexMap<Vec<u8>, usize>,
@@ -36,7 +45,7 @@ fn parents_among(
     let mut parents = Vec::new(alloc);
     for line in skus {
         let place = parent_place(alloc, names, line)?;
-        parents.push(place)?;
+        push_place(&mut parents, place)?;
     }
     Ok(parents)
 }
@@ -51,6 +60,7 @@ fn next_of(parents: &[Option<usize>], place: usize) -> Option<usize>
 }
 
 // Whether the walk from a place meets it again.
+#[tactic(auto, using(crate::proofs::WalkLemmas::comes_none, crate::proofs::WalkLemmas::comes_zero, crate::proofs::WalkLemmas::comes_step))]
 fn is_loop(parents: &[Option<usize>], start: usize) -> bool
     ensures { result ≡ is_loop parents.now start }
 {
@@ -58,13 +68,15 @@ fn is_loop(parents: &[Option<usize>], start: usize) -> bool
     let mut place = next_of(parents, start);
     while steps > 0 {
         steps -= 1;
-        let Some(here) = place else {
-            return false;
-        };
-        if here == start {
-            return true;
+        match place {
+            None => return false,
+            Some(here) => {
+                if here == start {
+                    return true;
+                }
+                place = next_of(parents, here);
+            }
         }
-        place = next_of(parents, here);
     }
     false
 }

@@ -16,15 +16,21 @@ use doc_types::platform::{LibraryLine, PcdLine};
 use indexmap::IndexMap;
 use std::alloc::Global;
 
+/// The last value of each key that may be absent.
+#[derive(Debug, Drop)]
+pub struct Options {
+    pub output: Option<OutputFolder>,
+    pub sku_choice: Option<Text>,
+    pub flash: Option<Path>,
+}
+
 /// The last value of each key.
 #[derive(Debug, Drop)]
 pub struct Keys {
     pub name: Option<SegmentName>,
     pub guid: Option<Guid>,
     pub arches: Option<Rows<Arch>>,
-    pub output: Option<OutputFolder>,
-    pub sku_choice: Option<Text>,
-    pub flash: Option<Path>,
+    pub options: Options,
 }
 
 /// The keys, and the rows of the other sections in the order of the lines.
@@ -44,9 +50,9 @@ impl Keys {
             KeyValue::Name(name) => self.name = Some(name),
             KeyValue::Guid(guid) => self.guid = Some(guid),
             KeyValue::Arches(arches) => self.arches = Some(arches),
-            KeyValue::Output(output) => self.output = Some(output),
-            KeyValue::SkuChoice(_, choice) => self.sku_choice = Some(choice),
-            KeyValue::Flash(flash) => self.flash = Some(flash),
+            KeyValue::Output(output) => self.options.output = Some(output),
+            KeyValue::SkuChoice(_, choice) => self.options.sku_choice = Some(choice),
+            KeyValue::Flash(flash) => self.options.flash = Some(flash),
         }
     }
 }
@@ -61,9 +67,11 @@ impl Stated {
                 name: None,
                 guid: None,
                 arches: None,
-                output: None,
-                sku_choice: None,
-                flash: None,
+                options: Options {
+                    output: None,
+                    sku_choice: None,
+                    flash: None,
+                },
             },
             skus: Rows::new(alloc),
             libraries: Rows::new(alloc),

@@ -1,0 +1,261 @@
+//! Reading a platform's lines.
+ghost use Rattle.std.specs.Prelude.{◌≡◌, ◌++◌, OnOk, IfOk, codes, unwrap_or, map};
+ghost use Rattle.std.specs.List.{list_any};
+ghost use Rattle.build_base.specs.Answer.{Answers, Checks};
+ghost use Rattle.dsc_platform.specs.Cutting.{built};
+ghost use Rattle.dsc_platform.specs.SkuLines.{is_default};
+ghost use Rattle.dsc_platform.specs.SkuNames.{Placed};
+ghost use Rattle.dsc_platform.specs.Stating.{names_of};
+ghost use Rattle.dsc_platform.specs.Platform.{front_of, skus_of, with_required, whole_fault, document_of, platform_of};
+
+use crate::components::push_block;
+use crate::format::DscFormat;
+use crate::open_mark::Open;
+use crate::output_folder::OutputFolder;
+use crate::repeats::check_repeats;
+use crate::rows::SkuLine;
+use crate::sku_line::is_default;
+use crate::sku_uses::{SkuUse, check_uses};
+use crate::sku_walks::check_loops;
+use crate::stated::{Keys, Options, Stated};
+use build_base::{Guid, Lines, Path, Permit, Place, Refusal, Rows, Same, Text, WantOfMemory};
+use doc_reading::missing::refuse_missing;
+use doc_reading::read_document;
+use doc_reading::segment_name::SegmentName;
+use doc_types::arch::Arch;
+use doc_types::platform::{Component, LibraryLine, PcdLine, PlatformDoc, Sku};
+use indexmap::IndexMap;
+use std::alloc::Global;
+
+fn output_of(
+    alloc: Global,
+    stated: Option<OutputFolder>,
+    name: &SegmentName,
+) -> Result<Path, WantOfMemory>
+    ensures { IfOk result (λ p. p ≡ unwrap_or stated (codes "Build/" ++ name.now)) }
+{
+    match stated {
+        Some(folder) => Ok(folder.into_path()),
+        None => name.folder(alloc),
+    }
+}
+
+fn sku_choice_of(alloc: Global, stated: Option<Text>) -> Result<Text, WantOfMemory>
+    ensures { IfOk result (λ t. t ≡ unwrap_or stated (codes "DEFAULT")) }
+{
+    match stated {
+        Some(text) => Ok(text),
+        None => Text::of(alloc, b"DEFAULT".as_slice()),
+    }
+}
+
+fn is_default_line(line: &SkuLine) -> bool
+    ensures { result ≡ is_default line.now.sku.name }
+{
+    is_default(line.sku.name.bytes())
+}
+
+fn has_default(lines: &[SkuLine]) -> bool
+    ensures { result ≡ list_any (λ line. is_default line.sku.name) lines.now }
+{
+    lines.iter().any(|line| is_default_line(line))
+}
+
+fn push_skus(alloc: Global, skus: &mut Rows<Sku>, lines: &[SkuLine]) -> Result<(), WantOfMemory>
+    ensures { OnOk result (skus.new ≡ skus.old ++ map (λ line. line.sku) lines.now) }
+{
+    for line in lines {
+        skus.push(line.sku.copy(alloc)?)?;
+    }
+    Ok(())
+}
+
+fn front_skus(alloc: Global, lines: &[SkuLine]) -> Result<Rows<Sku>, WantOfMemory>
+    ensures { IfOk result (λ skus. skus ≡ front_of lines.now) }
+{
+    let mut skus = Rows::new(alloc);
+    if !has_default(lines) {
+        skus.push(Sku {
+            id: 0,
+            name: Text::of(alloc, b"DEFAULT".as_slice())?,
+            parent: Text::of(alloc, b"".as_slice())?,
+        })?;
+    }
+    Ok(skus)
+}
+
+fn skus_of(alloc: Global, lines: &[SkuLine]) -> Result<Rows<Sku>, WantOfMemory>
+    ensures { IfOk result (λ skus. skus ≡ skus_of lines.now) }
+{
+    let mut skus = front_skus(alloc, lines)?;
+    push_skus(alloc, &mut skus, lines)?;
+    Ok(skus)
+}
+
+fn check_whole(
+    alloc: Global,
+    names: &IndexMap<Vec<u8>, usize>,
+    skus: &[SkuLine],
+    components: &[Component],
+    uses: &[SkuUse],
+) -> Result<(), Refusal>
+    ensures { Placed (names_of skus.now) names.now → Checks result (whole_fault skus.now components.now uses.now) }
+{
+    check_repeats(alloc, components)?;
+    check_uses(alloc, names, uses)?;
+    check_loops(alloc, names, skus)?;
+    Ok(())
+}
+
+fn make_document(
+    alloc: Global,
+    lines: &Lines,
+    options: Options,
+    skus: &[SkuLine],
+    libraries: Rows<LibraryLine>,
+    pcds: Rows<PcdLine>,
+    components: Rows<Component>,
+    name: SegmentName,
+    guid: Guid,
+    arches: Rows<Arch>,
+) -> Result<PlatformDoc, WantOfMemory>
+    ensures { IfOk result (λ d. d ≡ with_required lines.now options skus.now libraries pcds components name guid arches) }
+{
+    let Options {
+        output,
+        sku_choice,
+        flash,
+    } = options;
+    Ok(PlatformDoc {
+        at: Place {
+            path: lines.root.copy(alloc)?,
+            line: 0,
+        },
+        output: output_of(alloc, output, &name)?,
+        name: name.into_text(),
+        guid,
+        arches,
+        sku_choice: sku_choice_of(alloc, sku_choice)?,
+        flash,
+        skus: skus_of(alloc, skus)?,
+        libraries,
+        components,
+        pcds,
+        macros: lines.macros.copy(alloc)?,
+    })
+}
+
+// What the lines came to, when the last block of components is made.
+#[derive(Drop)]
+struct Ended {
+    stated: Stated,
+    names: IndexMap<Vec<u8>, usize>,
+    uses: Rows<SkuUse>,
+    components: Rows<Component>,
+}
+
+fn end_blocks(format: DscFormat) -> Result<Ended, WantOfMemory>
+    ensures stated { IfOk result (λ e. e.stated ≡ format.stated) }
+    ensures names { IfOk result (λ e. e.names ≡ format.names) }
+    ensures uses { IfOk result (λ e. e.uses ≡ format.uses) }
+    ensures components { IfOk result (λ e. e.components ≡ format.done ++ built format.first.items format.rest.items) }
+{
+    let DscFormat {
+        alloc,
+        stated,
+        names,
+        uses,
+        mut done,
+        first,
+        rest,
+        ..
+    } = format;
+    push_block(alloc, &mut done, first.as_slice(), rest.as_slice())?;
+    Ok(Ended {
+        stated,
+        names,
+        uses,
+        components: done,
+    })
+}
+
+// The document, where each required key is stated and nothing is at fault in the whole.
+#[tactic(auto, unfolding(crate::specs::Platform::document_of))]
+fn document(alloc: Global, lines: &Lines, ended: Ended) -> Result<PlatformDoc, Refusal>
+    ensures { Placed (names_of ended.stated.skus) ended.names → Answers result (document_of lines.now ended.stated ended.components ended.uses) }
+{
+    let Ended {
+        stated,
+        names,
+        uses,
+        components,
+    } = ended;
+    let Stated {
+        keys,
+        skus,
+        libraries,
+        pcds,
+    } = stated;
+    let Keys {
+        name,
+        guid,
+        arches,
+        options,
+    } = keys;
+    let Some(name) = name else {
+        return Err(refuse_missing(alloc, 221, &lines.root, b"PLATFORM_NAME".as_slice()));
+    };
+    let Some(guid) = guid else {
+        return Err(refuse_missing(alloc, 221, &lines.root, b"PLATFORM_GUID".as_slice()));
+    };
+    let Some(arches) = arches else {
+        return Err(refuse_missing(
+            alloc,
+            221,
+            &lines.root,
+            b"SUPPORTED_ARCHITECTURES".as_slice(),
+        ));
+    };
+    check_whole(
+        alloc,
+        &names,
+        skus.items(),
+        components.items(),
+        uses.items(),
+    )?;
+    let document = make_document(
+        alloc,
+        lines,
+        options,
+        skus.items(),
+        libraries,
+        pcds,
+        components,
+        name,
+        guid,
+        arches,
+    )?;
+    Ok(document)
+}
+
+/// The platform that these lines describe, or the first fault: of the first line that has one, else of the
+/// whole, at its root's line 0 where a required key isn't stated.
+#[tactic(auto, unfolding(crate::specs::Platform::platform_of))]
+pub fn read_platform(alloc: Global, permit: Permit, lines: &Lines) -> Result<PlatformDoc, Refusal>
+    ensures { Answers result (platform_of lines.now) }
+{
+    let _spent = permit;
+    let format = DscFormat {
+        alloc,
+        stated: Stated::new(alloc),
+        standing: Open::Shut,
+        names: IndexMap::new(alloc),
+        uses: Rows::new(alloc),
+        done: Rows::new(alloc),
+        first: Vec::new(alloc),
+        rest: Vec::new(alloc),
+    };
+    let format = read_document(alloc, format, lines.rows.items())?;
+    let ended = end_blocks(format)?;
+    document(alloc, lines, ended)
+}
