@@ -9,6 +9,7 @@ pub mod PcdLines
 pub mod Platform
 pub mod Repeats
 pub mod Sections
+pub mod Shape
 pub mod SkuLines
 pub mod SkuNames
 pub mod SkuUses

@@ -6,10 +6,10 @@ ghost use Rattle.dsc_platform.specs.KeyLines.{key_named, guid_faults, guid_row, 
 
 use crate::arches::arches_value;
 use crate::output_folder::output_folder;
+use crate::platform_name::platform_name;
 use crate::rows::{KeyValue, Said};
 use build_base::{Guid, Refusal, Same, Taken};
 use doc_reading::least_check::{least_of_one, least_of_two};
-use doc_reading::segment_name::segment_name;
 use doc_reading::value_fields::{open_quote, path_value, text_value, undefined_macro};
 use doc_reading::values::wanted;
 use macro_conditions::known::without_workspace;
@@ -74,7 +74,7 @@ fn key_said(
 {
     match key {
         PlatformKey::Name => {
-            let name = segment_name(alloc, &line.at, value)?;
+            let name = platform_name(alloc, &line.at, value)?;
             Ok(Some(Said::Key(KeyValue::Name(name))))
         }
         PlatformKey::Guid => guid_said(alloc, line, value),

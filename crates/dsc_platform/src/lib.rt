@@ -13,6 +13,7 @@ pub mod output_folder;
 pub mod pcd_form;
 pub mod pcd_line;
 pub mod pcd_store;
+pub mod platform_name;
 pub mod reading;
 pub mod repeats;
 pub mod rows;

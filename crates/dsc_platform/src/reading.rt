@@ -3,6 +3,8 @@ ghost use Rattle.std.specs.Prelude.{◌≡◌, ◌++◌, OnOk, IfOk, codes, unwr
 ghost use Rattle.std.specs.List.{list_any};
 ghost use Rattle.build_base.specs.Answer.{Answers, Checks};
 ghost use Rattle.dsc_platform.specs.Cutting.{built};
+ghost use Rattle.build_base.specs.Path.{IsPathField};
+ghost use Rattle.dsc_platform.specs.Shape.{HasShape};
 ghost use Rattle.dsc_platform.specs.SkuLines.{is_default};
 ghost use Rattle.dsc_platform.specs.SkuNames.{Placed};
 ghost use Rattle.dsc_platform.specs.Stating.{names_of};
@@ -12,6 +14,7 @@ use crate::components::push_block;
 use crate::format::DscFormat;
 use crate::open_mark::Open;
 use crate::output_folder::OutputFolder;
+use crate::platform_name::PlatformName;
 use crate::repeats::check_repeats;
 use crate::rows::SkuLine;
 use crate::sku_line::is_default;
@@ -21,7 +24,6 @@ use crate::stated::{Keys, Options, Stated};
 use build_base::{Guid, Lines, Path, Permit, Place, Refusal, Rows, Same, Text, WantOfMemory};
 use doc_reading::missing::refuse_missing;
 use doc_reading::read_document;
-use doc_reading::segment_name::SegmentName;
 use doc_types::arch::Arch;
 use doc_types::platform::{Component, LibraryLine, PcdLine, PlatformDoc, Sku};
 use indexmap::IndexMap;
@@ -30,9 +32,10 @@ use std::alloc::Global;
 fn output_of(
     alloc: Global,
     stated: Option<OutputFolder>,
-    name: &SegmentName,
+    name: &PlatformName,
 ) -> Result<Path, WantOfMemory>
-    ensures { IfOk result (λ p. p ≡ unwrap_or stated (codes "Build/" ++ name.now)) }
+    ensures path { IfOk result (λ p. p ≡ unwrap_or stated (codes "Build/" ++ name.now)) }
+    ensures form { IfOk result (λ p. IsPathField p) }
 {
     match stated {
         Some(folder) => Ok(folder.into_path()),
@@ -115,23 +118,25 @@ fn make_document(
     libraries: Rows<LibraryLine>,
     pcds: Rows<PcdLine>,
     components: Rows<Component>,
-    name: SegmentName,
+    name: PlatformName,
     guid: Guid,
     arches: Rows<Arch>,
 ) -> Result<PlatformDoc, WantOfMemory>
-    ensures { IfOk result (λ d. d ≡ with_required lines.now options skus.now libraries pcds components name guid arches) }
+    ensures value { IfOk result (λ d. d ≡ with_required lines.now options skus.now libraries pcds components name guid arches) }
+    ensures shape { IfOk result (λ d. HasShape d) }
 {
     let Options {
         output,
         sku_choice,
         flash,
     } = options;
+    let output = output_of(alloc, output, &name)?;
     Ok(PlatformDoc {
         at: Place {
             path: lines.root.copy(alloc)?,
             line: 0,
         },
-        output: output_of(alloc, output, &name)?,
+        output,
         name: name.into_text(),
         guid,
         arches,
@@ -182,7 +187,8 @@ fn end_blocks(format: DscFormat) -> Result<Ended, WantOfMemory>
 // The document, where each required key is stated and nothing is at fault in the whole.
 #[tactic(auto, unfolding(crate::specs::Platform::document_of))]
 fn document(alloc: Global, lines: &Lines, ended: Ended) -> Result<PlatformDoc, Refusal>
-    ensures { Placed (names_of ended.stated.skus) ended.names → Answers result (document_of lines.now ended.stated ended.components ended.uses) }
+    ensures value { Placed (names_of ended.stated.skus) ended.names → Answers result (document_of lines.now ended.stated ended.components ended.uses) }
+    ensures shape { IfOk result (λ d. HasShape d) }
 {
     let Ended {
         stated,
@@ -242,7 +248,8 @@ fn document(alloc: Global, lines: &Lines, ended: Ended) -> Result<PlatformDoc, R
 /// whole, at its root's line 0 where a required key isn't stated.
 #[tactic(auto, unfolding(crate::specs::Platform::platform_of))]
 pub fn read_platform(alloc: Global, permit: Permit, lines: &Lines) -> Result<PlatformDoc, Refusal>
-    ensures { Answers result (platform_of lines.now) }
+    ensures value { Answers result (platform_of lines.now) }
+    ensures shape { IfOk result (λ d. HasShape d) }
 {
     let _spent = permit;
     let format = DscFormat {

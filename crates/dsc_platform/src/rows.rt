@@ -1,8 +1,8 @@
 //! What a line says below one head.
 use crate::output_folder::OutputFolder;
+use crate::platform_name::PlatformName;
 use crate::section::StoreKind;
 use build_base::{Guid, Path, Place, Rows, Text};
-use doc_reading::segment_name::SegmentName;
 use doc_types::arch::Arch;
 use doc_types::pcd::Kind;
 use doc_types::platform::{LibraryLine, PcdLine, Sku};
@@ -10,7 +10,7 @@ use doc_types::platform::{LibraryLine, PcdLine, Sku};
 /// The value of a key of [Defines].
 #[derive(Debug, Drop)]
 pub enum KeyValue {
-    Name(SegmentName),
+    Name(PlatformName),
     Guid(Guid),
     Arches(Rows<Arch>),
     Output(OutputFolder),

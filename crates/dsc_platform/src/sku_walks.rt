@@ -60,7 +60,7 @@ fn next_of(parents: &[Option<usize>], place: usize) -> Option<usize>
 }
 
 // Whether the walk from a place meets it again.
-#[tactic(auto, using(crate::proofs::WalkLemmas::comes_none, crate::proofs::WalkLemmas::comes_zero, crate::proofs::WalkLemmas::comes_step))]
+#[tactic(auto, using(crate::proofs::WalkLemmas::comes_none, crate::proofs::WalkLemmas::comes_step))]
 fn is_loop(parents: &[Option<usize>], start: usize) -> bool
     ensures { result ≡ is_loop parents.now start }
 {

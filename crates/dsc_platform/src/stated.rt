@@ -7,10 +7,10 @@ ghost use Rattle.dsc_platform.specs.declared.rows.Said.TheVariants.{Key};
 ghost use Rattle.dsc_platform.specs.Stating.{nothing, keys_with, with_rows, names_of};
 
 use crate::output_folder::OutputFolder;
+use crate::platform_name::PlatformName;
 use crate::rows::{KeyValue, Part, Said, SkuLine};
 use crate::sku_names::add_name;
 use build_base::{Guid, Path, Rows, Text, WantOfMemory};
-use doc_reading::segment_name::SegmentName;
 use doc_types::arch::Arch;
 use doc_types::platform::{LibraryLine, PcdLine};
 use indexmap::IndexMap;
@@ -27,7 +27,7 @@ pub struct Options {
 /// The last value of each key.
 #[derive(Debug, Drop)]
 pub struct Keys {
-    pub name: Option<SegmentName>,
+    pub name: Option<PlatformName>,
     pub guid: Option<Guid>,
     pub arches: Option<Rows<Arch>>,
     pub options: Options,

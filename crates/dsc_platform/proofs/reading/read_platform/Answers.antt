@@ -21,9 +21,9 @@ read_document-requires c =
       blocks = none refl c.new-4.ensures c.new-5.ensures.items;
     }
 
-pub returns : goal.returns
+pub returns-clause-value : goal.returns-clause-value
 unfolding platform_of
-returns c =
+returns-clause-value c =
     let lines = c.args.lines.now in
     let reads = read_of dsc_grammar c.items.result.now in
     let f = c.in_ok-format.format in
@@ -41,4 +41,4 @@ returns c =
     ∙ ap (λ s. document_of lines s (components_of reads) (uses_of reads)) (sym stated)
     ∙ ap (λ cs. document_of lines e.stated cs (uses_of reads)) (sym components)
     ∙ ap (document_of lines e.stated e.components) (sym uses) in
-    subst (λ o. Answers c.document.result o) (sym is) (c.document.ensures placed)
+    subst (λ o. Answers c.document.result o) (sym is) (c.document.ensures.value placed)

@@ -3,7 +3,7 @@ use Rattle.std.specs.List.{flat_map}
 use Rattle.doc_reading.specs.Grammar.{rows_of, gave}
 use Rattle.doc_reading.proofs.HeldLemmas.{rows_more}
 use Rattle.dsc_platform.specs.Cutting.{lines_of, BlocksHeld}
-use Rattle.dsc_platform.specs.SkuUses.{row_uses, uses_in, uses_of}
+use Rattle.dsc_platform.specs.SkuUses.{row_uses, uses_in}
 use Rattle.dsc_platform.specs.Standing.{parts_in, said_marks, last_mark, open_below}
 use Rattle.dsc_platform.specs.Stating.{nothing, with_rows}
 use Rattle.dsc_platform.proofs.BlockLemmas.{lines_more, open_more}
