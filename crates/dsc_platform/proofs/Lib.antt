@@ -1,1 +1,6 @@
-pub mod More
+pub mod BlockLemmas
+pub mod PlaceLemmas
+pub mod RepeatLemmas
+pub mod ShapeLemmas
+pub mod StatedLemmas
+pub mod WalkLemmas

@@ -1,129 +1,131 @@
--- A platform's document, or its first fault.
-use Rattle.std.specs.Prelude.{ℕ, Bool, ◌++◌, List, [], Option, Some, None, unwrap_or, Result, Ok, Err, codes, fold}
-use Rattle.build_base.specs.First.{or_else, or_fault}
+-- A platform's document, or its first fault (EDK II DSC specification, chapter 3).
+use Rattle.std.specs.Prelude.{ℕ, ◌++◌, if◌then◌else◌, List, [], ◌∷◌, map, Option, Some, None, unwrap_or, Result, Err, codes}
+use Rattle.std.specs.List.{list_any}
+use Rattle.std.specs.Option.{option_map}
+use Rattle.build_base.specs.First.{or_fault, unless, first_of}
 use Rattle.build_base.specs.FaultText.{fault_of}
 use Rattle.build_base.specs.declared.guid.Guid.{Guid as GuidBytes}
 use Rattle.build_base.specs.declared.fault.Fault.{Fault}
-use Rattle.build_base.specs.declared.fault.Place.{Place}
 use Rattle.build_base.specs.declared.lines.Taken.{Taken}
 use Rattle.build_base.specs.declared.lines.Lines.{Lines}
-use Rattle.doc_reading.specs.Reading.{lines_fault, each, last_of}
-use Rattle.doc_reading.specs.SegmentNames.{segment_name}
-use Rattle.doc_reading.specs.Least.{fault_in, given}
-use Rattle.doc_reading.specs.ValueFields.{open_quote, guid_value, text_value, path_value}
+use Rattle.doc_reading.specs.Grammar.{Grammar, Read, first_fault, read_of, rows_of}
+use Rattle.doc_reading.specs.Missing.{missing_key}
 use Rattle.doc_types.specs.declared.arch.Arch.{Arch}
+use Rattle.doc_types.specs.declared.platform.Component.{Component}
+use Rattle.doc_types.specs.declared.platform.LibraryLine.{LibraryLine}
+use Rattle.doc_types.specs.declared.platform.PcdLine.{PcdLine}
 use Rattle.doc_types.specs.declared.platform.PlatformDoc.{PlatformDoc}
-use Rattle.dsc_platform.specs.declared.key.PlatformKey.{PlatformKey}
-use Rattle.dsc_platform.specs.declared.key.PlatformKey.TheVariants.{Name, Guid, Arches, Output, SkuChoice, Flash}
-use Rattle.dsc_platform.specs.declared.line.PlatformLine.{PlatformLine}
-use Rattle.dsc_platform.specs.declared.line.PlatformLine.TheVariants.{Blank, Heads, BadHead, Stray, Keyed, Passed}
-use Rattle.dsc_platform.specs.declared.line.Section.{Section}
-use Rattle.dsc_platform.specs.declared.line.Section.TheVariants.{Nowhere, Defines}
+use Rattle.doc_types.specs.declared.platform.Sku as sku_type
+use Rattle.dsc_platform.specs.declared.open_mark.Open.{Open}
+use Rattle.dsc_platform.specs.declared.open_mark.Open.TheVariants.{Shut, Untagged, Tagged}
+use Rattle.dsc_platform.specs.declared.rows.Said.{Said}
+use Rattle.dsc_platform.specs.declared.rows.Said.TheVariants.{Sku, Library, Pcd, Part}
+use Rattle.dsc_platform.specs.declared.rows.SkuLine.{SkuLine}
+use Rattle.dsc_platform.specs.declared.section.Scope.{Scope}
+use Rattle.dsc_platform.specs.declared.section.Scope.TheVariants.{Defines, SkuIds, Libraries, Components, Pcds}
+use Rattle.dsc_platform.specs.declared.sku_uses.SkuUse.{SkuUse}
+use Rattle.dsc_platform.specs.declared.stated.Options.{Options}
 use Rattle.dsc_platform.specs.declared.stated.Stated.{Stated}
-use Rattle.dsc_platform.specs.Arches.{arches_value}
-use Rattle.dsc_platform.specs.Lines.{platform_line}
-use Rattle.dsc_platform.specs.Sections.{heads_fault}
+use Rattle.dsc_platform.specs.ComponentLines.{component_faults, component_part}
+use Rattle.dsc_platform.specs.Cutting.{components_of}
+use Rattle.dsc_platform.specs.KeyLines.{key_line_faults, key_line_row}
+use Rattle.dsc_platform.specs.LibraryLines.{library_faults, library_of}
+use Rattle.dsc_platform.specs.PcdLines.{pcd_faults, pcd_of}
+use Rattle.dsc_platform.specs.Repeats.{repeats_fault}
+use Rattle.dsc_platform.specs.Sections.{head_faults, scope_of}
+use Rattle.dsc_platform.specs.SkuLines.{is_default, sku_faults, sku_of}
+use Rattle.dsc_platform.specs.SkuUses.{uses_of, uses_fault}
+use Rattle.dsc_platform.specs.SkuWalks.{loops_fault}
+use Rattle.dsc_platform.specs.Standing.{open_below}
+use Rattle.dsc_platform.specs.Stating.{nothing, with_rows, names_of, names_in}
 
--- the section in which the line below stands
-abbrev pub enter : Section → PlatformLine → Section
-enter section (Heads heads) = Defines
-enter section line = section
+-- the faults of a line below a head, one for each code, where SKUs of these names stand above and this is open
+abbrev pub scope_faults : List (List ℕ) → Open → Taken → Scope → List (Option Fault)
+scope_faults names standing line Defines = key_line_faults line
+scope_faults names standing line SkuIds = sku_faults names line
+scope_faults names standing line (Libraries arch kind) = library_faults line
+scope_faults names standing line (Components arch) = component_faults line standing
+scope_faults names standing line (Pcds p) = pcd_faults line p.store
 
-abbrev pub enter_line : Section → Taken → Section
-enter_line section line = enter section (platform_line section line.text)
+-- what it says there
+abbrev pub scope_row : Open → Taken → Scope → Option Said
+scope_row standing line Defines = key_line_row line
+scope_row standing line SkuIds = option_map Sku (sku_of line)
+scope_row standing line (Libraries arch kind) = option_map Library (library_of line arch kind)
+scope_row standing line (Components arch) = option_map Part (component_part line arch standing)
+scope_row standing line (Pcds p) = option_map Pcd (pcd_of line p.kind p.store p.arch p.sku)
 
-abbrev pub section_below : List Taken → Section
-section_below lines = fold enter_line Nowhere lines
+unfoldable pub line_faults : List (List ℕ) → Open → Taken → Scope → List (Option Fault)
+line_faults names standing line scope = scope_faults names standing line scope
 
--- the fault of a key's value
-abbrev pub value_fault : Place → PlatformKey → List ℕ → Option Fault
-value_fault at Name value = fault_in (segment_name at value)
-value_fault at Guid value = fault_in (guid_value 222 at value)
-value_fault at Arches value = fault_in (arches_value at value)
-value_fault at Output value = fault_in (path_value at value)
-value_fault at SkuChoice value = fault_in (text_value at value)
-value_fault at Flash value = fault_in (path_value at value)
+unfoldable pub line_row : Open → Taken → Scope → Option Said
+line_row standing line scope = scope_row standing line scope
 
--- the fault of a line of this form
-abbrev pub form_fault : Taken → PlatformLine → Option Fault
-form_fault line Blank = None
-form_fault line (Heads heads) = heads_fault line heads
-form_fault line BadHead = Some (fault_of 114 line.at line.text)
-form_fault line Stray = Some (fault_of 226 line.at line.text)
-form_fault line (Keyed key value) = or_else (open_quote line.at line.text) (value_fault line.at key value)
-form_fault line Passed = None
+-- an open brace, at a head or at the end
+abbrev pub open_fault : Taken → Open → Option Fault
+open_fault line Shut = None
+open_fault line Untagged = Some (fault_of 224 line.at (codes "{"))
+open_fault line (Tagged tag) = Some (fault_of 224 line.at (codes "{"))
 
-abbrev pub line_fault : List Taken → Taken → Bool → Option Fault
-line_fault above line last = form_fault line (platform_line (section_below above) line.text)
-
--- the value of a key that a line gives
-abbrev pub name_at : Place → PlatformLine → List (List ℕ)
-name_at at (Keyed Name value) = given (segment_name at value)
-name_at at _ = []
-
-abbrev pub guid_at : Place → PlatformLine → List GuidBytes
-guid_at at (Keyed Guid value) = given (guid_value 222 at value)
-guid_at at _ = []
-
-abbrev pub arches_at : Place → PlatformLine → List (List Arch)
-arches_at at (Keyed Arches value) = given (arches_value at value)
-arches_at at _ = []
-
-abbrev pub output_at : Place → PlatformLine → List (List ℕ)
-output_at at (Keyed Output value) = given (path_value at value)
-output_at at _ = []
-
-abbrev pub sku_at : Place → PlatformLine → List (List ℕ)
-sku_at at (Keyed SkuChoice value) = given (text_value at value)
-sku_at at _ = []
-
-abbrev pub flash_at : Place → PlatformLine → List (List ℕ)
-flash_at at (Keyed Flash value) = given (path_value at value)
-flash_at at _ = []
-
--- the last of what the lines give
-abbrev pub last_given : {R : Type 0} → (Place → PlatformLine → List R) → List Taken → Option R
-last_given gives lines = last_of (each enter_line (λ section line. gives line.at (platform_line section line.text)) Nowhere lines)
-
-abbrev pub stated_by : List Taken → Stated
-stated_by lines =
+abbrev pub dsc_grammar : Grammar Scope Said
+dsc_grammar =
     record {
-      name = last_given name_at lines;
-      guid = last_given guid_at lines;
-      arches = last_given arches_at lines;
-      output = last_given output_at lines;
-      sku_choice = last_given sku_at lines;
-      flash = last_given flash_at lines;
+      head_faults = λ line head. head_faults line head;
+      scope_of = λ head. scope_of head;
+      stray = 226;
+      faults = λ above line scope. line_faults (names_in (rows_of above)) (open_below (rows_of above)) line scope;
+      row_of = λ above line scope. line_row (open_below (rows_of above)) line scope;
+      at_heads = λ above line heads. open_fault line (open_below (rows_of above));
+      left_open = λ above line. open_fault line (open_below (rows_of above));
     }
 
--- a key that no line states
-abbrev pub missing_key : List ℕ → List ℕ → Fault
-missing_key root key = fault_of 221 (record { path = root; line = 0 }) key
+abbrev pub default_sku : sku_type.Sku
+default_sku = record { id = 0; name = codes "DEFAULT"; parent = [] }
+
+-- DEFAULT stands first where no line states it
+abbrev pub front_of : List SkuLine → List sku_type.Sku
+front_of lines = if list_any (λ line. is_default line.sku.name) lines then [] else default_sku ∷ []
+
+abbrev pub skus_of : List SkuLine → List sku_type.Sku
+skus_of lines = front_of lines ++ map (λ line. line.sku) lines
 
 -- the folder of outputs is the stated one, or `Build/` and the platform's name
-abbrev pub with_required : Lines → List ℕ → GuidBytes → List Arch → Option (List ℕ) → Option (List ℕ) → Option (List ℕ) → PlatformDoc
-with_required lines name guid arches output sku_choice flash =
+abbrev pub with_required : Lines → Options → List SkuLine → List LibraryLine → List PcdLine → List Component → List ℕ → GuidBytes → List Arch → PlatformDoc
+with_required lines options skus libraries pcds components name guid arches =
     record {
       at = record { path = lines.root; line = 0 };
       name = name;
       guid = guid;
-      output = unwrap_or output (codes "Build/" ++ name);
+      output = unwrap_or options.output (codes "Build/" ++ name);
       arches = arches;
-      sku_choice = unwrap_or sku_choice (codes "DEFAULT");
-      flash = flash;
+      sku_choice = unwrap_or options.sku_choice (codes "DEFAULT");
+      flash = options.flash;
+      skus = skus_of skus;
+      libraries = libraries;
+      components = components;
+      pcds = pcds;
       macros = lines.macros;
     }
 
-abbrev pub required : Lines → Stated → Option (List ℕ) → Option GuidBytes → Option (List Arch) → Result PlatformDoc Fault
-required lines stated None guid arches = Err (missing_key lines.root (codes "PLATFORM_NAME"))
-required lines stated (Some name) None arches = Err (missing_key lines.root (codes "PLATFORM_GUID"))
-required lines stated (Some name) (Some guid) None = Err (missing_key lines.root (codes "SUPPORTED_ARCHITECTURES"))
-required lines stated (Some name) (Some guid) (Some arches) = Ok (with_required lines name guid arches stated.output stated.sku_choice stated.flash)
+-- the faults of the whole, in the order of their codes
+abbrev pub whole_fault : List SkuLine → List Component → List SkuUse → Option Fault
+whole_fault skus components uses = first_of (repeats_fault components ∷ uses_fault (names_of skus) uses ∷ loops_fault skus ∷ [])
 
--- the document, where each required key is stated
-unfoldable pub document_of : Lines → Stated → Result PlatformDoc Fault
-document_of lines stated = required lines stated stated.name stated.guid stated.arches
+abbrev pub required : Lines → Stated → List Component → List SkuUse → Option (List ℕ) → Option GuidBytes → Option (List Arch) → Result PlatformDoc Fault
+required lines stated components uses None guid arches = Err (missing_key 221 lines.root (codes "PLATFORM_NAME"))
+required lines stated components uses (Some name) None arches = Err (missing_key 221 lines.root (codes "PLATFORM_GUID"))
+required lines stated components uses (Some name) (Some guid) None = Err (missing_key 221 lines.root (codes "SUPPORTED_ARCHITECTURES"))
+required lines stated components uses (Some name) (Some guid) (Some arches) =
+    unless (whole_fault stated.skus components uses)
+    (with_required lines stated.keys.options stated.skus stated.libraries stated.pcds components name guid arches)
+
+-- the document, where each required key is stated and nothing is at fault in the whole
+unfoldable pub document_of : Lines → Stated → List Component → List SkuUse → Result PlatformDoc Fault
+document_of lines stated components uses = required lines stated components uses stated.keys.name stated.keys.guid stated.keys.arches
+
+abbrev pub document_read : Lines → List (Read Scope Said) → Result PlatformDoc Fault
+document_read lines reads = document_of lines (with_rows nothing (rows_of reads)) (components_of reads) (uses_of reads)
 
 -- the fault of the first line that has one, else the document, where it is whole
 unfoldable pub platform_of : Lines → Result PlatformDoc Fault
-platform_of lines = or_fault (lines_fault line_fault [] lines.rows) (document_of lines (stated_by lines.rows))
+platform_of lines = or_fault (first_fault dsc_grammar lines.rows) (document_read lines (read_of dsc_grammar lines.rows))

@@ -1,97 +1,118 @@
--- The sections of a DSC file, and the faults of their heads.
-use Rattle.std.specs.Prelude.{ℕ, Bool, true, false, nat_lt, List, [], ◌∷◌, length, Option, Some, None, codes, if◌then◌else◌}
-use Rattle.std.specs.List.{list_any}
-use Rattle.build_base.specs.First.{or_else, first_of}
+-- The sections of a DSC file, their qualifiers, and what their heads enter (EDK II DSC specification, sections 2.2 and 3).
+use Rattle.std.specs.Prelude.{ℕ, nat_lt, if◌then◌else◌, List, [], ◌∷◌, length, Option, Some, None, codes}
+use Rattle.std.specs.Option.{option_map}
 use Rattle.build_base.specs.FaultText.{fault_of}
 use Rattle.build_base.specs.declared.fault.Fault.{Fault}
-use Rattle.build_base.specs.declared.fault.Place.{Place}
 use Rattle.build_base.specs.declared.lines.Taken.{Taken}
-use Rattle.meta_lexer.specs.Faults.{first_fault}
+use Rattle.meta_lexer.specs.Lookup.{lookup}
 use Rattle.meta_lexer.specs.Parts.{first_text}
-use Rattle.meta_lexer.specs.Words.{same_word}
 use Rattle.meta_lexer.specs.declared.head.Head.{Head}
-use Rattle.doc_reading.specs.Unbuilt.{unbuilt_line}
-use Rattle.dsc_platform.specs.declared.section.SectionName.{SectionName}
-use Rattle.dsc_platform.specs.declared.section.SectionName.TheVariants.{Defines, SkuIds, LibraryClasses, Components, PcdsFeatureFlag, PcdsFixedAtBuild, PcdsPatchableInModule, PcdsDynamicDefault, PcdsDynamicHii, PcdsDynamicVpd, PcdsDynamicExDefault, PcdsDynamicExHii, PcdsDynamicExVpd, BuildOptions, UserExtensions, DefaultStores, Packages}
-use Rattle.dsc_platform.specs.declared.section.HeadKind.{HeadKind}
-use Rattle.dsc_platform.specs.declared.section.HeadKind.TheVariants.{Plain, Qualified, Unbuilt, Unknown}
+use Rattle.doc_reading.specs.Values.{wanted}
+use Rattle.doc_types.specs.Arches.{arch_named}
+use Rattle.doc_types.specs.ModuleTypes.{module_type_named}
+use Rattle.doc_types.specs.declared.arch.Arch.{Arch}
+use Rattle.doc_types.specs.declared.arch.Arch.TheVariants.{Common}
+use Rattle.doc_types.specs.declared.module_type.ModuleType.{ModuleType}
+use Rattle.doc_types.specs.declared.pcd.Kind.{Kind}
+use Rattle.doc_types.specs.declared.pcd.Kind.TheVariants.{FixedAtBuild, PatchableInModule, FeatureFlag, Dynamic, DynamicEx}
+use Rattle.dsc_platform.specs.declared.section.StoreKind.{StoreKind}
+use Rattle.dsc_platform.specs.declared.section.StoreKind.TheVariants.{Plain, Hii, Vpd}
+use Rattle.dsc_platform.specs.declared.section.Section.{Section}
+use Rattle.dsc_platform.specs.declared.section.Section.TheVariants.{Defines, SkuIds, Libraries, Components, Pcds}
+use Rattle.dsc_platform.specs.declared.section.Scope.{Scope}
+use Rattle.dsc_platform.specs.declared.section.Scope.TheVariants as scope
 
-unfoldable pub main_section : List ℕ → Option SectionName
-main_section name =
-    if same_word name (codes "Defines") then Some Defines
-    else if same_word name (codes "SkuIds") then Some SkuIds
-    else if same_word name (codes "LibraryClasses") then Some LibraryClasses
-    else if same_word name (codes "Components") then Some Components
-    else None
+-- a section that stands for None is read past
+abbrev pub sections : List (List ℕ × Option Section)
+sections =
+    (codes "Defines", Some Defines) ∷ (codes "SkuIds", Some SkuIds) ∷ (codes "LibraryClasses", Some Libraries) ∷ (codes "Components", Some Components) ∷
+    (codes "PcdsFeatureFlag", Some (Pcds FeatureFlag Plain)) ∷ (codes "PcdsFixedAtBuild", Some (Pcds FixedAtBuild Plain)) ∷
+    (codes "PcdsPatchableInModule", Some (Pcds PatchableInModule Plain)) ∷
+    (codes "PcdsDynamicDefault", Some (Pcds Dynamic Plain)) ∷ (codes "PcdsDynamicHii", Some (Pcds Dynamic Hii)) ∷ (codes "PcdsDynamicVpd", Some (Pcds Dynamic Vpd)) ∷
+    (codes "PcdsDynamicExDefault", Some (Pcds DynamicEx Plain)) ∷ (codes "PcdsDynamicExHii", Some (Pcds DynamicEx Hii)) ∷
+    (codes "PcdsDynamicExVpd", Some (Pcds DynamicEx Vpd)) ∷
+    (codes "BuildOptions", None) ∷ (codes "UserExtensions", None) ∷ (codes "DefaultStores", None) ∷ (codes "Packages", None) ∷ []
 
-unfoldable pub static_section : List ℕ → Option SectionName
-static_section name =
-    if same_word name (codes "PcdsFeatureFlag") then Some PcdsFeatureFlag
-    else if same_word name (codes "PcdsFixedAtBuild") then Some PcdsFixedAtBuild
-    else if same_word name (codes "PcdsPatchableInModule") then Some PcdsPatchableInModule
-    else None
+unfoldable pub section_named : List ℕ → Option (Option Section)
+section_named name = lookup sections name
 
-unfoldable pub dynamic_section : List ℕ → Option SectionName
-dynamic_section name =
-    if same_word name (codes "PcdsDynamicDefault") then Some PcdsDynamicDefault
-    else if same_word name (codes "PcdsDynamicHii") then Some PcdsDynamicHii
-    else if same_word name (codes "PcdsDynamicVpd") then Some PcdsDynamicVpd
-    else None
+-- the architecture that the first qualifier names; without one all of them
+abbrev pub arch_word : List (List ℕ) → Option Arch
+arch_word [] = Some Common
+arch_word (word ∷ words) = arch_named word
 
-unfoldable pub dynamic_ex_section : List ℕ → Option SectionName
-dynamic_ex_section name =
-    if same_word name (codes "PcdsDynamicExDefault") then Some PcdsDynamicExDefault
-    else if same_word name (codes "PcdsDynamicExHii") then Some PcdsDynamicExHii
-    else if same_word name (codes "PcdsDynamicExVpd") then Some PcdsDynamicExVpd
-    else None
+-- the type of modules that the second qualifier names, where there is one
+abbrev pub type_word : List (List ℕ) → Option (Option ModuleType)
+type_word (arch ∷ word ∷ words) = option_map Some (module_type_named word)
+type_word (arch ∷ []) = Some None
+type_word [] = Some None
 
-unfoldable pub pcd_section : List ℕ → Option SectionName
-pcd_section name = or_else (static_section name) (or_else (dynamic_section name) (dynamic_ex_section name))
+-- the SKU that the second qualifier names
+abbrev pub sku_word : List (List ℕ) → List ℕ
+sku_word (arch ∷ word ∷ words) = word
+sku_word (arch ∷ []) = codes "DEFAULT"
+sku_word [] = codes "DEFAULT"
 
--- the sections that say nothing to this build
-unfoldable pub passed_section : List ℕ → Option SectionName
-passed_section name =
-    if same_word name (codes "BuildOptions") then Some BuildOptions
-    else if same_word name (codes "UserExtensions") then Some UserExtensions
-    else if same_word name (codes "DefaultStores") then Some DefaultStores
-    else if same_word name (codes "Packages") then Some Packages
-    else None
+-- a qualifier too many
+abbrev pub qualifiers_fault : Taken → ℕ → List (List ℕ) → Option Fault
+qualifiers_fault line most qualifiers = if nat_lt most (length qualifiers) then Some (fault_of 114 line.at line.text) else None
 
-unfoldable pub section_named : List ℕ → Option SectionName
-section_named name = or_else (main_section name) (or_else (pcd_section name) (passed_section name))
+abbrev pub arch_fault : Taken → List (List ℕ) → Option Arch → Option Fault
+arch_fault line qualifiers arch = wanted arch (fault_of 227 line.at (first_text qualifiers))
 
--- [Defines] takes no qualifier; no other section is read yet
-abbrev pub kind_of : Option SectionName → ℕ → HeadKind
-kind_of (Some Defines) parts = if nat_lt 1 parts then Qualified else Plain
-kind_of (Some section) parts = Unbuilt
-kind_of None parts = Unknown
+abbrev pub type_fault : Taken → Option (Option ModuleType) → Option Fault
+type_fault line kind = wanted kind (fault_of 114 line.at line.text)
 
-unfoldable pub head_kind : Head → HeadKind
-head_kind head = kind_of (section_named (first_text head.parts)) (length head.parts)
+-- the faults of a section's qualifiers, one for each code
+abbrev pub section_faults : Taken → Section → List (List ℕ) → List (Option Fault)
+section_faults line Defines qualifiers = qualifiers_fault line 0 qualifiers ∷ []
+section_faults line SkuIds qualifiers = qualifiers_fault line 0 qualifiers ∷ []
+section_faults line Libraries qualifiers = qualifiers_fault line 2 qualifiers ∷ type_fault line (type_word qualifiers) ∷ arch_fault line qualifiers (arch_word qualifiers) ∷ []
+section_faults line Components qualifiers = qualifiers_fault line 1 qualifiers ∷ arch_fault line qualifiers (arch_word qualifiers) ∷ []
+section_faults line (Pcds kind store) qualifiers = qualifiers_fault line 2 qualifiers ∷ arch_fault line qualifiers (arch_word qualifiers) ∷ []
 
-abbrev pub is_unbuilt : HeadKind → Bool
-is_unbuilt Unbuilt = true
-is_unbuilt kind = false
+abbrev pub libraries_scope : Option Arch → Option (Option ModuleType) → Option Scope
+libraries_scope (Some arch) (Some kind) = Some (scope.Libraries arch kind)
+libraries_scope (Some arch) None = None
+libraries_scope None kind = None
 
-abbrev pub is_qualified : HeadKind → Bool
-is_qualified Qualified = true
-is_qualified kind = false
+abbrev pub components_scope : Option Arch → Option Scope
+components_scope (Some arch) = Some (scope.Components arch)
+components_scope None = None
 
--- a section that isn't read yet
-abbrev pub unbuilt_fault : Taken → List Head → Option Fault
-unbuilt_fault line heads = if list_any (λ head. is_unbuilt (head_kind head)) heads then Some (unbuilt_line line) else None
+abbrev pub pcds_scope : Kind → StoreKind → Option Arch → List ℕ → Option Scope
+pcds_scope kind store (Some arch) sku = Some (scope.Pcds (record { kind = kind; store = store; arch = arch; sku = sku }))
+pcds_scope kind store None sku = None
 
--- a qualifier that may not stand there
-abbrev pub qualifier_fault : Taken → List Head → Option Fault
-qualifier_fault line heads = if list_any (λ head. is_qualified (head_kind head)) heads then Some (fault_of 114 line.at line.text) else None
+abbrev pub section_scope : Section → List (List ℕ) → Option Scope
+section_scope Defines qualifiers = Some scope.Defines
+section_scope SkuIds qualifiers = Some scope.SkuIds
+section_scope Libraries qualifiers = libraries_scope (arch_word qualifiers) (type_word qualifiers)
+section_scope Components qualifiers = components_scope (arch_word qualifiers)
+section_scope (Pcds kind store) qualifiers = pcds_scope kind store (arch_word qualifiers) (sku_word qualifiers)
 
--- a section that there isn't
-abbrev pub unknown_kind : Place → List ℕ → HeadKind → Option Fault
-unknown_kind at name Unknown = Some (fault_of 226 at name)
-unknown_kind at name kind = None
+abbrev pub named_faults : Taken → Option (Option Section) → List ℕ → List (List ℕ) → List (Option Fault)
+named_faults line (Some (Some section)) name qualifiers = section_faults line section qualifiers
+named_faults line (Some None) name qualifiers = []
+named_faults line None name qualifiers = Some (fault_of 226 line.at name) ∷ []
 
-abbrev pub unknown_head : Place → Head → Option Fault
-unknown_head at head = unknown_kind at (first_text head.parts) (head_kind head)
+abbrev pub named_scope : Option (Option Section) → List (List ℕ) → Option Scope
+named_scope (Some (Some section)) qualifiers = section_scope section qualifiers
+named_scope (Some None) qualifiers = None
+named_scope None qualifiers = None
 
-abbrev pub heads_fault : Taken → List Head → Option Fault
-heads_fault line heads = first_of (unbuilt_fault line heads ∷ qualifier_fault line heads ∷ first_fault (unknown_head line.at) heads ∷ [])
+abbrev pub parts_faults : Taken → List (List ℕ) → List (Option Fault)
+parts_faults line (name ∷ qualifiers) = named_faults line (section_named name) name qualifiers
+parts_faults line [] = []
+
+abbrev pub parts_scope : List (List ℕ) → Option Scope
+parts_scope (name ∷ qualifiers) = named_scope (section_named name) qualifiers
+parts_scope [] = None
+
+-- the faults of a head, one for each code
+unfoldable pub head_faults : Taken → Head → List (Option Fault)
+head_faults line head = parts_faults line head.parts
+
+-- what it enters, none where its section is read past
+unfoldable pub scope_of : Head → Option Scope
+scope_of head = parts_scope head.parts

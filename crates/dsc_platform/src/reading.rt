@@ -1,87 +1,44 @@
 //! Reading a platform's lines.
-ghost use Rattle.std.specs.Prelude.{◌≡◌, ◌++◌, OnOk, IfOk, Some, codes, unwrap_or};
-ghost use Rattle.build_base.specs.Answer.{Answers, Checks, Finds};
-ghost use Rattle.doc_reading.specs.Reading.{last_or};
-ghost use Rattle.dsc_platform.specs.Platform.{enter, form_fault, name_at, guid_at, arches_at, output_at, sku_at, flash_at, missing_key, with_required, document_of, platform_of};
+ghost use Rattle.std.specs.Prelude.{◌≡◌, ◌++◌, OnOk, IfOk, codes, unwrap_or, map};
+ghost use Rattle.std.specs.List.{list_any};
+ghost use Rattle.build_base.specs.Answer.{Answers, Checks};
+ghost use Rattle.dsc_platform.specs.Cutting.{built};
+ghost use Rattle.build_base.specs.Path.{IsPathField};
+ghost use Rattle.dsc_platform.specs.Shape.{HasShape};
+ghost use Rattle.dsc_platform.specs.SkuLines.{is_default};
+ghost use Rattle.dsc_platform.specs.SkuNames.{Placed};
+ghost use Rattle.dsc_platform.specs.Stating.{names_of};
+ghost use Rattle.dsc_platform.specs.Platform.{front_of, skus_of, with_required, whole_fault, document_of, platform_of};
 
-use crate::line::{PlatformLine, Section, platform_line};
-use crate::section::check_heads;
-use crate::stated::Stated;
-use build_base::{
-    Guid, Lines, Path, Permit, Place, Refusal, Rows, Same, Taken, Text, WantOfMemory, refuse,
-};
-use doc_reading::segment_name::SegmentName;
-use doc_reading::value_fields::open_quote;
-use doc_reading::{Reader, read_lines};
+use crate::components::push_block;
+use crate::format::DscFormat;
+use crate::open_mark::Open;
+use crate::output_folder::OutputFolder;
+use crate::platform_name::PlatformName;
+use crate::repeats::check_repeats;
+use crate::rows::SkuLine;
+use crate::sku_line::is_default;
+use crate::sku_uses::{SkuUse, check_uses};
+use crate::sku_walks::check_loops;
+use crate::stated::{Keys, Options, Stated};
+use build_base::{Guid, Lines, Path, Permit, Place, Refusal, Rows, Same, Text, WantOfMemory};
+use doc_reading::missing::refuse_missing;
+use doc_reading::read_document;
 use doc_types::arch::Arch;
-use doc_types::platform::PlatformDoc;
+use doc_types::platform::{Component, LibraryLine, PcdLine, PlatformDoc, Sku};
+use indexmap::IndexMap;
 use std::alloc::Global;
 
-/// What a reader of a platform holds: the section in which the next line stands, and what the keys state.
-#[derive(Drop)]
-pub struct PlatformReader {
-    pub alloc: Global,
-    pub section: Section,
-    pub stated: Stated,
-}
-
-impl PlatformReader {
-    // Takes what the line gives.
-    fn take(&mut self, line: &Taken, form: PlatformLine) -> Result<(), Refusal>
-        ensures fault { Checks result (form_fault line.now form) }
-        ensures section { OnOk result (self.new.section ≡ enter self.old.section form) }
-        ensures name { OnOk result (self.new.stated.name ≡ last_or self.old.stated.name (name_at line.now.at form)) }
-        ensures guid { OnOk result (self.new.stated.guid ≡ last_or self.old.stated.guid (guid_at line.now.at form)) }
-        ensures arches { OnOk result (self.new.stated.arches ≡ last_or self.old.stated.arches (arches_at line.now.at form)) }
-        ensures output { OnOk result (self.new.stated.output ≡ last_or self.old.stated.output (output_at line.now.at form)) }
-        ensures sku { OnOk result (self.new.stated.sku_choice ≡ last_or self.old.stated.sku_choice (sku_at line.now.at form)) }
-        ensures flash { OnOk result (self.new.stated.flash ≡ last_or self.old.stated.flash (flash_at line.now.at form)) }
-    {
-        match form {
-            PlatformLine::Blank | PlatformLine::Passed => Ok(()),
-            PlatformLine::Heads(heads) => {
-                self.section = Section::Defines;
-                check_heads(self.alloc, line, heads.items())
-            }
-            PlatformLine::BadHead => Err(refuse(self.alloc, 114, &line.at, line.text.bytes())),
-            PlatformLine::Stray => Err(refuse(self.alloc, 226, &line.at, line.text.bytes())),
-            PlatformLine::Keyed(key, value) => {
-                open_quote(self.alloc, &line.at, line.text.bytes())?;
-                self.stated.take(self.alloc, &line.at, key, value.bytes())
-            }
-        }
-    }
-}
-
-impl Reader for PlatformReader {
-    ghost use Rattle.dsc_platform.specs.Platform.{line_fault};
-    ghost use Rattle.dsc_platform.specs.Reading.{Holds};
-
-    ghost read = { Holds };
-
-    ghost fault = { line_fault };
-
-    fn line(&mut self, line: &Taken, _last: bool) -> Result<(), Refusal> {
-        let form = platform_line(self.alloc, self.section, line.text.bytes())?;
-        self.take(line, form)?;
-        Ok(())
-    }
-}
-
-fn refuse_missing(alloc: Global, root: &Path, key: &[u8]) -> Refusal
-    ensures { Finds result (Some (missing_key root.now key.now)) }
-{
-    match root.copy(alloc) {
-        Ok(path) => refuse(alloc, 221, &Place { path, line: 0 }, key),
-        Err(_) => Refusal::WantOfMemory,
-    }
-}
-
-fn output_of(alloc: Global, stated: Option<Path>, name: &SegmentName) -> Result<Path, WantOfMemory>
-    ensures { IfOk result (λ p. p ≡ unwrap_or stated (codes "Build/" ++ name.now)) }
+fn output_of(
+    alloc: Global,
+    stated: Option<OutputFolder>,
+    name: &PlatformName,
+) -> Result<Path, WantOfMemory>
+    ensures path { IfOk result (λ p. p ≡ unwrap_or stated (codes "Build/" ++ name.now)) }
+    ensures form { IfOk result (λ p. IsPathField p) }
 {
     match stated {
-        Some(path) => Ok(path),
+        Some(folder) => Ok(folder.into_path()),
         None => name.folder(alloc),
     }
 }
@@ -95,71 +52,217 @@ fn sku_choice_of(alloc: Global, stated: Option<Text>) -> Result<Text, WantOfMemo
     }
 }
 
+fn is_default_line(line: &SkuLine) -> bool
+    ensures { result ≡ is_default line.now.sku.name }
+{
+    is_default(line.sku.name.bytes())
+}
+
+fn has_default(lines: &[SkuLine]) -> bool
+    ensures { result ≡ list_any (λ line. is_default line.sku.name) lines.now }
+{
+    lines.iter().any(|line| is_default_line(line))
+}
+
+fn push_skus(alloc: Global, skus: &mut Rows<Sku>, lines: &[SkuLine]) -> Result<(), WantOfMemory>
+    ensures { OnOk result (skus.new ≡ skus.old ++ map (λ line. line.sku) lines.now) }
+{
+    for line in lines {
+        skus.push(line.sku.copy(alloc)?)?;
+    }
+    Ok(())
+}
+
+fn front_skus(alloc: Global, lines: &[SkuLine]) -> Result<Rows<Sku>, WantOfMemory>
+    ensures { IfOk result (λ skus. skus ≡ front_of lines.now) }
+{
+    let mut skus = Rows::new(alloc);
+    if !has_default(lines) {
+        skus.push(Sku {
+            id: 0,
+            name: Text::of(alloc, b"DEFAULT".as_slice())?,
+            parent: Text::of(alloc, b"".as_slice())?,
+        })?;
+    }
+    Ok(skus)
+}
+
+fn skus_of(alloc: Global, lines: &[SkuLine]) -> Result<Rows<Sku>, WantOfMemory>
+    ensures { IfOk result (λ skus. skus ≡ skus_of lines.now) }
+{
+    let mut skus = front_skus(alloc, lines)?;
+    push_skus(alloc, &mut skus, lines)?;
+    Ok(skus)
+}
+
+fn check_whole(
+    alloc: Global,
+    names: &IndexMap<Vec<u8>, usize>,
+    skus: &[SkuLine],
+    components: &[Component],
+    uses: &[SkuUse],
+) -> Result<(), Refusal>
+    ensures { Placed (names_of skus.now) names.now → Checks result (whole_fault skus.now components.now uses.now) }
+{
+    check_repeats(alloc, components)?;
+    check_uses(alloc, names, uses)?;
+    check_loops(alloc, names, skus)?;
+    Ok(())
+}
+
 fn make_document(
     alloc: Global,
     lines: &Lines,
-    name: SegmentName,
+    options: Options,
+    skus: &[SkuLine],
+    libraries: Rows<LibraryLine>,
+    pcds: Rows<PcdLine>,
+    components: Rows<Component>,
+    name: PlatformName,
     guid: Guid,
     arches: Rows<Arch>,
-    output: Option<Path>,
-    sku_choice: Option<Text>,
-    flash: Option<Path>,
 ) -> Result<PlatformDoc, WantOfMemory>
-    ensures { IfOk result (λ d. d ≡ with_required lines.now name guid arches output sku_choice flash) }
+    ensures value { IfOk result (λ d. d ≡ with_required lines.now options skus.now libraries pcds components name guid arches) }
+    ensures shape { IfOk result (λ d. HasShape d) }
 {
+    let Options {
+        output,
+        sku_choice,
+        flash,
+    } = options;
+    let output = output_of(alloc, output, &name)?;
     Ok(PlatformDoc {
         at: Place {
             path: lines.root.copy(alloc)?,
             line: 0,
         },
-        output: output_of(alloc, output, &name)?,
+        output,
         name: name.into_text(),
         guid,
         arches,
         sku_choice: sku_choice_of(alloc, sku_choice)?,
         flash,
+        skus: skus_of(alloc, skus)?,
+        libraries,
+        components,
+        pcds,
         macros: lines.macros.copy(alloc)?,
     })
 }
 
-// The document of these keys, where each required one is stated.
-#[tactic(auto, unfolding(crate::specs::Platform::document_of))]
-fn document(alloc: Global, lines: &Lines, stated: Stated) -> Result<PlatformDoc, Refusal>
-    ensures { Answers result (document_of lines.now stated) }
+// What the lines came to, when the last block of components is made.
+#[derive(Drop)]
+struct Ended {
+    stated: Stated,
+    names: IndexMap<Vec<u8>, usize>,
+    uses: Rows<SkuUse>,
+    components: Rows<Component>,
+}
+
+fn end_blocks(format: DscFormat) -> Result<Ended, WantOfMemory>
+    ensures stated { IfOk result (λ e. e.stated ≡ format.stated) }
+    ensures names { IfOk result (λ e. e.names ≡ format.names) }
+    ensures uses { IfOk result (λ e. e.uses ≡ format.uses) }
+    ensures components { IfOk result (λ e. e.components ≡ format.done ++ built format.first.items format.rest.items) }
 {
+    let DscFormat {
+        alloc,
+        stated,
+        names,
+        uses,
+        mut done,
+        first,
+        rest,
+        ..
+    } = format;
+    push_block(alloc, &mut done, first.as_slice(), rest.as_slice())?;
+    Ok(Ended {
+        stated,
+        names,
+        uses,
+        components: done,
+    })
+}
+
+// The document, where each required key is stated and nothing is at fault in the whole.
+#[tactic(auto, unfolding(crate::specs::Platform::document_of))]
+fn document(alloc: Global, lines: &Lines, ended: Ended) -> Result<PlatformDoc, Refusal>
+    ensures value { Placed (names_of ended.stated.skus) ended.names → Answers result (document_of lines.now ended.stated ended.components ended.uses) }
+    ensures shape { IfOk result (λ d. HasShape d) }
+{
+    let Ended {
+        stated,
+        names,
+        uses,
+        components,
+    } = ended;
     let Stated {
+        keys,
+        skus,
+        libraries,
+        pcds,
+    } = stated;
+    let Keys {
         name,
         guid,
         arches,
-        output,
-        sku_choice,
-        flash,
-    } = stated;
+        options,
+    } = keys;
     let Some(name) = name else {
-        return Err(refuse_missing(alloc, &lines.root, b"PLATFORM_NAME".as_slice()));
+        return Err(refuse_missing(alloc, 221, &lines.root, b"PLATFORM_NAME".as_slice()));
     };
     let Some(guid) = guid else {
-        return Err(refuse_missing(alloc, &lines.root, b"PLATFORM_GUID".as_slice()));
+        return Err(refuse_missing(alloc, 221, &lines.root, b"PLATFORM_GUID".as_slice()));
     };
     let Some(arches) = arches else {
-        return Err(refuse_missing(alloc, &lines.root, b"SUPPORTED_ARCHITECTURES".as_slice()));
+        return Err(refuse_missing(
+            alloc,
+            221,
+            &lines.root,
+            b"SUPPORTED_ARCHITECTURES".as_slice(),
+        ));
     };
-    let document = make_document(alloc, lines, name, guid, arches, output, sku_choice, flash)?;
+    check_whole(
+        alloc,
+        &names,
+        skus.items(),
+        components.items(),
+        uses.items(),
+    )?;
+    let document = make_document(
+        alloc,
+        lines,
+        options,
+        skus.items(),
+        libraries,
+        pcds,
+        components,
+        name,
+        guid,
+        arches,
+    )?;
     Ok(document)
 }
 
 /// The platform that these lines describe, or the first fault: of the first line that has one, else of the
-/// document, at its root's line 0, where a required key isn't stated.
+/// whole, at its root's line 0 where a required key isn't stated.
 #[tactic(auto, unfolding(crate::specs::Platform::platform_of))]
 pub fn read_platform(alloc: Global, permit: Permit, lines: &Lines) -> Result<PlatformDoc, Refusal>
-    ensures { Answers result (platform_of lines.now) }
+    ensures value { Answers result (platform_of lines.now) }
+    ensures shape { IfOk result (λ d. HasShape d) }
 {
     let _spent = permit;
-    let mut reader = PlatformReader {
+    let format = DscFormat {
         alloc,
-        section: Section::Nowhere,
-        stated: Stated::new(),
+        stated: Stated::new(alloc),
+        standing: Open::Shut,
+        names: IndexMap::new(alloc),
+        uses: Rows::new(alloc),
+        done: Rows::new(alloc),
+        first: Vec::new(alloc),
+        rest: Vec::new(alloc),
     };
-    read_lines(&mut reader, lines.rows.items())?;
-    document(alloc, lines, reader.stated)
+    let format = read_document(alloc, format, lines.rows.items())?;
+    let ended = end_blocks(format)?;
+    document(alloc, lines, ended)
 }

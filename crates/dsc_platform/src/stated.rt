@@ -1,68 +1,159 @@
-//! What the lines of [Defines] state.
-ghost use Rattle.std.specs.Prelude.{◌≡◌, OnOk, None};
-ghost use Rattle.build_base.specs.Answer.{Checks};
-ghost use Rattle.doc_reading.specs.Reading.{last_or};
-ghost use Rattle.dsc_platform.specs.Platform.{value_fault, name_at, guid_at, arches_at, output_at, sku_at, flash_at};
-ghost use Rattle.dsc_platform.specs.declared.line.PlatformLine.TheVariants.{Keyed};
+//! What the lines state, components apart.
+ghost use Rattle.std.specs.Prelude.{◌≡◌, ◌++◌, ◌∷◌, [], OnOk};
+ghost use Rattle.std.specs.List.{flat_map};
+ghost use Rattle.dsc_platform.specs.SkuNames.{Placed};
+ghost use Rattle.dsc_platform.specs.Standing.{parts_in};
+ghost use Rattle.dsc_platform.specs.declared.rows.Said.TheVariants.{Key};
+ghost use Rattle.dsc_platform.specs.Stating.{nothing, keys_with, with_rows, names_of};
 
-use crate::arches::arches_value;
-use crate::key::PlatformKey;
-use build_base::{Guid, Path, Place, Refusal, Rows, Text};
-use doc_reading::segment_name::{SegmentName, segment_name};
-use doc_reading::value_fields::{guid_value, path_value, text_value};
+use crate::output_folder::OutputFolder;
+use crate::platform_name::PlatformName;
+use crate::rows::{KeyValue, Part, Said, SkuLine};
+use crate::sku_names::add_name;
+use build_base::{Guid, Path, Rows, Text, WantOfMemory};
 use doc_types::arch::Arch;
+use doc_types::platform::{LibraryLine, PcdLine};
+use indexmap::IndexMap;
 use std::alloc::Global;
 
-/// The last value of each key.
+/// The last value of each key that may be absent.
 #[derive(Debug, Drop)]
-pub struct Stated {
-    pub name: Option<SegmentName>,
-    pub guid: Option<Guid>,
-    pub arches: Option<Rows<Arch>>,
-    pub output: Option<Path>,
+pub struct Options {
+    pub output: Option<OutputFolder>,
     pub sku_choice: Option<Text>,
     pub flash: Option<Path>,
 }
 
+/// The last value of each key.
+#[derive(Debug, Drop)]
+pub struct Keys {
+    pub name: Option<PlatformName>,
+    pub guid: Option<Guid>,
+    pub arches: Option<Rows<Arch>>,
+    pub options: Options,
+}
+
+/// The keys, and the rows of the other sections in the order of the lines.
+#[derive(Debug, Drop)]
+pub struct Stated {
+    pub keys: Keys,
+    pub skus: Rows<SkuLine>,
+    pub libraries: Rows<LibraryLine>,
+    pub pcds: Rows<PcdLine>,
+}
+
+impl Keys {
+    fn take(&mut self, value: KeyValue)
+        ensures { self.new ≡ keys_with self.old (Key value ∷ []) }
+    {
+        match value {
+            KeyValue::Name(name) => self.name = Some(name),
+            KeyValue::Guid(guid) => self.guid = Some(guid),
+            KeyValue::Arches(arches) => self.arches = Some(arches),
+            KeyValue::Output(output) => self.options.output = Some(output),
+            KeyValue::SkuChoice(_, choice) => self.options.sku_choice = Some(choice),
+            KeyValue::Flash(flash) => self.options.flash = Some(flash),
+        }
+    }
+}
+
 impl Stated {
-    /// No key yet.
-    pub fn new() -> Stated
-        ensures { result ≡ record { name = None; guid = None; arches = None; output = None; sku_choice = None; flash = None } }
+    /// Nothing yet.
+    pub fn new(alloc: Global) -> Stated
+        ensures { result ≡ nothing }
     {
         Stated {
-            name: None,
-            guid: None,
-            arches: None,
-            output: None,
-            sku_choice: None,
-            flash: None,
+            keys: Keys {
+                name: None,
+                guid: None,
+                arches: None,
+                options: Options {
+                    output: None,
+                    sku_choice: None,
+                    flash: None,
+                },
+            },
+            skus: Rows::new(alloc),
+            libraries: Rows::new(alloc),
+            pcds: Rows::new(alloc),
         }
     }
+}
 
-    /// Takes the value of a key.
-    pub fn take(
-        &mut self,
-        alloc: Global,
-        at: &Place,
-        key: PlatformKey,
-        value: &[u8],
-    ) -> Result<(), Refusal>
-        ensures fault { Checks result (value_fault at.now key value.now) }
-        ensures name { OnOk result (self.new.name ≡ last_or self.old.name (name_at at.now (Keyed key value.now))) }
-        ensures guid { OnOk result (self.new.guid ≡ last_or self.old.guid (guid_at at.now (Keyed key value.now))) }
-        ensures arches { OnOk result (self.new.arches ≡ last_or self.old.arches (arches_at at.now (Keyed key value.now))) }
-        ensures output { OnOk result (self.new.output ≡ last_or self.old.output (output_at at.now (Keyed key value.now))) }
-        ensures sku { OnOk result (self.new.sku_choice ≡ last_or self.old.sku_choice (sku_at at.now (Keyed key value.now))) }
-        ensures flash { OnOk result (self.new.flash ≡ last_or self.old.flash (flash_at at.now (Keyed key value.now))) }
-    {
-        match key {
-            PlatformKey::Name => self.name = Some(segment_name(alloc, at, value)?),
-            PlatformKey::Guid => self.guid = Some(guid_value(alloc, 222, at, value)?),
-            PlatformKey::Arches => self.arches = Some(arches_value(alloc, at, value)?),
-            PlatformKey::Output => self.output = Some(path_value(alloc, at, value)?),
-            PlatformKey::SkuChoice => self.sku_choice = Some(text_value(alloc, at, value)?),
-            PlatformKey::Flash => self.flash = Some(path_value(alloc, at, value)?),
-        }
-        Ok(())
+fn push_part(parts: &mut Vec<Part>, part: Part) -> Result<(), WantOfMemory>
+    ensures { OnOk result (parts.new.items ≡ parts.old.items ++ part ∷ []) }
+{
+    match parts.push(part) {
+        Ok(()) => Ok(()),
+        Err(_) => Err(WantOfMemory),
     }
+}
+
+fn push_sku(
+    alloc: Global,
+    skus: &mut Rows<SkuLine>,
+    names: &mut IndexMap<Vec<u8>, usize>,
+    sku: SkuLine,
+) -> Result<(), WantOfMemory>
+    ensures skus { OnOk result (skus.new ≡ skus.old ++ sku ∷ []) }
+    ensures names { Placed (names_of skus.old) names.old → OnOk result (Placed (names_of skus.new) names.new) }
+{
+    add_name(alloc, names, sku.sku.name.bytes(), skus.items().len())?;
+    skus.push(sku)?;
+    Ok(())
+}
+
+// Takes a row: into what is stated, or among the parts of components.
+fn keep_row(
+    alloc: Global,
+    stated: &mut Stated,
+    names: &mut IndexMap<Vec<u8>, usize>,
+    parts: &mut Vec<Part>,
+    row: Said,
+) -> Result<(), WantOfMemory>
+    ensures stated { OnOk result (stated.new ≡ with_rows stated.old (row ∷ [])) }
+    ensures names { Placed (names_of stated.old.skus) names.old → OnOk result (Placed (names_of stated.new.skus) names.new) }
+    ensures parts { OnOk result (parts.new.items ≡ parts.old.items ++ parts_in row) }
+{
+    match row {
+        Said::Key(value) => {
+            stated.keys.take(value);
+            Ok(())
+        }
+        Said::Sku(sku) => {
+            push_sku(alloc, &mut stated.skus, names, sku)?;
+            Ok(())
+        }
+        Said::Library(library) => {
+            stated.libraries.push(library)?;
+            Ok(())
+        }
+        Said::Pcd(pcd) => {
+            stated.pcds.push(pcd)?;
+            Ok(())
+        }
+        Said::Part(part) => {
+            push_part(parts, part)?;
+            Ok(())
+        }
+    }
+}
+
+/// Takes the rows of a line.
+#[tactic(auto, using(crate::proofs::StatedLemmas::rows_join, crate::proofs::StatedLemmas::rows_none))]
+pub fn keep_rows(
+    alloc: Global,
+    stated: &mut Stated,
+    names: &mut IndexMap<Vec<u8>, usize>,
+    parts: &mut Vec<Part>,
+    rows: Vec<Said>,
+) -> Result<(), WantOfMemory>
+    ensures stated { OnOk result (stated.new ≡ with_rows stated.old rows.items) }
+    ensures names { Placed (names_of stated.old.skus) names.old → OnOk result (Placed (names_of stated.new.skus) names.new) }
+    ensures parts { OnOk result (parts.new.items ≡ parts.old.items ++ flat_map parts_in rows.items) }
+{
+    for row in rows {
+        keep_row(alloc, stated, names, parts, row)?;
+    }
+    Ok(())
 }

@@ -1,0 +1,44 @@
+-- That each module stands once for an architecture. This is the project's own rule.
+use Rattle.std.specs.Prelude.{◌≡◌, ℕ, Bool, true, false, ◌&&◌, if◌then◌else◌, List, [], ◌∷◌, Option, Some, None, unwrap_or}
+use Rattle.std.specs.List.{flat_map, list_any}
+use Rattle.std.specs.Str.{bytes_eq}
+use Rattle.std.specs.Global.{Vec}
+use Rattle.std.specs.HashMap.{HashMap, get}
+use Rattle.build_base.specs.FaultText.{fault_of}
+use Rattle.build_base.specs.declared.fault.Fault.{Fault}
+use Rattle.doc_reading.specs.Reading.{lines_fault}
+use Rattle.doc_types.specs.declared.arch.Arch.{Arch}
+use Rattle.doc_types.specs.declared.arch.Arch.TheVariants.{Common, Ia32, X64, Arm, Aarch64, Riscv64, Loongarch64, Ebc}
+use Rattle.doc_types.specs.declared.platform.Component.{Component}
+use Rattle.dsc_platform.specs.SkuNames.{same_key}
+
+-- whether an architecture is for all, or the same
+unfoldable pub meets : Arch → Arch → Bool
+meets Common second = true
+meets first Common = true
+meets Ia32 Ia32 = true
+meets X64 X64 = true
+meets Arm Arm = true
+meets Aarch64 Aarch64 = true
+meets Riscv64 Riscv64 = true
+meets Loongarch64 Loongarch64 = true
+meets Ebc Ebc = true
+meets first second = false
+
+-- one module, for one architecture
+abbrev pub repeats : Component → Component → Bool
+repeats old component = bytes_eq old.inf component.inf && meets old.arch component.arch
+
+abbrev pub repeat_fault : List Component → Component → Option Fault
+repeat_fault above component = if list_any (λ old. repeats old component) above then Some (fault_of 228 component.at component.inf) else None
+
+-- the first that repeats one above it
+unfoldable pub repeats_fault : List Component → Option Fault
+repeats_fault components = lines_fault (λ above component last. repeat_fault above component) [] components
+
+abbrev pub arch_at : List ℕ → Component → List Arch
+arch_at inf component = if bytes_eq component.inf inf then component.arch ∷ [] else []
+
+-- a table gives the architectures of each module above
+abbrev pub Arched : {S : Type 0} → List Component → HashMap (Vec ℕ) (List Arch) S → Type 0
+Arched above table = (key : Vec ℕ) → unwrap_or (get same_key table key) [] ≡ flat_map (arch_at key.items) above
