@@ -1,87 +1,102 @@
 -- A package's declarations, or their first fault.
-use Rattle.std.specs.Prelude.{ℕ, Bool, List, [], ◌∷◌, Option, Some, None, Result, Ok, Err, codes, fold}
+use Rattle.std.specs.Prelude.{ℕ, List, [], ◌∷◌, ◌++◌, Option, Some, None, Result, Err, codes}
 use Rattle.std.specs.List.{flat_map}
 use Rattle.build_base.specs.First.{or_fault, unless}
-use Rattle.build_base.specs.FaultText.{fault_of}
 use Rattle.build_base.specs.declared.guid.Guid.{Guid as GuidBytes}
 use Rattle.build_base.specs.declared.fault.Fault.{Fault}
 use Rattle.build_base.specs.declared.lines.Taken.{Taken}
 use Rattle.build_base.specs.declared.lines.Lines.{Lines}
-use Rattle.macro_conditions.specs.Reading.{lines_fault, each, last_of}
-use Rattle.macro_conditions.specs.ValueFields.{fault_in}
+use Rattle.doc_reading.specs.Reading.{last_or}
+use Rattle.doc_reading.specs.Grammar.{Grammar, first_fault, read_of, rows_of}
+use Rattle.doc_reading.specs.Meanings.{meaning_faults, meaning_scope}
+use Rattle.doc_reading.specs.Missing.{missing_key}
+use Rattle.doc_types.specs.declared.arch.Arch.{Arch}
 use Rattle.doc_types.specs.declared.depex.NamedGuid.{NamedGuid}
 use Rattle.doc_types.specs.declared.package.DecPcd.{DecPcd}
 use Rattle.doc_types.specs.declared.package.DecDoc.{DecDoc}
-use Rattle.dec_docs.specs.declared.line.DecLine.{DecLine}
-use Rattle.dec_docs.specs.declared.line.DecLine.TheVariants.{Blank, Heads, BadHead, Stray, Body}
+use Rattle.dec_docs.specs.declared.package.Stated.{Stated}
 use Rattle.dec_docs.specs.declared.rows.Declared.{Declared}
-use Rattle.dec_docs.specs.declared.rows.Declared.TheVariants.{Guid, Pcd}
+use Rattle.dec_docs.specs.declared.rows.Declared.TheVariants as row
 use Rattle.dec_docs.specs.declared.rows.Said.{Said}
+use Rattle.dec_docs.specs.declared.rows.Said.TheVariants.{Name, Guid, Row}
+use Rattle.dec_docs.specs.declared.section.DecSection.{DecSection}
+use Rattle.dec_docs.specs.declared.section.DecSection.TheVariants.{Defines, Guids, Pcds}
 use Rattle.dec_docs.specs.declared.section.Entry.{Entry}
-use Rattle.dec_docs.specs.declared.stated.Stated.{Stated}
-use Rattle.dec_docs.specs.Lines.{dec_line}
+use Rattle.dec_docs.specs.KeyLines.{key_line_faults, key_line_row}
+use Rattle.dec_docs.specs.GuidLines.{guid_line_faults, guid_line_row}
+use Rattle.dec_docs.specs.PcdLines.{pcd_line_faults, pcd_line_row}
 use Rattle.dec_docs.specs.Repeats.{repeats_fault}
-use Rattle.dec_docs.specs.Sections.{heads_entries}
-use Rattle.dec_docs.specs.Stating.{names_in, guids_in, rows_in, body_fault, under}
+use Rattle.dec_docs.specs.Sections.{head_meaning}
 
-abbrev pub entered : List Entry → Result (List Entry) Fault → List Entry
-entered entries (Ok new) = new
-entered entries (Err fault) = entries
+abbrev pub faults_in : Taken → DecSection → List (Option Fault)
+faults_in line Defines = key_line_faults line
+faults_in line Guids = guid_line_faults line
+faults_in line (Pcds kind) = pcd_line_faults line
 
--- the sections to which the line below belongs
-abbrev pub enter : Taken → List Entry → DecLine → List Entry
-enter line entries (Heads heads) = entered entries (heads_entries line heads)
-enter line entries form = entries
+abbrev pub row_in : Taken → Arch → DecSection → Option Said
+row_in line arch Defines = key_line_row line
+row_in line arch Guids = guid_line_row line arch
+row_in line arch (Pcds kind) = pcd_line_row line arch kind
 
-abbrev pub enter_line : List Entry → Taken → List Entry
-enter_line entries line = enter line entries (dec_line entries line.text)
+-- the faults of a line below a head, and what it says there
+unfoldable pub line_faults : Taken → Entry → List (Option Fault)
+line_faults line entry = faults_in line entry.section
 
-abbrev pub entries_below : List Taken → List Entry
-entries_below lines = fold enter_line [] lines
+unfoldable pub line_row : Taken → Entry → Option Said
+line_row line entry = row_in line entry.arch entry.section
 
--- the fault of a line of this form
-abbrev pub form_fault : Taken → List Entry → DecLine → Option Fault
-form_fault line entries Blank = None
-form_fault line entries (Heads heads) = fault_in (heads_entries line heads)
-form_fault line entries BadHead = Some (fault_of 114 line.at line.text)
-form_fault line entries Stray = Some (fault_of 206 line.at line.text)
-form_fault line entries Body = body_fault line entries
+-- nothing is ever open
+abbrev pub dec_grammar : Grammar Entry Said
+dec_grammar =
+    record {
+      head_faults = λ line head. meaning_faults 206 line head (head_meaning head);
+      scope_of = λ head. meaning_scope (head_meaning head);
+      stray = 206;
+      faults = λ above line entry. line_faults line entry;
+      row_of = λ above line entry. line_row line entry;
+      at_heads = λ above line heads. None;
+      left_open = λ above line. None;
+    }
 
-abbrev pub line_fault : List Taken → Taken → Bool → Option Fault
-line_fault above line last = form_fault line (entries_below above) (dec_line (entries_below above) line.text)
+abbrev pub name_in : Said → List (List ℕ)
+name_in (Name name) = name ∷ []
+name_in said = []
 
--- what a line of this form gives
-abbrev pub given_by : {R : Type 0} → (Result Said Fault → List R) → Taken → List Entry → DecLine → List R
-given_by gives line entries Body = under gives line entries
-given_by gives line entries form = []
+abbrev pub guid_in : Said → List GuidBytes
+guid_in (Guid guid) = guid ∷ []
+guid_in said = []
 
--- what the lines give, in their order
-abbrev pub all_given : {R : Type 0} → (Result Said Fault → List R) → List Taken → List R
-all_given gives lines = each enter_line (λ entries line. given_by gives line entries (dec_line entries line.text)) [] lines
+abbrev pub row_said : Said → List Declared
+row_said (Row row) = row ∷ []
+row_said said = []
 
--- the last value of each key, and all rows
+abbrev pub nothing : Stated
+nothing = record { name = None; guid = None; rows = [] }
+
+-- with more that is said: the last value of each key, and all rows
+unfoldable pub with_rows : Stated → List Said → Stated
+with_rows stated said =
+    record { name = last_or stated.name (flat_map name_in said); guid = last_or stated.guid (flat_map guid_in said); rows = stated.rows ++ flat_map row_said said }
+
+-- what the lines state
 abbrev pub stated_by : List Taken → Stated
-stated_by lines = record { name = last_of (all_given names_in lines); guid = last_of (all_given guids_in lines); rows = all_given rows_in lines }
-
--- a key that no line states
-abbrev pub missing_key : List ℕ → List ℕ → Fault
-missing_key root key = fault_of 201 (record { path = root; line = 0 }) key
+stated_by lines = with_rows nothing (rows_of (read_of dec_grammar lines))
 
 abbrev pub guid_rows : Declared → List NamedGuid
-guid_rows (Guid guid) = guid ∷ []
-guid_rows (Pcd pcd) = []
+guid_rows (row.Guid guid) = guid ∷ []
+guid_rows (row.Pcd pcd) = []
 
 abbrev pub pcd_rows : Declared → List DecPcd
-pcd_rows (Guid guid) = []
-pcd_rows (Pcd pcd) = pcd ∷ []
+pcd_rows (row.Guid guid) = []
+pcd_rows (row.Pcd pcd) = pcd ∷ []
 
 abbrev pub with_required : List ℕ → List ℕ → GuidBytes → List Declared → DecDoc
 with_required root name guid rows =
     record { at = record { path = root; line = 0 }; name = name; guid = guid; guids = flat_map guid_rows rows; pcds = flat_map pcd_rows rows }
 
 abbrev pub required : List ℕ → List Declared → Option (List ℕ) → Option GuidBytes → Result DecDoc Fault
-required root rows None guid = Err (missing_key root (codes "PACKAGE_NAME"))
-required root rows (Some name) None = Err (missing_key root (codes "PACKAGE_GUID"))
+required root rows None guid = Err (missing_key 201 root (codes "PACKAGE_NAME"))
+required root rows (Some name) None = Err (missing_key 201 root (codes "PACKAGE_GUID"))
 required root rows (Some name) (Some guid) = unless (repeats_fault rows) (with_required root name guid rows)
 
 -- the document, where each key is stated and no row may not stand below another
@@ -90,4 +105,4 @@ document_of root stated = required root stated.rows stated.name stated.guid
 
 -- the fault of the first line that has one, else the document, where it is whole
 unfoldable pub package_of : Lines → Result DecDoc Fault
-package_of lines = or_fault (lines_fault line_fault [] lines.rows) (document_of lines.root (stated_by lines.rows))
+package_of lines = or_fault (first_fault dec_grammar lines.rows) (document_of lines.root (stated_by lines.rows))

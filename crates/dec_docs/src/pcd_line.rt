@@ -1,33 +1,21 @@
 //! The line of a PCD.
-ghost use Rattle.std.specs.Prelude.{◌≡◌, Option, Some};
+ghost use Rattle.std.specs.Prelude.{◌≡◌, [], ◌∷◌, IfOk};
 ghost use Rattle.build_base.specs.Answer.{Answers, Checks, Finds};
-ghost use Rattle.dec_docs.specs.PcdLines.{token_number, bad_line, words_fault, pcd_found, four_fields, pcd_fields, pcd_line};
+ghost use Rattle.doc_reading.specs.Least.{least_of};
+ghost use Rattle.doc_reading.specs.Gathering.{judged};
+ghost use Rattle.dec_docs.specs.PcdLines.{words_fault, parts_fault, token_fault, token_of, made_pcd, other_faults, fields_faults, fields_row, pcd_line_faults, pcd_line_row};
 
-use build_base::{Refusal, Same, Taken, Text, refuse};
+use crate::rows::{Declared, Said};
+use build_base::{Refusal, Same, Taken, Text, WantOfMemory, refuse};
+use doc_reading::least_check::{least_of_four, least_refusal};
+use doc_reading::value_fields::{open_quote, undefined_macro, undefined_macros};
+use doc_reading::values::wanted;
 use doc_types::arch::Arch;
 use doc_types::package::DecPcd;
 use doc_types::pcd::{Datum, Kind, PcdName, datum_named, pcd_name_of};
-use macro_conditions::value_fields::{open_quote, undefined_macro, undefined_macros};
 use meta_lexer::numbers::number;
 use meta_lexer::parts::field_texts;
 use std::alloc::Global;
-
-// The number of a token's field.
-#[tactic(auto, unfolding(crate::specs::PcdLines::token_number))]
-fn token_number(alloc: Global, line: &Taken, token: &[u8]) -> Result<u64, Refusal>
-    ensures { Answers result (token_number line.now token.now) }
-{
-    match number(token) {
-        Some(number) => Ok(number),
-        None => Err(refuse(alloc, 113, &line.at, token)),
-    }
-}
-
-fn refuse_line(alloc: Global, line: &Taken) -> Refusal
-    ensures { Finds result (Some (bad_line line.now)) }
-{
-    refuse(alloc, 203, &line.at, line.text.bytes())
-}
 
 fn check_words(
     alloc: Global,
@@ -44,8 +32,60 @@ fn check_words(
     Ok(())
 }
 
-// The PCD of its parts: a name, a default that isn't empty, a type, and a token of 32 bits.
-fn pcd_found(
+fn check_parts(
+    alloc: Global,
+    line: &Taken,
+    pcd: &Option<PcdName>,
+    default: &[u8],
+    datum: Option<Datum>,
+) -> Result<(), Refusal>
+    ensures { Checks result (parts_fault line.now pcd.now default.now datum) }
+{
+    match (pcd, datum) {
+        (Some(_), Some(_)) => {
+            if default.is_empty() {
+                return Err(refuse(alloc, 203, &line.at, line.text.bytes()));
+            }
+            Ok(())
+        }
+        _ => Err(refuse(alloc, 203, &line.at, line.text.bytes())),
+    }
+}
+
+fn check_token(
+    alloc: Global,
+    line: &Taken,
+    token: &[u8],
+    number: Option<u64>,
+) -> Result<(), Refusal>
+    ensures { Checks result (token_fault line.now token.now number) }
+{
+    match number {
+        Some(number) => {
+            if number >= 0x1_0000_0000 {
+                return Err(refuse(alloc, 205, &line.at, token));
+            }
+            Ok(())
+        }
+        None => Ok(()),
+    }
+}
+
+fn token_of(number: Option<u64>) -> Option<u32>
+    ensures { result ≡ token_of number }
+{
+    match number {
+        Some(number) => {
+            if number < 0x1_0000_0000 {
+                return Some(number as u32);
+            }
+            None
+        }
+        None => None,
+    }
+}
+
+fn made_pcd(
     alloc: Global,
     line: &Taken,
     arch: Arch,
@@ -53,32 +93,24 @@ fn pcd_found(
     pcd: Option<PcdName>,
     default: &[u8],
     datum: Option<Datum>,
-    token: &[u8],
-    number: u64,
-) -> Result<DecPcd, Refusal>
-    ensures { Answers result (pcd_found line.now arch kind pcd default.now datum token.now number) }
+    token: Option<u32>,
+) -> Result<Option<Said>, WantOfMemory>
+    ensures { IfOk result (λ row. row ≡ made_pcd line.now arch kind pcd default.now datum token) }
 {
-    let (Some(pcd), Some(datum)) = (pcd, datum) else {
-        return Err(refuse_line(alloc, line));
+    let (Some(pcd), Some(datum), Some(token)) = (pcd, datum, token) else {
+        return Ok(None);
     };
-    if default.is_empty() {
-        return Err(refuse_line(alloc, line));
-    }
-    if number >= 0x1_0000_0000 {
-        return Err(refuse(alloc, 205, &line.at, token));
-    }
-    Ok(DecPcd {
+    Ok(Some(Said::Row(Declared::Pcd(DecPcd {
         at: line.at.copy(alloc)?,
         arch,
         kind,
         pcd,
         default: Text::of(alloc, default)?,
         datum,
-        token: number as u32,
-    })
+        token,
+    }))))
 }
 
-#[tactic(auto, unfolding(crate::specs::PcdLines::four_fields))]
 fn four_fields(
     alloc: Global,
     line: &Taken,
@@ -88,13 +120,18 @@ fn four_fields(
     default: &[u8],
     datum: &[u8],
     token: &[u8],
-) -> Result<DecPcd, Refusal>
-    ensures { Answers result (four_fields line.now arch kind name.now default.now datum.now token.now) }
+) -> Result<Option<Said>, Refusal>
+    ensures { Answers result (judged (fields_faults line.now (name.now ∷ default.now ∷ datum.now ∷ token.now ∷ [])) (fields_row line.now arch kind (name.now ∷ default.now ∷ datum.now ∷ token.now ∷ []))) }
 {
-    let number = token_number(alloc, line, token)?;
-    check_words(alloc, line, name, default, datum)?;
     let pcd = pcd_name_of(alloc, name)?;
-    pcd_found(
+    let read = number(token);
+    least_of_four(
+        wanted(alloc, &read, 113, &line.at, token),
+        check_words(alloc, line, name, default, datum),
+        check_parts(alloc, line, &pcd, default, datum_named(datum)),
+        check_token(alloc, line, token, read),
+    )?;
+    let row = made_pcd(
         alloc,
         line,
         arch,
@@ -102,8 +139,17 @@ fn four_fields(
         pcd,
         default,
         datum_named(datum),
-        token,
-        number,
+        token_of(read),
+    )?;
+    Ok(row)
+}
+
+fn refuse_fields(alloc: Global, line: &Taken, fields: &[Text]) -> Refusal
+    ensures { Finds result (least_of (other_faults line.now fields.now)) }
+{
+    least_refusal(
+        undefined_macros(alloc, &line.at, fields),
+        refuse(alloc, 203, &line.at, line.text.bytes()),
     )
 }
 
@@ -113,8 +159,8 @@ fn pcd_fields(
     arch: Arch,
     kind: Kind,
     fields: &[Text],
-) -> Result<DecPcd, Refusal>
-    ensures { Answers result (pcd_fields line.now arch kind fields.now) }
+) -> Result<Option<Said>, Refusal>
+    ensures { Answers result (judged (fields_faults line.now fields.now) (fields_row line.now arch kind fields.now)) }
 {
     match fields {
         [name, default, datum, token] => four_fields(
@@ -127,17 +173,19 @@ fn pcd_fields(
             datum.bytes(),
             token.bytes(),
         ),
-        _ => {
-            undefined_macros(alloc, &line.at, fields)?;
-            Err(refuse_line(alloc, line))
-        }
+        _ => Err(refuse_fields(alloc, line, fields)),
     }
 }
 
 /// The PCD that a line `Space.Name|Default|Type|Token` declares.
-#[tactic(auto, unfolding(crate::specs::PcdLines::pcd_line))]
-pub fn pcd_line(alloc: Global, line: &Taken, arch: Arch, kind: Kind) -> Result<DecPcd, Refusal>
-    ensures { Answers result (pcd_line line.now arch kind) }
+#[tactic(auto, unfolding(crate::specs::PcdLines::pcd_line_faults, crate::specs::PcdLines::pcd_line_row))]
+pub fn pcd_line(
+    alloc: Global,
+    line: &Taken,
+    arch: Arch,
+    kind: Kind,
+) -> Result<Option<Said>, Refusal>
+    ensures { Answers result (judged (pcd_line_faults line.now) (pcd_line_row line.now arch kind)) }
 {
     open_quote(alloc, &line.at, line.text.bytes())?;
     let fields = field_texts(alloc, line.text.bytes())?;

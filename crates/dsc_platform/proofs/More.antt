@@ -2,8 +2,8 @@
 use Rattle.std.proofs.Common.{◌≡◌, List, [], ◌∷◌, ◌++◌, sym, ap, ◌∙◌}
 use Rattle.std.proofs.lemmas.List.Sums.{fold_push}
 use Rattle.build_base.specs.declared.lines.Taken.{Taken}
-use Rattle.macro_conditions.specs.Reading.{last_or}
-use Rattle.macro_conditions.proofs.Turns.{last_more}
+use Rattle.doc_reading.specs.Reading.{last_or}
+use Rattle.doc_reading.proofs.Turns.{last_more}
 use Rattle.dsc_platform.specs.declared.line.PlatformLine.{PlatformLine}
 use Rattle.dsc_platform.specs.declared.line.Section.TheVariants.{Nowhere}
 use Rattle.dsc_platform.specs.declared.reading.PlatformReader.{PlatformReader}

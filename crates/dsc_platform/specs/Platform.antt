@@ -7,9 +7,10 @@ use Rattle.build_base.specs.declared.fault.Fault.{Fault}
 use Rattle.build_base.specs.declared.fault.Place.{Place}
 use Rattle.build_base.specs.declared.lines.Taken.{Taken}
 use Rattle.build_base.specs.declared.lines.Lines.{Lines}
-use Rattle.macro_conditions.specs.Reading.{lines_fault, each, last_of}
-use Rattle.macro_conditions.specs.SegmentNames.{segment_name}
-use Rattle.macro_conditions.specs.ValueFields.{fault_in, given, open_quote, guid_value, text_value, path_value}
+use Rattle.doc_reading.specs.Reading.{lines_fault, each, last_of}
+use Rattle.doc_reading.specs.SegmentNames.{segment_name}
+use Rattle.doc_reading.specs.Least.{fault_in, given}
+use Rattle.doc_reading.specs.ValueFields.{open_quote, guid_value, text_value, path_value}
 use Rattle.doc_types.specs.declared.arch.Arch.{Arch}
 use Rattle.doc_types.specs.declared.platform.PlatformDoc.{PlatformDoc}
 use Rattle.dsc_platform.specs.declared.key.PlatformKey.{PlatformKey}

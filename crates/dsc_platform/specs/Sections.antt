@@ -10,7 +10,7 @@ use Rattle.meta_lexer.specs.Faults.{first_fault}
 use Rattle.meta_lexer.specs.Parts.{first_text}
 use Rattle.meta_lexer.specs.Words.{same_word}
 use Rattle.meta_lexer.specs.declared.head.Head.{Head}
-use Rattle.macro_conditions.specs.Unbuilt.{unbuilt_line}
+use Rattle.doc_reading.specs.Unbuilt.{unbuilt_line}
 use Rattle.dsc_platform.specs.declared.section.SectionName.{SectionName}
 use Rattle.dsc_platform.specs.declared.section.SectionName.TheVariants.{Defines, SkuIds, LibraryClasses, Components, PcdsFeatureFlag, PcdsFixedAtBuild, PcdsPatchableInModule, PcdsDynamicDefault, PcdsDynamicHii, PcdsDynamicVpd, PcdsDynamicExDefault, PcdsDynamicExHii, PcdsDynamicExVpd, BuildOptions, UserExtensions, DefaultStores, Packages}
 use Rattle.dsc_platform.specs.declared.section.HeadKind.{HeadKind}

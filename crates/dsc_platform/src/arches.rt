@@ -6,7 +6,7 @@ ghost use Rattle.dsc_platform.specs.Arches.{is_common, arch_value, arches_value}
 
 use build_base::{Place, Refusal, Rows, Text, refuse};
 use doc_types::arch::{Arch, arch_named};
-use macro_conditions::value_fields::undefined_macros;
+use doc_reading::value_fields::undefined_macros;
 use meta_lexer::parts::field_texts;
 use std::alloc::Global;
 

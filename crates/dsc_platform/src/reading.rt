@@ -1,7 +1,7 @@
 //! Reading a platform's lines.
 ghost use Rattle.std.specs.Prelude.{◌≡◌, ◌++◌, OnOk, IfOk, Some, codes, unwrap_or};
 ghost use Rattle.build_base.specs.Answer.{Answers, Checks, Finds};
-ghost use Rattle.macro_conditions.specs.Reading.{last_or};
+ghost use Rattle.doc_reading.specs.Reading.{last_or};
 ghost use Rattle.dsc_platform.specs.Platform.{enter, form_fault, name_at, guid_at, arches_at, output_at, sku_at, flash_at, missing_key, with_required, document_of, platform_of};
 
 use crate::line::{PlatformLine, Section, platform_line};
@@ -12,9 +12,9 @@ use build_base::{
 };
 use doc_types::arch::Arch;
 use doc_types::platform::PlatformDoc;
-use macro_conditions::segment_name::SegmentName;
-use macro_conditions::value_fields::open_quote;
-use macro_conditions::{Reader, read_lines};
+use doc_reading::segment_name::SegmentName;
+use doc_reading::value_fields::open_quote;
+use doc_reading::{Reader, read_lines};
 use std::alloc::Global;
 
 /// What a reader of a platform holds: the section in which the next line stands, and what the keys state.

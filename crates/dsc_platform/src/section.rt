@@ -6,7 +6,7 @@ ghost use Rattle.meta_lexer.specs.Faults.{first_fault};
 ghost use Rattle.dsc_platform.specs.Sections.{main_section, static_section, dynamic_section, dynamic_ex_section, pcd_section, passed_section, section_named, kind_of, head_kind, is_unbuilt, is_qualified, unknown_head, heads_fault};
 
 use build_base::{Place, Refusal, Taken, Text, refuse};
-use macro_conditions::unbuilt::refuse_unbuilt;
+use doc_reading::unbuilt::refuse_unbuilt;
 use meta_lexer::head::Head;
 use meta_lexer::parts::first_text;
 use meta_lexer::words::same_word;

@@ -1,7 +1,7 @@
 //! What the lines of [Defines] state.
 ghost use Rattle.std.specs.Prelude.{◌≡◌, OnOk, None};
 ghost use Rattle.build_base.specs.Answer.{Checks};
-ghost use Rattle.macro_conditions.specs.Reading.{last_or};
+ghost use Rattle.doc_reading.specs.Reading.{last_or};
 ghost use Rattle.dsc_platform.specs.Platform.{value_fault, name_at, guid_at, arches_at, output_at, sku_at, flash_at};
 ghost use Rattle.dsc_platform.specs.declared.line.PlatformLine.TheVariants.{Keyed};
 
@@ -9,8 +9,8 @@ use crate::arches::arches_value;
 use crate::key::PlatformKey;
 use build_base::{Guid, Path, Place, Refusal, Rows, Text};
 use doc_types::arch::Arch;
-use macro_conditions::segment_name::{SegmentName, segment_name};
-use macro_conditions::value_fields::{guid_value, path_value, text_value};
+use doc_reading::segment_name::{SegmentName, segment_name};
+use doc_reading::value_fields::{guid_value, path_value, text_value};
 use std::alloc::Global;
 
 /// The last value of each key.

@@ -2,8 +2,8 @@
 use Rattle.std.proofs.Common.{◌≡◌, ℕ, ◌+◌, List, [], ◌∷◌, ◌++◌, sym, ap, ◌∙◌}
 use Rattle.std.proofs.lemmas.List.Sums.{fold_push, fold-append}
 use Rattle.build_base.specs.declared.lines.Taken.{Taken}
-use Rattle.macro_conditions.specs.Reading.{each, last_or}
-use Rattle.macro_conditions.proofs.Turns.{each_push, list_more, last_more}
+use Rattle.doc_reading.specs.Reading.{each, last_or}
+use Rattle.doc_reading.proofs.Turns.{each_push, list_more, last_more}
 use Rattle.fdf_layout.specs.declared.line.FlashLine.{FlashLine}
 use Rattle.fdf_layout.specs.declared.reading.FlashReader.{FlashReader}
 use Rattle.fdf_layout.specs.declared.context.FlashContext.{FlashContext}

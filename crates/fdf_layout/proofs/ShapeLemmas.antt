@@ -14,7 +14,7 @@ use Rattle.build_base.specs.declared.fault.Place.{Place}
 use Rattle.build_base.specs.declared.refusal.Refusal.{Refusal}
 use Rattle.build_base.specs.declared.lines.Lines.{Lines}
 use Rattle.meta_lexer.specs.Faults.{first_fault}
-use Rattle.macro_conditions.specs.Reading.{lines_fault}
+use Rattle.doc_reading.specs.Reading.{lines_fault}
 use Rattle.doc_types.specs.declared.flash.FlashDoc.{FlashDoc}
 use Rattle.doc_types.specs.declared.flash.Region.{Region}
 use Rattle.doc_types.specs.Volumes.{SizeFits}

@@ -2,7 +2,7 @@
 use Rattle.std.proofs.Common.{◌≡◌, List, [], ◌++◌, None, refl}
 use Rattle.build_base.specs.declared.lines.Taken.{Taken}
 use Rattle.build_base.specs.declared.lines.Lines.{Lines}
-use Rattle.macro_conditions.specs.Reading.{lines_fault}
+use Rattle.doc_reading.specs.Reading.{lines_fault}
 use Rattle.fdf_layout.specs.declared.reading.FlashReader.{FlashReader}
 use Rattle.fdf_layout.specs.declared.tables.DeviceTables.{DeviceTables}
 use Rattle.fdf_layout.specs.declared.tables.Content.TheVariants.{Nothing}

@@ -7,8 +7,9 @@ use Rattle.build_base.specs.First.{and_then, or_fault}
 use Rattle.meta_lexer.specs.Lines.{without_blanks}
 use Rattle.meta_lexer.specs.Fields.{parts_of, bytes_at}
 use Rattle.meta_lexer.specs.declared.field.Span.{Span}
-use Rattle.macro_conditions.specs.Unbuilt.{unbuilt_line}
-use Rattle.macro_conditions.specs.ValueFields.{lesser, fault_in, number_value, undefined_macro}
+use Rattle.doc_reading.specs.Unbuilt.{unbuilt_line}
+use Rattle.doc_reading.specs.Least.{lesser, fault_in}
+use Rattle.doc_reading.specs.ValueFields.{number_value, undefined_macro}
 use Rattle.fdf_layout.specs.declared.key.FlashKey.{FlashKey}
 use Rattle.fdf_layout.specs.declared.key.DeviceKey.{DeviceKey}
 use Rattle.fdf_layout.specs.declared.key.DeviceKey.TheVariants.{NumberKey, DataKey, VolumeKey}

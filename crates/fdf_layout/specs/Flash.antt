@@ -5,7 +5,7 @@ use Rattle.build_base.specs.declared.fault.Fault.{Fault}
 use Rattle.build_base.specs.declared.fault.Place.{Place}
 use Rattle.build_base.specs.declared.lines.Taken.{Taken}
 use Rattle.build_base.specs.declared.lines.Lines.{Lines}
-use Rattle.macro_conditions.specs.Reading.{lines_fault, each, last_of}
+use Rattle.doc_reading.specs.Reading.{lines_fault, each, last_of}
 use Rattle.doc_types.specs.declared.flash.FlashDoc.{FlashDoc}
 use Rattle.fdf_layout.specs.declared.key.FlashKey.{FlashKey}
 use Rattle.fdf_layout.specs.declared.key.FlashKey.TheVariants.{BaseAddress, Size, ErasePolarity, NumBlocks}

@@ -7,7 +7,7 @@ use Rattle.build_base.specs.FaultText.{fault_of}
 use Rattle.meta_lexer.specs.Faults.{Spot}
 use Rattle.meta_lexer.specs.Words.{same_word}
 use Rattle.meta_lexer.specs.declared.head.Head.{Head}
-use Rattle.macro_conditions.specs.Unbuilt.{unbuilt_line}
+use Rattle.doc_reading.specs.Unbuilt.{unbuilt_line}
 use Rattle.fdf_layout.specs.declared.head_line.SectionKind.{SectionKind}
 use Rattle.fdf_layout.specs.declared.head_line.SectionKind.TheVariants.{DeviceHead, VolumeHead, UnbuiltHead}
 use Rattle.fdf_layout.specs.declared.line.FlashLine.{FlashLine}

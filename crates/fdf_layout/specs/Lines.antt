@@ -4,8 +4,8 @@ use Rattle.build_base.specs.First.{or_fault}
 use Rattle.build_base.specs.declared.fault.Fault.{Fault}
 use Rattle.build_base.specs.declared.lines.Taken.{Taken}
 use Rattle.meta_lexer.specs.Heads.{begins_section, section_of}
-use Rattle.macro_conditions.specs.Unbuilt.{unbuilt_line}
-use Rattle.macro_conditions.specs.ValueFields.{open_quote}
+use Rattle.doc_reading.specs.Unbuilt.{unbuilt_line}
+use Rattle.doc_reading.specs.ValueFields.{open_quote}
 use Rattle.fdf_layout.specs.declared.line.FlashLine.{FlashLine}
 use Rattle.fdf_layout.specs.declared.line.FlashLine.TheVariants.{Blank}
 use Rattle.fdf_layout.specs.declared.line.Zone.{Zone}

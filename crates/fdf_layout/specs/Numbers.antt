@@ -5,8 +5,8 @@ use Rattle.build_base.specs.declared.lines.Taken.{Taken}
 use Rattle.build_base.specs.FaultText.{fault_of}
 use Rattle.build_base.specs.First.{and_then}
 use Rattle.meta_lexer.specs.Fields.{parts_of}
-use Rattle.macro_conditions.specs.Unbuilt.{unbuilt_line}
-use Rattle.macro_conditions.specs.ValueFields.{number_value}
+use Rattle.doc_reading.specs.Unbuilt.{unbuilt_line}
+use Rattle.doc_reading.specs.ValueFields.{number_value}
 use Rattle.fdf_layout.specs.declared.key.FlashKey.{FlashKey}
 use Rattle.fdf_layout.specs.declared.key.FlashKey.TheVariants.{BaseAddress, Size, ErasePolarity, BlockSize, NumBlocks, VolumePolarity}
 

@@ -5,8 +5,8 @@ use Rattle.build_base.specs.FaultText.{fault_of}
 use Rattle.build_base.specs.declared.fault.Fault.{Fault}
 use Rattle.build_base.specs.declared.lines.Taken.{Taken}
 use Rattle.doc_types.specs.declared.volume.FilePlan.{FilePlan}
-use Rattle.macro_conditions.specs.Unbuilt.{unbuilt_line}
-use Rattle.macro_conditions.specs.ValueFields.{lesser, fault_in}
+use Rattle.doc_reading.specs.Unbuilt.{unbuilt_line}
+use Rattle.doc_reading.specs.Least.{lesser, fault_in}
 use Rattle.fdf_layout.specs.declared.key.FlashKey.{FlashKey}
 use Rattle.fdf_layout.specs.declared.key.FlashKey.TheVariants.{BaseAddress, Size, ErasePolarity, BlockSize, NumBlocks, VolumePolarity}
 use Rattle.fdf_layout.specs.declared.line.FlashLine.{FlashLine}

@@ -12,7 +12,7 @@ use Rattle.build_base.specs.declared.lines.Taken.{Taken}
 use Rattle.meta_lexer.specs.Heads.{inner, stands_between}
 use Rattle.meta_lexer.specs.Lines.{without_blanks}
 use Rattle.meta_lexer.specs.Words.{same_word}
-use Rattle.macro_conditions.specs.ValueFields.{path_value, undefined_macro}
+use Rattle.doc_reading.specs.ValueFields.{path_value, undefined_macro}
 use Rattle.doc_types.specs.declared.volume.Align.{Align}
 use Rattle.doc_types.specs.declared.volume.Align.TheVariants.{Unset, Bytes}
 use Rattle.doc_types.specs.declared.volume.SectionSource.{SectionSource}

@@ -14,7 +14,7 @@ use crate::statement::{FileHead, Part, SectionForm};
 use crate::volume_line::{begins_file, is_close};
 use build_base::{Path, Place, Refusal, Rows, Taken, Text, WantOfMemory, refuse};
 use doc_types::volume::{FilePlan, Item, SectionPlan};
-use macro_conditions::unbuilt::refuse_unbuilt;
+use doc_reading::unbuilt::refuse_unbuilt;
 use std::alloc::Global;
 use std::mem;
 

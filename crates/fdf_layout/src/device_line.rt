@@ -1,7 +1,7 @@
 //! The lines of a device.
 ghost use Rattle.std.specs.Prelude.{◌≡◌};
 ghost use Rattle.build_base.specs.Answer.{Answers};
-ghost use Rattle.macro_conditions.specs.ValueFields.{number_value};
+ghost use Rattle.doc_reading.specs.ValueFields.{number_value};
 ghost use Rattle.meta_lexer.specs.Fields.{parts_of, bytes_at, IsWithin};
 ghost use Rattle.std.specs.Prelude.{true};
 ghost use Rattle.std.specs.List.{All};
@@ -15,8 +15,9 @@ use crate::key::{DeviceKey, FlashKey, device_key, is_pcd, key_pair};
 use crate::line::{Extent, FlashLine};
 use crate::number::{bad_line, key_number};
 use build_base::{Refusal, Taken, Text, refuse};
-use macro_conditions::unbuilt::refuse_unbuilt;
-use macro_conditions::value_fields::{lesser_refusal, number_value, undefined_macro};
+use doc_reading::unbuilt::refuse_unbuilt;
+use doc_reading::least_check::lesser_refusal;
+use doc_reading::value_fields::{number_value, undefined_macro};
 use meta_lexer::Span;
 use meta_lexer::field::cut;
 use meta_lexer::head::bytes_at;

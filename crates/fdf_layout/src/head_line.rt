@@ -9,7 +9,7 @@ ghost use Rattle.std.specs.Option.{option_map};
 use crate::line::FlashLine;
 use crate::number::bad_line;
 use build_base::{Refusal, Taken, Text, refuse};
-use macro_conditions::unbuilt::refuse_unbuilt;
+use doc_reading::unbuilt::refuse_unbuilt;
 use meta_lexer::head::{Head, section_head};
 use meta_lexer::refusal::LexRefusal;
 use meta_lexer::words::same_word;

@@ -14,8 +14,8 @@ use crate::volume_line::{
     brace_line, is_file_word, is_set, unbuilt_in_braces, unbuilt_in_volume, volume_line,
 };
 use build_base::{Refusal, Taken, Text};
-use macro_conditions::unbuilt::refuse_unbuilt;
-use macro_conditions::value_fields::open_quote;
+use doc_reading::unbuilt::refuse_unbuilt;
+use doc_reading::value_fields::open_quote;
 use meta_lexer::head::begins_section;
 use std::alloc::Global;
 

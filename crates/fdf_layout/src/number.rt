@@ -8,8 +8,8 @@ ghost use Rattle.fdf_layout.specs.Numbers.{bad_line, bad_value, field_count, one
 use crate::key::FlashKey;
 use build_base::{Refusal, Taken, Text, WantOfMemory, refuse};
 use itoa::Buffer;
-use macro_conditions::unbuilt::refuse_unbuilt;
-use macro_conditions::value_fields::number_value;
+use doc_reading::unbuilt::refuse_unbuilt;
+use doc_reading::value_fields::number_value;
 use meta_lexer::field::cut;
 use std::alloc::Global;
 

@@ -2,9 +2,9 @@
 ghost use Rattle.std.specs.Prelude.{◌≡◌, ◌++◌, OnOk, IfOk, None, Option, length};
 ghost use Rattle.build_base.specs.Answer.{Answers, Finds};
 ghost use Rattle.build_base.specs.declared.fault.Fault.{Fault as Found};
-ghost use Rattle.macro_conditions.specs.ValueFields.{lesser};
+ghost use Rattle.doc_reading.specs.Least.{lesser};
 ghost use Rattle.fdf_layout.specs.Standing.{own_line, end_fault};
-ghost use Rattle.macro_conditions.specs.Reading.{last_or};
+ghost use Rattle.doc_reading.specs.Reading.{last_or};
 ghost use Rattle.fdf_layout.specs.Contexts.{after, with_region};
 ghost use Rattle.fdf_layout.specs.Flash.{heads_at, base_at, size_at, erase_at, products_at, sizes_at, regions_at, volumes_at, filled, volume_rows, capped_sum, flash_of};
 ghost use Rattle.fdf_layout.specs.Whole.{flash_of_parts};
@@ -22,8 +22,8 @@ use crate::tables::{Content, DeviceHead, DeviceTables, NamedVolume, StatedRegion
 use crate::whole::document;
 use build_base::{Lines, Path, Permit, Place, Refusal, Rows, Same, Taken, Text, WantOfMemory};
 use doc_types::flash::FlashDoc;
-use macro_conditions::value_fields::lesser_refusal;
-use macro_conditions::{Reader, read_lines};
+use doc_reading::least_check::lesser_refusal;
+use doc_reading::{Reader, read_lines};
 use std::alloc::Global;
 use std::mem;
 

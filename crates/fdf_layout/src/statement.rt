@@ -13,7 +13,7 @@ use crate::number::bad_line;
 use crate::word::{Options, after_equals, first_word, options_of, stated_align};
 use build_base::{Guid, Path, Refusal, Taken, Text, refuse};
 use doc_types::volume::{Align, SectionSource};
-use macro_conditions::value_fields::{path_value, undefined_macro};
+use doc_reading::value_fields::{path_value, undefined_macro};
 use meta_lexer::head::between;
 use meta_lexer::line::trim;
 use meta_lexer::words::same_word;

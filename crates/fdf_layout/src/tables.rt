@@ -1,6 +1,6 @@
 //! What the lines of a device give.
 ghost use Rattle.std.specs.Prelude.{◌≡◌, ◌++◌, OnOk, [], None};
-ghost use Rattle.macro_conditions.specs.Reading.{last_or};
+ghost use Rattle.doc_reading.specs.Reading.{last_or};
 ghost use Rattle.fdf_layout.specs.Flash.{base_at, size_at, erase_at, product, key_products, paired, key_sizes, capped_sum, region_rows};
 ghost use Rattle.fdf_layout.specs.declared.line.FlashLine.TheVariants.{Keyed};
 

@@ -3,7 +3,7 @@ use Rattle.std.proofs.Common.{◌≡◌, List, [], ◌∷◌, ◌++◌, None, Op
 use Rattle.std.proofs.lemmas.List.Sums.{fold_push}
 use Rattle.build_base.specs.declared.fault.Fault.{Fault}
 use Rattle.build_base.specs.declared.lines.Taken.{Taken}
-use Rattle.macro_conditions.proofs.Turns.{each_push, list_more}
+use Rattle.doc_reading.proofs.Turns.{each_push, list_more}
 use Rattle.inf_docs.specs.declared.depex.OpenSection.{OpenSection}
 use Rattle.inf_docs.specs.declared.line.ModuleLine.{ModuleLine}
 use Rattle.inf_docs.specs.declared.reading.ModuleReader.{ModuleReader}

@@ -4,9 +4,9 @@ use Rattle.std.specs.List.{flat_map}
 use Rattle.std.proofs.lemmas.Grind.{flat_map-append}
 use Rattle.std.proofs.lemmas.List.{drop_more, drop_all}
 use Rattle.build_base.specs.declared.lines.Taken.{Taken}
-use Rattle.macro_conditions.specs.Reading.{last_or}
-use Rattle.macro_conditions.specs.ValueFields.{fault_in, given, lesser}
-use Rattle.macro_conditions.proofs.Turns.{last_or-append}
+use Rattle.doc_reading.specs.Reading.{last_or}
+use Rattle.doc_reading.specs.Least.{fault_in, given, lesser}
+use Rattle.doc_reading.proofs.Turns.{last_or-append}
 use Rattle.inf_docs.specs.declared.row.Row.{Row}
 use Rattle.inf_docs.specs.declared.tables.ModuleTables.{ModuleTables}
 use Rattle.inf_docs.specs.declared.section.Scope.{Scope}

@@ -8,7 +8,7 @@ use Rattle.build_base.specs.declared.guid.Guid.{Guid as GuidBytes}
 use Rattle.build_base.specs.declared.fault.Fault.{Fault}
 use Rattle.build_base.specs.declared.lines.Taken.{Taken}
 use Rattle.build_base.specs.declared.lines.Lines.{Lines}
-use Rattle.macro_conditions.specs.Reading.{lines_fault, each, last_or}
+use Rattle.doc_reading.specs.Reading.{lines_fault, each, last_or}
 use Rattle.doc_types.specs.declared.depex.DepexPart.{DepexPart}
 use Rattle.doc_types.specs.declared.module.InfDoc.{InfDoc}
 use Rattle.doc_types.specs.declared.module.Named.{Named}

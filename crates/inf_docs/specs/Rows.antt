@@ -5,7 +5,8 @@ use Rattle.build_base.specs.First.{or_fault, unless}
 use Rattle.build_base.specs.declared.fault.Fault.{Fault}
 use Rattle.build_base.specs.declared.lines.Taken.{Taken}
 use Rattle.meta_lexer.specs.Words.{halves}
-use Rattle.macro_conditions.specs.ValueFields.{least_of, fault_in, given, open_quote, undefined_macro, guid_value, text_value}
+use Rattle.doc_reading.specs.Least.{least_of, fault_in, given}
+use Rattle.doc_reading.specs.ValueFields.{open_quote, undefined_macro, guid_value, text_value}
 use Rattle.doc_types.specs.declared.arch.Arch.TheVariants.{Common}
 use Rattle.inf_docs.specs.declared.key.ModuleKey.{ModuleKey}
 use Rattle.inf_docs.specs.declared.key.ModuleKey.TheVariants as key

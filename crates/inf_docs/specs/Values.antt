@@ -8,7 +8,7 @@ use Rattle.build_base.specs.declared.lines.Taken.{Taken}
 use Rattle.meta_lexer.specs.Faults.{first_fault}
 use Rattle.meta_lexer.specs.Parts.{first_text, field_texts, words_of}
 use Rattle.meta_lexer.specs.Words.{is_identifier}
-use Rattle.macro_conditions.specs.ValueFields.{undefined_macro, path_value}
+use Rattle.doc_reading.specs.ValueFields.{undefined_macro, path_value}
 use Rattle.doc_types.specs.ModuleTypes.{module_type_named}
 use Rattle.doc_types.specs.Pcds.{pcd_name_of}
 use Rattle.doc_types.specs.declared.arch.Arch.{Arch}

@@ -14,7 +14,7 @@ use build_base::{
 };
 use doc_types::depex::DepexPart;
 use doc_types::module::InfDoc;
-use macro_conditions::{Reader, read_lines};
+use doc_reading::{Reader, read_lines};
 use std::alloc::Global;
 use std::mem;
 

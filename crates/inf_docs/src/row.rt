@@ -13,7 +13,7 @@ use build_base::{Guid, Refusal, Taken, Text};
 use doc_types::arch::Arch;
 use doc_types::module::{Named, Served, UsedPcd};
 use doc_types::module_type::ModuleType;
-use macro_conditions::value_fields::{guid_value, open_quote, text_value, undefined_macro};
+use doc_reading::value_fields::{guid_value, open_quote, text_value, undefined_macro};
 use meta_lexer::words::halves;
 use std::alloc::Global;
 

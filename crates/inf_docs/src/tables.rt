@@ -2,7 +2,7 @@
 ghost use Rattle.std.specs.Prelude.{◌≡◌, ◌∷◌, [], OnOk, Option};
 ghost use Rattle.build_base.specs.Answer.{Checks, Finds};
 ghost use Rattle.build_base.specs.declared.fault.Fault.{Fault as Found};
-ghost use Rattle.macro_conditions.specs.ValueFields.{fault_in, given, lesser};
+ghost use Rattle.doc_reading.specs.Least.{fault_in, given, lesser};
 ghost use Rattle.inf_docs.specs.Rows.{row_of, rows_fault, rows_given};
 ghost use Rattle.inf_docs.specs.Modules.{no_tables, with_rows};
 
@@ -11,7 +11,7 @@ use crate::section::Scope;
 use build_base::{Guid, Refusal, Rows, Taken, Text, WantOfMemory};
 use doc_types::module::{Named, Served, UsedPcd};
 use doc_types::module_type::ModuleType;
-use macro_conditions::value_fields::lesser_refusal;
+use doc_reading::least_check::lesser_refusal;
 use std::alloc::Global;
 
 /// The last value of each key that holds once, and the lists.

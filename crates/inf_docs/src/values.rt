@@ -9,7 +9,7 @@ use doc_types::arch::Arch;
 use doc_types::module::{Named, Served, UsedPcd};
 use doc_types::module_type::{ModuleType, module_type_named};
 use doc_types::pcd::{Asked, pcd_name_of};
-use macro_conditions::value_fields::{path_value, undefined_macro, undefined_macros};
+use doc_reading::value_fields::{path_value, undefined_macro, undefined_macros};
 use meta_lexer::parts::{field_texts, first_text, words};
 use meta_lexer::words::is_identifier;
 use std::alloc::Global;

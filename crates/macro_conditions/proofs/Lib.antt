@@ -1,4 +1,3 @@
-pub mod Turns
 pub mod Shifts
 pub mod ExpressionComplete
 pub mod ExpressionSound
@@ -18,5 +17,3 @@ pub mod CountGrowth
 pub mod CountBound
 pub mod LeftFalls
 pub mod WantedPaths
-pub mod SegmentNameLemmas
-pub mod LeastLemmas

@@ -1,5 +1,3 @@
-pub mod Reading
-pub mod Unbuilt
 pub mod Macros
 pub mod Values
 pub mod ExpressionTree
@@ -12,8 +10,6 @@ pub mod LineMeaning
 pub mod LineStack
 pub mod Sources
 pub mod Expansion
-pub mod SegmentNames
-pub mod ValueFields
 pub mod Work
 pub mod Worlds
 pub mod Counting

@@ -45,7 +45,7 @@ fn begins_at_workspace(field: &[u8]) -> bool
 
 // A path field without `$(WORKSPACE)/` at its front.
 #[tactic(auto, unfolding(crate::specs::Sources::without_workspace))]
-pub(crate) fn without_workspace(field: &[u8]) -> &[u8]
+pub fn without_workspace(field: &[u8]) -> &[u8]
     ensures { result.now ≡ without_workspace field.now }
 {
     if begins_at_workspace(field) {

@@ -1,4 +1,4 @@
-//! Macros and expressions of the text files of a platform, and how a document is read from its lines.
+//! Macros and expressions of the text files of a platform.
 #![tactic(auto)]
 
 mod conditional;
@@ -11,16 +11,11 @@ pub mod machine;
 pub mod macros;
 pub mod operand;
 pub mod operator;
-pub mod reader;
-pub mod segment_name;
-pub mod unbuilt;
-pub mod value_fields;
 mod work;
 
 pub use expansion::{Turned, expand};
 pub use expression::{Value, evaluate};
 pub use known::Known;
-pub use reader::{Reader, read_lines};
 
 #[cfg(test)]
 mod tests;

@@ -5,5 +5,6 @@ pub mod Fields
 pub mod Heads
 pub mod Parts
 pub mod Words
+pub mod Lookup
 pub mod Tokens
 pub mod GuidBraces

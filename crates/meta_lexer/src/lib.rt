@@ -9,6 +9,7 @@ pub mod numbers;
 pub mod parts;
 pub mod refusal;
 pub mod token;
+pub mod word_table;
 pub mod words;
 
 pub use field::{Span, fields};
@@ -18,6 +19,7 @@ pub use line::{Line, lines};
 pub use numbers::number;
 pub use refusal::LexRefusal;
 pub use token::{Token, TokenKind, quoted, tokens};
+pub use word_table::lookup;
 
 #[cfg(test)]
 mod tests;

@@ -1,7 +1,7 @@
 use Rattle.std.proofs.Common.{subst}
 use Rattle.build_base.specs.Answer.{Finds}
-use Rattle.macro_conditions.specs.ValueFields.{fault_in}
-use Rattle.macro_conditions.proofs.LeastLemmas.{least_more}
+use Rattle.doc_reading.specs.Least.{fault_in}
+use Rattle.doc_reading.proofs.LeastLemmas.{least_more}
 use Rattle.inf_docs.specs.Rows.{row_of}
 use Rattle.inf_docs.proofs.tables.least_refusal.Goals as goal
 

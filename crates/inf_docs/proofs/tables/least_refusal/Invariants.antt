@@ -1,7 +1,7 @@
 use Rattle.std.proofs.Common.{take, Option}
 use Rattle.build_base.specs.declared.fault.Fault.{Fault}
 use Rattle.build_base.specs.Answer.{Finds}
-use Rattle.macro_conditions.specs.ValueFields.{lesser}
+use Rattle.doc_reading.specs.Least.{lesser}
 use Rattle.inf_docs.specs.Rows.{rows_fault}
 use Rattle.inf_docs.proofs.tables.least_refusal.Given as goal
 

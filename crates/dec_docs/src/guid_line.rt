@@ -1,0 +1,97 @@
+//! The line of a GUID.
+ghost use Rattle.std.specs.Prelude.{◌≡◌, IfOk};
+ghost use Rattle.meta_lexer.specs.Words.{halves};
+ghost use Rattle.meta_lexer.specs.GuidBraces.{guid_of_braces};
+ghost use Rattle.build_base.specs.Answer.{Answers, Checks};
+ghost use Rattle.doc_reading.specs.Gathering.{judged};
+ghost use Rattle.dec_docs.specs.GuidLines.{words_fault, pair_fault, named_guid, field_faults, field_row, guid_line_faults, guid_line_row};
+
+use crate::rows::{Declared, Said};
+use build_base::{Guid, Refusal, Same, Taken, Text, WantOfMemory, refuse};
+use doc_reading::least_check::{least_of_two, least_refusal};
+use doc_reading::value_fields::{open_quote, undefined_macro};
+use doc_reading::values::wanted;
+use doc_types::arch::Arch;
+use doc_types::depex::NamedGuid;
+use meta_lexer::guid_braces::guid_of_braces;
+use meta_lexer::parts::{field_texts, first_text};
+use meta_lexer::words::{halves, is_identifier};
+use std::alloc::Global;
+
+fn check_words(alloc: Global, line: &Taken, name: &[u8], value: &[u8]) -> Result<(), Refusal>
+    ensures { Checks result (words_fault line.now name.now value.now) }
+{
+    undefined_macro(alloc, &line.at, name)?;
+    undefined_macro(alloc, &line.at, value)?;
+    Ok(())
+}
+
+fn check_pair(
+    alloc: Global,
+    line: &Taken,
+    name: &[u8],
+    value: &[u8],
+    guid: &Option<Guid>,
+) -> Result<(), Refusal>
+    ensures { Checks result (pair_fault line.now name.now value.now guid.now) }
+{
+    if !is_identifier(name) {
+        return Err(refuse(alloc, 202, &line.at, line.text.bytes()));
+    }
+    wanted(alloc, guid, 202, &line.at, value)
+}
+
+fn named_guid(
+    alloc: Global,
+    line: &Taken,
+    arch: Arch,
+    name: &[u8],
+    guid: Option<Guid>,
+) -> Result<Option<Said>, WantOfMemory>
+    ensures { IfOk result (λ row. row ≡ named_guid line.now arch name.now guid) }
+{
+    match guid {
+        Some(guid) => Ok(Some(Said::Row(Declared::Guid(NamedGuid {
+            at: line.at.copy(alloc)?,
+            arch,
+            name: Text::of(alloc, name)?,
+            guid,
+        })))),
+        None => Ok(None),
+    }
+}
+
+fn guid_field(
+    alloc: Global,
+    line: &Taken,
+    arch: Arch,
+    field: &[u8],
+) -> Result<Option<Said>, Refusal>
+    ensures { Answers result (judged (field_faults line.now field.now (halves 61 field.now)) (field_row line.now arch (halves 61 field.now))) }
+{
+    match halves(b'=', field) {
+        Some((name, value)) => {
+            let guid = guid_of_braces(value);
+            least_of_two(
+                check_words(alloc, line, name, value),
+                check_pair(alloc, line, name, value, &guid),
+            )?;
+            let row = named_guid(alloc, line, arch, name, guid)?;
+            Ok(row)
+        }
+        None => Err(least_refusal(
+            undefined_macro(alloc, &line.at, field),
+            refuse(alloc, 202, &line.at, line.text.bytes()),
+        )),
+    }
+}
+
+/// The name that a line `Name = { .. }` declares, where further fields are read past.
+#[tactic(auto, unfolding(crate::specs::GuidLines::guid_line_faults, crate::specs::GuidLines::guid_line_row))]
+pub fn guid_line(alloc: Global, line: &Taken, arch: Arch) -> Result<Option<Said>, Refusal>
+    ensures { Answers result (judged (guid_line_faults line.now) (guid_line_row line.now arch)) }
+{
+    open_quote(alloc, &line.at, line.text.bytes())?;
+    let fields = field_texts(alloc, line.text.bytes())?;
+    guid_field(alloc, line, arch, first_text(fields.items()))
+}

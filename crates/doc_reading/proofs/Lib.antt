@@ -1,0 +1,6 @@
+pub mod Turns
+pub mod LeastLemmas
+pub mod SegmentNameLemmas
+pub mod GatheringLemmas
+pub mod HeldLemmas
+pub mod BlockLemmas

@@ -1,0 +1,13 @@
+pub mod Least
+pub mod Reading
+pub mod ValueFields
+pub mod SegmentNames
+pub mod Unbuilt
+pub mod Values
+pub mod Forms
+pub mod Gathering
+pub mod Grammar
+pub mod Blocks
+pub mod Holding
+pub mod Meanings
+pub mod Missing

@@ -1,0 +1,20 @@
+//! How a document of any format is read from its lines: heads of sections, rows below them, blocks of lines, what
+//! a field states, and the least fault of a line.
+#![tactic(auto)]
+
+pub mod document;
+pub mod form;
+pub mod format;
+pub mod gathered;
+pub mod least_check;
+pub mod meaning;
+pub mod missing;
+pub mod reader;
+pub mod segment_name;
+pub mod unbuilt;
+pub mod value_fields;
+pub mod values;
+
+pub use document::read_document;
+pub use format::Format;
+pub use reader::{Reader, read_lines};
