@@ -1,8 +1,7 @@
 -- What the reader of a flash description holds, with one line more.
-use Rattle.std.proofs.Common.{◌≡◌, ◌∙◌, ℕ, ◌+◌, nat_lt, Bool, if◌then◌else◌, List, [], ◌∷◌, ◌++◌, map, Option, Some, None, codes, refl, sym, ap, arith}
+use Rattle.std.proofs.Common.{◌≡◌, ◌∙◌, ℕ, ◌+◌, nat_lt, if◌then◌else◌, List, [], ◌∷◌, ◌++◌, Some, None, codes, refl, sym, ap, arith}
 use Rattle.std.proofs.lemmas.List.{map-append}
 use Rattle.build_base.specs.FaultText.{fault_of}
-use Rattle.build_base.specs.declared.fault.Fault.{Fault}
 use Rattle.build_base.specs.declared.fault.Place.{Place}
 use Rattle.build_base.specs.declared.lines.Taken.{Taken}
 use Rattle.doc_reading.specs.Grammar.{Read, entered, gave}
@@ -14,7 +13,7 @@ use Rattle.fdf_lines.specs.declared.standing.Marks.{Marks}
 use Rattle.fdf_lines.specs.Counts.{count_of, saturated, one_scope, scopes_in, heads_above, statements_in, statements_here}
 use Rattle.fdf_lines.specs.Grammar.{many_fault, heads_fault}
 use Rattle.fdf_lines.specs.Reads.{read_as, reads_as}
-use Rattle.fdf_lines.proofs.CountLemmas.{saturated_twice, saturated_once, above_limit, count_push, statements_begun, statements_more}
+use Rattle.fdf_lines.proofs.CountLemmas.{saturated_twice, saturated_once, above_limit, count_push, statements_more}
 
 pub reads_more : (old new : List LineRead) (one : LineRead) (above : List (Read Scope Row)) → reads_as old ≡ above → new ≡ old ++ one ∷ []
     → reads_as new ≡ above ++ read_as one ∷ []

@@ -1,6 +1,6 @@
 -- What stands open, with one line more.
-use Rattle.std.proofs.Common.{◌≡◌, ◌∙◌, Bool, true, false, if◌then◌else◌, ◌||◌, List, [], ◌∷◌, ◌++◌, fold, refl, sym, ap, append-nil}
-use Rattle.std.specs.List.{flat_map, list_any}
+use Rattle.std.proofs.Common.{◌≡◌, ◌∙◌, Bool, List, [], ◌∷◌, ◌++◌, fold, refl, sym, ap, append-nil}
+use Rattle.std.specs.List.{flat_map}
 use Rattle.std.proofs.lemmas.Grind.{flat_map-append}
 use Rattle.build_base.specs.declared.fault.Place.{Place}
 use Rattle.doc_reading.specs.Grammar.{Read, entered, gave}
@@ -9,7 +9,7 @@ use Rattle.fdf_lines.specs.declared.rows.Scope.{Scope}
 use Rattle.fdf_lines.specs.declared.standing.Marks.{Marks}
 use Rattle.fdf_lines.specs.declared.standing.Open.{Open}
 use Rattle.fdf_lines.specs.declared.standing.Waiting.{Waiting}
-use Rattle.fdf_lines.specs.Standing.{last_mark, marks_in, left_by, open_marks, waiting_marks, pair_marks, unfiled_marks, open_below, waiting_below, pair_below, unfiled_below, open_begun, waiting_begun, pair_begun, has_rule, marks_below, marks_begun, marks_with}
+use Rattle.fdf_lines.specs.Standing.{last_mark, marks_in, left_by, open_marks, waiting_marks, pair_marks, unfiled_marks, open_begun, waiting_begun, pair_begun, has_rule, marks_below, marks_begun, marks_with}
 
 last_join : {M : Type 0} (mark : M) (xs ys : List M) → last_mark mark (xs ++ ys) ≡ last_mark (last_mark mark xs) ys
 last_join mark [] ys = refl

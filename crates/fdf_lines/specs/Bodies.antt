@@ -1,6 +1,6 @@
 -- The lines in the braces of a file (EDK II FDF specification, section 3.7; UEFI PI specification, volume 3, section
 -- 2.1.5.1 for the types of sections): sections, or one path.
-use Rattle.std.specs.Prelude.{ℕ, Bool, ◌&&◌, not, ◌==◌, if◌then◌else◌, List, [], ◌∷◌, length, Option, Some, None, codes}
+use Rattle.std.specs.Prelude.{ℕ, ◌&&◌, not, ◌==◌, if◌then◌else◌, List, [], ◌∷◌, length, Option, Some, None, codes}
 use Rattle.std.specs.List.{list_all}
 use Rattle.std.specs.Option.{option_map}
 use Rattle.build_base.specs.FaultText.{fault_of}

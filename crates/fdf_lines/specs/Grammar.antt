@@ -3,7 +3,6 @@ use Rattle.std.specs.Prelude.{ℕ, ◌+◌, Bool, nat_le, nat_lt, if◌then◌el
 use Rattle.build_base.specs.FaultText.{fault_of}
 use Rattle.build_base.specs.declared.fault.Fault.{Fault}
 use Rattle.build_base.specs.declared.lines.Taken.{Taken}
-use Rattle.meta_lexer.specs.declared.head.Head.{Head}
 use Rattle.doc_reading.specs.Grammar.{Grammar, Read, reading}
 use Rattle.doc_reading.specs.Least.{least_of}
 use Rattle.doc_reading.specs.Values.{of_read_line}
@@ -85,9 +84,9 @@ flash_grammar =
       faults = λ above line scope. line_faults line (marks_below above) (is_full (statements_here above)) scope;
       row_of = λ above line scope. line_row line (marks_below above) scope;
       at_heads = λ above line heads. heads_fault line (marks_below above)
-      (heads_above section.Device above + heads_here section.Device heads)
-      (heads_above section.Volume above + heads_here section.Volume heads)
-      (heads_above section.Rule above + heads_here section.Rule heads);
+          (heads_above section.Device above + heads_here section.Device heads)
+          (heads_above section.Volume above + heads_here section.Volume heads)
+          (heads_above section.Rule above + heads_here section.Rule heads);
       left_open = λ above line. left_fault line (marks_below above);
     }
 

@@ -1,8 +1,8 @@
 -- The statements of modules (EDK II FDF specification, section 3.7): options in any order, each at most once, and
 -- then the path of the INF file.
-use Rattle.std.specs.Prelude.{ℕ, ◌+◌, Bool, true, false, ◌==◌, nat_lt, if◌then◌else◌, List, [], ◌∷◌, length, take, drop, Option, Some, None, is_some, unwrap_or, codes}
+use Rattle.std.specs.Prelude.{ℕ, ◌+◌, Bool, ◌==◌, nat_lt, if◌then◌else◌, List, [], ◌∷◌, length, take, drop, Option, Some, None, is_some, unwrap_or, codes}
 use Rattle.std.specs.List.{position_or_len}
-use Rattle.std.specs.Option.{option_map, option_and_then}
+use Rattle.std.specs.Option.{option_and_then}
 use Rattle.build_base.specs.FaultText.{fault_of}
 use Rattle.build_base.specs.Path.{path_field}
 use Rattle.build_base.specs.declared.fault.Fault.{Fault}

@@ -1,20 +1,17 @@
 -- The lines of a rule (EDK II FDF specification, section 3.8).
-use Rattle.std.specs.Prelude.{ℕ, ◌-◌, Bool, true, false, ◌&&◌, ◌||◌, not, nat_le, nat_eq, ◌==◌, if◌then◌else◌, List, [], ◌∷◌, length, take, slice_index, Option, Some, None, codes}
+use Rattle.std.specs.Prelude.{ℕ, ◌-◌, Bool, true, false, ◌&&◌, ◌||◌, not, nat_le, nat_eq, ◌==◌, if◌then◌else◌, List, [], ◌∷◌, length, take, Option, Some, None, codes}
 use Rattle.std.specs.List.{list_any, starts_with}
 use Rattle.std.specs.Option.{option_map, option_and_then}
 use Rattle.build_base.specs.FaultText.{fault_of}
 use Rattle.build_base.specs.declared.fault.Fault.{Fault}
-use Rattle.build_base.specs.declared.guid.Guid.{Guid}
 use Rattle.build_base.specs.declared.lines.Taken.{Taken}
 use Rattle.macro_conditions.specs.Macros.{same_text}
 use Rattle.macro_conditions.specs.Sources.{without_workspace}
 use Rattle.meta_lexer.specs.Lookup.{lookup}
 use Rattle.meta_lexer.specs.Numbers.{number_of}
 use Rattle.meta_lexer.specs.Words.{same_word}
-use Rattle.doc_reading.specs.ValueFields.{undefined_macro}
 use Rattle.doc_types.specs.declared.volume.Align.{Align}
 use Rattle.doc_types.specs.declared.volume.Align.TheVariants.{Unset, Auto, Bytes}
-use Rattle.doc_types.specs.declared.volume.SectionPlan.{SectionPlan}
 use Rattle.doc_types.specs.declared.volume.SectionSource.{SectionSource}
 use Rattle.doc_types.specs.declared.volume.SectionSource.TheVariants.{Template, Words, Refused}
 use Rattle.fdf_lines.specs.declared.rows.Row.{Row}
@@ -26,12 +23,12 @@ use Rattle.fdf_lines.specs.declared.rule_line.RuleKind.{RuleKind}
 use Rattle.fdf_lines.specs.declared.rule_line.RuleKind.TheVariants as kind_
 use Rattle.fdf_lines.specs.declared.standing.Marks.{Marks}
 use Rattle.fdf_lines.specs.declared.standing.Open.{Open}
-use Rattle.fdf_lines.specs.declared.standing.Open.TheVariants.{Shut, InApriori, InFile, InRule}
+use Rattle.fdf_lines.specs.declared.standing.Open.TheVariants.{InRule}
 use Rattle.fdf_lines.specs.declared.words.Options.{Options}
 use Rattle.fdf_lines.specs.InfLines.{quoted_front}
 use Rattle.fdf_lines.specs.Numbers.{bad_line}
 use Rattle.fdf_lines.specs.Statements.{file_parts, head_with}
-use Rattle.fdf_lines.specs.Words.{begins_with, is_close, word_of, after_word, after_equals, alignment_of}
+use Rattle.fdf_lines.specs.Words.{is_close, word_of, after_word, after_equals, alignment_of}
 
 -- the names that are filled in when the rule is used
 abbrev pub rule_names : List (List ℕ)

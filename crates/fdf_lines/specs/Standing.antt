@@ -1,5 +1,5 @@
 -- What stands open below some lines.
-use Rattle.std.specs.Prelude.{ℕ, ◌+◌, Bool, true, false, nat_le, if◌then◌else◌, List, [], ◌∷◌, length, Option, Some, None}
+use Rattle.std.specs.Prelude.{Bool, true, false, List, [], ◌∷◌}
 use Rattle.std.specs.List.{flat_map, list_any}
 use Rattle.doc_reading.specs.Grammar.{Read, entered, gave}
 use Rattle.fdf_lines.specs.declared.rows.Row.{Row}
@@ -8,7 +8,6 @@ use Rattle.fdf_lines.specs.declared.rows.Scope.{Scope}
 use Rattle.fdf_lines.specs.declared.rows.Scope.TheVariants as scope
 use Rattle.fdf_lines.specs.declared.rows.DeviceKey as key_type
 use Rattle.fdf_lines.specs.declared.rows.DeviceKey.TheVariants as key
-use Rattle.fdf_lines.specs.declared.standing.Body.{Body}
 use Rattle.fdf_lines.specs.declared.standing.Body.TheVariants.{Nothing, Sections, Whole}
 use Rattle.fdf_lines.specs.declared.standing.Marks.{Marks}
 use Rattle.fdf_lines.specs.declared.standing.Open.{Open}

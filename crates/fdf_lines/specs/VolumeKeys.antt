@@ -1,6 +1,5 @@
 -- The keys of a volume (EDK II FDF specification, section 3.7; UEFI PI specification, volume 3, section 3.2).
 use Rattle.std.specs.Prelude.{ℕ, Bool, true, false, if◌then◌else◌, List, [], ◌∷◌, Option, Some, None, codes}
-use Rattle.std.specs.Option.{option_map}
 use Rattle.std.specs.Str.{bytes_eq}
 use Rattle.build_base.specs.FaultText.{fault_of}
 use Rattle.build_base.specs.Guid.{guid_of}

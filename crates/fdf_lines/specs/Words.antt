@@ -3,7 +3,6 @@ use Rattle.std.specs.Prelude.{ℕ, ◌-◌, ◌*◌, Bool, true, false, ◌&&◌
 use Rattle.std.specs.Int.{is_power_of_two}
 use Rattle.std.specs.List.{position_or_len, list_all}
 use Rattle.std.specs.Option.{option_map, option_and_then}
-use Rattle.meta_lexer.specs.Heads.{inner, stands_between}
 use Rattle.meta_lexer.specs.Lines.{is_blank, without_blanks}
 use Rattle.meta_lexer.specs.Lookup.{lookup}
 use Rattle.meta_lexer.specs.Numbers.{number_of}

@@ -111,11 +111,7 @@ fn check_content(alloc: Global, line: &Taken, waiting: Waiting) -> Result<(), Re
     }
 }
 
-fn made_content(
-    alloc: Global,
-    line: &Taken,
-    content: Content,
-) -> Result<Option<Row>, WantOfMemory>
+fn made_content(alloc: Global, line: &Taken, content: Content) -> Result<Option<Row>, WantOfMemory>
     ensures { IfOk result (λ row. row ≡ made_content line.now content) }
 {
     Ok(Some(Row::Content(RegionContent {
@@ -140,11 +136,7 @@ fn held_line(
     Ok(row)
 }
 
-fn tree_row(
-    alloc: Global,
-    line: &Taken,
-    path: Option<Path>,
-) -> Result<Option<Row>, WantOfMemory>
+fn tree_row(alloc: Global, line: &Taken, path: Option<Path>) -> Result<Option<Row>, WantOfMemory>
     ensures { IfOk result (λ row. row ≡ tree_row line.now path) }
 {
     match path {
@@ -170,11 +162,7 @@ fn tree_line(
     Ok(row)
 }
 
-fn bytes_row(
-    alloc: Global,
-    line: &Taken,
-    bytes: Option<Text>,
-) -> Result<Option<Row>, WantOfMemory>
+fn bytes_row(alloc: Global, line: &Taken, bytes: Option<Text>) -> Result<Option<Row>, WantOfMemory>
     ensures { IfOk result (λ row. row ≡ bytes_row line.now bytes) }
 {
     match bytes {

@@ -200,7 +200,13 @@ impl Format for FlashLines {
     }
 
     fn below(&self, line: &Taken, scope: &Scope) -> Result<Option<Row>, Refusal> {
-        line_row(self.alloc, line, self.marks, is_full(self.statements), scope)
+        line_row(
+            self.alloc,
+            line,
+            self.marks,
+            is_full(self.statements),
+            scope,
+        )
     }
 
     fn check_heads(&self, line: &Taken, heads: &[Head]) -> Result<(), Refusal> {
@@ -236,7 +242,9 @@ impl Format for FlashLines {
         ensures { (above : List (Read Scope Row)) → Holds above self.old → OnOk result (Holds (above ++ gave rows.items ∷ []) self.new) }
     {
         self.marks = marks_after(self.marks, rows.as_slice());
-        self.statements = self.statements.saturating_add(statements_of(rows.as_slice()));
+        self.statements = self
+            .statements
+            .saturating_add(statements_of(rows.as_slice()));
         self.reads.push(LineRead::Body(Rows::from_vec(rows)))?;
         Ok(())
     }

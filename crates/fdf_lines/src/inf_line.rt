@@ -231,12 +231,7 @@ fn inf_parts(alloc: Global, text: &[u8]) -> Result<Option<(InfOptions, &[u8])>, 
     next_inf(alloc, options, text)
 }
 
-fn check_path(
-    alloc: Global,
-    line: &Taken,
-    text: &[u8],
-    path: &Option<Path>,
-) -> Result<(), Refusal>
+fn check_path(alloc: Global, line: &Taken, text: &[u8], path: &Option<Path>) -> Result<(), Refusal>
     requires { path.now ≡ path_field (without_workspace text.now) }
     ensures { Checks result (inf_path_fault line.now text.now) }
 {

@@ -162,12 +162,7 @@ fn is_extension(text: &[u8]) -> bool
     text.starts_with(b"|.")
 }
 
-fn extension(
-    alloc: Global,
-    line: &Taken,
-    kind: u8,
-    options: RuleOptions,
-) -> Result<Row, Refusal>
+fn extension(alloc: Global, line: &Taken, kind: u8, options: RuleOptions) -> Result<Row, Refusal>
     ensures { Answers result (judged (other_macro line.now line.now.text ∷ []) (made_plan line.now kind options (Refused line.now.text))) }
 {
     check_macros(alloc, line, line.text.bytes())?;
@@ -243,12 +238,7 @@ fn stated_words(text: &[u8]) -> Option<(&[u8], &[u8])>
     quoted_front(value)
 }
 
-fn string_line(
-    alloc: Global,
-    line: &Taken,
-    kind: u8,
-    text: &[u8],
-) -> Result<Option<Row>, Refusal>
+fn string_line(alloc: Global, line: &Taken, kind: u8, text: &[u8]) -> Result<Option<Row>, Refusal>
     ensures { Answers result (judged (quoted_faults line.now (stated_words text.now)) (quoted_row line.now kind (stated_words text.now))) }
 {
     match stated_words(text) {
@@ -296,12 +286,7 @@ fn compressed(alloc: Global, line: &Taken, word: &[u8]) -> Refusal
     )
 }
 
-fn kind_line(
-    alloc: Global,
-    line: &Taken,
-    first: &[u8],
-    text: &[u8],
-) -> Result<Option<Row>, Refusal>
+fn kind_line(alloc: Global, line: &Taken, first: &[u8], text: &[u8]) -> Result<Option<Row>, Refusal>
     ensures { Answers result (judged (kind_faults line.now first.now text.now (rule_kind first.now)) (kind_row line.now text.now (rule_kind first.now))) }
 {
     match rule_kind(first) {

@@ -91,10 +91,7 @@ fn device_meaning(alloc: Global, qualifiers: &[Text]) -> Result<HeadMeaning, Wan
     match qualifiers {
         [name] => {
             if is_image_name(name.bytes()) {
-                return Ok(HeadMeaning::Enters(Scope::Device(Text::of(
-                    alloc,
-                    name.bytes(),
-                )?)));
+                return Ok(HeadMeaning::Enters(Scope::Device(Text::of(alloc, name.bytes())?)));
             }
             Ok(HeadMeaning::Misqualified)
         }
@@ -108,10 +105,7 @@ fn volume_meaning(alloc: Global, qualifiers: &[Text]) -> Result<HeadMeaning, Wan
     match qualifiers {
         [name] => {
             if is_image_name(name.bytes()) {
-                return Ok(HeadMeaning::Enters(Scope::Volume(Text::of(
-                    alloc,
-                    name.bytes(),
-                )?)));
+                return Ok(HeadMeaning::Enters(Scope::Volume(Text::of(alloc, name.bytes())?)));
             }
             Ok(HeadMeaning::Misqualified)
         }

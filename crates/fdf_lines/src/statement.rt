@@ -95,12 +95,7 @@ pub fn file_parts(text: &[u8]) -> Option<(u8, &[u8], Options)>
     front_parts(file_type(word), file_front(text))
 }
 
-fn check_guid(
-    alloc: Global,
-    line: &Taken,
-    word: &[u8],
-    guid: &Option<Guid>,
-) -> Result<(), Refusal>
+fn check_guid(alloc: Global, line: &Taken, word: &[u8], guid: &Option<Guid>) -> Result<(), Refusal>
     ensures { Checks result (guid_fault line.now word.now guid.now) }
 {
     if word.is_empty() {
@@ -139,13 +134,7 @@ fn named_file(
     ensures { IfOk result (λ row. row ≡ named_file line.now file_type guid options) }
 {
     match guid {
-        Some(guid) => Ok(Some(Row::File(head_with(
-            alloc,
-            line,
-            file_type,
-            Some(guid),
-            options,
-        )?))),
+        Some(guid) => Ok(Some(Row::File(head_with(alloc, line, file_type, Some(guid), options)?))),
         None => Ok(None),
     }
 }
@@ -208,13 +197,7 @@ fn alone(kind: Option<u8>, text: Option<&[u8]>) -> Option<&[u8]>
 {
     let (word, rest) = first_word(text?);
     match kind {
-        Some(_) => {
-            if rest.is_empty() {
-                Some(word)
-            } else {
-                None
-            }
-        }
+        Some(_) => { if rest.is_empty() { Some(word) } else { None } }
         None => None,
     }
 }
@@ -273,11 +256,7 @@ fn apriori_named(text: &[u8]) -> Option<bool>
     apriori_word(front)
 }
 
-fn made_apriori(
-    alloc: Global,
-    line: &Taken,
-    pei: Option<bool>,
-) -> Result<Option<Row>, WantOfMemory>
+fn made_apriori(alloc: Global, line: &Taken, pei: Option<bool>) -> Result<Option<Row>, WantOfMemory>
     ensures { IfOk result (λ row. row ≡ made_apriori line.now pei) }
 {
     match pei {

@@ -1,4 +1,4 @@
-use Rattle.std.proofs.Common.{◌∙◌, [], ◌∷◌, ◌++◌, min, sym, ap}
+use Rattle.std.proofs.Common.{◌∙◌, [], ◌∷◌, ◌++◌, sym, ap}
 use Rattle.fdf_lines.specs.declared.rows.LineRead.TheVariants.{Heads}
 use Rattle.fdf_lines.specs.declared.section.FlashSection.TheVariants.{Device, Volume, Rule}
 use Rattle.fdf_lines.specs.Counts.{saturated}
