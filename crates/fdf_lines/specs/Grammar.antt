@@ -1,5 +1,6 @@
 -- The lines of a flash description (EDK II FDF specification, section 3), or the first fault of one.
-use Rattle.std.specs.Prelude.{ℕ, ◌+◌, Bool, nat_le, nat_lt, if◌then◌else◌, List, [], ◌∷◌, Option, Some, None, Result, codes}
+use Rattle.std.specs.Prelude.{ℕ, ◌+◌, Bool, nat_le, nat_lt, if◌then◌else◌, List, [], ◌∷◌, Option, Some, None, Result, codes, ◌-◌, length, drop}
+use Rattle.build_base.specs.First.{and_then, unless}
 use Rattle.build_base.specs.FaultText.{fault_of}
 use Rattle.build_base.specs.declared.fault.Fault.{Fault}
 use Rattle.build_base.specs.declared.lines.Taken.{Taken}
@@ -20,7 +21,7 @@ use Rattle.fdf_lines.specs.Keys.{is_set}
 use Rattle.fdf_lines.specs.Rules.{rule_faults, rule_row}
 use Rattle.fdf_lines.specs.Sections.{head_meaning, meaning_faults, meaning_scope}
 use Rattle.fdf_lines.specs.SetLines.{set_faults, set_row}
-use Rattle.fdf_lines.specs.Standing.{marks_below}
+use Rattle.fdf_lines.specs.Standing.{marks_below, unfiled_below}
 use Rattle.fdf_lines.specs.VolumeLines.{volume_faults, volume_row}
 
 -- the rank of a value that a line gives to a PCD
@@ -90,6 +91,14 @@ flash_grammar =
       left_open = λ above line. left_fault line (marks_below above);
     }
 
+-- a rule whose head is the last line has no file
+abbrev pub end_fault : Bool → List Taken → Option Fault
+end_fault unfiled [] = None
+end_fault unfiled (line ∷ lines) = unfiled_fault line unfiled
+
+abbrev pub filed : List Taken → List (Read Scope Row) → Result (List (Read Scope Row)) Fault
+filed lines reads = unless (end_fault (unfiled_below reads) (drop (length lines - 1) lines)) reads
+
 -- what the lines of a flash description come to, or the fault of the first that has one
-abbrev pub rows_of_flash : List Taken → Result (List (Read Scope Row)) Fault
-rows_of_flash lines = reading flash_grammar lines
+unfoldable pub rows_of_flash : List Taken → Result (List (Read Scope Row)) Fault
+rows_of_flash lines = and_then (reading flash_grammar lines) (filed lines)

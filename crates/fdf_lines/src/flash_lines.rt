@@ -3,7 +3,7 @@ ghost use Rattle.std.specs.Prelude.{◌≡◌, ◌+◌, IfOk, OnOk, length, [], 
 ghost use Rattle.build_base.specs.Answer.{Answers, AnswersAs, Checks};
 ghost use Rattle.doc_reading.specs.Gathering.{judged};
 ghost use Rattle.fdf_lines.specs.Counts.{saturated, heads_here, count_of, one_scope};
-ghost use Rattle.fdf_lines.specs.Grammar.{rank_of, scope_faults, scope_row, line_faults, line_row, is_full, many_fault, open_fault, unfiled_fault, left_fault, heads_fault, rows_of_flash};
+ghost use Rattle.fdf_lines.specs.Grammar.{rank_of, scope_faults, scope_row, line_faults, line_row, is_full, many_fault, open_fault, unfiled_fault, left_fault, heads_fault, end_fault, rows_of_flash};
 ghost use Rattle.fdf_lines.specs.Reads.{reads_as};
 
 use crate::counts::{heads_of, scopes_of, statements_of};
@@ -153,6 +153,16 @@ fn check_counts(
     )
 }
 
+// Refuses a rule whose head is the last line.
+fn check_end(alloc: Global, end: &[Taken], unfiled: bool) -> Result<(), Refusal>
+    ensures { Checks result (end_fault unfiled end.now) }
+{
+    match end {
+        [line, ..] => check_filed(alloc, line, unfiled),
+        [] => Ok(()),
+    }
+}
+
 fn copied_scopes(alloc: Global, scopes: &[Scope]) -> Result<Rows<Scope>, WantOfMemory>
     ensures { IfOk result (λ rows. rows ≡ scopes.now) }
 {
@@ -251,6 +261,7 @@ impl Format for FlashLines {
 }
 
 /// What the lines of a flash description come to, or the fault of the first line that has one.
+#[tactic(auto, unfolding(crate::specs::Grammar::rows_of_flash))]
 pub fn read_rows(alloc: Global, lines: &Lines) -> Result<Rows<LineRead>, Refusal>
     ensures { AnswersAs reads_as result (rows_of_flash lines.now.rows) }
 {
@@ -268,6 +279,9 @@ pub fn read_rows(alloc: Global, lines: &Lines) -> Result<Rows<LineRead>, Refusal
         volumes: 0,
         rules: 0,
     };
-    let format = read_document(alloc, format, lines.rows.items())?;
+    let taken = lines.rows.items();
+    let format = read_document(alloc, format, taken)?;
+    let end = taken.len().saturating_sub(1);
+    check_end(alloc, &taken[end..], format.marks.unfiled)?;
     Ok(format.reads)
 }
