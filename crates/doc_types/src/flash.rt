@@ -1,13 +1,16 @@
 //! A flash description (EDK II FDF specification).
-use crate::volume::VolumePlan;
-use build_base::{Place, Rows, Same, Text, WantOfMemory, all_same, copied};
+use crate::pcd::PcdSet;
+use crate::volume::{RuleDoc, VolumePlan};
+use build_base::{Path, Place, Rows, Same, Text, WantOfMemory, all_same, copied};
 use std::alloc::Global;
 
-/// What fills a region: nothing, bytes that the FDF file gives, or the volume of a number, from 0.
+/// What fills a region: nothing, bytes that the FDF file gives, a file of the tree, or the volume of a number,
+/// from 0.
 #[derive(Debug, Drop)]
 pub enum RegionKind {
     Empty,
     Bytes(Text),
+    Tree(Path),
     Volume(u32),
 }
 
@@ -31,12 +34,15 @@ pub struct DevicePlan {
     pub regions: Rows<Region>,
 }
 
-/// What an FDF file says. The volumes stand in the order of their numbers.
+/// What an FDF file says. `sets` are the values that it gives to PCDs, line by line. The volumes stand in the
+/// order of their numbers.
 #[derive(Debug, Drop)]
 pub struct FlashDoc {
     pub at: Place,
+    pub sets: Rows<PcdSet>,
     pub devices: Rows<DevicePlan>,
     pub volumes: Rows<VolumePlan>,
+    pub rule_list: Rows<RuleDoc>,
 }
 
 impl Same for RegionKind {
@@ -44,6 +50,7 @@ impl Same for RegionKind {
         match self {
             RegionKind::Empty => Ok(RegionKind::Empty),
             RegionKind::Bytes(text) => Ok(RegionKind::Bytes(text.copy(alloc)?)),
+            RegionKind::Tree(path) => Ok(RegionKind::Tree(path.copy(alloc)?)),
             RegionKind::Volume(number) => Ok(RegionKind::Volume(*number)),
         }
     }
@@ -52,6 +59,7 @@ impl Same for RegionKind {
         match (self, other) {
             (RegionKind::Empty, RegionKind::Empty) => true,
             (RegionKind::Bytes(text), RegionKind::Bytes(other)) => text.same(other),
+            (RegionKind::Tree(path), RegionKind::Tree(other)) => path.same(other),
             (RegionKind::Volume(number), RegionKind::Volume(other)) => *number == *other,
             _ => false,
         }
@@ -80,10 +88,10 @@ impl Same for DevicePlan {
 
 impl Same for FlashDoc {
     fn copy(&self, alloc: Global) -> Result<FlashDoc, WantOfMemory> {
-        copied!(FlashDoc, self, alloc; at, devices, volumes)
+        copied!(FlashDoc, self, alloc; at, sets, devices, volumes, rule_list)
     }
 
     fn same(&self, other: &FlashDoc) -> bool {
-        all_same!(self, other; at, devices, volumes)
+        all_same!(self, other; at, sets, devices, volumes, rule_list)
     }
 }

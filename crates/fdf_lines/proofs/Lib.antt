@@ -1,0 +1,5 @@
+pub mod Listed
+pub mod MacroLemmas
+pub mod StandingLemmas
+pub mod CountLemmas
+pub mod FormatLemmas

@@ -1,0 +1,242 @@
+-- The lines of a rule (EDK II FDF specification, section 3.8).
+use Rattle.std.specs.Prelude.{ℕ, ◌-◌, Bool, true, false, ◌&&◌, ◌||◌, not, nat_le, nat_eq, ◌==◌, if◌then◌else◌, List, [], ◌∷◌, length, take, Option, Some, None, codes}
+use Rattle.std.specs.List.{list_any, starts_with}
+use Rattle.std.specs.Option.{option_map, option_and_then}
+use Rattle.build_base.specs.FaultText.{fault_of}
+use Rattle.build_base.specs.declared.fault.Fault.{Fault}
+use Rattle.build_base.specs.declared.lines.Taken.{Taken}
+use Rattle.macro_conditions.specs.Macros.{same_text}
+use Rattle.macro_conditions.specs.Sources.{without_workspace}
+use Rattle.meta_lexer.specs.Lookup.{lookup}
+use Rattle.meta_lexer.specs.Numbers.{number_of}
+use Rattle.meta_lexer.specs.Words.{same_word}
+use Rattle.doc_types.specs.declared.volume.Align.{Align}
+use Rattle.doc_types.specs.declared.volume.Align.TheVariants.{Unset, Auto, Bytes}
+use Rattle.doc_types.specs.declared.volume.SectionSource.{SectionSource}
+use Rattle.doc_types.specs.declared.volume.SectionSource.TheVariants.{Template, Words, Refused}
+use Rattle.fdf_lines.specs.declared.rows.Row.{Row}
+use Rattle.fdf_lines.specs.declared.rows.Row.TheVariants as row
+use Rattle.fdf_lines.specs.declared.rule_options.RuleOption.{RuleOption}
+use Rattle.fdf_lines.specs.declared.rule_options.RuleOption.TheVariants as option
+use Rattle.fdf_lines.specs.declared.rule_options.RuleOptions.{RuleOptions}
+use Rattle.fdf_lines.specs.declared.rule_line.RuleKind.{RuleKind}
+use Rattle.fdf_lines.specs.declared.rule_line.RuleKind.TheVariants as kind_
+use Rattle.fdf_lines.specs.declared.standing.Marks.{Marks}
+use Rattle.fdf_lines.specs.declared.standing.Open.{Open}
+use Rattle.fdf_lines.specs.declared.standing.Open.TheVariants.{InRule}
+use Rattle.fdf_lines.specs.declared.words.Options.{Options}
+use Rattle.fdf_lines.specs.InfLines.{quoted_front}
+use Rattle.fdf_lines.specs.Numbers.{bad_line}
+use Rattle.fdf_lines.specs.Statements.{file_parts, head_with}
+use Rattle.fdf_lines.specs.Words.{is_close, word_of, after_word, after_equals, alignment_of}
+
+-- the names that are filled in when the rule is used
+abbrev pub rule_names : List (List ℕ)
+rule_names = codes "$(NAMED_GUID)" ∷ codes "$(INF_OUTPUT)" ∷ codes "$(MODULE_NAME)" ∷ codes "$(INF_VERSION)" ∷ codes "$(BUILD_NUMBER)" ∷ []
+
+unfoldable pub begins_name : List ℕ → Bool
+begins_name text = list_any (starts_with nat_eq text) rule_names
+
+-- `$(` that begins none of these names
+abbrev pub is_other : List ℕ → Bool
+is_other text = starts_with nat_eq text (codes "$(") && not (begins_name text)
+
+-- whether such a macro stands in a text
+unfoldable pub holds_other : List ℕ → Bool
+holds_other [] = false
+holds_other (x ∷ xs) = is_other (x ∷ xs) || holds_other xs
+
+abbrev pub other_macro : Taken → List ℕ → Option Fault
+other_macro line text = if holds_other text then Some (bad_line 127 line) else None
+
+-- such a macro before a path, or in it behind `$(WORKSPACE)/`
+abbrev pub other_around : Taken → List ℕ → Option Fault
+other_around line path =
+    if holds_other (take (length line.text - length path) line.text) || holds_other (without_workspace path) then Some (bad_line 127 line) else None
+
+abbrev pub no_rule_faults : Taken → List (Option Fault)
+no_rule_faults line = other_macro line line.text ∷ Some (bad_line 247 line) ∷ []
+
+-- the options of a section
+abbrev pub rule_options : List (List ℕ × RuleOption)
+rule_options = (codes "Optional", option.Optional) ∷ (codes "Align", option.Aligned) ∷ (codes "BUILD_NUM", option.BuildNumber) ∷ []
+
+unfoldable pub rule_option : List ℕ → Option RuleOption
+rule_option word = lookup rule_options word
+
+unfoldable pub rule_align : List ℕ → Option Align
+rule_align word = if same_word word (codes "Auto") then Some Auto else option_map Bytes (alignment_of word)
+
+abbrev pub within_word : Option ℕ → Option ℕ
+within_word (Some n) = if nat_le n 65535 then Some n else None
+within_word None = None
+
+-- a build number of at most 16 bits; that of the build is 0
+unfoldable pub build_number : List ℕ → Option ℕ
+build_number word = if same_text word (codes "$(BUILD_NUMBER)") then Some 0 else within_word (number_of word)
+
+abbrev pub is_unset : Align → Bool
+is_unset Unset = true
+is_unset Auto = false
+is_unset (Bytes n) = false
+
+abbrev pub with_optional : RuleOptions → List ℕ → Option (RuleOptions × List ℕ)
+with_optional options rest = if options.optional then None else Some (record options { optional = true }, rest)
+
+abbrev pub with_rule_align : RuleOptions → List ℕ → Option Align → Option (RuleOptions × List ℕ)
+with_rule_align options rest (Some align) = if is_unset options.align then Some (record options { align = align }, rest) else None
+with_rule_align options rest None = None
+
+abbrev pub put_number : RuleOptions → List ℕ → ℕ → Option ℕ → Option (RuleOptions × List ℕ)
+put_number options rest number None = Some (record options { number = Some number }, rest)
+put_number options rest number (Some old) = None
+
+abbrev pub with_number : RuleOptions → List ℕ → Option ℕ → Option (RuleOptions × List ℕ)
+with_number options rest (Some number) = put_number options rest number options.number
+with_number options rest None = None
+
+-- an option; another text begins the path
+abbrev pub with_rule_option : RuleOptions → List ℕ → Option RuleOption → Option (List ℕ) → Option (RuleOptions × List ℕ)
+with_rule_option options text (Some option.Optional) value = with_optional options (after_word text)
+with_rule_option options text (Some option.Aligned) (Some value) = with_rule_align options (after_word value) (rule_align (word_of value))
+with_rule_option options text (Some option.BuildNumber) (Some value) = with_number options (after_word value) (build_number (word_of value))
+with_rule_option options text (Some option.Aligned) None = Some (options, text)
+with_rule_option options text (Some option.BuildNumber) None = Some (options, text)
+with_rule_option options text None value = Some (options, text)
+
+unfoldable pub next_rule : RuleOptions → List ℕ → Option (RuleOptions × List ℕ)
+next_rule options text = with_rule_option options text (rule_option (word_of text)) (after_equals (after_word text))
+
+abbrev pub and_rule : Option (RuleOptions × List ℕ) → Option (RuleOptions × List ℕ)
+and_rule = option_and_then (λ p. next_rule p.0 p.1)
+
+abbrev pub no_rule_options : RuleOptions
+no_rule_options = record { optional = false; align = Unset; number = None }
+
+-- the options, and what stands behind them; a fourth option stands there twice
+unfoldable pub rule_parts : List ℕ → Option (RuleOptions × List ℕ)
+rule_parts text = and_rule (and_rule (and_rule (next_rule no_rule_options text)))
+
+-- the kinds of sections of a rule; the compressed and the GUIDed ones are refused
+abbrev pub rule_kinds : List (List ℕ × RuleKind)
+rule_kinds =
+    (codes "PE32", kind_.Plain 0x10) ∷ (codes "TE", kind_.Plain 0x12) ∷ (codes "DXE_DEPEX", kind_.Plain 0x13) ∷ (codes "VERSION", kind_.Worded 0x14)
+    ∷ (codes "UI", kind_.Worded 0x15) ∷ (codes "FV_IMAGE", kind_.Plain 0x17) ∷ (codes "RAW", kind_.Plain 0x19) ∷ (codes "PEI_DEPEX", kind_.Plain 0x1B)
+    ∷ (codes "SMM_DEPEX", kind_.Plain 0x1C) ∷ (codes "COMPRESS", kind_.Compressed) ∷ (codes "GUIDED", kind_.Compressed) ∷ []
+
+unfoldable pub rule_kind : List ℕ → Option RuleKind
+rule_kind word = lookup rule_kinds word
+
+abbrev pub number_or_zero : Option ℕ → ℕ
+number_or_zero (Some number) = number
+number_or_zero None = 0
+
+abbrev pub made_plan : Taken → ℕ → RuleOptions → SectionSource → Row
+made_plan line kind options source =
+    row.RuleSection (record { at = line.at; kind = kind; optional = options.optional; align = options.align; number = number_or_zero options.number; guid = None; source = source })
+
+-- `|.ext`, which may stand but not be used
+unfoldable pub is_extension : List ℕ → Bool
+is_extension text = starts_with nat_eq text (codes "|.")
+
+-- a path behind two words, which are the same
+abbrev pub path_faults : Taken → Bool → Option (RuleOptions × List ℕ) → List (Option Fault)
+path_faults line same (Some p) =
+    if is_extension p.1 then other_macro line line.text ∷ []
+    else if same && not (length p.1 == 0) then other_around line p.1 ∷ []
+    else no_rule_faults line
+path_faults line same None = no_rule_faults line
+
+abbrev pub path_row : Taken → ℕ → Option (RuleOptions × List ℕ) → Option Row
+path_row line kind (Some p) =
+    Some (made_plan line kind p.0 (if is_extension p.1 then Refused line.text else Template (without_workspace p.1)))
+path_row line kind None = None
+
+-- a text behind STRING
+abbrev pub text_faults : Taken → Option (RuleOptions × List ℕ) → List (Option Fault)
+text_faults line (Some p) = if length p.1 == 0 then other_macro line line.text ∷ [] else no_rule_faults line
+text_faults line None = no_rule_faults line
+
+abbrev pub text_row : Taken → ℕ → List ℕ → Option (RuleOptions × List ℕ) → Option Row
+text_row line kind words (Some p) = Some (made_plan line kind p.0 (Words words))
+text_row line kind words None = None
+
+abbrev pub quoted_faults : Taken → Option (List ℕ × List ℕ) → List (Option Fault)
+quoted_faults line (Some p) = text_faults line (rule_parts p.1)
+quoted_faults line None = no_rule_faults line
+
+abbrev pub quoted_row : Taken → ℕ → Option (List ℕ × List ℕ) → Option Row
+quoted_row line kind (Some p) = text_row line kind p.0 (rule_parts p.1)
+quoted_row line kind None = None
+
+-- `="text"`
+unfoldable pub stated_words : List ℕ → Option (List ℕ × List ℕ)
+stated_words text = option_and_then quoted_front (after_equals text)
+
+abbrev pub is_string : List ℕ → Bool
+is_string word = same_word word (codes "STRING")
+
+-- what follows a kind
+abbrev pub plain_faults : Taken → List ℕ → List ℕ → List (Option Fault)
+plain_faults line first text = path_faults line (same_word (word_of text) first) (rule_parts (after_word text))
+
+abbrev pub plain_row : Taken → ℕ → List ℕ → Option Row
+plain_row line kind text = path_row line kind (rule_parts (after_word text))
+
+abbrev pub worded_faults : Taken → List ℕ → List ℕ → List (Option Fault)
+worded_faults line first text = if is_string (word_of text) then quoted_faults line (stated_words (after_word text)) else plain_faults line first text
+
+abbrev pub worded_row : Taken → ℕ → List ℕ → Option Row
+worded_row line kind text = if is_string (word_of text) then quoted_row line kind (stated_words (after_word text)) else plain_row line kind text
+
+abbrev pub kind_faults : Taken → List ℕ → List ℕ → Option RuleKind → List (Option Fault)
+kind_faults line first text (Some (kind_.Plain kind)) = plain_faults line first text
+kind_faults line first text (Some (kind_.Worded kind)) = worded_faults line first text
+kind_faults line first text (Some kind_.Compressed) = other_macro line line.text ∷ Some (fault_of 252 line.at first) ∷ []
+kind_faults line first text None = no_rule_faults line
+
+abbrev pub kind_row : Taken → List ℕ → Option RuleKind → Option Row
+kind_row line text (Some (kind_.Plain kind)) = plain_row line kind text
+kind_row line text (Some (kind_.Worded kind)) = worded_row line kind text
+kind_row line text (Some kind_.Compressed) = None
+kind_row line text None = None
+
+-- a line in the braces of the rule's file
+abbrev pub inner_faults : Taken → List (Option Fault)
+inner_faults line = if is_close line.text then [] else kind_faults line (word_of line.text) (after_word line.text) (rule_kind (word_of line.text))
+
+abbrev pub inner_row : Taken → Option Row
+inner_row line = if is_close line.text then Some row.Closes else kind_row line (after_word line.text) (rule_kind (word_of line.text))
+
+-- the rule's file, which has no name of its own
+abbrev pub named_faults : Taken → Option (ℕ × List ℕ × Options) → List (Option Fault)
+named_faults line (Some p) = if same_text p.1 (codes "$(NAMED_GUID)") then other_macro line line.text ∷ [] else no_rule_faults line
+named_faults line None = no_rule_faults line
+
+abbrev pub named_row : Taken → Option (ℕ × List ℕ × Options) → Option Row
+named_row line (Some p) = Some (row.RuleFile (head_with line p.0 None p.2))
+named_row line None = None
+
+abbrev pub is_file : Bool → List ℕ → Bool
+is_file unfiled word = unfiled && same_word word (codes "FILE")
+
+-- a line outside of braces; a second file is none
+abbrev pub outer_faults : Taken → Bool → List (Option Fault)
+outer_faults line unfiled = if is_file unfiled (word_of line.text) then named_faults line (file_parts (after_word line.text)) else no_rule_faults line
+
+abbrev pub outer_row : Taken → Option Row
+outer_row line = named_row line (file_parts (after_word line.text))
+
+abbrev pub faults_in : Taken → Bool → Open → List (Option Fault)
+faults_in line unfiled InRule = inner_faults line
+faults_in line unfiled _ = outer_faults line unfiled
+
+abbrev pub row_in : Taken → Open → Option Row
+row_in line InRule = inner_row line
+row_in line _ = outer_row line
+
+unfoldable pub rule_faults : Taken → Marks → List (Option Fault)
+rule_faults line marks = faults_in line marks.unfiled marks.braces
+
+unfoldable pub rule_row : Taken → Open → Option Row
+rule_row line braces = row_in line braces

@@ -1,0 +1,345 @@
+//! The lines of a rule.
+ghost use Rattle.std.specs.Prelude.{◌≡◌, ◌∷◌, [], Some, IfOk};
+ghost use Rattle.macro_conditions.specs.Sources.{without_workspace};
+ghost use Rattle.doc_types.specs.declared.volume.SectionSource.TheVariants.{Template, Refused};
+ghost use Rattle.std.specs.Option.{option_map};
+ghost use Rattle.build_base.specs.Answer.{Answers, Checks, Finds};
+ghost use Rattle.build_base.specs.FaultText.{fault_of};
+ghost use Rattle.doc_reading.specs.Gathering.{judged};
+ghost use Rattle.doc_reading.specs.Least.{least_of};
+ghost use Rattle.fdf_lines.specs.Statements.{file_parts};
+ghost use Rattle.fdf_lines.specs.Words.{word_of, after_word};
+ghost use Rattle.fdf_lines.specs.Rules.{begins_name, is_other, holds_other, rule_parts, other_macro, other_around, no_rule_faults, rule_kind, number_or_zero, made_plan, is_extension, path_faults, path_row, text_faults, text_row, quoted_faults, quoted_row, stated_words, is_string, plain_faults, plain_row, worded_faults, worded_row, kind_faults, kind_row, inner_faults, inner_row, named_faults, named_row, is_file, outer_faults, outer_row, rule_faults, rule_row};
+
+use crate::inf_line::quoted_front;
+use crate::number::bad_line;
+use crate::rows::Row;
+use crate::rule_options::{RuleOptions, rule_parts};
+use crate::standing::{Marks, Open};
+use crate::statement::{file_parts, head_with};
+use crate::words::{after_equals, first_word, is_close};
+use build_base::{Refusal, Same, Taken, Text, WantOfMemory, refuse};
+use doc_reading::least_check::least_refusal;
+use doc_types::volume::{SectionPlan, SectionSource};
+use macro_conditions::known::without_workspace;
+use meta_lexer::lookup;
+use meta_lexer::words::same_word;
+use std::alloc::Global;
+
+/// The kind of a rule's section by its word: of a type that takes a path, of one that takes a text too, or one
+/// that would be compressed or GUIDed.
+#[derive(Clone, Copy, Debug, PartialEq, Eq)]
+pub enum RuleKind {
+    Plain(u8),
+    Worded(u8),
+    Compressed,
+}
+
+const RULE_KINDS: [(&[u8], RuleKind); 11] = [
+    (b"PE32", RuleKind::Plain(0x10)),
+    (b"TE", RuleKind::Plain(0x12)),
+    (b"DXE_DEPEX", RuleKind::Plain(0x13)),
+    (b"VERSION", RuleKind::Worded(0x14)),
+    (b"UI", RuleKind::Worded(0x15)),
+    (b"FV_IMAGE", RuleKind::Plain(0x17)),
+    (b"RAW", RuleKind::Plain(0x19)),
+    (b"PEI_DEPEX", RuleKind::Plain(0x1B)),
+    (b"SMM_DEPEX", RuleKind::Plain(0x1C)),
+    (b"COMPRESS", RuleKind::Compressed),
+    (b"GUIDED", RuleKind::Compressed),
+];
+
+#[tactic(auto, unfolding(crate::specs::Rules::begins_name))]
+fn begins_name(text: &[u8]) -> bool
+    ensures { result ≡ begins_name text.now }
+{
+    if text.starts_with(b"$(NAMED_GUID)") {
+        return true;
+    }
+    if text.starts_with(b"$(INF_OUTPUT)") {
+        return true;
+    }
+    if text.starts_with(b"$(MODULE_NAME)") {
+        return true;
+    }
+    if text.starts_with(b"$(INF_VERSION)") {
+        return true;
+    }
+    text.starts_with(b"$(BUILD_NUMBER)")
+}
+
+fn is_other(text: &[u8]) -> bool
+    ensures { result ≡ is_other text.now }
+{
+    text.starts_with(b"$(") && !begins_name(text)
+}
+
+// Whether a macro stands in a text that isn't filled in when the rule is used.
+#[tactic(auto, unfolding(crate::specs::Rules::holds_other))]
+fn holds_other(text: &[u8]) -> bool
+    ensures { result ≡ holds_other text.now }
+{
+    for (i, _) in text.iter().enumerate() {
+        if is_other(&text[i..]) {
+            return true;
+        }
+    }
+    false
+}
+
+fn check_macros(alloc: Global, line: &Taken, text: &[u8]) -> Result<(), Refusal>
+    ensures { Checks result (other_macro line.now text.now) }
+{
+    if holds_other(text) {
+        return Err(bad_line(alloc, 127, line));
+    }
+    Ok(())
+}
+
+fn check_around(alloc: Global, line: &Taken, path: &[u8]) -> Result<(), Refusal>
+    ensures { Checks result (other_around line.now path.now) }
+{
+    let text = line.text.bytes();
+    let end = text.len().saturating_sub(path.len());
+    if holds_other(&text[..end]) {
+        return Err(bad_line(alloc, 127, line));
+    }
+    if holds_other(without_workspace(path)) {
+        return Err(bad_line(alloc, 127, line));
+    }
+    Ok(())
+}
+
+fn no_rule(alloc: Global, line: &Taken) -> Refusal
+    ensures { Finds result (least_of (no_rule_faults line.now)) }
+{
+    least_refusal(
+        check_macros(alloc, line, line.text.bytes()),
+        bad_line(alloc, 247, line),
+    )
+}
+
+#[tactic(auto, unfolding(crate::specs::Rules::rule_kind))]
+fn rule_kind(word: &[u8]) -> Option<RuleKind>
+    ensures { result ≡ rule_kind word.now }
+{
+    lookup(&RULE_KINDS, word)
+}
+
+fn number_or_zero(number: Option<u16>) -> u16
+    ensures { result ≡ number_or_zero number }
+{
+    match number {
+        Some(number) => number,
+        None => 0,
+    }
+}
+
+fn made_plan(
+    alloc: Global,
+    line: &Taken,
+    kind: u8,
+    options: RuleOptions,
+    source: SectionSource,
+) -> Result<Row, WantOfMemory>
+    ensures { IfOk result (λ row. row ≡ made_plan line.now kind options source) }
+{
+    Ok(Row::RuleSection(SectionPlan {
+        at: line.at.copy(alloc)?,
+        kind,
+        optional: options.optional,
+        align: options.align,
+        number: number_or_zero(options.number),
+        guid: None,
+        source,
+    }))
+}
+
+#[tactic(auto, unfolding(crate::specs::Rules::is_extension))]
+fn is_extension(text: &[u8]) -> bool
+    ensures { result ≡ is_extension text.now }
+{
+    text.starts_with(b"|.")
+}
+
+fn extension(alloc: Global, line: &Taken, kind: u8, options: RuleOptions) -> Result<Row, Refusal>
+    ensures { Answers result (judged (other_macro line.now line.now.text ∷ []) (made_plan line.now kind options (Refused line.now.text))) }
+{
+    check_macros(alloc, line, line.text.bytes())?;
+    let source = SectionSource::Refused(line.text.copy(alloc)?);
+    let row = made_plan(alloc, line, kind, options, source)?;
+    Ok(row)
+}
+
+fn template(
+    alloc: Global,
+    line: &Taken,
+    kind: u8,
+    options: RuleOptions,
+    path: &[u8],
+) -> Result<Row, Refusal>
+    ensures { Answers result (judged (other_around line.now path.now ∷ []) (made_plan line.now kind options (Template (without_workspace path.now)))) }
+{
+    check_around(alloc, line, path)?;
+    let source = SectionSource::Template(Text::of(alloc, without_workspace(path))?);
+    let row = made_plan(alloc, line, kind, options, source)?;
+    Ok(row)
+}
+
+fn path_line(
+    alloc: Global,
+    line: &Taken,
+    kind: u8,
+    same: bool,
+    text: &[u8],
+) -> Result<Option<Row>, Refusal>
+    ensures { Answers result (judged (path_faults line.now same (rule_parts text.now)) (path_row line.now kind (rule_parts text.now))) }
+{
+    let Some((options, path)) = rule_parts(text) else {
+        return Err(no_rule(alloc, line));
+    };
+    if is_extension(path) {
+        let row = extension(alloc, line, kind, options)?;
+        return Ok(Some(row));
+    }
+    if same && !path.is_empty() {
+        let row = template(alloc, line, kind, options, path)?;
+        return Ok(Some(row));
+    }
+    Err(no_rule(alloc, line))
+}
+
+fn text_line(
+    alloc: Global,
+    line: &Taken,
+    kind: u8,
+    words: &[u8],
+    rest: &[u8],
+) -> Result<Option<Row>, Refusal>
+    ensures { Answers result (judged (text_faults line.now (rule_parts rest.now)) (text_row line.now kind words.now (rule_parts rest.now))) }
+{
+    let Some((options, rest)) = rule_parts(rest) else {
+        return Err(no_rule(alloc, line));
+    };
+    if !rest.is_empty() {
+        return Err(no_rule(alloc, line));
+    }
+    check_macros(alloc, line, line.text.bytes())?;
+    let source = SectionSource::Words(Text::of(alloc, words)?);
+    let row = made_plan(alloc, line, kind, options, source)?;
+    Ok(Some(row))
+}
+
+#[tactic(auto, unfolding(crate::specs::Rules::stated_words))]
+fn stated_words(text: &[u8]) -> Option<(&[u8], &[u8])>
+    ensures { option_map (λ p. (p.0.now, p.1.now)) result ≡ stated_words text.now }
+{
+    let value = after_equals(text)?;
+    quoted_front(value)
+}
+
+fn string_line(alloc: Global, line: &Taken, kind: u8, text: &[u8]) -> Result<Option<Row>, Refusal>
+    ensures { Answers result (judged (quoted_faults line.now (stated_words text.now)) (quoted_row line.now kind (stated_words text.now))) }
+{
+    match stated_words(text) {
+        Some((words, rest)) => text_line(alloc, line, kind, words, rest),
+        None => Err(no_rule(alloc, line)),
+    }
+}
+
+fn plain_line(
+    alloc: Global,
+    line: &Taken,
+    kind: u8,
+    first: &[u8],
+    text: &[u8],
+) -> Result<Option<Row>, Refusal>
+    ensures { Answers result (judged (plain_faults line.now first.now text.now) (plain_row line.now kind text.now)) }
+{
+    let (word, rest) = first_word(text);
+    path_line(alloc, line, kind, same_word(word, first), rest)
+}
+
+fn worded_line(
+    alloc: Global,
+    line: &Taken,
+    kind: u8,
+    first: &[u8],
+    text: &[u8],
+) -> Result<Option<Row>, Refusal>
+    ensures { Answers result (judged (worded_faults line.now first.now text.now) (worded_row line.now kind text.now)) }
+{
+    let (word, rest) = first_word(text);
+    if same_word(word, b"STRING".as_slice()) {
+        string_line(alloc, line, kind, rest)
+    } else {
+        plain_line(alloc, line, kind, first, text)
+    }
+}
+
+fn compressed(alloc: Global, line: &Taken, word: &[u8]) -> Refusal
+    ensures { Finds result (least_of (other_macro line.now line.now.text ∷ Some (fault_of 252 line.now.at word.now) ∷ [])) }
+{
+    least_refusal(
+        check_macros(alloc, line, line.text.bytes()),
+        refuse(alloc, 252, &line.at, word),
+    )
+}
+
+fn kind_line(alloc: Global, line: &Taken, first: &[u8], text: &[u8]) -> Result<Option<Row>, Refusal>
+    ensures { Answers result (judged (kind_faults line.now first.now text.now (rule_kind first.now)) (kind_row line.now text.now (rule_kind first.now))) }
+{
+    match rule_kind(first) {
+        Some(RuleKind::Plain(kind)) => plain_line(alloc, line, kind, first, text),
+        Some(RuleKind::Worded(kind)) => worded_line(alloc, line, kind, first, text),
+        Some(RuleKind::Compressed) => Err(compressed(alloc, line, first)),
+        None => Err(no_rule(alloc, line)),
+    }
+}
+
+fn inner_line(alloc: Global, line: &Taken) -> Result<Option<Row>, Refusal>
+    ensures { Answers result (judged (inner_faults line.now) (inner_row line.now)) }
+{
+    if is_close(line.text.bytes()) {
+        return Ok(Some(Row::Closes));
+    }
+    let (word, rest) = first_word(line.text.bytes());
+    kind_line(alloc, line, word, rest)
+}
+
+fn file_line(alloc: Global, line: &Taken, text: &[u8]) -> Result<Option<Row>, Refusal>
+    ensures { Answers result (judged (named_faults line.now (file_parts text.now)) (named_row line.now (file_parts text.now))) }
+{
+    let Some((file_type, name, options)) = file_parts(text) else {
+        return Err(no_rule(alloc, line));
+    };
+    if name != b"$(NAMED_GUID)".as_slice() {
+        return Err(no_rule(alloc, line));
+    }
+    check_macros(alloc, line, line.text.bytes())?;
+    let head = head_with(alloc, line, file_type, None, options)?;
+    Ok(Some(Row::RuleFile(head)))
+}
+
+fn outer_line(alloc: Global, line: &Taken, unfiled: bool) -> Result<Option<Row>, Refusal>
+    ensures { Answers result (judged (outer_faults line.now unfiled) (outer_row line.now)) }
+{
+    let (word, rest) = first_word(line.text.bytes());
+    if unfiled && same_word(word, b"FILE".as_slice()) {
+        return file_line(alloc, line, rest);
+    }
+    Err(no_rule(alloc, line))
+}
+
+/// What a line of a rule says below these marks.
+#[tactic(auto, unfolding(crate::specs::Rules::rule_faults, crate::specs::Rules::rule_row))]
+pub fn rule_line(alloc: Global, line: &Taken, marks: Marks) -> Result<Option<Row>, Refusal>
+    ensures { Answers result (judged (rule_faults line.now marks) (rule_row line.now marks.braces)) }
+{
+    match marks.braces {
+        Open::InRule => inner_line(alloc, line),
+        Open::Shut => outer_line(alloc, line, marks.unfiled),
+        Open::InApriori => outer_line(alloc, line, marks.unfiled),
+        Open::InFile(_) => outer_line(alloc, line, marks.unfiled),
+    }
+}
