@@ -7,7 +7,7 @@ use Rattle.build_base.specs.declared.fault.Fault.{Fault}
 use Rattle.doc_types.specs.declared.flash.FlashDoc.{FlashDoc}
 use Rattle.doc_types.specs.declared.flash.DevicePlan.{DevicePlan}
 use Rattle.doc_types.specs.declared.flash.RegionKind.{RegionKind}
-use Rattle.doc_types.specs.declared.flash.RegionKind.TheVariants.{Empty, Bytes, Volume}
+use Rattle.doc_types.specs.declared.flash.RegionKind.TheVariants.{Empty, Bytes, Tree, Volume}
 use Rattle.doc_types.specs.declared.volume.VolumePlan.{VolumePlan}
 use Rattle.fd_regions.specs.Device.{device_of}
 use Rattle.edk_build.specs.FilePair.{FilePair}
@@ -58,10 +58,11 @@ volume_among w flash folder (plan ∷ plans) volumes h (suc n) =
     rw b.all_are (volume_among w flash folder plans b.rest b.rest_is n)
 
 content_by : (w : World) (flash : FlashDoc) (folder : List ℕ) (volumes : List FilePair) → all_ok (map (volume_file folder w.files) flash.volumes) ≡ Ok volumes
-    → (kind : RegionKind) → content_of w flash kind ≡ content_among flash volumes kind
-content_by w flash folder volumes h Empty = refl
-content_by w flash folder volumes h (Bytes bytes) = refl
-content_by w flash folder volumes h (Volume n) = volume_among w flash folder flash.volumes volumes h n
+    → (at : Place) (kind : RegionKind) → content_of w flash at kind ≡ content_among flash volumes at kind
+content_by w flash folder volumes h at Empty = refl
+content_by w flash folder volumes h at (Bytes bytes) = refl
+content_by w flash folder volumes h at (Tree path) = refl
+content_by w flash folder volumes h at (Volume n) = volume_among w flash folder flash.volumes volumes h n
 
 map_same : {A B : Type 0} (f g : A → B) → ((x : A) → f x ≡ g x) → (xs : List A) → map f xs ≡ map g xs
 map_same f g h [] = refl
@@ -72,7 +73,7 @@ image_by : (w : World) (flash : FlashDoc) (folder : List ℕ) (volumes : List Fi
 unfolding image_of_plan image_among
 image_by w flash folder volumes h plan =
     ap (λ parts. and_then (all_ok parts) (λ bytes. device_of plan bytes))
-    (map_same (λ region. content_of w flash region.kind) (λ region. content_among flash volumes region.kind) (λ region. content_by w flash folder volumes h region.kind) plan.regions)
+    (map_same (λ region. content_of w flash region.at region.kind) (λ region. content_among flash volumes region.at region.kind) (λ region. content_by w flash folder volumes h region.at region.kind) plan.regions)
 
 -- volumes that are made, and then devices
 with_devices : (folder : List ℕ) (volumes : List FilePair) (plans : List DevicePlan) (r : Result (List (List ℕ)) Fault)

@@ -17,13 +17,13 @@ use Rattle.doc_types.specs.declared.image.Body.TheVariants.{Whole, Sections}
 use Rattle.doc_types.specs.declared.image.ImagePlan.{ImagePlan}
 use Rattle.doc_types.specs.declared.image.FileImage.{FileImage}
 use Rattle.doc_types.specs.declared.volume.Align.{Align}
-use Rattle.doc_types.specs.declared.volume.Align.TheVariants.{Unset, Bytes as Aligned}
+use Rattle.doc_types.specs.declared.volume.Align.TheVariants.{Unset, Auto, Bytes as Aligned}
 use Rattle.doc_types.specs.declared.volume.FilePlan.{FilePlan}
 use Rattle.doc_types.specs.declared.volume.Item.{Item}
-use Rattle.doc_types.specs.declared.volume.Item.TheVariants.{File as FileItem}
+use Rattle.doc_types.specs.declared.volume.Item.TheVariants.{Apriori, File as FileItem, Inf}
 use Rattle.doc_types.specs.declared.volume.SectionPlan.{SectionPlan}
 use Rattle.doc_types.specs.declared.volume.SectionSource.{SectionSource}
-use Rattle.doc_types.specs.declared.volume.SectionSource.TheVariants.{Tree, Words}
+use Rattle.doc_types.specs.declared.volume.SectionSource.TheVariants.{Tree, Template, Volume, Words, Refused}
 use Rattle.doc_types.specs.declared.volume.VolumePlan.{VolumePlan}
 use Rattle.ffs_sections.specs.File.{file_of}
 use Rattle.fv_compose.specs.Volume.{volume_of}
@@ -36,6 +36,10 @@ abbrev pub bytes_got : List ℕ → Got → Result (List ℕ) Fault
 bytes_got path (File bytes) = Ok bytes
 bytes_got path Absent = Err (fault_of 103 (whole_file path) path)
 bytes_got path TooLong = Err (fault_of 102 (whole_file path) path)
+
+-- a form that no step makes yet
+abbrev pub unbuilt : Place → Fault
+unbuilt at = fault_of 199 at []
 
 -- the bytes of a section's file, whose absence stands at the section
 abbrev pub section_got : Place → List ℕ → Got → Result (List ℕ) Fault
@@ -53,10 +57,15 @@ words_bytes kind number text = if kind == 20 then little_bytes 2 number ++ wide_
 
 abbrev pub source_bytes : Files → SectionPlan → SectionSource → Result (List ℕ) Fault
 source_bytes files section (Tree path) = section_got section.at path (got_of file_limit (files path))
+source_bytes files section (Template text) = Err (unbuilt section.at)
+source_bytes files section (Volume number) = Err (unbuilt section.at)
 source_bytes files section (Words text) = Ok (words_bytes section.kind section.number text)
+source_bytes files section (Refused text) = Err (unbuilt section.at)
 
+-- only sections of rules take the alignment of their file
 abbrev pub align_of : Align → ℕ
 align_of Unset = 1
+align_of Auto = 1
 align_of (Aligned n) = n
 
 abbrev pub no_guid : Guid
@@ -94,7 +103,9 @@ unfoldable pub file_value : ℕ → Files → FilePlan → Result FileImage Faul
 file_value erase files plan = and_then (body_from files plan plan.whole) (λ body. file_of (image_plan erase plan body))
 
 abbrev pub item_value : ℕ → Files → Item → Result FileImage Fault
+item_value erase files (Apriori at pei members) = Err (unbuilt at)
 item_value erase files (FileItem plan) = file_value erase files plan
+item_value erase files (Inf line) = Err (unbuilt line.at)
 
 -- the volume of a plan
 unfoldable pub volume_planned : Files → VolumePlan → Result (List ℕ) Fault

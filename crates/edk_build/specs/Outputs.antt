@@ -1,6 +1,7 @@
 -- The files of volumes and devices, each by its plan.
 use Rattle.std.specs.Prelude.{ℕ, List, [], ◌++◌, map, Option, Some, None, Result, Ok, Err, slice_get}
 use Rattle.build_base.specs.declared.fault.Fault.{Fault}
+use Rattle.build_base.specs.declared.fault.Place.{Place}
 use Rattle.build_base.specs.FaultText.{fault_of}
 use Rattle.build_base.specs.First.{and_then, all_ok}
 use Rattle.build_base.specs.Outside.{Files}
@@ -8,11 +9,11 @@ use Rattle.doc_types.specs.declared.flash.FlashDoc.{FlashDoc}
 use Rattle.doc_types.specs.declared.flash.DevicePlan.{DevicePlan}
 use Rattle.doc_types.specs.declared.flash.Region.{Region}
 use Rattle.doc_types.specs.declared.flash.RegionKind.{RegionKind}
-use Rattle.doc_types.specs.declared.flash.RegionKind.TheVariants.{Empty, Bytes, Volume}
+use Rattle.doc_types.specs.declared.flash.RegionKind.TheVariants.{Empty, Bytes, Tree, Volume}
 use Rattle.doc_types.specs.declared.volume.VolumePlan.{VolumePlan}
 use Rattle.fd_regions.specs.Device.{device_of}
 use Rattle.edk_build.specs.FilePair.{FilePair}
-use Rattle.edk_build.specs.FileValues.{volume_planned}
+use Rattle.edk_build.specs.FileValues.{unbuilt, volume_planned}
 use Rattle.edk_build.specs.Values.{volume_pair, device_pair}
 use Rattle.edk_build.specs.declared.out_files.OutFiles.{OutFiles}
 
@@ -25,10 +26,11 @@ bytes_of_file flash (Some file) = Ok file.bytes
 bytes_of_file flash None = Err (fault_of 251 flash.at [])
 
 -- the content of a region, where these are the files of the volumes
-abbrev pub content_among : FlashDoc → List FilePair → RegionKind → Result (List ℕ) Fault
-content_among flash volumes Empty = Ok []
-content_among flash volumes (Bytes bytes) = Ok bytes
-content_among flash volumes (Volume n) = bytes_of_file flash (slice_get volumes n)
+abbrev pub content_among : FlashDoc → List FilePair → Place → RegionKind → Result (List ℕ) Fault
+content_among flash volumes at Empty = Ok []
+content_among flash volumes at (Bytes bytes) = Ok bytes
+content_among flash volumes at (Tree path) = Err (unbuilt at)
+content_among flash volumes at (Volume n) = bytes_of_file flash (slice_get volumes n)
 
 -- the same, where each volume that a region names is there
 abbrev pub bytes_or_none : Option FilePair → List ℕ
@@ -38,13 +40,14 @@ bytes_or_none None = []
 abbrev pub placed : List FilePair → RegionKind → List ℕ
 placed volumes Empty = []
 placed volumes (Bytes bytes) = bytes
+placed volumes (Tree path) = []
 placed volumes (Volume n) = bytes_or_none (slice_get volumes n)
 
 abbrev pub all_placed : List FilePair → List Region → List (List ℕ)
 all_placed volumes regions = map (λ region. placed volumes region.kind) regions
 
 unfoldable pub image_among : FlashDoc → List FilePair → DevicePlan → Result (List ℕ) Fault
-image_among flash volumes plan = and_then (all_ok (map (λ region. content_among flash volumes region.kind) plan.regions)) (λ parts. device_of plan parts)
+image_among flash volumes plan = and_then (all_ok (map (λ region. content_among flash volumes region.at region.kind) plan.regions)) (λ parts. device_of plan parts)
 
 -- the file of a device
 abbrev pub device_file : List ℕ → FlashDoc → List FilePair → DevicePlan → Result FilePair Fault

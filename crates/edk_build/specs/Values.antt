@@ -3,6 +3,7 @@ use Rattle.std.specs.Prelude.{ℕ, List, [], ◌∷◌, ◌++◌, length, map, O
 use Rattle.std.specs.List.{range_with_len}
 use Rattle.std.specs.Char.{to_ascii_uppercase}
 use Rattle.build_base.specs.declared.fault.Fault.{Fault}
+use Rattle.build_base.specs.declared.fault.Place.{Place}
 use Rattle.build_base.specs.declared.lines.Lines.{Lines}
 use Rattle.build_base.specs.declared.lines.Macro.{Macro}
 use Rattle.build_base.specs.FaultText.{fault_of}
@@ -13,7 +14,7 @@ use Rattle.doc_types.specs.declared.platform.PlatformDoc.{PlatformDoc}
 use Rattle.doc_types.specs.declared.flash.FlashDoc.{FlashDoc}
 use Rattle.doc_types.specs.declared.flash.DevicePlan.{DevicePlan}
 use Rattle.doc_types.specs.declared.flash.RegionKind.{RegionKind}
-use Rattle.doc_types.specs.declared.flash.RegionKind.TheVariants.{Empty, Bytes, Volume}
+use Rattle.doc_types.specs.declared.flash.RegionKind.TheVariants.{Empty, Bytes, Tree, Volume}
 use Rattle.doc_types.specs.declared.volume.VolumePlan.{VolumePlan}
 use Rattle.edk_build.specs.FileValues.{whole_file, volume_planned}
 use Rattle.dsc_platform.specs.Platform.{platform_of}
@@ -58,7 +59,7 @@ macros_left (Err fault) = []
 -- the flash description that a platform names, which starts with these macros, or an empty one
 unfoldable pub flash_from : World → PlatformDoc → List Macro → Option (List ℕ) → Result FlashDoc Fault
 flash_from w platform macros (Some path) = and_then (lines_of w path macros) flash_of
-flash_from w platform macros None = Ok (record { at = platform.at; devices = []; volumes = [] })
+flash_from w platform macros None = Ok (record { at = platform.at; sets = []; devices = []; volumes = []; rule_list = [] })
 
 abbrev pub flash_named : World → PlatformDoc → Result FlashDoc Fault
 flash_named w platform = flash_from w platform (macros_left (platform_lines w)) platform.flash
@@ -78,13 +79,14 @@ unfoldable pub volume_value : World → ℕ → Result (List ℕ) Fault
 volume_value w n = and_then (flash_value w) (λ flash. volume_at w flash n)
 
 -- the content of a region
-abbrev pub content_of : World → FlashDoc → RegionKind → Result (List ℕ) Fault
-content_of w flash Empty = Ok []
-content_of w flash (Bytes bytes) = Ok bytes
-content_of w flash (Volume n) = volume_at w flash n
+abbrev pub content_of : World → FlashDoc → Place → RegionKind → Result (List ℕ) Fault
+content_of w flash at Empty = Ok []
+content_of w flash at (Bytes bytes) = Ok bytes
+content_of w flash at (Tree path) = Err (unbuilt at)
+content_of w flash at (Volume n) = volume_at w flash n
 
 unfoldable pub image_of_plan : World → FlashDoc → DevicePlan → Result (List ℕ) Fault
-image_of_plan w flash plan = and_then (all_ok (map (λ region. content_of w flash region.kind) plan.regions)) (λ parts. device_of plan parts)
+image_of_plan w flash plan = and_then (all_ok (map (λ region. content_of w flash region.at region.kind) plan.regions)) (λ parts. device_of plan parts)
 
 abbrev pub planned : World → FlashDoc → Option DevicePlan → Result (List ℕ) Fault
 planned w flash (Some plan) = image_of_plan w flash plan

@@ -22,13 +22,15 @@ fn check_content(
     alloc: Global,
     flash: &FlashDoc,
     volumes: &[FileOut],
-    kind: &RegionKind,
+    region: &Region,
 ) -> Result<(), Refusal>
-    ensures { AnswersAs (λ _. placed volumes.now kind.now) result (content_among flash.now volumes.now kind.now) }
+    ensures { AnswersAs (λ _. placed volumes.now region.now.kind) result
+        (content_among flash.now volumes.now region.now.at region.now.kind) }
 {
-    match kind {
+    match &region.kind {
         RegionKind::Empty => Ok(()),
         RegionKind::Bytes(_) => Ok(()),
+        RegionKind::Tree(_) => Err(refuse(alloc, 199, &region.at, b"".as_slice())),
         RegionKind::Volume(number) => check_volume(alloc, flash, volumes, *number),
     }
 }
@@ -53,10 +55,10 @@ fn check_contents(
     volumes: &[FileOut],
     regions: &[Region],
 ) -> Result<(), Refusal>
-    ensures { AnswersAs (λ _. all_placed volumes.now regions.now) result (all_ok (map (λ region. content_among flash.now volumes.now region.kind) regions.now)) }
+    ensures { AnswersAs (λ _. all_placed volumes.now regions.now) result (all_ok (map (λ region. content_among flash.now volumes.now region.at region.kind) regions.now)) }
 {
     for region in regions {
-        if let Err(refusal) = check_content(alloc, flash, volumes, &region.kind) {
+        if let Err(refusal) = check_content(alloc, flash, volumes, region) {
             return Err(refusal);
         }
     }
@@ -85,6 +87,7 @@ fn content_length(volumes: &[FileOut], kind: &RegionKind) -> u64
     match kind {
         RegionKind::Empty => 0,
         RegionKind::Bytes(bytes) => bytes.bytes().len() as u64,
+        RegionKind::Tree(_) => 0,
         RegionKind::Volume(number) => volume_length(volumes, *number),
     }
 }
@@ -124,6 +127,7 @@ fn write_content(
             out.put(bytes.copy(alloc)?)?;
             Ok(())
         }
+        RegionKind::Tree(_) => Ok(()),
         RegionKind::Volume(number) => write_volume(alloc, volumes, *number, out),
     }
 }

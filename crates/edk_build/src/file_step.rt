@@ -10,7 +10,7 @@ ghost use Rattle.build_base.specs.World.{file_limit};
 ghost use Rattle.ffs_sections.specs.File.{file_of, IsFileImage};
 ghost use Rattle.ffs_sections.specs.Sections.{HaveGuids};
 ghost use Rattle.edk_build.specs.Stops.{Gives, Counts};
-ghost use Rattle.edk_build.specs.FileValues.{whole_file, bytes_got, section_got, wide_text, words_bytes, source_bytes, align_of, no_guid, header_guid, part_of, part_value, body_from, image_plan, file_value, item_value};
+ghost use Rattle.edk_build.specs.FileValues.{unbuilt, whole_file, bytes_got, section_got, wide_text, words_bytes, source_bytes, align_of, no_guid, header_guid, part_of, part_value, body_from, image_plan, file_value, item_value};
 
 use crate::key::Key;
 use crate::steps::{read_bytes, refuse_file};
@@ -87,6 +87,13 @@ fn read_section<T: Tree>(alloc: Global, tree: &mut T, at: &Place, path: &Path) -
     }
 }
 
+// A form that no step makes yet.
+fn unbuilt(alloc: Global, at: &Place) -> Refusal
+    ensures { Finds result (Some (unbuilt at.now)) }
+{
+    refuse(alloc, 199, at, b"".as_slice())
+}
+
 fn read_source<T: Tree>(alloc: Global, tree: &mut T, section: &SectionPlan) -> Result<Text, Stop>
     ensures value { IfSome (T.held tree.old) (λ files. Gives result (source_bytes files section.now section.now.source)) }
     ensures count { Counts (T.faults tree.old) (T.faults tree.new) result }
@@ -94,6 +101,9 @@ fn read_source<T: Tree>(alloc: Global, tree: &mut T, section: &SectionPlan) -> R
 {
     match &section.source {
         SectionSource::Tree(path) => read_section(alloc, tree, &section.at, path),
+        SectionSource::Template(_) | SectionSource::Volume(_) | SectionSource::Refused(_) => {
+            Err(Stop::from(unbuilt(alloc, &section.at)))
+        }
         SectionSource::Words(text) => {
             match words_bytes(alloc, section.kind, section.number, text.bytes()) {
                 Ok(bytes) => Ok(bytes),
@@ -107,7 +117,7 @@ fn align_of(align: Align) -> u32
     ensures { result ≡ align_of align }
 {
     match align {
-        Align::Unset => 1,
+        Align::Unset | Align::Auto => 1,
         Align::Bytes(bytes) => bytes,
     }
 }
@@ -305,6 +315,8 @@ pub fn item_step<T: Tree>(
     ensures held { T.held tree.new ≡ T.held tree.old }
 {
     match item {
+        Item::Apriori { at, .. } => Err(Stop::from(unbuilt(alloc, at))),
         Item::File(plan) => file_step(alloc, tree, book, key, erase, plan),
+        Item::Inf(line) => Err(Stop::from(unbuilt(alloc, &line.at))),
     }
 }

@@ -86,13 +86,16 @@ fn make_flash(alloc: Global, book: &mut Book<Key>, lines: &Lines) -> Result<Flas
 
 #[tactic(auto, using(crate::proofs::ShapeLemmas::empty_shape))]
 fn empty_flash(alloc: Global, platform: &PlatformDoc) -> Result<FlashDoc, WantOfMemory>
-    ensures value { IfOk result (λ f. f ≡ record { at = platform.now.at; devices = []; volumes = [] }) }
+    ensures value { IfOk result (λ f. f ≡ record { at = platform.now.at; sets = []; devices = []; volumes = [];
+        rule_list = [] }) }
     ensures shape { IfOk result HasShape }
 {
     Ok(FlashDoc {
         at: platform.at.copy(alloc)?,
+        sets: Rows::new(alloc),
         devices: Rows::new(alloc),
         volumes: Rows::new(alloc),
+        rule_list: Rows::new(alloc),
     })
 }
 

@@ -5,7 +5,7 @@ use Rattle.doc_types.specs.declared.flash.FlashDoc.{FlashDoc}
 use Rattle.doc_types.specs.declared.flash.DevicePlan.{DevicePlan}
 use Rattle.doc_types.specs.declared.flash.Region.{Region}
 use Rattle.doc_types.specs.declared.flash.RegionKind.{RegionKind}
-use Rattle.doc_types.specs.declared.flash.RegionKind.TheVariants.{Empty, Bytes, Volume}
+use Rattle.doc_types.specs.declared.flash.RegionKind.TheVariants.{Empty, Bytes, Tree, Volume}
 use Rattle.doc_types.specs.declared.volume.VolumePlan.{VolumePlan}
 use Rattle.doc_types.specs.Volumes as volumes
 
@@ -17,6 +17,7 @@ HeadFits plan = volumes.HasShape plan.head
 abbrev pub KindFits : ℕ → RegionKind → Type 0
 KindFits count Empty = Unit {0}
 KindFits count (Bytes bytes) = Unit {0}
+KindFits count (Tree path) = Unit {0}
 KindFits count (Volume n) = n < count
 
 abbrev pub RegionFits : ℕ → Region → Type 0

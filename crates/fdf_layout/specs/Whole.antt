@@ -209,8 +209,10 @@ devices_of device regions = devices_with device.head device regions
 unfoldable pub document_of : List ℕ → DeviceTables → List StatedRegion → List StatedVolume → FlashDoc
 document_of root device regions volumes = record {
   at = record { path = root; line = 0 };
+  sets = [];
   devices = devices_of device (map (region_of volumes) regions);
   volumes = map (volume_plan (first_item device.sizes) regions) volumes;
+  rule_list = [];
 }
 
 -- the first fault of the whole, else the document

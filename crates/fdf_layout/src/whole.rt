@@ -240,8 +240,10 @@ fn document_of(
     let path = root.copy(alloc)?;
     Ok(FlashDoc {
         at: Place { path, line: 0 },
+        sets: Rows::new(alloc),
         devices,
         volumes: plans,
+        rule_list: Rows::new(alloc),
     })
 }
 
