@@ -30,11 +30,11 @@ head_bytes guid sum check kind attributes size state =
 
 -- FIXED, CHECKSUM and the alignment
 abbrev pub attributes_of : ImagePlan → ℕ
-attributes_of plan = (if plan.fixed then 4 else 0) + (if plan.checksum then 64 else 0) + step_bits (plan_step plan)
+attributes_of plan = (if plan.fixed then 0x04 else 0) + (if plan.checksum then 0x40 else 0) + step_bits (plan_step plan)
 
 -- header made, valid and data valid; with erase polarity 1 the bits are turned round
 abbrev pub state_of : ℕ → ℕ
-state_of erase = if erase == 0 then 7 else 248
+state_of erase = if erase == 0 then 0x07 else 0xF8
 
 -- the header whose own checksum makes its sum zero, with the state and the body's checksum taken as 0
 unfoldable pub file_head : List ℕ → ℕ → ℕ → ℕ → ℕ → ℕ → List ℕ
@@ -44,7 +44,7 @@ file_head guid check kind attributes size state =
 -- the body's checksum is 0xAA where CHECKSUM isn't asked
 unfoldable pub file_bytes : ImagePlan → List ℕ → List ℕ
 file_bytes plan body =
-    file_head plan.guid.0 (if plan.checksum then zero_byte body else 170) plan.file_type (attributes_of plan) (24 + length body) (state_of plan.erase)
+    file_head plan.guid.0 (if plan.checksum then zero_byte body else 0xAA) plan.file_type (attributes_of plan) (24 + length body) (state_of plan.erase)
     ++ body
 
 abbrev pub body_of : ImagePlan → Body → Result (List ℕ) Fault
@@ -57,7 +57,7 @@ image_of plan body =
 
 -- a file has at most 0xFFFFFF bytes
 abbrev pub file_sized : ImagePlan → List ℕ → Result FileImage Fault
-file_sized plan body = if nat_lt 16777215 (24 + length body) then Err (sized 612 plan.at (24 + length body)) else Ok (image_of plan body)
+file_sized plan body = if nat_lt 0xFFFFFF (24 + length body) then Err (sized 612 plan.at (24 + length body)) else Ok (image_of plan body)
 
 unfoldable pub file_of : ImagePlan → Result FileImage Fault
 file_of plan = if is_align plan.align then and_then (body_of plan plan.body) (file_sized plan) else Err (sized 613 plan.at plan.align)

@@ -29,7 +29,7 @@ part_pad at part = pad_of (up4 at + 4 + length (guid_bytes part.guid)) part.alig
 
 -- a RAW section of zeros of this size, header and all; none of size 0
 abbrev pub pad_section : ℕ → List ℕ
-pad_section size = if size == 0 then [] else section_bytes 25 None (replicate (size - 4) 0)
+pad_section size = if size == 0 then [] else section_bytes 0x19 None (replicate (size - 4) 0)
 
 -- a body with one section more: zeros up to a multiple of 4, the pad, and the section
 unfoldable pub with_part : List ℕ → Part → List ℕ
@@ -48,7 +48,7 @@ part_fault place at part =
     first_holding (
     (not (is_align part.align), sized 613 place part.align)
     ∷ (is_none (part_pad at part), sized 613 place part.align)
-    ∷ (nat_lt 16777214 size, sized 611 place size)
+    ∷ (nat_lt 0xFFFFFE size, sized 611 place size)
     ∷ [])
 
 -- a body with these sections more, or the first fault of one
@@ -60,4 +60,4 @@ with_parts place body (part ∷ parts) =
 -- a GUID stands in SUBTYPE_GUID sections and in no other
 abbrev pub HaveGuids : Body → Type 0
 HaveGuids (Whole bytes) = Unit {0}
-HaveGuids (Sections parts) = All (λ part. is_some part.guid ≡ (part.kind == 24)) parts
+HaveGuids (Sections parts) = All (λ part. is_some part.guid ≡ (part.kind == 0x18)) parts

@@ -71,7 +71,7 @@ top_pieces erase at (Some file) size = placed_pieces erase at (top_start file si
 
 -- a pad between an end and a start that is too long for the size field of its header
 unfoldable pub pad_fault : ℕ → ℕ → FileImage → Option Fault
-pad_fault at start file = first_holding ((nat_lt 16777215 (start - up 8 at), sized 704 file.at (start - up 8 at)) ∷ [])
+pad_fault at start file = first_holding ((nat_lt 0xFFFFFF (start - up 8 at), sized 704 file.at (start - up 8 at)) ∷ [])
 
 -- the first such pad between files one after another
 unfoldable pub pads_fault : ℕ → List FileImage → Option Fault

@@ -18,7 +18,8 @@ zero_word bytes = (65536 - words_sum bytes % 65536) % 65536
 
 -- EFI_FIRMWARE_FILE_SYSTEM2_GUID, 8c8ce578-8a3d-4f1c-9935-896185c32dd3
 abbrev pub ffs2 : List ℕ
-ffs2 = 120 ∷ 229 ∷ 140 ∷ 140 ∷ 61 ∷ 138 ∷ 28 ∷ 79 ∷ 153 ∷ 53 ∷ 137 ∷ 97 ∷ 133 ∷ 195 ∷ 45 ∷ 211 ∷ []
+ffs2 =
+    0x78 ∷ 0xE5 ∷ 0x8C ∷ 0x8C ∷ 0x3D ∷ 0x8A ∷ 0x1C ∷ 0x4F ∷ 0x99 ∷ 0x35 ∷ 0x89 ∷ 0x61 ∷ 0x85 ∷ 0xC3 ∷ 0x2D ∷ 0xD3 ∷ []
 
 -- the zero vector, the file system and the volume's length
 unfoldable pub head_start : ℕ → List ℕ
@@ -26,7 +27,7 @@ head_start size = replicate 16 0 ++ ffs2 ++ little_bytes 8 size
 
 -- and the signature, the attributes and the header's length
 unfoldable pub head_front : ℕ → ℕ → List ℕ
-head_front size attributes = head_start size ++ codes "_FVH" ++ little_bytes 4 attributes ++ little_bytes 2 72
+head_front size attributes = head_start size ++ codes "_FVH" ++ little_bytes 4 attributes ++ little_bytes 2 0x48
 
 -- checksum, place of the extended header, a reserved byte, revision 2, and a block map of one entry and its end
 unfoldable pub head_back : ℕ → ℕ → ℕ → ℕ → List ℕ
@@ -36,7 +37,7 @@ head_back sum extended blocks block_size =
 -- the extended header stands in a pad file behind the header
 abbrev pub extended_place : Option Guid → ℕ
 extended_place None = 0
-extended_place (Some name) = 96
+extended_place (Some name) = 0x60
 
 -- the header with this checksum
 unfoldable pub head_list : VolumeHead → ℕ → ℕ → List ℕ
@@ -49,11 +50,11 @@ head_of plan size = head_list plan size (zero_word (head_list plan size 0))
 
 -- the pad file with the extended header: the volume's name and the length of the extended header
 unfoldable pub extended_bytes : ℕ → List ℕ → List ℕ
-extended_bytes erase name = file_head (replicate 16 255) 170 240 0 44 (state_of erase) ++ name ++ little_bytes 4 20
+extended_bytes erase name = file_head (replicate 16 0xFF) 0xAA 0xF0 0 0x2C (state_of erase) ++ name ++ little_bytes 4 0x14
 
 abbrev pub extended_pieces : ℕ → Option Guid → List Piece
 extended_pieces erase None = []
-extended_pieces erase (Some name) = record { start = 72; bytes = extended_bytes erase name.0 } ∷ []
+extended_pieces erase (Some name) = record { start = 0x48; bytes = extended_bytes erase name.0 } ∷ []
 
 -- the header, and the extended header where the volume has a name
 unfoldable pub start_pieces : VolumeHead → ℕ → List Piece
@@ -61,5 +62,5 @@ start_pieces plan size = record { start = 0; bytes = head_of plan size } ∷ ext
 
 -- where they end
 abbrev pub first_end : Option Guid → ℕ
-first_end None = 72
-first_end (Some name) = 116
+first_end None = 0x48
+first_end (Some name) = 0x74

@@ -33,7 +33,7 @@ pub record Fits (block : ℕ) (top : Bool) (taken size : ℕ) : Type 0 where
 
 -- the stated length where it holds all, or the least multiple of a block that does
 unfoldable pub blocks_for : ℕ → Bool → ℕ → Option ℕ
-blocks_for block top taken = find (λ size. holds top taken size && size % block == 0) (range_with_len 0 268435457)
+blocks_for block top taken = find (λ size. holds top taken size && size % block == 0) (range_with_len 0 0x10000001)
 
 abbrev pub length_for : ℕ → Option ℕ → Bool → ℕ → Option ℕ
 length_for block None top taken = blocks_for block top taken
@@ -41,7 +41,7 @@ length_for block (Some size) top taken = if holds top taken size then Some size 
 
 -- the length that is named as given where it doesn't hold all
 abbrev pub given_size : ℕ → Option ℕ → ℕ
-given_size block None = if block == 0 then 0 else 268435456
+given_size block None = if block == 0 then 0 else 0x10000000
 given_size block (Some size) = size
 
 -- what is needed of it: space that a pad file doesn't fit into counts as one of 24 bytes
@@ -99,6 +99,6 @@ volume_of plan files = and_then (unless (twice_fault plan files) (length_of plan
 -- a length that a volume may have
 pub record IsLength (block : ℕ) (top : Bool) (taken size : ℕ) : Type 0 where
   pub room : holds top taken size ≡ true
-  pub small : size ≤ 268435456
+  pub small : size ≤ 0x10000000
   pub block_some : 0 < block
   pub block_small : block ≤ size

@@ -147,12 +147,7 @@ pub(crate) fn taken_by(end: u128, top: Option<&FileImage>) -> u128
 }
 
 // Writes a pad file.
-fn put_pad(
-    alloc: Global,
-    out: &mut RunWriter,
-    size: u64,
-    erase: u8,
-) -> Result<(), WantOfMemory>
+fn put_pad(alloc: Global, out: &mut RunWriter, size: u64, erase: u8) -> Result<(), WantOfMemory>
     requires least { 24 ≤ size }
     requires most { size ≤ 16777215 }
     requires free { out.old.free ≡ free_byte erase }
@@ -184,12 +179,7 @@ fn pad_head(alloc: Global, size: u32, erase: u8) -> Result<Vec<u8>, WantOfMemory
 }
 
 #[tactic(auto, unfolding(crate::specs::Files::pad_bytes))]
-fn put_pad_file(
-    out: &mut RunWriter,
-    head: Text,
-    size: u64,
-    erase: u8,
-) -> Result<(), WantOfMemory>
+fn put_pad_file(out: &mut RunWriter, head: Text, size: u64, erase: u8) -> Result<(), WantOfMemory>
     requires least { 24 ≤ size }
     requires head { head ≡ pad_header erase size }
     requires short { length head ≡ 24 }

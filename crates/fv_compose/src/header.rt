@@ -17,12 +17,12 @@ static FFS2: [u8; 16] = [
 ];
 
 /// The length of a volume's header.
-const LENGTH: u16 = 72;
+const LENGTH: u16 = 0x48;
 
 /// The length of an extended header, and its place in a volume.
-const EXTENDED_LENGTH: u32 = 20;
+const EXTENDED_LENGTH: u32 = 0x14;
 
-const EXTENDED_PLACE: u16 = 96;
+const EXTENDED_PLACE: u16 = 0x60;
 
 /// The name of a pad file, its type EFI_FV_FILETYPE_FFS_PAD, and its file checksum.
 pub(crate) static PAD_NAME: [u8; 16] = [0xFF; 16];

@@ -8,7 +8,7 @@ use Rattle.fv_compose.proofs.files.put_files.Given as goal
 abbrev pub invariant-loop-image : goal.invariant-loop-image
 invariant-loop-image l = record {
   filed :
-    Filed (put_pieces (free_byte l.erase) l.fn.out.bytes (files_pieces l.erase (length l.fn.out.bytes) (plain_files l.files))) (end_of (length l.fn.out.bytes) (plain_files l.files)) l.erase l.out.bytes (plain_files (drop l.image-index l.files));
+      Filed (put_pieces (free_byte l.erase) l.fn.out.bytes (files_pieces l.erase (length l.fn.out.bytes) (plain_files l.files))) (end_of (length l.fn.out.bytes) (plain_files l.files)) l.erase l.out.bytes (plain_files (drop l.image-index l.files));
   kept : l.out.kept + bytes_in (plain_files (drop l.image-index l.files)) ≤ l.fn.out.kept + bytes_in (plain_files l.files) + 32 * l.image-index;
   free : l.out.free ≡ l.fn.out.free;
 }

@@ -35,7 +35,7 @@ returns-clause-value c =
     let m : length body ≡ last_end plan files = rw l at c.in_ok-put_files.ensures.len in
     let o : out ≡ put_pieces (free_byte plan.erase) body (top_pieces plan.erase (last_end plan files) (top_of files) c.args.size) = rw (m, c.requires.top) at c.in_ok-put_top.ensures.bytes in
     let f : c.put_top.new.out.free ≡ free_byte plan.erase =
-        c.in_ok-put_top.ensures.free ∙ c.in_ok-put_files.ensures.free ∙ c.in_ok-put.ensures.free ∙ rw c.new-out.ensures refl in
+    c.in_ok-put_top.ensures.free ∙ c.in_ok-put_files.ensures.free ∙ c.in_ok-put.ensures.free ∙ rw c.new-out.ensures refl in
     c.finish.ensures.bytes ∙ c.in_ok-fill.ensures.bytes
     ∙ rw (c.length-len.ensures, f) (image_is plan files c.args.size head body out c.requires.aligned (rw c.requires.top at c.requires.length.room) (e ∙ c.in_ok-head.ensures.items) l b o)
 
