@@ -1,17 +1,11 @@
 -- Answers, and asks whose parts aren't done.
-use Rattle.std.proofs.Common.{ℕ, ◌<◌, [], ◌∷◌, Option, sym, subst}
+use Rattle.std.proofs.Common.{ℕ, [], ◌∷◌, Option, subst}
 use Rattle.build_base.specs.Outside.{Files}
-use Rattle.build_base.specs.World.{World}
-use Rattle.step_engine.specs.Needed.{IsNeededBy}
-use Rattle.step_engine.specs.Build.{Setting, IsHere, IsEntryOf}
-use Rattle.step_engine.specs.Engine.{State, AreKept, IsAnswered}
+use Rattle.step_engine.specs.Build.{Setting}
+use Rattle.step_engine.specs.Engine.{State, AreKept}
 use Rattle.step_engine.specs.Loops.{IsUnderWay}
 use Rattle.step_engine.proofs.Moves.{moves_none}
 use Rattle.step_engine.proofs.Steps.{at_held, way_moves}
-use Rattle.step_engine.specs.declared.talk.Ask.TheVariants as ask
-use Rattle.step_engine.specs.declared.talk.Answer.TheVariants as answer
-use Rattle.step_engine.specs.declared.talk.Outcome.{Outcome}
-use Rattle.step_engine.specs.declared.talk.Entry.{Entry}
 use Rattle.step_engine.specs.Items.{IsStill}
 
 -- it isn't

@@ -1,24 +1,16 @@
 -- What a build leaves.
-use Rattle.std.proofs.Common.{◌≡◌, ℕ, suc, List, [], ◌∷◌, refl, sym, ap, ◌∙◌, subst, Contains, arith, inl, inr, ◌⊎◌, length}
+use Rattle.std.proofs.Common.{◌≡◌, suc, List, [], ◌∷◌, refl, sym, ap, Contains, arith, inl, inr, length}
 use Rattle.std.proofs.lemmas.List.Elements.{All-contains, All-weaker, All-contains_itself}
 use Rattle.std.specs.Cmp.{IsTotalOrder}
 use Rattle.std.specs.declared.cmp.Ordering.{Ordering}
 use Rattle.std.specs.declared.cmp.Ordering.TheVariants.{Less}
 use Rattle.build_base.specs.World.{World}
-use Rattle.build_base.specs.declared.fault.Fault.{Fault}
 use Rattle.step_engine.specs.Caches.{HasKey, AreInOrder, IsJoined}
-use Rattle.step_engine.specs.Meaning.{Meaning, IsTalk, Asks}
-use Rattle.step_engine.specs.Entries.{IsSound, AreSound, IsValid, IsEntry}
-use Rattle.step_engine.specs.Needed.{IsNeeded, IsStep, IsFull, IsBad, IsNeededEntry, IsOtherEntry, IsLeft, AreDistinct, IsNeededCount}
-use Rattle.step_engine.specs.Needed.IsNeededBy.{itself, asked}
-use Rattle.step_engine.specs.Build.{Setting, IsHere}
-use Rattle.step_engine.specs.Engine.{State, HasTalkParts, IsSettled}
-use Rattle.step_engine.proofs.Talks.{valid_entry, same_entry, asked_in}
-use Rattle.step_engine.proofs.Moves.{none_in, one_in, has_key_grows}
+use Rattle.step_engine.specs.Meaning.{Meaning}
+use Rattle.step_engine.specs.Entries.{IsSound, AreSound}
+use Rattle.step_engine.specs.Needed.{IsLeft, AreDistinct}
+use Rattle.step_engine.proofs.Moves.{none_in}
 use Rattle.step_engine.proofs.Caches.{Contains-cons, Contains-cons_cases, apart, same_entries}
-use Rattle.step_engine.specs.declared.talk.Outcome.TheVariants.{Good, Bad}
-use Rattle.step_engine.specs.declared.talk.Outcome.{Outcome}
-use Rattle.step_engine.specs.declared.talk.Ask.TheVariants as ask
 use Rattle.step_engine.specs.declared.talk.Entry.{Entry}
 
 abbrev pub keys : {K O : Type 0} → List (Entry K O) → List K

@@ -1,5 +1,5 @@
 -- Keys that wait for a part, and those that don't any longer.
-use Rattle.std.proofs.Common.{◌≡◌, ◌++◌, ◌⊎◌, List, [], ◌∷◌, Option, Some, None, Bool, true, false, cond, refl, sym, ◌∙◌, subst, Contains, inl, inr}
+use Rattle.std.proofs.Common.{◌≡◌, ◌++◌, ◌⊎◌, List, [], ◌∷◌, Some, None, Bool, true, false, cond, sym, ◌∙◌, subst, inl, inr}
 use Rattle.std.proofs.lemmas.List.Elements.{Contains-push_cases, Contains-append_cases}
 use Rattle.std.specs.BTreeMap.{BTreeMap, is_at, get, UpdatesBy, Updates}
 use Rattle.std.specs.declared.cmp.Ordering.{Ordering}

@@ -1,7 +1,7 @@
 -- Keys under way that are looked at.
 use Rattle.std.proofs.Common.{◌≡◌, ◌++◌, ◌⊎◌, List, [], ◌∷◌, Option, Some, None, refl, sym, ◌∙◌, subst, Contains, All, inl, inr}
 use Rattle.std.proofs.lemmas.List.Elements.{All-nil, All-cons, All-weaker, All-contains, All-contains_itself, Contains-append_cases, Contains-push_cases}
-use Rattle.std.specs.BTreeMap.{BTreeMap, get}
+use Rattle.std.specs.BTreeMap.{BTreeMap}
 use Rattle.std.specs.declared.cmp.Ordering.{Ordering}
 use Rattle.build_base.specs.Outside.{Files}
 use Rattle.step_engine.specs.Turns.{AreLawful}
@@ -26,8 +26,7 @@ use Rattle.step_engine.proofs.Moves.{none_in, needed_itself}
 use Rattle.step_engine.proofs.Steps.{at_held}
 use Rattle.step_engine.proofs.Going.{going_noted}
 use Rattle.step_engine.proofs.Advancing.{item_on}
-use Rattle.step_engine.proofs.Acting.{noted_of}
-use Rattle.step_engine.proofs.Listing.{runs_on, items_on, list_none, list_noted, list_item, need_item}
+use Rattle.step_engine.proofs.Listing.{items_on, list_none, list_noted, list_item, need_item}
 use Rattle.step_engine.proofs.OpeningLemmas.{opens_none, opens_noted}
 use Rattle.step_engine.proofs.WantingLemmas.{item_part}
 use Rattle.step_engine.proofs.PoolLemmas.{holds_none, holds_push}

@@ -13,10 +13,10 @@ use Rattle.step_engine.specs.Needed.{IsNeededBy}
 use Rattle.step_engine.specs.Needed.IsNeededBy.{asked}
 use Rattle.step_engine.specs.Turns.{AreLawful}
 use Rattle.step_engine.specs.Build.{Setting, setting, IsHere, IsEntryOf}
-use Rattle.step_engine.specs.Engine.{State, AreKept, IsKnown, HasParts, HasTalkParts, AddsPaths, Adds, Moves, IsNext, IsPathAsked, Grows, IsSettled, IsAnswered, AreAnswered, IsCheckedBatch, IsChecked}
+use Rattle.step_engine.specs.Engine.{State, AreKept, IsKnown, HasParts, HasTalkParts, AddsPaths, Adds, Moves, IsNext, IsPathAsked, Grows, IsAnswered, AreAnswered, IsCheckedBatch, IsChecked}
 use Rattle.step_engine.specs.Loops.{IsUnderWay, IsAnswering, IsCheckingBatch, IsChecking, IsRunning}
 use Rattle.step_engine.proofs.Talks.{follows_front, follows_push, next_asked}
-use Rattle.step_engine.proofs.Moves.{none_in, one_in, added_none, moves_none, moves_then, adds_then, moves_under, has_key_grows, needed_itself}
+use Rattle.step_engine.proofs.Moves.{none_in, one_in, added_none, moves_none, moves_then, adds_then, has_key_grows, needed_itself}
 use Rattle.step_engine.specs.declared.talk.Ask.{Ask}
 use Rattle.step_engine.specs.declared.talk.Ask.TheVariants as ask
 use Rattle.step_engine.specs.declared.talk.Answer.{Answer}

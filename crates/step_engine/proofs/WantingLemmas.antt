@@ -1,6 +1,6 @@
 -- Parts that are wanted.
-use Rattle.std.proofs.Common.{◌≡◌, ◌++◌, ◌<◌, List, [], ◌∷◌, Some, refl, sym, ◌∙◌, subst, Contains, inl, inr, slice_get, get_or, length, IsPermutation}
-use Rattle.std.proofs.lemmas.List.Elements.{All-contains, Contains-push_cases}
+use Rattle.std.proofs.Common.{◌≡◌, ◌++◌, ◌<◌, List, [], ◌∷◌, Some, refl, sym, ◌∙◌, subst, Contains, inl, inr, slice_get, get_or, length}
+use Rattle.std.proofs.lemmas.List.Elements.{Contains-push_cases}
 use Rattle.std.proofs.lemmas.Option.{slice_get_within, get_or_from_slice_get, slice_get_read}
 use Rattle.build_base.specs.World.{World}
 use Rattle.step_engine.specs.Meaning.{asks_of}
@@ -14,7 +14,7 @@ use Rattle.step_engine.specs.declared.talk.Ask.{Ask}
 use Rattle.step_engine.specs.declared.talk.Ask.TheVariants as ask
 use Rattle.step_engine.specs.declared.talk.Batch.{Batch}
 use Rattle.step_engine.specs.Rounds.{IsWanted}
-use Rattle.step_engine.specs.Items.{IsItem, item_key, AreItems, AreItemsWanted}
+use Rattle.step_engine.specs.Items.{IsItem, item_key}
 use Rattle.step_engine.specs.Wanting.{AddsParts, ArePartsOf, IsAskedBy, WantsItem}
 use Rattle.step_engine.specs.declared.items.Item.{Item}
 use Rattle.step_engine.specs.declared.items.Asked.{Asked}
