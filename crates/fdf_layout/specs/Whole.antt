@@ -188,6 +188,7 @@ head_with volume block size = record {
   name_guid = None;
   base = None;
   force = false;
+  ffs3 = false;
 }
 
 abbrev pub plan_with : StatedVolume → ℕ → Option ℕ → VolumePlan

@@ -140,6 +140,7 @@ fn plan_with(
         name_guid: None,
         base: None,
         force: false,
+        ffs3: false,
     };
     Ok(VolumePlan {
         head,
