@@ -120,7 +120,8 @@ const NAMES: [(u16, &str); 112] = [
 
 #[tactic(auto, unfolding(crate::specs::FaultNames::named))]
 fn named(mut table: &[(u16, &'static str)], code: u16) -> Option<&'static str>
-    ensures { option_map (λ n. n.now) result ≡ named (map (λ e. (e.0, e.1.now)) table.entry.now) code }
+    ensures { option_map (λ n. n.now) result ≡ named
+        (map (λ e. (e.0, e.1.now)) table.entry.now) code }
 {
     while let [entry, rest @ ..] = table {
         if entry.0 == code {
