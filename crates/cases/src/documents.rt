@@ -4,8 +4,9 @@ use build_base::fault::fault_text;
 use build_base::{Book, Got, Guid, Lines, Path, Place, Refusal, Rows, Same, Text};
 use case_player::{Output, Told, Wrong};
 use dec_docs::read_dec;
+use depex_code::compile;
 use doc_types::arch::Arch;
-use doc_types::depex::{DepexPart, NamedGuid};
+use doc_types::depex::{DepexGroup, DepexPart, NamedGuid};
 use doc_types::module::{InfDoc, Named, Served, UsedPcd};
 use doc_types::module_type::ModuleType;
 use doc_types::package::{DecDoc, DecPcd};
@@ -279,6 +280,69 @@ pub fn call_read_inf(alloc: Global, files: &[Output], root: &str) -> Result<Told
         let mut book = Book::new(alloc);
         match read_inf(alloc, book.grant(())?, &lines) {
             Ok(module) => tell_module(alloc, &mut told, &module)?,
+            Err(refusal) => tell_refusal(alloc, &mut told, &refusal)?,
+        }
+    }
+    Ok(told)
+}
+
+// The names that a package declares, behind those of the packages above.
+fn add_names(
+    alloc: Global,
+    told: &mut Told,
+    files: &[Output],
+    names: &mut Rows<NamedGuid>,
+    path: &[u8],
+) -> Result<(), Wrong> {
+    let root = Path::new(alloc, path)?;
+    let Some(lines) = lines_of(alloc, told, files, &root)? else {
+        return Ok(());
+    };
+    let mut book = Book::new(alloc);
+    match read_dec(alloc, book.grant(())?, &lines) {
+        Ok(package) => {
+            for row in package.guids.items() {
+                names.push(row.copy(alloc)?)?;
+            }
+            Ok(())
+        }
+        Err(refusal) => tell_refusal(alloc, told, &refusal),
+    }
+}
+
+fn tell_code(
+    alloc: Global,
+    told: &mut Told,
+    files: &[Output],
+    module: InfDoc,
+) -> Result<(), Wrong> {
+    let mut guids = Rows::new(alloc);
+    for package in module.packages.items() {
+        add_names(alloc, told, files, &mut guids, package.name.bytes())?;
+    }
+    let mut groups = Rows::new(alloc);
+    groups.push(DepexGroup {
+        parts: module.depex,
+        guids,
+    })?;
+    let mut book = Book::new(alloc);
+    match compile(alloc, book.grant(())?, module.module_type, &groups) {
+        Ok(code) => {
+            told.files.push(Output::new(alloc, b"code", code.bytes())?)?;
+            Ok(())
+        }
+        Err(refusal) => tell_refusal(alloc, told, &refusal),
+    }
+}
+
+/// The bytes of a module's dependency expression, with the names of its packages.
+pub fn call_compile(alloc: Global, files: &[Output], root: &str) -> Result<Told, Wrong> {
+    let mut told = Told::new(alloc);
+    let root = Path::new(alloc, root.as_bytes())?;
+    if let Some(lines) = lines_of(alloc, &mut told, files, &root)? {
+        let mut book = Book::new(alloc);
+        match read_inf(alloc, book.grant(())?, &lines) {
+            Ok(module) => tell_code(alloc, &mut told, files, module)?,
             Err(refusal) => tell_refusal(alloc, &mut told, &refusal)?,
         }
     }

@@ -67,7 +67,8 @@ fn guid_field(
     arch: Arch,
     field: &[u8],
 ) -> Result<Option<Said>, Refusal>
-    ensures { Answers result (judged (field_faults line.now field.now (halves 61 field.now)) (field_row line.now arch (halves 61 field.now))) }
+    ensures { Answers result (judged (field_faults line.now field.now (halves 61 field.now))
+        (field_row line.now arch (halves 61 field.now))) }
 {
     match halves(b'=', field) {
         Some((name, value)) => {

@@ -121,7 +121,9 @@ fn four_fields(
     datum: &[u8],
     token: &[u8],
 ) -> Result<Option<Said>, Refusal>
-    ensures { Answers result (judged (fields_faults line.now (name.now ∷ default.now ∷ datum.now ∷ token.now ∷ [])) (fields_row line.now arch kind (name.now ∷ default.now ∷ datum.now ∷ token.now ∷ []))) }
+    ensures { Answers result (judged
+        (fields_faults line.now (name.now ∷ default.now ∷ datum.now ∷ token.now ∷ []))
+        (fields_row line.now arch kind (name.now ∷ default.now ∷ datum.now ∷ token.now ∷ []))) }
 {
     let pcd = pcd_name_of(alloc, name)?;
     let read = number(token);
@@ -160,7 +162,8 @@ fn pcd_fields(
     kind: Kind,
     fields: &[Text],
 ) -> Result<Option<Said>, Refusal>
-    ensures { Answers result (judged (fields_faults line.now fields.now) (fields_row line.now arch kind fields.now)) }
+    ensures { Answers result
+        (judged (fields_faults line.now fields.now) (fields_row line.now arch kind fields.now)) }
 {
     match fields {
         [name, default, datum, token] => four_fields(

@@ -4,3 +4,4 @@ pub mod SegmentNameLemmas
 pub mod GatheringLemmas
 pub mod HeldLemmas
 pub mod BlockLemmas
+pub mod FaultlessLemmas

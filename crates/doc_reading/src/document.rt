@@ -57,7 +57,8 @@ fn rows_below<F: Format>(
     line: &Taken,
     scopes: &[F::Scope],
 ) -> Result<Vec<F::Row>, Refusal>
-    ensures { (above : List (Read F.Scope F.Row)) → F.holds above format.now → AnswersAs (λ rows. rows.items) result (rows_given F.grammar above line.now scopes.now) }
+    ensures { (above : List (Read F.Scope F.Row)) → F.holds above format.now →
+        AnswersAs (λ rows. rows.items) result (rows_given F.grammar above line.now scopes.now) }
 {
     let mut gathered = Gathered::new(alloc);
     for scope in scopes {
@@ -69,7 +70,9 @@ fn rows_below<F: Format>(
 impl<F: Format> Document<F::Scope, F> {
     // What a line gives below the last heads.
     fn body_rows(&self, line: &Taken) -> Result<Vec<F::Row>, Refusal>
-        ensures { (above : List (Read F.Scope F.Row)) → F.holds above self.now.format → AnswersAs (λ rows. rows.items) result (body_given F.grammar above line.now self.now.scopes) }
+        ensures { (above : List (Read F.Scope F.Row)) → F.holds above self.now.format →
+            AnswersAs (λ rows. rows.items) result
+            (body_given F.grammar above line.now self.now.scopes) }
     {
         match &self.scopes {
             None => Err(refuse(self.alloc, self.format.stray(), &line.at, line.text.bytes())),
@@ -79,7 +82,8 @@ impl<F: Format> Document<F::Scope, F> {
 
     // Refuses what is open below the last line.
     fn check_end(&self, line: &Taken, last: bool) -> Result<(), Refusal>
-        ensures { (above : List (Read F.Scope F.Row)) → F.holds above self.now.format → Checks result (if last then F.grammar.left_open above line.now else None) }
+        ensures { (above : List (Read F.Scope F.Row)) → F.holds above self.now.format →
+            Checks result (if last then F.grammar.left_open above line.now else None) }
     {
         if last {
             return self.format.check_open(line);
@@ -89,8 +93,11 @@ impl<F: Format> Document<F::Scope, F> {
 
     // Takes a line below heads.
     fn take_body(&mut self, line: &Taken, last: bool) -> Result<(), Refusal>
-        ensures fault { (above : List (Read F.Scope F.Row)) → Held F.holds above self.old → Checks result (fault_as F.grammar above line.now last form.Body) }
-        ensures rows { (above : List (Read F.Scope F.Row)) → Held F.holds above self.old → OnOk result (Held F.holds (above ++ form_read F.grammar above line.now form.Body) self.new) }
+        ensures fault { (above : List (Read F.Scope F.Row)) → Held F.holds above self.old →
+            Checks result (fault_as F.grammar above line.now last form.Body) }
+        ensures rows { (above : List (Read F.Scope F.Row)) → Held F.holds above self.old →
+            OnOk result
+            (Held F.holds (above ++ form_read F.grammar above line.now form.Body) self.new) }
     {
         match self.body_rows(line) {
             Ok(rows) => {
@@ -104,8 +111,13 @@ impl<F: Format> Document<F::Scope, F> {
 
     // Enters the sections of heads.
     fn take_heads(&mut self, line: &Taken, heads: &[Head]) -> Result<(), Refusal>
-        ensures fault { (above : List (Read F.Scope F.Row)) (last : Bool) (hs : _) → hs ≡ heads.now → Held F.holds above self.old → Checks result (fault_as F.grammar above line.now last (form.Heads hs)) }
-        ensures rows { (above : List (Read F.Scope F.Row)) (hs : _) → hs ≡ heads.now → Held F.holds above self.old → OnOk result (Held F.holds (above ++ form_read F.grammar above line.now (form.Heads hs)) self.new) }
+        ensures fault { (above : List (Read F.Scope F.Row)) (last : Bool) (hs : _) →
+            hs ≡ heads.now → Held F.holds above self.old →
+            Checks result (fault_as F.grammar above line.now last (form.Heads hs)) }
+        ensures rows { (above : List (Read F.Scope F.Row)) (hs : _) → hs ≡ heads.now →
+            Held F.holds above self.old →
+            OnOk result
+            (Held F.holds (above ++ form_read F.grammar above line.now (form.Heads hs)) self.new) }
     {
         let above = self.format.check_heads(line, heads);
         match scopes_of(self.alloc, &self.format, line, heads) {
@@ -121,8 +133,10 @@ impl<F: Format> Document<F::Scope, F> {
 
     // Takes a line of this form.
     fn take(&mut self, line: &Taken, last: bool, form: LineForm) -> Result<(), Refusal>
-        ensures fault { (above : List (Read F.Scope F.Row)) → Held F.holds above self.old → Checks result (fault_as F.grammar above line.now last form) }
-        ensures rows { (above : List (Read F.Scope F.Row)) → Held F.holds above self.old → OnOk result (Held F.holds (above ++ form_read F.grammar above line.now form) self.new) }
+        ensures fault { (above : List (Read F.Scope F.Row)) → Held F.holds above self.old →
+            Checks result (fault_as F.grammar above line.now last form) }
+        ensures rows { (above : List (Read F.Scope F.Row)) → Held F.holds above self.old →
+            OnOk result (Held F.holds (above ++ form_read F.grammar above line.now form) self.new) }
     {
         match form {
             LineForm::Blank => self.check_end(line, last),

@@ -8,7 +8,8 @@ use build_base::Refusal;
 
 /// Of two refusals of one line that of the lesser code, of one code the first.
 pub fn lesser_refusal(first: Refusal, second: Refusal) -> Refusal
-    ensures { (fault other : Option Found) → Finds first fault → Finds second other → Finds result (lesser fault other) }
+    ensures { (fault other : Option Found) → Finds first fault → Finds second other →
+        Finds result (lesser fault other) }
 {
     match (first, second) {
         (Refusal::Bad(fault), Refusal::Bad(other)) => {
@@ -24,7 +25,8 @@ pub fn lesser_refusal(first: Refusal, second: Refusal) -> Refusal
 
 /// The least of what a check found and of a refusal.
 pub fn least_refusal(found: Result<(), Refusal>, refusal: Refusal) -> Refusal
-    ensures { (fault other : Option Found) → Checks found fault → Finds refusal other → Finds result (lesser fault other) }
+    ensures { (fault other : Option Found) → Checks found fault → Finds refusal other →
+        Finds result (lesser fault other) }
 {
     match found {
         Ok(()) => refusal,
@@ -34,7 +36,8 @@ pub fn least_refusal(found: Result<(), Refusal>, refusal: Refusal) -> Refusal
 
 /// The least of a refusal and of what a check found.
 pub fn with_check(refusal: Refusal, check: Result<(), Refusal>) -> Refusal
-    ensures { (fault other : Option Found) → Finds refusal fault → Checks check other → Finds result (lesser fault other) }
+    ensures { (fault other : Option Found) → Finds refusal fault → Checks check other →
+        Finds result (lesser fault other) }
 {
     match check {
         Ok(()) => refusal,
@@ -44,7 +47,8 @@ pub fn with_check(refusal: Refusal, check: Result<(), Refusal>) -> Refusal
 
 /// The least of what a check and others find.
 pub fn lesser_check(first: Result<(), Refusal>, rest: Result<(), Refusal>) -> Result<(), Refusal>
-    ensures { (fault other : Option Found) → Checks first fault → Checks rest other → Checks result (lesser fault other) }
+    ensures { (fault other : Option Found) → Checks first fault → Checks rest other →
+        Checks result (lesser fault other) }
 {
     match first {
         Ok(()) => rest,
@@ -61,7 +65,8 @@ pub fn least_of_one(check: Result<(), Refusal>) -> Result<(), Refusal>
 
 /// What two checks find: of their faults the one of the lesser code, of one code the first.
 pub fn least_of_two(first: Result<(), Refusal>, second: Result<(), Refusal>) -> Result<(), Refusal>
-    ensures { (a b : Option Found) → Checks first a → Checks second b → Checks result (least_of (a ∷ b ∷ [])) }
+    ensures { (a b : Option Found) → Checks first a → Checks second b →
+        Checks result (least_of (a ∷ b ∷ [])) }
 {
     lesser_check(first, least_of_one(second))
 }
@@ -72,7 +77,8 @@ pub fn least_of_three(
     second: Result<(), Refusal>,
     third: Result<(), Refusal>,
 ) -> Result<(), Refusal>
-    ensures { (a b c : Option Found) → Checks first a → Checks second b → Checks third c → Checks result (least_of (a ∷ b ∷ c ∷ [])) }
+    ensures { (a b c : Option Found) → Checks first a → Checks second b → Checks third c →
+        Checks result (least_of (a ∷ b ∷ c ∷ [])) }
 {
     lesser_check(first, least_of_two(second, third))
 }
@@ -84,7 +90,8 @@ pub fn least_of_four(
     third: Result<(), Refusal>,
     fourth: Result<(), Refusal>,
 ) -> Result<(), Refusal>
-    ensures { (a b c d : Option Found) → Checks first a → Checks second b → Checks third c → Checks fourth d → Checks result (least_of (a ∷ b ∷ c ∷ d ∷ [])) }
+    ensures { (a b c d : Option Found) → Checks first a → Checks second b → Checks third c →
+        Checks fourth d → Checks result (least_of (a ∷ b ∷ c ∷ d ∷ [])) }
 {
     lesser_check(first, least_of_three(second, third, fourth))
 }
@@ -97,7 +104,8 @@ pub fn least_of_five(
     fourth: Result<(), Refusal>,
     fifth: Result<(), Refusal>,
 ) -> Result<(), Refusal>
-    ensures { (a b c d e : Option Found) → Checks first a → Checks second b → Checks third c → Checks fourth d → Checks fifth e → Checks result (least_of (a ∷ b ∷ c ∷ d ∷ e ∷ [])) }
+    ensures { (a b c d e : Option Found) → Checks first a → Checks second b → Checks third c →
+        Checks fourth d → Checks fifth e → Checks result (least_of (a ∷ b ∷ c ∷ d ∷ e ∷ [])) }
 {
     lesser_check(first, least_of_four(second, third, fourth, fifth))
 }

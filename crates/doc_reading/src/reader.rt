@@ -17,8 +17,10 @@ pub trait Reader {
 
     /// Reads one line more.
     fn line(&mut self, line: &Taken, last: bool) -> Result<(), Refusal>
-        ensures fault { (above : List Line) → read above self.old → Checks result (fault above line.now last) }
-        ensures rows { (above : List Line) → read above self.old → OnOk result (read (above ++ line.now ∷ []) self.new) };
+        ensures fault { (above : List Line) → read above self.old →
+            Checks result (fault above line.now last) }
+        ensures rows { (above : List Line) → read above self.old →
+            OnOk result (read (above ++ line.now ∷ []) self.new) };
 }
 
 /// Reads all lines, or answers the fault of the first line that has one.

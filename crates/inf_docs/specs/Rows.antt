@@ -35,3 +35,8 @@ line_faults line scope = faults_in line scope.kind
 
 unfoldable pub line_row : Taken → Scope → Option Row
 line_row line scope = row_in line scope.arch scope.kind
+
+-- every section but [Defines] lists what its lines state
+abbrev pub Lists : SectionKind → Type 0
+Lists Defines = ⊥
+Lists kind = Unit {0}

@@ -162,7 +162,8 @@ fn push_scopes(
     parts: &mut Rows<DepexPart>,
     section: &OpenSection,
 ) -> Result<(), WantOfMemory>
-    ensures { OnOk result (parts.new ≡ parts.old ++ flat_map (part_of section.now) section.now.scopes) }
+    ensures { OnOk result
+        (parts.new ≡ parts.old ++ flat_map (part_of section.now) section.now.scopes) }
 {
     for scope in section.scopes.items() {
         push_part(alloc, parts, section, *scope)?;

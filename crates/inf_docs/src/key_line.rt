@@ -94,7 +94,8 @@ fn key_row(
     key: Option<ModuleKey>,
     value: &[u8],
 ) -> Result<Option<Row>, Refusal>
-    ensures { Answers result (judged (key_faults line.now key value.now) (key_row line.now key value.now)) }
+    ensures { Answers result
+        (judged (key_faults line.now key value.now) (key_row line.now key value.now)) }
 {
     match key {
         Some(key) => {

@@ -5,6 +5,7 @@ mod class;
 mod depex;
 mod key;
 mod key_line;
+pub mod laws;
 mod module;
 mod names;
 mod pcd_line;
@@ -14,6 +15,3 @@ mod section;
 mod tables;
 
 pub use reading::read_inf;
-
-#[cfg(test)]
-mod tests;

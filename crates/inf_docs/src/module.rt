@@ -115,7 +115,8 @@ impl Format for ModuleFormat {
     }
 
     fn keep(&mut self, rows: Vec<Row>) -> Result<(), WantOfMemory>
-        ensures { (above : List (Read Entered Said)) → Holds above self.old → OnOk result (Holds (above ++ gave rows.items ∷ []) self.new) }
+        ensures { (above : List (Read Entered Said)) → Holds above self.old →
+            OnOk result (Holds (above ++ gave rows.items ∷ []) self.new) }
     {
         add_terms(self.alloc, &mut self.section, rows.as_slice())?;
         self.tables.take(rows)?;

@@ -34,7 +34,8 @@ fn check_pcd(
     fields: &[Text],
     pcd: &Option<PcdName>,
 ) -> Result<(), Refusal>
-    ensures { pcd.now ≡ pcd_name_of (first_text fields.now) → Checks result (pcd_fault line.now fields.now) }
+    ensures { pcd.now ≡ pcd_name_of (first_text fields.now) →
+        Checks result (pcd_fault line.now fields.now) }
 {
     let name = first_text(fields);
     if !is_pcd_form(fields) {

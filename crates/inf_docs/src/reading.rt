@@ -79,7 +79,8 @@ fn document(
 
 // The document of what was read, with the parts of the last section.
 fn finish(root: &Path, format: ModuleFormat) -> Result<InfDoc, Refusal>
-    ensures { Answers result (document_of root.now format.tables (format.parts ++ parts_in format.section)) }
+    ensures { Answers result
+        (document_of root.now format.tables (format.parts ++ parts_in format.section)) }
 {
     let ModuleFormat {
         alloc,
