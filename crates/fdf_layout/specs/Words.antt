@@ -6,7 +6,7 @@ use Rattle.meta_lexer.specs.Lines.{is_blank, without_blanks}
 use Rattle.meta_lexer.specs.Numbers.{number_of}
 use Rattle.meta_lexer.specs.Words.{same_word}
 use Rattle.doc_types.specs.declared.volume.Align.{Align}
-use Rattle.doc_types.specs.declared.volume.Align.TheVariants.{Unset, Bytes}
+use Rattle.doc_types.specs.declared.volume.Align.TheVariants.{Unset, Auto, Bytes}
 use Rattle.fdf_layout.specs.declared.word.FileOption.{FileOption}
 use Rattle.fdf_layout.specs.declared.word.FileOption.TheVariants.{Fixed, Checksum, Aligned}
 use Rattle.fdf_layout.specs.declared.word.Options.{Options}
@@ -66,6 +66,7 @@ option_named word =
 
 abbrev pub is_unset : Align → Bool
 is_unset Unset = true
+is_unset Auto = false
 is_unset (Bytes n) = false
 
 abbrev pub with_align : Options → Option (ℕ × List ℕ) → Option (Options × List ℕ)

@@ -18,6 +18,3 @@ pub mod whole;
 pub mod word;
 
 pub use reading::read_flash;
-
-#[cfg(test)]
-mod tests;

@@ -153,7 +153,7 @@ fn with_align(options: Options, rest: &[u8]) -> Option<(Options, &[u8])>
             },
             rest,
         )),
-        Align::Bytes(_) => None,
+        Align::Auto | Align::Bytes(_) => None,
     }
 }
 

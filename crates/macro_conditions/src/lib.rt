@@ -16,3 +16,6 @@ mod work;
 pub use expansion::{Turned, expand};
 pub use expression::{Value, evaluate};
 pub use known::Known;
+
+#[cfg(test)]
+mod tests;
