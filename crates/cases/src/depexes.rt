@@ -72,12 +72,7 @@ fn part(alloc: Global, at: Place, words: &str) -> Result<DepexPart, Wrong> {
     })
 }
 
-fn add_to_group(
-    alloc: Global,
-    group: &mut DepexGroup,
-    at: Place,
-    line: &str,
-) -> Result<(), Wrong> {
+fn add_to_group(alloc: Global, group: &mut DepexGroup, at: Place, line: &str) -> Result<(), Wrong> {
     let (word, rest) = first_word(line);
     match word {
         "guid" => group.guids.push(named(alloc, at, rest)?)?,

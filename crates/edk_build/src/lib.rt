@@ -21,4 +21,3 @@ pub mod words;
 pub use building::run;
 pub use key::Key;
 pub use status::Status;
-

@@ -86,8 +86,13 @@ fn make_flash(alloc: Global, book: &mut Book<Key>, lines: &Lines) -> Result<Flas
 
 #[tactic(auto, using(crate::proofs::ShapeLemmas::empty_shape))]
 fn empty_flash(alloc: Global, platform: &PlatformDoc) -> Result<FlashDoc, WantOfMemory>
-    ensures value { IfOk result (λ f. f ≡ record { at = platform.now.at; sets = []; devices = []; volumes = [];
-        rule_list = [] }) }
+    ensures value { IfOk result (λ f. f ≡ record {
+      at = platform.now.at;
+      sets = [];
+      devices = [];
+      volumes = [];
+      rule_list = [];
+    }) }
     ensures shape { IfOk result HasShape }
 {
     Ok(FlashDoc {
