@@ -8,19 +8,19 @@ ghost use Rattle.step_engine.specs.Items.{IsAsked, IsCheck, IsResumed, IsChecked
 ghost use Rattle.step_engine.specs.Taking.{SortsIn, IsList, ListNotes};
 
 use crate::answers::{answers, check_batch};
+use crate::cache::Cache;
+use crate::files::FilesRead;
 use crate::items::{Asked, Check, Checked, Item, Run};
 use crate::places::Places;
+use crate::refusal::EngineRefusal;
+use crate::rules::Rules;
 use crate::table::{make_old, rerun};
+use crate::talk::{Batch, Entry};
 use build_base::book::Book;
 use build_base::outside::Tree;
 use build_base::rows::Rows;
 use build_base::text::{Text, WantOfMemory};
 use std::alloc::Global;
-use crate::cache::Cache;
-use crate::files::FilesRead;
-use crate::refusal::EngineRefusal;
-use crate::rules::Rules;
-use crate::talk::{Batch, Entry};
 
 // A step that asked is answered where all has an answer by now, and else it waits on.
 fn resume<R: Rules, T: Tree>(

@@ -8,19 +8,19 @@ ghost use Rattle.step_engine.specs.Reading.{read_at};
 ghost use Rattle.step_engine.specs.Table.{place_at, Finds};
 ghost use Rattle.step_engine.specs.Items.{IsStill};
 
+use crate::cache::Cache;
+use crate::files::FilesRead;
 use crate::places::Places;
+use crate::read::read_once;
+use crate::refusal::EngineRefusal;
+use crate::rules::Rules;
 use crate::table::result_of;
+use crate::talk::{Answer, Ask, Entry, Pair};
 use build_base::outside::Tree;
 use build_base::rows::Rows;
 use build_base::same::Same;
 use build_base::text::{Text, WantOfMemory};
 use std::alloc::Global;
-use crate::cache::Cache;
-use crate::files::FilesRead;
-use crate::read::read_once;
-use crate::refusal::EngineRefusal;
-use crate::rules::Rules;
-use crate::talk::{Answer, Ask, Entry, Pair};
 
 // The text of a field, which is empty where there is none.
 fn field(alloc: Global, job: &Rows<Text>, number: u8) -> Result<Text, WantOfMemory>

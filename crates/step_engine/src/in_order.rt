@@ -3,13 +3,13 @@ ghost use Rattle.std.specs.Prelude.{IfOk, OnOk, IsPermutation};
 ghost use Rattle.step_engine.specs.Caches.{PutsMissing};
 ghost use Rattle.step_engine.specs.Rounds.{IsOneEach, AreSame};
 
+use crate::cache::Cache;
+use crate::rules::StepKey;
+use crate::talk::Entry;
 use build_base::same::Same;
 use build_base::text::WantOfMemory;
 use std::alloc::Global;
 use std::cmp::Ordering;
-use crate::cache::Cache;
-use crate::rules::StepKey;
-use crate::talk::Entry;
 
 // The entries in ascending order of their keys.
 fn sorted<K: StepKey, O: Drop>(entries: Vec<Entry<K, O>>) -> Result<Vec<Entry<K, O>>, WantOfMemory>

@@ -1,8 +1,8 @@
 //! What is under way.
-use build_base::book::Permit;
-use build_base::rows::Rows;
 use crate::rules::Turn;
 use crate::talk::{Ask, Entry, Talk};
+use build_base::book::Permit;
+use build_base::rows::Rows;
 
 /// A step that is to make its next turn.
 #[derive(Drop)]

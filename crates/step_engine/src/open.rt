@@ -3,18 +3,18 @@ ghost use Rattle.std.specs.Prelude.{MatchOption, ◌≡◌, IfOk, OnErr};
 ghost use Rattle.step_engine.specs.Table.{place_at};
 ghost use Rattle.step_engine.specs.Opening.{IsOpened, Opens, OpensNoted};
 
+use crate::cache::Cache;
 use crate::items::{Check, Item, Run};
 use crate::places::{Place, Places};
+use crate::rules::StepKey;
 use crate::table::grant;
+use crate::talk::Talk;
 use crate::turns::put_in;
 use build_base::book::Book;
 use build_base::rows::Rows;
 use build_base::same::Same;
 use build_base::text::WantOfMemory;
 use std::alloc::Global;
-use crate::cache::Cache;
-use crate::rules::StepKey;
-use crate::talk::Talk;
 
 // A key that is met for the first time: its old entry is checked, or its step runs.
 fn open<K: StepKey, O: Same + Drop>(

@@ -2,11 +2,11 @@
 ghost use Rattle.std.specs.Prelude.{◌≡◌, [], OnOk, OnErr};
 ghost use Rattle.step_engine.specs.Table.{place_at, IsPlaced};
 
+use crate::rules::StepKey;
 use build_base::text::WantOfMemory;
 use std::alloc::Global;
 use std::collections::BTreeMap;
 use std::marker::Model;
-use crate::rules::StepKey;
 
 /// Where a key stands: its old entry is checked, its step runs, or its entry is made, and has this number.
 #[derive(Clone, Copy, Debug)]

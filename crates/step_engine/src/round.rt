@@ -8,8 +8,13 @@ ghost use Rattle.step_engine.specs.Items.{IsReady, AreItems, AreItemsWanted};
 ghost use Rattle.step_engine.specs.Taking.{IsList, ListNotes};
 
 use crate::advance::advance_all;
+use crate::cache::Cache;
+use crate::files::FilesRead;
 use crate::items::Item;
 use crate::places::Places;
+use crate::refusal::EngineRefusal;
+use crate::rules::Rules;
+use crate::talk::Entry;
 use crate::turns::{take_all, turns};
 use build_base::book::Book;
 use build_base::outside::{Gate, Tree};
@@ -17,11 +22,6 @@ use build_base::rows::Rows;
 use build_base::text::Text;
 use std::alloc::Global;
 use std::thread::Threads;
-use crate::cache::Cache;
-use crate::files::FilesRead;
-use crate::refusal::EngineRefusal;
-use crate::rules::Rules;
-use crate::talk::Entry;
 
 /// What is left of the keys of a list after a round: each that has its answers goes on, and those
 /// that are to make a turn make it in one wave.

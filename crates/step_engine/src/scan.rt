@@ -61,16 +61,7 @@ fn scan_all<R: Rules>(
 {
     let mut opened = Vec::new(alloc);
     for item in items {
-        scan(
-            alloc,
-            rules,
-            old,
-            item,
-            places,
-            book,
-            waiting,
-            &mut opened,
-        )?;
+        scan(alloc, rules, old, item, places, book, waiting, &mut opened)?;
     }
     Ok(opened)
 }

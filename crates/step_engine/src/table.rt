@@ -7,13 +7,13 @@ ghost use Rattle.step_engine.specs.declared.places.Place.TheVariants.{Checking a
 
 use crate::items::{Item, Run};
 use crate::places::{Place, Places};
+use crate::rules::StepKey;
+use crate::talk::{Entry, Outcome, Talk};
 use build_base::book::{Book, Permit};
 use build_base::rows::Rows;
 use build_base::same::Same;
 use build_base::text::WantOfMemory;
 use std::alloc::Global;
-use crate::rules::StepKey;
-use crate::talk::{Entry, Outcome, Talk};
 
 /// The permit of a key, which runs from now on.
 pub fn grant<K: StepKey>(

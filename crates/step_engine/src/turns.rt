@@ -7,13 +7,13 @@ ghost use Rattle.step_engine.specs.Taking.{TakesUp, PutsIn, Takes};
 
 use crate::items::{Asked, Item, Run, Turned};
 use crate::places::Places;
+use crate::rules::{Rules, StepKey, Turn};
 use crate::table::make_new;
+use crate::talk::Entry;
 use build_base::outside::Gate;
 use build_base::text::WantOfMemory;
 use std::alloc::Global;
 use std::thread::Threads;
-use crate::rules::{Rules, StepKey, Turn};
-use crate::talk::Entry;
 use wave_pool::run_wave;
 
 /// The turns of a wave, in its order. Waves that have turns are numbered.

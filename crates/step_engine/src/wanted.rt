@@ -3,15 +3,15 @@ ghost use Rattle.std.specs.Prelude.{OnOk, IfOk, Contains};
 ghost use Rattle.step_engine.specs.Meaning.{asks_of};
 ghost use Rattle.step_engine.specs.Wanting.{AddsParts, ArePartsOf, IsAskedBy, WantsItem};
 
+use crate::answers::is_lower;
 use crate::items::Item;
 use crate::places::{Place, Places};
+use crate::rules::{Rules, StepKey};
+use crate::talk::{Ask, Pair};
 use build_base::rows::Rows;
 use build_base::same::Same;
 use build_base::text::WantOfMemory;
 use std::alloc::Global;
-use crate::rules::{Rules, StepKey};
-use crate::answers::is_lower;
-use crate::talk::{Ask, Pair};
 
 // Adds the part of an ask, where it is of lower rank and isn't done.
 fn want<R: Rules>(
