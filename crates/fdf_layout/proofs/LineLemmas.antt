@@ -1,5 +1,5 @@
 -- What the form of a line without a fault says.
-use Rattle.std.proofs.Common.{◌≡◌, ℕ, Bool, Option, Some, None, Result, Ok, Err, ap}
+use Rattle.std.proofs.Common.{◌≡◌, ℕ, Option, Some, None, Result, Ok, Err, ap}
 use Rattle.build_base.specs.First.{and_then, unless}
 use Rattle.build_base.specs.declared.fault.Fault.{Fault}
 use Rattle.build_base.specs.declared.lines.Taken.{Taken}
@@ -7,9 +7,7 @@ use Rattle.fdf_layout.specs.declared.line.FlashLine.{FlashLine}
 use Rattle.fdf_layout.specs.declared.context.FlashContext.{FlashContext}
 use Rattle.fdf_layout.specs.Lines.{flash_line}
 use Rattle.fdf_layout.specs.Contexts.{zone_of, found, read_as}
-use Rattle.fdf_layout.specs.Standing.{standing, own_line, end_fault, fault_below}
-use Rattle.build_base.specs.Answer.{Finds}
-use Rattle.build_base.specs.declared.refusal.Refusal.{Refusal}
+use Rattle.fdf_layout.specs.Standing.{standing, own_line}
 
 unless_value : (fault : Option Fault) (value form : FlashLine) → unless fault value ≡ Ok form → value ≡ form
 unless_value None value form h = ap found h
@@ -22,8 +20,3 @@ found_form (Err fault) check form h = absurd cc
 -- it is what the line is below others
 pub form_is : (closed : ℕ) (context : FlashContext) (line : Taken) (form : FlashLine) → own_line closed context line ≡ Ok form → read_as context line ≡ form
 form_is closed context line form h = found_form (flash_line (zone_of context.section) line) (standing closed context line) form h
-
--- the fault at the end, below a line that has none of its own
-pub end_alone : (closed : ℕ) (context : FlashContext) (line : Taken) (last : Bool) (form : FlashLine) (refusal : Refusal) → own_line closed context line ≡ Ok form
-    → Finds refusal (end_fault (zone_of context.section) line last) → Finds refusal (fault_below closed context line last)
-end_alone closed context line last form refusal own h = rw own h

@@ -177,7 +177,10 @@ impl Reader for FlashReader {
         let zone = self.context.section.zone();
         match self.read(line) {
             Ok(form) => {
-                end_fault(self.alloc, zone, line, last)?;
+                if let Err(refusal) = end_fault(self.alloc, zone, line, last) {
+                    drop(form);
+                    return Err(refusal);
+                }
                 self.take(&line.at, form)?;
                 Ok(())
             }

@@ -1,5 +1,5 @@
 use Rattle.std.proofs.Common.{length, sym, subst}
-use Rattle.fdf_layout.proofs.LineLemmas.{form_is, end_alone}
+use Rattle.fdf_layout.proofs.LineLemmas.{form_is}
 use Rattle.fdf_layout.proofs.More.{Takes, holds_more}
 use Rattle.fdf_layout.proofs.reading.FlashReaderReader.line.Goals as goal
 
@@ -20,10 +20,3 @@ returns-in_ok-take-in-Ok-clause-rows c = λ above h.
       regions = t.regions;
       volumes = t.volumes;
     }))
-
-pub returns-in_err-end_fault-in-Ok-clause-fault : goal.returns-in_err-end_fault-in-Ok-clause-fault
-returns-in_err-end_fault-in-Ok-clause-fault c = λ above h.
-    let context = h.context in
-    let volumes = h.volumes in
-    rw (sym context, sym volumes)
-    (rw c.from_residual.ensures (end_alone (length c.args.self.now.volumes) c.args.self.now.context c.args.line.now c.args.last c.in-Ok.form c.in_err-end_fault-in-Ok.field-0.0 c.in-Ok.ensures ?))
