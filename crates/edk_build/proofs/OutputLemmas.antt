@@ -4,6 +4,7 @@ use Rattle.std.specs.List.{range_with_len}
 use Rattle.build_base.specs.First.{and_then, all_ok}
 use Rattle.build_base.specs.World.{World}
 use Rattle.build_base.specs.declared.fault.Fault.{Fault}
+use Rattle.build_base.specs.declared.fault.Place.{Place}
 use Rattle.doc_types.specs.declared.flash.FlashDoc.{FlashDoc}
 use Rattle.doc_types.specs.declared.flash.DevicePlan.{DevicePlan}
 use Rattle.doc_types.specs.declared.flash.RegionKind.{RegionKind}

@@ -16,7 +16,7 @@ use Rattle.doc_types.specs.declared.flash.DevicePlan.{DevicePlan}
 use Rattle.doc_types.specs.declared.flash.RegionKind.{RegionKind}
 use Rattle.doc_types.specs.declared.flash.RegionKind.TheVariants.{Empty, Bytes, Tree, Volume}
 use Rattle.doc_types.specs.declared.volume.VolumePlan.{VolumePlan}
-use Rattle.edk_build.specs.FileValues.{whole_file, volume_planned}
+use Rattle.edk_build.specs.FileValues.{unbuilt, whole_file, volume_planned}
 use Rattle.dsc_platform.specs.Platform.{platform_of}
 use Rattle.fdf_layout.specs.Flash.{flash_of}
 use Rattle.fd_regions.specs.Device.{device_of}

@@ -5,5 +5,5 @@ use Rattle.edk_build.proofs.device_step.check_contents.Given as goal
 
 abbrev pub invariant-loop-region : goal.invariant-loop-region
 invariant-loop-region l =
-    with_front (all_placed l.volumes (take l.region-index l.regions)) (all_ok (map (λ region. content_among l.flash l.volumes region.kind) (drop l.region-index l.regions)))
-    ≡ all_ok (map (λ region. content_among l.flash l.volumes region.kind) l.regions)
+    with_front (all_placed l.volumes (take l.region-index l.regions)) (all_ok (map (λ region. content_among l.flash l.volumes region.at region.kind) (drop l.region-index l.regions)))
+    ≡ all_ok (map (λ region. content_among l.flash l.volumes region.at region.kind) l.regions)
