@@ -336,7 +336,7 @@ fn tell_code(
 }
 
 /// The bytes of a module's dependency expression, with the names of its packages.
-pub fn call_compile(alloc: Global, files: &[Output], root: &str) -> Result<Told, Wrong> {
+pub fn call_compile_module(alloc: Global, files: &[Output], root: &str) -> Result<Told, Wrong> {
     let mut told = Told::new(alloc);
     let root = Path::new(alloc, root.as_bytes())?;
     if let Some(lines) = lines_of(alloc, &mut told, files, &root)? {
