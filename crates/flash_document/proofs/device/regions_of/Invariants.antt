@@ -1,0 +1,9 @@
+use Rattle.std.proofs.Common.{length, ◌≡◌, ◌++◌}
+use Rattle.flash_document.specs.Devices.{regions_of}
+use Rattle.flash_document.proofs.device.regions_of.Given as goal
+
+abbrev pub invariant-loop-left : goal.invariant-loop-left
+invariant-loop-left l = l.regions ++ regions_of l.k l.left ≡ regions_of l.k l.lines
+
+abbrev pub decreases-loop-left : goal.decreases-loop-left
+decreases-loop-left l = length l.left

@@ -1,0 +1,12 @@
+pub mod Numbering
+pub mod Turning
+pub mod Columns
+pub mod Devices
+pub mod Volumes
+pub mod Sets
+pub mod Parts
+pub mod Names
+pub mod Whole
+pub mod Held
+pub mod Document
+pub mod Rules

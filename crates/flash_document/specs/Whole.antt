@@ -1,0 +1,257 @@
+-- The checks over a whole flash description (EDK II FDF specification; the limits are this project's own), in the order of their codes; of one code
+-- the one of the earliest place.
+use Rattle.std.specs.Prelude.{ℕ, ◌*◌, ◌-◌, ◌%◌, nat_le, ◌==◌, if◌then◌else◌, List, [], ◌∷◌, ◌++◌, map, Option, Some, None, is_some, unwrap_or, codes, decimal, slice_get, nat_eq}
+use Rattle.std.specs.List.{flat_map}
+use Rattle.std.specs.Cmp.Lexicographic.{pointwise}
+use Rattle.build_base.specs.First.{first_of}
+use Rattle.build_base.specs.FaultText.{fault_of}
+use Rattle.build_base.specs.declared.fault.Fault.{Fault}
+use Rattle.build_base.specs.declared.fault.Place.{Place}
+use Rattle.meta_lexer.specs.Faults.{first_fault}
+use Rattle.fdf_lines.specs.declared.rows.LineRead.{LineRead}
+use Rattle.fdf_lines.specs.declared.rows.LineRead.TheVariants.{Heads, Body}
+use Rattle.fdf_lines.specs.declared.rows.Row.{Row}
+use Rattle.fdf_lines.specs.declared.rows.Row.TheVariants as row
+use Rattle.fdf_lines.specs.declared.rows.Content.{Content}
+use Rattle.fdf_lines.specs.declared.rows.Content.TheVariants as content
+use Rattle.fdf_lines.specs.declared.rows.RegionContent.{RegionContent}
+use Rattle.fdf_lines.specs.declared.rows.SectionBody.{SectionBody}
+use Rattle.fdf_lines.specs.declared.rows.SectionBody.TheVariants as body
+use Rattle.fdf_lines.specs.declared.rows.SectionLine.{SectionLine}
+use Rattle.flash_document.specs.declared.stated.Stated.{Stated}
+use Rattle.flash_document.specs.declared.stated.Stated.TheVariants.{Settings, Device, Volume, Rule}
+use Rattle.flash_document.specs.declared.stated.StatedItem.{StatedItem}
+use Rattle.flash_document.specs.declared.stated.StatedItem.TheVariants as item
+use Rattle.flash_document.specs.declared.stated.StatedRegion.{StatedRegion}
+use Rattle.flash_document.specs.declared.stated.StatedVolume.{StatedVolume}
+use Rattle.flash_document.specs.declared.held.HeldRegion.{HeldRegion}
+use Rattle.flash_document.specs.declared.held.HeldSizes.{HeldSizes}
+use Rattle.flash_document.specs.Devices.{capped}
+use Rattle.flash_document.specs.Names.{folded, place_of}
+use Rattle.flash_document.specs.Numbering.{first_loop}
+
+abbrev pub volume_in : Stated → List StatedVolume
+volume_in (Volume volume) = volume ∷ []
+volume_in stated = []
+
+-- the volumes, in file order
+abbrev pub volumes_of : List Stated → List StatedVolume
+volumes_of parts = flat_map volume_in parts
+
+abbrev pub names_of : List Stated → List (List ℕ)
+names_of parts = map (λ v. v.name) (volumes_of parts)
+
+abbrev pub name_in : Content → List (List ℕ)
+name_in (content.Volume name) = name ∷ []
+name_in content = []
+
+abbrev pub held_names : Option RegionContent → List (List ℕ)
+held_names None = []
+held_names (Some stated) = name_in stated.content
+
+abbrev pub region_held : Option ℕ → StatedRegion → List HeldRegion
+region_held block region = map (λ name. record { name = name; size = region.size; block = block }) (held_names region.content)
+
+abbrev pub part_held : Stated → List HeldRegion
+part_held (Device device) = flat_map (region_held device.first_block) device.regions
+part_held stated = []
+
+-- the regions that hold volumes, each with the first block size of its device
+abbrev pub all_held : List Stated → List HeldRegion
+all_held parts = flat_map part_held parts
+
+abbrev pub other_in : ℕ → List HeldRegion → Option ℕ
+other_in size [] = None
+other_in size (region ∷ regions) = if region.size == size then other_in size regions else Some region.size
+
+-- of some regions the first, and the first size that differs from its own
+abbrev pub sizes_of : List HeldRegion → Option HeldSizes
+sizes_of [] = None
+sizes_of (region ∷ regions) = Some (record { first = region.size; block = region.block; other = other_in region.size regions })
+
+abbrev pub regions_named : List ℕ → List HeldRegion → List HeldRegion
+regions_named key [] = []
+regions_named key (region ∷ regions) = if pointwise nat_eq (folded region.name) key then region ∷ regions_named key regions else regions_named key regions
+
+-- the sizes of the regions that hold the volume of a name, which is given in lower case
+abbrev pub held_by : List ℕ → List HeldRegion → Option HeldSizes
+held_by key regions = sizes_of (regions_named key regions)
+
+abbrev pub held_of : List HeldRegion → StatedVolume → Option HeldSizes
+held_of regions volume = held_by (folded volume.name) regions
+
+-- the first size that isn't this one
+abbrev pub other_than : ℕ → Option HeldSizes → Option ℕ
+other_than size None = None
+other_than size (Some held) = if held.first == size then held.other else Some held.first
+
+abbrev pub first_size : Option HeldSizes → Option ℕ
+first_size None = None
+first_size (Some held) = Some held.first
+
+-- its own, else the first of the device that holds it, else 4096
+abbrev pub block_size_of : Option ℕ → Option HeldSizes → ℕ
+block_size_of (Some own) held = own
+block_size_of None (Some held) = unwrap_or held.block 4096
+block_size_of None None = 4096
+
+-- its blocks, else its region
+abbrev pub volume_size : ℕ → Option ℕ → Option HeldSizes → Option ℕ
+volume_size block (Some blocks) held = Some (capped (block * blocks))
+volume_size block None held = first_size held
+
+abbrev pub block_of : StatedVolume → Option HeldSizes → ℕ
+block_of volume held = block_size_of volume.block_size held
+
+abbrev pub size_of : StatedVolume → Option HeldSizes → Option ℕ
+size_of volume held = volume_size (block_of volume held) volume.blocks held
+
+-- `first != second`
+abbrev pub unequal : ℕ → ℕ → List ℕ
+unequal first second = decimal first ++ codes " != " ++ decimal second
+
+-- a device has a base address and a size
+abbrev pub unstated : Place → Option ℕ → Option ℕ → Option Fault
+unstated at None size = Some (fault_of 242 at (codes "BaseAddress"))
+unstated at (Some base) None = Some (fault_of 242 at (codes "Size"))
+unstated at (Some base) (Some size) = None
+
+abbrev pub part_unstated : Stated → Option Fault
+part_unstated (Device device) = unstated device.at device.base device.size
+part_unstated stated = None
+
+-- a volume has at most 0x10000000 bytes
+abbrev pub size_fault : Place → Option ℕ → Option Fault
+size_fault at (Some size) = if nat_le size 268435456 then None else Some (fault_of 249 at (decimal size))
+size_fault at None = None
+
+abbrev pub part_too_large : List HeldRegion → Stated → Option Fault
+part_too_large regions (Volume volume) = size_fault volume.at (size_of volume (held_of regions volume))
+part_too_large regions stated = None
+
+abbrev pub body_names : SectionBody → List (List ℕ)
+body_names (body.Volume name) = name ∷ []
+body_names body = []
+
+abbrev pub place_list : Option ℕ → List ℕ
+place_list None = []
+place_list (Some place) = place ∷ []
+
+abbrev pub section_nest : List (List ℕ) → SectionLine → List ℕ
+section_nest names section = flat_map (λ name. place_list (place_of names name)) (body_names section.body)
+
+abbrev pub item_nest : List (List ℕ) → StatedItem → List ℕ
+item_nest names (item.File file) = flat_map (section_nest names) file.sections
+item_nest names item = []
+
+-- the volumes that a volume holds, in the sections of its files
+abbrev pub nest_in : List (List ℕ) → StatedVolume → List ℕ
+nest_in names volume = flat_map (item_nest names) volume.items
+
+abbrev pub nests_of : List Stated → List (List ℕ)
+nests_of parts = map (nest_in (names_of parts)) (volumes_of parts)
+
+abbrev pub loop_at : Option StatedVolume → Option Fault
+loop_at None = None
+loop_at (Some volume) = Some (fault_of 250 volume.at volume.name)
+
+abbrev pub loop_named : List StatedVolume → Option ℕ → Option Fault
+loop_named volumes None = None
+loop_named volumes (Some p) = loop_at (slice_get volumes p)
+
+-- no volume holds itself
+abbrev pub loop_fault : List Stated → Option Fault
+loop_fault parts = loop_named (volumes_of parts) (first_loop (nests_of parts))
+
+abbrev pub unknown : List (List ℕ) → Place → List ℕ → Option Fault
+unknown names at name = if is_some (place_of names name) then None else Some (fault_of 251 at name)
+
+abbrev pub content_unknown : List (List ℕ) → Place → Content → Option Fault
+content_unknown names at (content.Volume name) = unknown names at name
+content_unknown names at content = None
+
+abbrev pub body_unknown : List (List ℕ) → Place → SectionBody → Option Fault
+body_unknown names at (body.Volume name) = unknown names at name
+body_unknown names at body = None
+
+-- a name in a region or a section is that of a volume
+abbrev pub row_unknown : List (List ℕ) → Row → Option Fault
+row_unknown names (row.Content stated) = content_unknown names stated.at stated.content
+row_unknown names (row.Section section) = body_unknown names section.at section.body
+row_unknown names row = None
+
+abbrev pub line_unknown : List (List ℕ) → LineRead → Option Fault
+line_unknown names (Heads at scopes) = None
+line_unknown names (Body rows) = first_fault (row_unknown names) rows
+
+-- the blocks of a device are its size
+abbrev pub device_blocks : Place → ℕ → Option ℕ → Option Fault
+device_blocks at blocks (Some size) = if blocks == size then None else Some (fault_of 255 at (unequal blocks size))
+device_blocks at blocks None = None
+
+-- another size than the first
+abbrev pub unlike : ℕ → Place → ℕ → Option ℕ → Option Fault
+unlike code at size (Some other) = Some (fault_of code at (unequal size other))
+unlike code at size None = None
+
+-- a region's size is a whole number of blocks
+abbrev pub whole_blocks : Place → ℕ → Option ℕ → Option Fault
+whole_blocks at block (Some size) = if size % block == 0 then None else Some (fault_of 255 at (unequal size (size - size % block)))
+whole_blocks at block None = None
+
+-- a volume's own size is that of each of its regions; without an own size its first region's counts
+abbrev pub blocks_with : Place → Option HeldSizes → ℕ → Option ℕ → Option Fault
+blocks_with at held block (Some blocks) = unlike 255 at (capped (block * blocks)) (other_than (capped (block * blocks)) held)
+blocks_with at held block None = whole_blocks at block (first_size held)
+
+abbrev pub volume_blocks : StatedVolume → Option HeldSizes → Option Fault
+volume_blocks volume held = blocks_with volume.at held (block_of volume held) volume.blocks
+
+abbrev pub part_blocks : List HeldRegion → Stated → Option Fault
+part_blocks regions (Device device) = device_blocks device.at device.blocks device.size
+part_blocks regions (Volume volume) = volume_blocks volume (held_of regions volume)
+part_blocks regions stated = None
+
+abbrev pub two_sizes : Place → Option HeldSizes → Option Fault
+two_sizes at None = None
+two_sizes at (Some held) = unlike 256 at held.first held.other
+
+-- the regions that hold a volume have one size
+abbrev pub part_sizes : List HeldRegion → Stated → Option Fault
+part_sizes regions (Volume volume) = two_sizes volume.at (held_of regions volume)
+part_sizes regions stated = None
+
+-- a name with the kind of the thing that has it: D, F or R
+abbrev pub part_key : Stated → Option (List ℕ)
+part_key Settings = None
+part_key (Device device) = Some (68 ∷ device.name)
+part_key (Volume volume) = Some (70 ∷ volume.name)
+part_key (Rule rule) = Some (82 ∷ rule.name)
+
+abbrev pub named_twice : Stated → Option Fault
+named_twice Settings = None
+named_twice (Device device) = Some (fault_of 261 device.at device.name)
+named_twice (Volume volume) = Some (fault_of 261 volume.at volume.name)
+named_twice (Rule rule) = Some (fault_of 261 rule.rule.at rule.name)
+
+abbrev pub twin_with : (List (List ℕ) → Option Fault) → List (List ℕ) → Option Fault → Option (List ℕ) → Option Fault
+twin_with more above fault None = more above
+twin_with more above fault (Some key) = if is_some (place_of above key) then fault else more (above ++ key ∷ [])
+
+-- the first device, volume or rule whose name one above of its kind has
+unfoldable pub twin : List Stated → List (List ℕ) → Option Fault
+twin [] above = None
+twin (part ∷ parts) above = twin_with (twin parts) above (named_twice part) (part_key part)
+
+-- the first fault of the whole
+unfoldable pub whole_fault : List LineRead → List Stated → Option Fault
+whole_fault lines parts =
+    first_of (
+    first_fault part_unstated parts
+    ∷ first_fault (part_too_large (all_held parts)) parts
+    ∷ loop_fault parts
+    ∷ first_fault (line_unknown (names_of parts)) lines
+    ∷ first_fault (part_blocks (all_held parts)) parts
+    ∷ first_fault (part_sizes (all_held parts)) parts
+    ∷ twin parts []
+    ∷ [])

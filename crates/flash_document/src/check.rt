@@ -1,0 +1,412 @@
+//! The checks over the whole of a flash description.
+ghost use Rattle.std.specs.Prelude.{◌≡◌, ◌-◌, ◌%◌, ◌++◌, ◌∷◌, [], ℕ, IfOk, OnOk, Some, List, slice_get, map};
+ghost use Rattle.std.specs.List.{flat_map};
+ghost use Rattle.build_base.specs.Answer.{Checks, Finds};
+ghost use Rattle.build_base.specs.FaultText.{fault_of};
+ghost use Rattle.meta_lexer.specs.Faults.{first_fault};
+ghost use Rattle.flash_document.specs.declared.held.HeldRegion.{HeldRegion as Part};
+ghost use Rattle.flash_document.specs.Names.{Places};
+ghost use Rattle.flash_document.specs.Held.{Sizes};
+ghost use Rattle.flash_document.specs.Whole.{other_than, first_size, block_of, size_of, unequal, unstated, part_unstated, size_fault, part_too_large, all_held, unknown, content_unknown, body_unknown, row_unknown, line_unknown, names_of, device_blocks, unlike, whole_blocks, volume_blocks, part_blocks, two_sizes, part_sizes, loop_fault, twin, part_key, named_twice, whole_fault};
+
+use crate::held::{HeldSizes, held_in};
+use crate::names::{add_name, place_in};
+use crate::stated::{Stated, StatedVolume};
+use build_base::{Place, Refusal, Rows, Text, WantOfMemory, refuse};
+use fdf_lines::rows::{Content, LineRead, Row, SectionBody};
+use indexmap::IndexMap;
+use itoa::Buffer;
+use std::alloc::Global;
+
+const SIZE_LIMIT: u64 = 0x1000_0000;
+
+/// The size of the first region that holds a volume.
+pub fn first_size(held: Option<HeldSizes>) -> Option<u64>
+    ensures { result ≡ first_size held }
+{
+    match held {
+        Some(held) => Some(held.first),
+        None => None,
+    }
+}
+
+fn other_than(size: u64, held: Option<HeldSizes>) -> Option<u64>
+    ensures { result ≡ other_than size held }
+{
+    match held {
+        Some(held) => {
+            if held.first == size {
+                held.other
+            } else {
+                Some(held.first)
+            }
+        }
+        None => None,
+    }
+}
+
+/// The block size of a volume: its own, else the first of the device that holds it, else 0x1000.
+pub fn block_of(volume: &StatedVolume, held: Option<HeldSizes>) -> u64
+    ensures { result ≡ block_of volume.now held }
+{
+    match (volume.block_size, held) {
+        (Some(own), _) => own,
+        (None, Some(held)) => held.block.unwrap_or(0x1000),
+        (None, None) => 0x1000,
+    }
+}
+
+/// The size of a volume that its blocks or its first region give.
+pub fn size_of(volume: &StatedVolume, held: Option<HeldSizes>) -> Option<u64>
+    ensures { result ≡ size_of volume.now held }
+{
+    match volume.blocks {
+        Some(blocks) => Some(block_of(volume, held).saturating_mul(blocks)),
+        None => first_size(held),
+    }
+}
+
+fn unequal(alloc: Global, first: u64, second: u64) -> Result<Text, WantOfMemory>
+    ensures { IfOk result (λ t. t ≡ unequal first second) }
+{
+    let mut digits = Buffer::new();
+    let mut out = Vec::from_slice(alloc, digits.format(first).as_bytes())?;
+    out.extend_from_slice(b" != ".as_slice())?;
+    out.extend_from_slice(digits.format(second).as_bytes())?;
+    Ok(Text::from_vec(out))
+}
+
+fn refuse_unequal(alloc: Global, code: u16, at: &Place, first: u64, second: u64) -> Refusal
+    ensures { Finds result (Some (fault_of code at.now (unequal first second))) }
+{
+    match unequal(alloc, first, second) {
+        Ok(detail) => refuse(alloc, code, at, detail.bytes()),
+        Err(_) => Refusal::WantOfMemory,
+    }
+}
+
+fn unstated(alloc: Global, at: &Place, base: Option<u64>, size: Option<u64>) -> Result<(), Refusal>
+    ensures { Checks result (unstated at.now base size) }
+{
+    match (base, size) {
+        (Some(_), Some(_)) => Ok(()),
+        (None, _) => Err(refuse(alloc, 242, at, b"BaseAddress".as_slice())),
+        (Some(_), None) => Err(refuse(alloc, 242, at, b"Size".as_slice())),
+    }
+}
+
+fn part_unstated(alloc: Global, part: &Stated) -> Result<(), Refusal>
+    ensures { Checks result (part_unstated part.now) }
+{
+    match part {
+        Stated::Device(device) => unstated(alloc, &device.at, device.base, device.size),
+        _ => Ok(()),
+    }
+}
+
+fn check_stated(alloc: Global, parts: &[Stated]) -> Result<(), Refusal>
+    ensures { Checks result (first_fault part_unstated parts.now) }
+{
+    for part in parts {
+        part_unstated(alloc, part)?;
+    }
+    Ok(())
+}
+
+fn size_fault(alloc: Global, at: &Place, size: Option<u64>) -> Result<(), Refusal>
+    ensures { Checks result (size_fault at.now size) }
+{
+    match size {
+        Some(size) if size > SIZE_LIMIT => {
+            let mut digits = Buffer::new();
+            Err(refuse(alloc, 249, at, digits.format(size).as_bytes()))
+        }
+        _ => Ok(()),
+    }
+}
+
+fn part_too_large(
+    alloc: Global,
+    sizes: &IndexMap<Vec<u8>, HeldSizes>,
+    part: &Stated,
+) -> Result<(), Refusal>
+    ensures { (regions : List Part) → Sizes regions sizes.now → Checks result (part_too_large regions part.now) }
+{
+    let Stated::Volume(volume) = part else {
+        return Ok(());
+    };
+    let held = held_in(alloc, sizes, volume)?;
+    size_fault(alloc, &volume.at, size_of(volume, held))
+}
+
+fn check_sizes(
+    alloc: Global,
+    sizes: &IndexMap<Vec<u8>, HeldSizes>,
+    parts: &[Stated],
+) -> Result<(), Refusal>
+    ensures { (regions : List Part) → Sizes regions sizes.now → Checks result (first_fault (part_too_large regions) parts.now) }
+{
+    let mut left = parts;
+    while let [part, rest @ ..] = left {
+        part_too_large(alloc, sizes, part)?;
+        left = rest;
+    }
+    Ok(())
+}
+
+fn unknown(
+    alloc: Global,
+    table: &IndexMap<Vec<u8>, usize>,
+    at: &Place,
+    name: &Text,
+) -> Result<(), Refusal>
+    ensures { (names : List (List ℕ)) → Places names table.now → Checks result (unknown names at.now name.now) }
+{
+    match place_in(alloc, table, name.bytes())? {
+        Some(_) => Ok(()),
+        None => Err(refuse(alloc, 251, at, name.bytes())),
+    }
+}
+
+fn row_unknown(alloc: Global, table: &IndexMap<Vec<u8>, usize>, row: &Row) -> Result<(), Refusal>
+    ensures { (names : List (List ℕ)) → Places names table.now → Checks result (row_unknown names row.now) }
+{
+    match row {
+        Row::Content(stated) => match &stated.content {
+            Content::Volume(name) => unknown(alloc, table, &stated.at, name),
+            _ => Ok(()),
+        },
+        Row::Section(section) => match &section.body {
+            SectionBody::Volume(name) => unknown(alloc, table, &section.at, name),
+            _ => Ok(()),
+        },
+        _ => Ok(()),
+    }
+}
+
+fn rows_unknown(
+    alloc: Global,
+    table: &IndexMap<Vec<u8>, usize>,
+    rows: &[Row],
+) -> Result<(), Refusal>
+    ensures { (names : List (List ℕ)) → Places names table.now → Checks result (first_fault (row_unknown names) rows.now) }
+{
+    let mut left = rows;
+    while let [row, rest @ ..] = left {
+        row_unknown(alloc, table, row)?;
+        left = rest;
+    }
+    Ok(())
+}
+
+fn line_unknown(
+    alloc: Global,
+    table: &IndexMap<Vec<u8>, usize>,
+    line: &LineRead,
+) -> Result<(), Refusal>
+    ensures { (names : List (List ℕ)) → Places names table.now → Checks result (line_unknown names line.now) }
+{
+    match line {
+        LineRead::Heads { .. } => Ok(()),
+        LineRead::Body(rows) => rows_unknown(alloc, table, rows.items()),
+    }
+}
+
+fn check_names(
+    alloc: Global,
+    table: &IndexMap<Vec<u8>, usize>,
+    lines: &[LineRead],
+) -> Result<(), Refusal>
+    ensures { (names : List (List ℕ)) → Places names table.now → Checks result (first_fault (line_unknown names) lines.now) }
+{
+    let mut left = lines;
+    while let [line, rest @ ..] = left {
+        line_unknown(alloc, table, line)?;
+        left = rest;
+    }
+    Ok(())
+}
+
+fn device_blocks(alloc: Global, at: &Place, blocks: u64, size: Option<u64>) -> Result<(), Refusal>
+    ensures { Checks result (device_blocks at.now blocks size) }
+{
+    match size {
+        Some(size) if blocks != size => Err(refuse_unequal(alloc, 255, at, blocks, size)),
+        _ => Ok(()),
+    }
+}
+
+fn unlike(
+    alloc: Global,
+    code: u16,
+    at: &Place,
+    size: u64,
+    other: Option<u64>,
+) -> Result<(), Refusal>
+    ensures { Checks result (unlike code at.now size other) }
+{
+    match other {
+        Some(other) => Err(refuse_unequal(alloc, code, at, size, other)),
+        None => Ok(()),
+    }
+}
+
+// What a size is past the greatest multiple of a unit; of 0 there is the multiple 0 alone.
+fn past_multiple(size: u64, unit: u64) -> u64
+    ensures { result ≡ size % unit }
+{
+    if unit == 0 { size } else { size % unit }
+}
+
+fn whole_blocks(alloc: Global, at: &Place, block: u64, size: Option<u64>) -> Result<(), Refusal>
+    ensures { Checks result (whole_blocks at.now block size) }
+{
+    let Some(size) = size else {
+        return Ok(());
+    };
+    let past = past_multiple(size, block);
+    if past == 0 {
+        return Ok(());
+    }
+    Err(refuse_unequal(alloc, 255, at, size, size.saturating_sub(past)))
+}
+
+fn volume_blocks(
+    alloc: Global,
+    volume: &StatedVolume,
+    held: Option<HeldSizes>,
+) -> Result<(), Refusal>
+    ensures { Checks result (volume_blocks volume.now held) }
+{
+    let block = block_of(volume, held);
+    match volume.blocks {
+        Some(blocks) => {
+            let own = block.saturating_mul(blocks);
+            let other = other_than(own, held);
+            unlike(alloc, 255, &volume.at, own, other)
+        }
+        None => whole_blocks(alloc, &volume.at, block, first_size(held)),
+    }
+}
+
+fn part_blocks(
+    alloc: Global,
+    sizes: &IndexMap<Vec<u8>, HeldSizes>,
+    part: &Stated,
+) -> Result<(), Refusal>
+    ensures { (regions : List Part) → Sizes regions sizes.now → Checks result (part_blocks regions part.now) }
+{
+    match part {
+        Stated::Device(device) => device_blocks(alloc, &device.at, device.blocks, device.size),
+        Stated::Volume(volume) => {
+            let held = held_in(alloc, sizes, volume)?;
+            volume_blocks(alloc, volume, held)
+        }
+        _ => Ok(()),
+    }
+}
+
+fn check_blocks(
+    alloc: Global,
+    sizes: &IndexMap<Vec<u8>, HeldSizes>,
+    parts: &[Stated],
+) -> Result<(), Refusal>
+    ensures { (regions : List Part) → Sizes regions sizes.now → Checks result (first_fault (part_blocks regions) parts.now) }
+{
+    let mut left = parts;
+    while let [part, rest @ ..] = left {
+        part_blocks(alloc, sizes, part)?;
+        left = rest;
+    }
+    Ok(())
+}
+
+fn two_sizes(alloc: Global, at: &Place, held: Option<HeldSizes>) -> Result<(), Refusal>
+    ensures { Checks result (two_sizes at.now held) }
+{
+    match held {
+        Some(held) => unlike(alloc, 256, at, held.first, held.other),
+        None => Ok(()),
+    }
+}
+
+fn part_sizes(
+    alloc: Global,
+    sizes: &IndexMap<Vec<u8>, HeldSizes>,
+    part: &Stated,
+) -> Result<(), Refusal>
+    ensures { (regions : List Part) → Sizes regions sizes.now → Checks result (part_sizes regions part.now) }
+{
+    let Stated::Volume(volume) = part else {
+        return Ok(());
+    };
+    let held = held_in(alloc, sizes, volume)?;
+    two_sizes(alloc, &volume.at, held)
+}
+
+fn check_regions(
+    alloc: Global,
+    sizes: &IndexMap<Vec<u8>, HeldSizes>,
+    parts: &[Stated],
+) -> Result<(), Refusal>
+    ensures { (regions : List Part) → Sizes regions sizes.now → Checks result (first_fault (part_sizes regions) parts.now) }
+{
+    let mut left = parts;
+    while let [part, rest @ ..] = left {
+        part_sizes(alloc, sizes, part)?;
+        left = rest;
+    }
+    Ok(())
+}
+
+fn key_with(alloc: Global, kind: u8, name: &Text) -> Result<Text, WantOfMemory>
+    ensures { IfOk result (λ key. key ≡ kind ∷ name.now) }
+{
+    let mut key = Vec::from_slice(alloc, [kind].as_slice())?;
+    key.extend_from_slice(name.bytes())?;
+    Ok(Text::from_vec(key))
+}
+
+// A name with the kind of the thing that has it.
+fn part_key(alloc: Global, part: &Stated) -> Result<Option<Text>, WantOfMemory>
+    ensures { IfOk result (λ key. key ≡ part_key part.now) }
+{
+    match part {
+        Stated::Settings => Ok(None),
+        Stated::Device(device) => Ok(Some(key_with(alloc, b'D', &device.name)?)),
+        Stated::Volume(volume) => Ok(Some(key_with(alloc, b'F', &volume.name)?)),
+        Stated::Rule(rule) => Ok(Some(key_with(alloc, b'R', &rule.name)?)),
+    }
+}
+
+fn named_twice(alloc: Global, part: &Stated) -> Result<(), Refusal>
+    ensures { Checks result (named_twice part.now) }
+{
+    match part {
+        Stated::Settings => Ok(()),
+        Stated::Device(device) => Err(refuse(alloc, 261, &device.at, device.name.bytes())),
+        Stated::Volume(volume) => Err(refuse(alloc, 261, &volume.at, volume.name.bytes())),
+        Stated::Rule(rule) => Err(refuse(alloc, 261, &rule.rule.at, rule.name.bytes())),
+    }
+}
+
+/// Refuses the first device, volume or rule whose name one above of its kind has.
+#[tactic(auto, unfolding(crate::specs::Whole::twin))]
+pub fn check_twins(alloc: Global, parts: &[Stated]) -> Result<(), Refusal>
+    ensures { Checks result (twin parts.now []) }
+{
+    let mut above = Rows::new(alloc);
+    let mut table = IndexMap::new(alloc);
+    let mut left = parts;
+    while let [part, rest @ ..] = left {
+        if let Some(key) = part_key(alloc, part)? {
+            if place_in(alloc, &table, key.bytes())?.is_some() {
+                return named_twice(alloc, part);
+            }
+            add_name(alloc, &mut table, key.bytes(), above.items().len())?;
+            above.push(key)?;
+        }
+        left = rest;
+    }
+    Ok(())
+}

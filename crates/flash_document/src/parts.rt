@@ -1,0 +1,71 @@
+//! What the sections of a flash description state.
+ghost use Rattle.std.specs.Prelude.{◌≡◌, ◌++◌, ◌∷◌, [], IfOk, OnOk, List};
+ghost use Rattle.flash_document.specs.Parts.{stated_of, stated_from, stated_below, all_stated};
+
+use crate::device::device_of;
+use crate::rule::rule_of_lines;
+use crate::sets::section_lines;
+use crate::stated::Stated;
+use crate::volume::volume_of;
+use build_base::{Place, Rows, WantOfMemory};
+use fdf_lines::rows::{LineRead, Scope};
+use std::alloc::Global;
+
+fn stated_of(
+    alloc: Global,
+    at: &Place,
+    scope: &Scope,
+    k: usize,
+    lines: &[LineRead],
+) -> Result<Stated, WantOfMemory>
+    ensures { IfOk result (λ s. s ≡ stated_of at.now scope.now k lines.now) }
+{
+    match scope {
+        Scope::Settings => Ok(Stated::Settings),
+        Scope::Device(name) => Ok(Stated::Device(device_of(alloc, at, name, k, lines)?)),
+        Scope::Volume(name) => Ok(Stated::Volume(volume_of(alloc, at, name, k, lines)?)),
+        Scope::Rule(rule) => rule_of_lines(alloc, at, rule, k, lines),
+    }
+}
+
+fn push_stated(
+    alloc: Global,
+    parts: &mut Rows<Stated>,
+    at: &Place,
+    scopes: &[Scope],
+    lines: &[LineRead],
+) -> Result<(), WantOfMemory>
+    ensures { OnOk result (parts.new ≡ parts.old ++ stated_from at.now 0 scopes.now lines.now) }
+{
+    for (k, scope) in scopes.iter().enumerate() {
+        parts.push(stated_of(alloc, at, scope, k, lines)?)?;
+    }
+    Ok(())
+}
+
+fn push_below(
+    alloc: Global,
+    parts: &mut Rows<Stated>,
+    line: &LineRead,
+    section: &[LineRead],
+) -> Result<(), WantOfMemory>
+    ensures { OnOk result (parts.new ≡ parts.old ++ stated_below line.now section.now) }
+{
+    match line {
+        LineRead::Heads { at, scopes } => push_stated(alloc, parts, at, scopes.items(), section),
+        LineRead::Body(_) => Ok(()),
+    }
+}
+
+/// What each section states below each of its heads, in file order.
+pub fn all_stated(alloc: Global, lines: &[LineRead]) -> Result<Rows<Stated>, WantOfMemory>
+    ensures { IfOk result (λ parts. parts ≡ all_stated lines.now) }
+{
+    let mut parts = Rows::new(alloc);
+    let mut left = lines;
+    while let [line, rest @ ..] = left {
+        push_below(alloc, &mut parts, line, section_lines(rest))?;
+        left = rest;
+    }
+    Ok(parts)
+}

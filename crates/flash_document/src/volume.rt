@@ -1,0 +1,263 @@
+//! A volume as its section states it.
+ghost use Rattle.std.specs.Prelude.{◌≡◌, ◌++◌, ◌∷◌, [], IfOk, OnOk, IfSome, IfNone, Some, None, List};
+ghost use Rattle.flash_document.specs.Columns.{row_at};
+ghost use Rattle.flash_document.specs.declared.stated.StatedItem.TheVariants as item;
+ghost use Rattle.flash_document.specs.Volumes.{is_key, settings_in, last_setting, numbers, switches, rebases, names, systems, is_on, flags_of, members_in, sections_in, whole_in, file_with, items_of, volume_of};
+
+use crate::column::row_at;
+use crate::stated::{StatedFile, StatedItem, StatedVolume, head_copy, section_copy};
+use build_base::{Guid, Path, Place, Rows, Same, Text, WantOfMemory};
+use doc_types::volume::Member;
+use fdf_lines::rows::{
+    AprioriHead, FileHead, LineRead, Row, SectionLine, VolumeKey, VolumeSetting,
+};
+use std::alloc::Global;
+
+fn is_key(key: VolumeKey, other: VolumeKey) -> bool
+    ensures { result ≡ is_key key other }
+{
+    match (key, other) {
+        (VolumeKey::BlockSize, VolumeKey::BlockSize) => true,
+        (VolumeKey::NumBlocks, VolumeKey::NumBlocks) => true,
+        (VolumeKey::FvBaseAddress, VolumeKey::FvBaseAddress) => true,
+        (VolumeKey::FvAlignment, VolumeKey::FvAlignment) => true,
+        (VolumeKey::ErasePolarity, VolumeKey::ErasePolarity) => true,
+        _ => false,
+    }
+}
+
+fn number_of(key: VolumeKey, k: usize, lines: &[LineRead]) -> Option<u64>
+    ensures { result ≡ last_setting (numbers key) k lines.now }
+{
+    let mut found = None;
+    let mut left = lines;
+    while let [line, rest @ ..] = left {
+        if let Some(Row::Setting(VolumeSetting::Number { key: other, number })) = row_at(line, k) {
+            if is_key(*other, key) {
+                found = Some(*number);
+            }
+        }
+        left = rest;
+    }
+    found
+}
+
+fn is_on(k: usize, lines: &[LineRead], bits: u32) -> bool
+    ensures { result ≡ is_on k lines.now bits }
+{
+    let mut found = None;
+    let mut left = lines;
+    while let [line, rest @ ..] = left {
+        if let Some(Row::Setting(VolumeSetting::Attribute { bits: other, on })) = row_at(line, k) {
+            if *other == bits {
+                found = Some(*on);
+            }
+        }
+        left = rest;
+    }
+    found.unwrap_or(false)
+}
+
+const ATTRIBUTES: [u32; 15] = [
+    0x1,
+    0x2,
+    0x4,
+    0x8,
+    0x10,
+    0x20,
+    0x40,
+    0x80,
+    0x200,
+    0x400,
+    0x1000,
+    0x2000,
+    0x4000,
+    0x8000,
+    0x8000_0000,
+];
+
+fn flags_of(k: usize, lines: &[LineRead]) -> u32
+    ensures { result ≡ flags_of k lines.now }
+{
+    let mut flags = 0;
+    let mut left = ATTRIBUTES.as_slice();
+    while let [bits, rest @ ..] = left {
+        if is_on(k, lines, *bits) {
+            flags |= *bits;
+        }
+        left = rest;
+    }
+    flags
+}
+
+fn force_of(k: usize, lines: &[LineRead]) -> Option<bool>
+    ensures { result ≡ last_setting rebases k lines.now }
+{
+    let mut found = None;
+    let mut left = lines;
+    while let [line, rest @ ..] = left {
+        if let Some(Row::Setting(VolumeSetting::ForceRebase(on))) = row_at(line, k) {
+            found = Some(*on);
+        }
+        left = rest;
+    }
+    found
+}
+
+fn name_of(k: usize, lines: &[LineRead]) -> Option<Guid>
+    ensures { result ≡ last_setting names k lines.now }
+{
+    let mut found = None;
+    let mut left = lines;
+    while let [line, rest @ ..] = left {
+        if let Some(Row::Setting(VolumeSetting::NameGuid(guid))) = row_at(line, k) {
+            found = Some(*guid);
+        }
+        left = rest;
+    }
+    found
+}
+
+fn system_of(k: usize, lines: &[LineRead]) -> Option<bool>
+    ensures { result ≡ last_setting systems k lines.now }
+{
+    let mut found = None;
+    let mut left = lines;
+    while let [line, rest @ ..] = left {
+        if let Some(Row::Setting(VolumeSetting::FileSystem { ffs3 })) = row_at(line, k) {
+            found = Some(*ffs3);
+        }
+        left = rest;
+    }
+    found
+}
+
+fn members_in(alloc: Global, k: usize, lines: &[LineRead]) -> Result<Rows<Member>, WantOfMemory>
+    ensures { IfOk result (λ rows. rows ≡ members_in k lines.now) }
+{
+    let mut members = Rows::new(alloc);
+    let mut left = lines;
+    while let [line, rest @ ..] = left {
+        match row_at(line, k) {
+            Some(Row::Closes) => return Ok(members),
+            Some(Row::Member(member)) => members.push(member.copy(alloc)?)?,
+            _ => {}
+        }
+        left = rest;
+    }
+    Ok(members)
+}
+
+fn sections_in(
+    alloc: Global,
+    k: usize,
+    lines: &[LineRead],
+) -> Result<Rows<SectionLine>, WantOfMemory>
+    ensures { IfOk result (λ rows. rows ≡ sections_in k lines.now) }
+{
+    let mut sections = Rows::new(alloc);
+    let mut left = lines;
+    while let [line, rest @ ..] = left {
+        match row_at(line, k) {
+            Some(Row::Closes) => return Ok(sections),
+            Some(Row::Section(section)) => sections.push(section_copy(section, alloc)?)?,
+            _ => {}
+        }
+        left = rest;
+    }
+    Ok(sections)
+}
+
+fn whole_in(alloc: Global, k: usize, lines: &[LineRead]) -> Result<Option<Path>, WantOfMemory>
+    ensures { IfOk result (λ path. path ≡ whole_in k lines.now) }
+{
+    let mut left = lines;
+    while let [line, rest @ ..] = left {
+        match row_at(line, k) {
+            Some(Row::Closes) => return Ok(None),
+            Some(Row::Whole(path)) => {
+                let path = path.copy(alloc)?;
+                return Ok(Some(path));
+            }
+            _ => left = rest,
+        }
+    }
+    Ok(None)
+}
+
+fn file_with(
+    alloc: Global,
+    head: &FileHead,
+    k: usize,
+    lines: &[LineRead],
+) -> Result<StatedFile, WantOfMemory>
+    ensures { IfOk result (λ file. file ≡ file_with head.now k lines.now) }
+{
+    Ok(StatedFile {
+        head: head_copy(head, alloc)?,
+        whole: whole_in(alloc, k, lines)?,
+        sections: sections_in(alloc, k, lines)?,
+    })
+}
+
+fn apriori_with(
+    alloc: Global,
+    head: &AprioriHead,
+    k: usize,
+    lines: &[LineRead],
+) -> Result<StatedItem, WantOfMemory>
+    ensures { IfOk result (λ made. made ≡ item.Apriori head.now.at head.now.pei (members_in k lines.now)) }
+{
+    Ok(StatedItem::Apriori {
+        at: head.at.copy(alloc)?,
+        pei: head.pei,
+        members: members_in(alloc, k, lines)?,
+    })
+}
+
+fn items_of(alloc: Global, k: usize, lines: &[LineRead]) -> Result<Rows<StatedItem>, WantOfMemory>
+    ensures { IfOk result (λ rows. rows ≡ items_of k lines.now) }
+{
+    let mut items = Rows::new(alloc);
+    let mut left = lines;
+    while let [line, rest @ ..] = left {
+        match row_at(line, k) {
+            Some(Row::Apriori(head)) => items.push(apriori_with(alloc, head, k, rest)?)?,
+            Some(Row::File(head)) => {
+                items.push(StatedItem::File(file_with(alloc, head, k, rest)?))?;
+            }
+            Some(Row::Inf(inf)) => items.push(StatedItem::Inf(inf.copy(alloc)?))?,
+            _ => {}
+        }
+        left = rest;
+    }
+    Ok(items)
+}
+
+/// The volume that a section states below the head of a number.
+#[tactic(auto, unfolding(crate::specs::Volumes::volume_of))]
+pub fn volume_of(
+    alloc: Global,
+    at: &Place,
+    name: &Text,
+    k: usize,
+    lines: &[LineRead],
+) -> Result<StatedVolume, WantOfMemory>
+    ensures { IfOk result (λ v. v ≡ volume_of at.now name.now k lines.now) }
+{
+    let items = items_of(alloc, k, lines)?;
+    Ok(StatedVolume {
+        at: at.copy(alloc)?,
+        name: name.copy(alloc)?,
+        block_size: number_of(VolumeKey::BlockSize, k, lines),
+        blocks: number_of(VolumeKey::NumBlocks, k, lines),
+        erase: number_of(VolumeKey::ErasePolarity, k, lines),
+        alignment: number_of(VolumeKey::FvAlignment, k, lines),
+        base: number_of(VolumeKey::FvBaseAddress, k, lines),
+        flags: flags_of(k, lines),
+        name_guid: name_of(k, lines),
+        force: force_of(k, lines).unwrap_or(false),
+        ffs3: system_of(k, lines).unwrap_or(false),
+        items,
+    })
+}
