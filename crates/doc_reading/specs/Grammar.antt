@@ -1,7 +1,7 @@
 -- The grammar of a document's format, and what its lines come to.
 use Rattle.std.specs.Prelude.{ℕ, Bool, if◌then◌else◌, List, [], ◌∷◌, ◌++◌, map, fold, Option, Some, None, Result, Ok, Err, codes}
 use Rattle.std.specs.List.{flat_map}
-use Rattle.build_base.specs.First.{unless}
+use Rattle.build_base.specs.First.{or_fault, unless}
 use Rattle.build_base.specs.FaultText.{fault_of}
 use Rattle.build_base.specs.declared.fault.Fault.{Fault}
 use Rattle.build_base.specs.declared.fault.Place.{Place}
@@ -126,3 +126,7 @@ first_fault g lines = lines_fault (line_fault g) [] lines
 -- what the lines come to, or the fault of the first that has one
 abbrev pub reading : {S R : Type 0} → Grammar S R → List Taken → Result (List (Read S R)) Fault
 reading g lines = unless (first_fault g lines) (read_of g lines)
+
+-- the fault of the first line that has one; else what the lines come to as a whole: a document, or the first fault of the whole
+abbrev pub whole_read : {S R D : Type 0} → Grammar S R → (List (Read S R) → Result D Fault) → List Taken → Result D Fault
+whole_read g made lines = or_fault (first_fault g lines) (made (read_of g lines))

@@ -14,7 +14,9 @@ pub mod segment_name;
 pub mod unbuilt;
 pub mod value_fields;
 pub mod values;
+pub mod whole;
 
 pub use document::read_document;
 pub use format::Format;
 pub use reader::{Reader, read_lines};
+pub use whole::{Whole, read_whole};

@@ -2,6 +2,7 @@
 #![tactic(auto)]
 
 pub mod arch;
+pub mod asks;
 pub mod choice;
 pub mod depex;
 pub mod flash;
@@ -9,6 +10,7 @@ pub mod image;
 pub mod module;
 pub mod module_type;
 pub mod package;
+pub mod parts;
 pub mod pcd;
 pub mod platform;
 pub mod texts;

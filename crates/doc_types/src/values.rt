@@ -3,6 +3,13 @@ use crate::pcd::{Datum, Kind, PcdName};
 use build_base::{Rows, Same, Text, WantOfMemory, all_same, copied};
 use std::alloc::Global;
 
+/// The value that a SKU has of its own.
+#[derive(Debug, Drop)]
+pub struct SkuRow {
+    pub sku: Text,
+    pub value: Text,
+}
+
 /// A PCD's value for one SKU: its token, the most bytes that it may have, and the rank of what stated it.
 #[derive(Debug, Drop)]
 pub struct PcdRow {
@@ -20,6 +27,16 @@ pub struct PcdRow {
 #[derive(Debug, Drop)]
 pub struct Values {
     pub rows: Rows<PcdRow>,
+}
+
+impl Same for SkuRow {
+    fn copy(&self, alloc: Global) -> Result<SkuRow, WantOfMemory> {
+        copied!(SkuRow, self, alloc; sku, value)
+    }
+
+    fn same(&self, other: &SkuRow) -> bool {
+        all_same!(self, other; sku, value)
+    }
 }
 
 impl Same for PcdRow {

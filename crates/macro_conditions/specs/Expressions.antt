@@ -1,5 +1,5 @@
 -- What an expression comes to, from its text.
-use Rattle.std.specs.Prelude.{◌≡◌, ◌⊎◌, ℕ, true, false, ◌==◌, if◌then◌else◌, List, [], length, slice_index, map, codes, Option, Some, None, Result, Ok, Err}
+use Rattle.std.specs.Prelude.{◌≡◌, ◌⊎◌, ℕ, true, false, ◌==◌, if◌then◌else◌, List, [], ◌∷◌, length, slice_index, map, codes, Option, Some, None, Result, Ok, Err}
 use Rattle.build_base.specs.declared.fault.Fault.{Fault}
 use Rattle.build_base.specs.declared.fault.Place.{Place}
 use Rattle.build_base.specs.declared.lines.Macro.{Macro}
@@ -11,12 +11,14 @@ use Rattle.meta_lexer.specs.declared.token.TokenKind.{TokenKind}
 use Rattle.meta_lexer.specs.declared.token.TokenKind.TheVariants as kinds
 use Rattle.meta_lexer.specs.Faults.{Spot}
 use Rattle.meta_lexer.specs.Numbers.{number_of}
-use Rattle.meta_lexer.specs.Words.{same_word}
+use Rattle.meta_lexer.specs.Lookup.{lookup}
 use Rattle.meta_lexer.specs.Heads.{unquoted}
 use Rattle.meta_lexer.specs.Fields.{ends_quoted, bytes_at}
 use Rattle.meta_lexer.specs.Tokens.{tokens_after, tokens_of, token_span}
 use Rattle.macro_conditions.specs.declared.operator.BinaryOperator.TheVariants as operators
 use Rattle.macro_conditions.specs.declared.operator.PrefixOperator.TheVariants as prefixes
+use Rattle.macro_conditions.specs.declared.operator.Keyword.{Keyword}
+use Rattle.macro_conditions.specs.declared.operator.Keyword.TheVariants as keyword
 use Rattle.macro_conditions.specs.declared.macros.Undefined.TheVariants.{Zero}
 use Rattle.macro_conditions.specs.declared.expression.Value.{Value}
 use Rattle.macro_conditions.specs.declared.expression.Value.TheVariants.{Number, Word}
@@ -30,21 +32,28 @@ abbrev pub numeral : Option ℕ → Outcome
 numeral None = faulty 125
 numeral (Some n) = number n
 
--- a bare word: TRUE, FALSE, an operator, each without regard to case, or a text
+-- the words with a meaning of their own
+abbrev pub keywords : List (List ℕ × Keyword)
+keywords =
+    (codes "TRUE", keyword.Number 1) ∷ (codes "FALSE", keyword.Number 0) ∷
+    (codes "OR", keyword.Binary operators.Or) ∷ (codes "AND", keyword.Binary operators.And) ∷
+    (codes "EQ", keyword.Binary operators.Eq) ∷ (codes "NE", keyword.Binary operators.Ne) ∷
+    (codes "LT", keyword.Binary operators.Lt) ∷ (codes "LE", keyword.Binary operators.Le) ∷
+    (codes "GT", keyword.Binary operators.Gt) ∷ (codes "GE", keyword.Binary operators.Ge) ∷
+    (codes "NOT", keyword.Prefix prefixes.Not) ∷ []
+
+unfoldable pub keyword_named : List ℕ → Option Keyword
+keyword_named w = lookup keywords w
+
+abbrev pub meant : List ℕ → Option Keyword → Symbol
+meant w (Some (keyword.Number n)) = value (number n)
+meant w (Some (keyword.Binary op)) = binary op
+meant w (Some (keyword.Prefix op)) = prefix op
+meant w None = value (word w)
+
+-- a bare word: one of these, without regard to case, or a text
 unfoldable pub word_symbol : List ℕ → Symbol
-word_symbol w =
-    if same_word w (codes "TRUE") then value (number 1)
-    else if same_word w (codes "FALSE") then value (number 0)
-    else if same_word w (codes "OR") then binary operators.Or
-    else if same_word w (codes "AND") then binary operators.And
-    else if same_word w (codes "EQ") then binary operators.Eq
-    else if same_word w (codes "NE") then binary operators.Ne
-    else if same_word w (codes "LT") then binary operators.Lt
-    else if same_word w (codes "LE") then binary operators.Le
-    else if same_word w (codes "GT") then binary operators.Gt
-    else if same_word w (codes "GE") then binary operators.Ge
-    else if same_word w (codes "NOT") then prefix prefixes.Not
-    else value (word w)
+word_symbol w = meant w (keyword_named w)
 
 -- `|`, `^`, `&`, `<`, `>`, `+`, `-`, `*`, `/`, `%`, `!`, `~`, `(` and `)`
 unfoldable pub one_mark : ℕ → Symbol

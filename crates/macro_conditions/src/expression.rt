@@ -11,16 +11,15 @@ ghost use Rattle.macro_conditions.specs.Macros.{replaced, scope_of};
 ghost use Rattle.macro_conditions.specs.Values.{view};
 ghost use Rattle.macro_conditions.specs.ExpressionTree.{term_view};
 ghost use Rattle.macro_conditions.specs.ExpressionMachine.{run, wanting};
-ghost use Rattle.macro_conditions.specs.Expressions.{numeral, word_symbol, one_mark, mark_before_equals, mark_twice, mark_symbol, symbol_of, symbol_at, symbols_of, answered, value_of_text, detail_of, evaluation, IsMeaningOf};
+ghost use Rattle.macro_conditions.specs.Expressions.{numeral, keyword_named, word_symbol, one_mark, mark_before_equals, mark_twice, mark_symbol, symbol_of, symbol_at, symbols_of, answered, value_of_text, detail_of, evaluation, IsMeaningOf};
 
 use crate::machine::run;
 use crate::macros::{Scope, Undefined, replace};
 use crate::operand::{Operand, Term};
-use crate::operator::{BinaryOperator, PrefixOperator};
+use crate::operator::{BinaryOperator, Keyword, PrefixOperator};
 use build_base::{Macro, Place, Refusal, Rows, Text, WantOfMemory, refuse};
 use meta_lexer::head::{bytes_at, unquoted};
-use meta_lexer::words::same_word;
-use meta_lexer::{LexRefusal, Span, Token, TokenKind, number, tokens};
+use meta_lexer::{LexRefusal, Span, Token, TokenKind, lookup, number, tokens};
 use std::alloc::Global;
 
 /// The value of an expression.
@@ -39,34 +38,37 @@ fn numeral<'a>(read: Option<u64>) -> Operand<'a>
     }
 }
 
+// What the words of expressions stand for.
+const KEYWORDS: [(&[u8], Keyword); 11] = [
+    (b"TRUE", Keyword::Number(1)),
+    (b"FALSE", Keyword::Number(0)),
+    (b"OR", Keyword::Binary(BinaryOperator::Or)),
+    (b"AND", Keyword::Binary(BinaryOperator::And)),
+    (b"EQ", Keyword::Binary(BinaryOperator::Eq)),
+    (b"NE", Keyword::Binary(BinaryOperator::Ne)),
+    (b"LT", Keyword::Binary(BinaryOperator::Lt)),
+    (b"LE", Keyword::Binary(BinaryOperator::Le)),
+    (b"GT", Keyword::Binary(BinaryOperator::Gt)),
+    (b"GE", Keyword::Binary(BinaryOperator::Ge)),
+    (b"NOT", Keyword::Prefix(PrefixOperator::Not)),
+];
+
+#[tactic(auto, unfolding(crate::specs::Expressions::keyword_named))]
+fn keyword_named(word: &[u8]) -> Option<Keyword>
+    ensures { result ≡ keyword_named word.now }
+{
+    lookup(&KEYWORDS, word)
+}
+
 #[tactic(auto, unfolding(crate::specs::Expressions::word_symbol))]
 fn word_term(word: &[u8]) -> Term<'_>
     ensures { term_view result ≡ word_symbol word.now }
 {
-    if same_word(word, b"TRUE".as_slice()) {
-        Term::Value(Operand::Number(1))
-    } else if same_word(word, b"FALSE".as_slice()) {
-        Term::Value(Operand::Number(0))
-    } else if same_word(word, b"OR".as_slice()) {
-        Term::Binary(BinaryOperator::Or)
-    } else if same_word(word, b"AND".as_slice()) {
-        Term::Binary(BinaryOperator::And)
-    } else if same_word(word, b"EQ".as_slice()) {
-        Term::Binary(BinaryOperator::Eq)
-    } else if same_word(word, b"NE".as_slice()) {
-        Term::Binary(BinaryOperator::Ne)
-    } else if same_word(word, b"LT".as_slice()) {
-        Term::Binary(BinaryOperator::Lt)
-    } else if same_word(word, b"LE".as_slice()) {
-        Term::Binary(BinaryOperator::Le)
-    } else if same_word(word, b"GT".as_slice()) {
-        Term::Binary(BinaryOperator::Gt)
-    } else if same_word(word, b"GE".as_slice()) {
-        Term::Binary(BinaryOperator::Ge)
-    } else if same_word(word, b"NOT".as_slice()) {
-        Term::Prefix(PrefixOperator::Not)
-    } else {
-        Term::Value(Operand::Word(word))
+    match keyword_named(word) {
+        Some(Keyword::Number(truth)) => Term::Value(Operand::Number(truth)),
+        Some(Keyword::Binary(operator)) => Term::Binary(operator),
+        Some(Keyword::Prefix(operator)) => Term::Prefix(operator),
+        None => Term::Value(Operand::Word(word)),
     }
 }
 

@@ -33,6 +33,14 @@ pub enum PrefixOperator {
     Flip,
 }
 
+/// What a word of expressions stands for: a number, or an operator.
+#[derive(Clone, Copy, Debug, PartialEq, Eq)]
+pub enum Keyword {
+    Number(u64),
+    Binary(BinaryOperator),
+    Prefix(PrefixOperator),
+}
+
 impl BinaryOperator {
     /// How strongly the operator binds: ten levels, the weakest first.
     pub fn level(self) -> u8

@@ -1,0 +1,42 @@
+//! Modules with the descriptions that they need.
+use crate::choice::Module;
+use crate::module::InfDoc;
+use crate::package::DecDoc;
+use build_base::{Path, Rows, Same, WantOfMemory, all_same, copied};
+use std::alloc::Global;
+
+/// A package and what its DEC file says.
+#[derive(Debug, Drop)]
+pub struct Package {
+    pub path: Path,
+    pub doc: DecDoc,
+}
+
+/// A module, the descriptions of itself and of its library instances in first-found order, and the packages that
+/// they name. The first of `infs` is the module's own.
+#[derive(Debug, Drop)]
+pub struct ModuleParts {
+    pub module: Module,
+    pub infs: Rows<InfDoc>,
+    pub decs: Rows<Package>,
+}
+
+impl Same for Package {
+    fn copy(&self, alloc: Global) -> Result<Package, WantOfMemory> {
+        copied!(Package, self, alloc; path, doc)
+    }
+
+    fn same(&self, other: &Package) -> bool {
+        all_same!(self, other; path, doc)
+    }
+}
+
+impl Same for ModuleParts {
+    fn copy(&self, alloc: Global) -> Result<ModuleParts, WantOfMemory> {
+        copied!(ModuleParts, self, alloc; module, infs, decs)
+    }
+
+    fn same(&self, other: &ModuleParts) -> bool {
+        all_same!(self, other; module, infs, decs)
+    }
+}
