@@ -1,13 +1,13 @@
 -- A package's declarations, or their first fault.
 use Rattle.std.specs.Prelude.{ℕ, List, [], ◌∷◌, ◌++◌, Option, Some, None, Result, Err, codes}
 use Rattle.std.specs.List.{flat_map}
-use Rattle.build_base.specs.First.{or_fault, unless}
+use Rattle.build_base.specs.First.{unless}
 use Rattle.build_base.specs.declared.guid.Guid.{Guid as GuidBytes}
 use Rattle.build_base.specs.declared.fault.Fault.{Fault}
 use Rattle.build_base.specs.declared.lines.Taken.{Taken}
 use Rattle.build_base.specs.declared.lines.Lines.{Lines}
 use Rattle.doc_reading.specs.Reading.{last_or}
-use Rattle.doc_reading.specs.Grammar.{Grammar, first_fault, read_of, rows_of}
+use Rattle.doc_reading.specs.Grammar.{Grammar, Read, whole_read, rows_of}
 use Rattle.doc_reading.specs.Meanings.{meaning_faults, meaning_scope}
 use Rattle.doc_reading.specs.Missing.{missing_key}
 use Rattle.doc_types.specs.declared.arch.Arch.{Arch}
@@ -78,10 +78,6 @@ unfoldable pub with_rows : Stated → List Said → Stated
 with_rows stated said =
     record { name = last_or stated.name (flat_map name_in said); guid = last_or stated.guid (flat_map guid_in said); rows = stated.rows ++ flat_map row_said said }
 
--- what the lines state
-abbrev pub stated_by : List Taken → Stated
-stated_by lines = with_rows nothing (rows_of (read_of dec_grammar lines))
-
 abbrev pub guid_rows : Declared → List NamedGuid
 guid_rows (row.Guid guid) = guid ∷ []
 guid_rows (row.Pcd pcd) = []
@@ -103,6 +99,15 @@ required root rows (Some name) (Some guid) = unless (repeats_fault rows) (with_r
 unfoldable pub document_of : List ℕ → Stated → Result DecDoc Fault
 document_of root stated = required root stated.rows stated.name stated.guid
 
+-- what lines that come to this make: the document, where it is whole
+abbrev pub package_made : Lines → List (Read Entry Said) → Result DecDoc Fault
+package_made lines reads = document_of lines.root (with_rows nothing (rows_of reads))
+
 -- the fault of the first line that has one, else the document, where it is whole
 unfoldable pub package_of : Lines → Result DecDoc Fault
-package_of lines = or_fault (first_fault dec_grammar lines.rows) (document_of lines.root (stated_by lines.rows))
+package_of lines = whole_read dec_grammar (package_made lines) lines.rows
+
+-- every section but [Defines] lists what its lines declare
+abbrev pub Lists : DecSection → Type 0
+Lists Defines = ⊥
+Lists section = Unit {0}

@@ -5,14 +5,14 @@ use Rattle.std.proofs.lemmas.Grind.{flat_map-append}
 use Rattle.doc_reading.specs.Blocks.{Block, blocks, with_line}
 use Rattle.doc_reading.proofs.BlockLemmas.{blocks_begin, blocks_none, blocks_more}
 use Rattle.doc_types.specs.declared.platform.Component.{Component}
-use Rattle.dsc_platform.specs.declared.rows.Part.{Part}
-use Rattle.dsc_platform.specs.declared.rows.Said.{Said}
+use Rattle.dsc_lines.specs.declared.rows.Part.{Part}
+use Rattle.dsc_lines.specs.declared.rows.Said.{Said}
 use Rattle.build_base.specs.declared.fault.Place.{Place}
 use Rattle.doc_reading.specs.Grammar.{Read, entered, gave}
-use Rattle.dsc_platform.specs.declared.section.Scope.{Scope}
-use Rattle.dsc_platform.specs.declared.open_mark.Open.{Open}
-use Rattle.dsc_platform.specs.declared.open_mark.Open.TheVariants.{Shut}
-use Rattle.dsc_platform.specs.Standing.{parts_in, said_marks, last_mark, open_below}
+use Rattle.dsc_lines.specs.declared.section.Scope.{Scope}
+use Rattle.dsc_lines.specs.declared.open_mark.Open.{Open}
+use Rattle.dsc_lines.specs.declared.open_mark.Open.TheVariants.{Shut}
+use Rattle.dsc_lines.specs.Standing.{parts_in, said_marks, last_mark, open_below}
 use Rattle.dsc_platform.specs.Cutting.{begins, built, all_parts, block_components, line_in, lines_of, BlocksHeld, none, some}
 
 one_block : (front : List (Block (List Part))) (block : Block (List Part)) → flat_map block_components (front ++ block ∷ []) ≡ flat_map block_components front ++ block_components block

@@ -1,6 +1,8 @@
 pub mod BlockLemmas
-pub mod PlaceLemmas
+pub mod FarLemmas
+pub mod PlaceWalks
 pub mod RepeatLemmas
-pub mod ShapeLemmas
+pub mod ShapeOfLines
+pub mod SkuEndLemmas
 pub mod StatedLemmas
 pub mod WalkLemmas

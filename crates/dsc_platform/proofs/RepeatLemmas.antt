@@ -9,7 +9,7 @@ use Rattle.std.specs.Cmp.Lexicographic.{same_text}
 use Rattle.std.proofs.lemmas.Grind.{flat_map-append}
 use Rattle.doc_types.specs.declared.arch.Arch.{Arch}
 use Rattle.doc_types.specs.declared.platform.Component.{Component}
-use Rattle.dsc_platform.specs.SkuNames.{same_key}
+use Rattle.dsc_lines.specs.SkuNames.{same_key}
 use Rattle.dsc_platform.specs.Repeats.{meets, repeats, arch_at, Arched}
 
 bytes_same : (xs ys : List ℕ) → bytes_eq xs ys ≡ true → xs ≡ ys

@@ -5,11 +5,11 @@ use Rattle.std.proofs.lemmas.Grind.{flat_map-append}
 use Rattle.std.proofs.lemmas.List.{map-append}
 use Rattle.doc_reading.specs.Reading.{last_or}
 use Rattle.doc_reading.proofs.Turns.{last_or-append}
-use Rattle.dsc_platform.specs.declared.rows.Said.{Said}
-use Rattle.dsc_platform.specs.declared.rows.SkuLine.{SkuLine}
+use Rattle.dsc_lines.specs.declared.rows.Said.{Said}
+use Rattle.dsc_lines.specs.declared.rows.SkuLine.{SkuLine}
 use Rattle.dsc_platform.specs.declared.stated.Stated.{Stated}
-use Rattle.dsc_platform.specs.declared.rows.Part.{Part}
-use Rattle.dsc_platform.specs.Standing.{parts_in}
+use Rattle.dsc_lines.specs.declared.rows.Part.{Part}
+use Rattle.dsc_lines.specs.Standing.{parts_in}
 use Rattle.dsc_platform.specs.Stating.{name_in, guid_in, arches_in, output_in, choice_in, flash_in, sku_in, library_in, pcd_in, with_rows, sku_name, names_of}
 
 -- what a list gives, with one more

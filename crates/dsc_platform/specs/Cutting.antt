@@ -10,12 +10,12 @@ use Rattle.doc_types.specs.declared.arch.Arch.TheVariants.{Common, Ia32, X64, Ar
 use Rattle.doc_types.specs.declared.platform.Component.{Component}
 use Rattle.doc_types.specs.declared.platform.LibraryLine.{LibraryLine}
 use Rattle.doc_types.specs.declared.platform.PcdLine.{PcdLine}
-use Rattle.dsc_platform.specs.declared.rows.Begun.{Begun}
-use Rattle.dsc_platform.specs.declared.rows.Part.{Part}
-use Rattle.dsc_platform.specs.declared.rows.Part.TheVariants.{Library, Begins, Tagged, Pcd, FileGuid, Closes}
-use Rattle.dsc_platform.specs.declared.rows.Said.{Said}
-use Rattle.dsc_platform.specs.declared.section.Scope.{Scope}
-use Rattle.dsc_platform.specs.Standing.{parts_in}
+use Rattle.dsc_lines.specs.declared.rows.Begun.{Begun}
+use Rattle.dsc_lines.specs.declared.rows.Part.{Part}
+use Rattle.dsc_lines.specs.declared.rows.Part.TheVariants.{Library, Begins, Tagged, Pcd, FileGuid, Closes}
+use Rattle.dsc_lines.specs.declared.rows.Said.{Said}
+use Rattle.dsc_lines.specs.declared.section.Scope.{Scope}
+use Rattle.dsc_lines.specs.Standing.{parts_in}
 
 abbrev pub is_begun : Part → Bool
 is_begun (Begins begun) = true

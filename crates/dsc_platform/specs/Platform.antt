@@ -1,14 +1,13 @@
 -- A platform's document, or its first fault (EDK II DSC specification, chapter 3).
 use Rattle.std.specs.Prelude.{ℕ, ◌++◌, if◌then◌else◌, List, [], ◌∷◌, map, Option, Some, None, unwrap_or, Result, Err, codes}
 use Rattle.std.specs.List.{list_any}
-use Rattle.std.specs.Option.{option_map}
-use Rattle.build_base.specs.First.{or_fault, unless, first_of}
+use Rattle.build_base.specs.First.{unless, first_of}
 use Rattle.build_base.specs.FaultText.{fault_of}
 use Rattle.build_base.specs.declared.guid.Guid.{Guid as GuidBytes}
 use Rattle.build_base.specs.declared.fault.Fault.{Fault}
 use Rattle.build_base.specs.declared.lines.Taken.{Taken}
 use Rattle.build_base.specs.declared.lines.Lines.{Lines}
-use Rattle.doc_reading.specs.Grammar.{Grammar, Read, first_fault, read_of, rows_of}
+use Rattle.doc_reading.specs.Grammar.{Grammar, Read, whole_read, rows_of}
 use Rattle.doc_reading.specs.Missing.{missing_key}
 use Rattle.doc_types.specs.declared.arch.Arch.{Arch}
 use Rattle.doc_types.specs.declared.platform.Component.{Component}
@@ -16,50 +15,23 @@ use Rattle.doc_types.specs.declared.platform.LibraryLine.{LibraryLine}
 use Rattle.doc_types.specs.declared.platform.PcdLine.{PcdLine}
 use Rattle.doc_types.specs.declared.platform.PlatformDoc.{PlatformDoc}
 use Rattle.doc_types.specs.declared.platform.Sku as sku_type
-use Rattle.dsc_platform.specs.declared.open_mark.Open.{Open}
-use Rattle.dsc_platform.specs.declared.open_mark.Open.TheVariants.{Shut, Untagged, Tagged}
-use Rattle.dsc_platform.specs.declared.rows.Said.{Said}
-use Rattle.dsc_platform.specs.declared.rows.Said.TheVariants.{Sku, Library, Pcd, Part}
-use Rattle.dsc_platform.specs.declared.rows.SkuLine.{SkuLine}
-use Rattle.dsc_platform.specs.declared.section.Scope.{Scope}
-use Rattle.dsc_platform.specs.declared.section.Scope.TheVariants.{Defines, SkuIds, Libraries, Components, Pcds}
+use Rattle.dsc_lines.specs.declared.open_mark.Open.{Open}
+use Rattle.dsc_lines.specs.declared.open_mark.Open.TheVariants.{Shut, Untagged, Tagged}
+use Rattle.dsc_lines.specs.declared.rows.Said.{Said}
+use Rattle.dsc_lines.specs.declared.rows.SkuLine.{SkuLine}
+use Rattle.dsc_lines.specs.declared.section.Scope.{Scope}
 use Rattle.dsc_platform.specs.declared.sku_uses.SkuUse.{SkuUse}
 use Rattle.dsc_platform.specs.declared.stated.Options.{Options}
 use Rattle.dsc_platform.specs.declared.stated.Stated.{Stated}
-use Rattle.dsc_platform.specs.ComponentLines.{component_faults, component_part}
 use Rattle.dsc_platform.specs.Cutting.{components_of}
-use Rattle.dsc_platform.specs.KeyLines.{key_line_faults, key_line_row}
-use Rattle.dsc_platform.specs.LibraryLines.{library_faults, library_of}
-use Rattle.dsc_platform.specs.PcdLines.{pcd_faults, pcd_of}
 use Rattle.dsc_platform.specs.Repeats.{repeats_fault}
-use Rattle.dsc_platform.specs.Sections.{head_faults, scope_of}
-use Rattle.dsc_platform.specs.SkuLines.{is_default, sku_faults, sku_of}
+use Rattle.dsc_lines.specs.Sections.{head_faults, scope_of}
+use Rattle.dsc_lines.specs.Lines.{line_faults, line_row}
+use Rattle.dsc_lines.specs.SkuLines.{is_default}
 use Rattle.dsc_platform.specs.SkuUses.{uses_of, uses_fault}
 use Rattle.dsc_platform.specs.SkuWalks.{loops_fault}
-use Rattle.dsc_platform.specs.Standing.{open_below}
+use Rattle.dsc_lines.specs.Standing.{open_below}
 use Rattle.dsc_platform.specs.Stating.{nothing, with_rows, names_of, names_in}
-
--- the faults of a line below a head, one for each code, where SKUs of these names stand above and this is open
-abbrev pub scope_faults : List (List ℕ) → Open → Taken → Scope → List (Option Fault)
-scope_faults names standing line Defines = key_line_faults line
-scope_faults names standing line SkuIds = sku_faults names line
-scope_faults names standing line (Libraries arch kind) = library_faults line
-scope_faults names standing line (Components arch) = component_faults line standing
-scope_faults names standing line (Pcds p) = pcd_faults line p.store
-
--- what it says there
-abbrev pub scope_row : Open → Taken → Scope → Option Said
-scope_row standing line Defines = key_line_row line
-scope_row standing line SkuIds = option_map Sku (sku_of line)
-scope_row standing line (Libraries arch kind) = option_map Library (library_of line arch kind)
-scope_row standing line (Components arch) = option_map Part (component_part line arch standing)
-scope_row standing line (Pcds p) = option_map Pcd (pcd_of line p.kind p.store p.arch p.sku)
-
-unfoldable pub line_faults : List (List ℕ) → Open → Taken → Scope → List (Option Fault)
-line_faults names standing line scope = scope_faults names standing line scope
-
-unfoldable pub line_row : Open → Taken → Scope → Option Said
-line_row standing line scope = scope_row standing line scope
 
 -- an open brace, at a head or at the end
 abbrev pub open_fault : Taken → Open → Option Fault
@@ -123,9 +95,10 @@ required lines stated components uses (Some name) (Some guid) (Some arches) =
 unfoldable pub document_of : Lines → Stated → List Component → List SkuUse → Result PlatformDoc Fault
 document_of lines stated components uses = required lines stated components uses stated.keys.name stated.keys.guid stated.keys.arches
 
-abbrev pub document_read : Lines → List (Read Scope Said) → Result PlatformDoc Fault
-document_read lines reads = document_of lines (with_rows nothing (rows_of reads)) (components_of reads) (uses_of reads)
+-- what lines that come to this make
+unfoldable pub platform_made : Lines → List (Read Scope Said) → Result PlatformDoc Fault
+platform_made lines reads = document_of lines (with_rows nothing (rows_of reads)) (components_of reads) (uses_of reads)
 
 -- the fault of the first line that has one, else the document, where it is whole
 unfoldable pub platform_of : Lines → Result PlatformDoc Fault
-platform_of lines = or_fault (first_fault dsc_grammar lines.rows) (document_read lines (read_of dsc_grammar lines.rows))
+platform_of lines = whole_read dsc_grammar (platform_made lines) lines.rows

@@ -10,7 +10,7 @@ use Rattle.doc_reading.specs.Reading.{lines_fault}
 use Rattle.doc_types.specs.declared.arch.Arch.{Arch}
 use Rattle.doc_types.specs.declared.arch.Arch.TheVariants.{Common, Ia32, X64, Arm, Aarch64, Riscv64, Loongarch64, Ebc}
 use Rattle.doc_types.specs.declared.platform.Component.{Component}
-use Rattle.dsc_platform.specs.SkuNames.{same_key}
+use Rattle.dsc_lines.specs.SkuNames.{same_key}
 
 -- whether an architecture is for all, or the same
 unfoldable pub meets : Arch → Arch → Bool

@@ -9,14 +9,14 @@ use Rattle.meta_lexer.specs.Faults.{first_fault}
 use Rattle.meta_lexer.specs.Parts.{field_texts}
 use Rattle.meta_lexer.specs.Words.{same_word}
 use Rattle.doc_reading.specs.Grammar.{Read, entered, gave}
-use Rattle.dsc_platform.specs.declared.rows.KeyValue.TheVariants.{SkuChoice}
-use Rattle.dsc_platform.specs.declared.rows.Said.{Said}
-use Rattle.dsc_platform.specs.declared.rows.Said.TheVariants.{Key, Sku}
-use Rattle.dsc_platform.specs.declared.section.Scope.{Scope}
-use Rattle.dsc_platform.specs.declared.section.Scope.TheVariants as scope
+use Rattle.dsc_lines.specs.declared.rows.KeyValue.TheVariants.{SkuChoice}
+use Rattle.dsc_lines.specs.declared.rows.Said.{Said}
+use Rattle.dsc_lines.specs.declared.rows.Said.TheVariants.{Key, Sku}
+use Rattle.dsc_lines.specs.declared.section.Scope.{Scope}
+use Rattle.dsc_lines.specs.declared.section.Scope.TheVariants as scope
 use Rattle.dsc_platform.specs.declared.sku_uses.SkuUse.{SkuUse}
-use Rattle.dsc_platform.specs.PcdLines.{is_there}
-use Rattle.dsc_platform.specs.SkuLines.{is_default, place_of}
+use Rattle.dsc_lines.specs.PcdLines.{is_there}
+use Rattle.dsc_lines.specs.SkuLines.{is_default, place_of}
 
 -- a head of PCDs names a SKU
 abbrev pub head_uses : Place → Scope → List SkuUse

@@ -3,8 +3,8 @@ use Rattle.std.specs.Prelude.{ℕ, suc, zero, ◌+◌, ◌==◌, Bool, true, fal
 use Rattle.build_base.specs.First.{or_else}
 use Rattle.build_base.specs.FaultText.{fault_of}
 use Rattle.build_base.specs.declared.fault.Fault.{Fault}
-use Rattle.dsc_platform.specs.declared.rows.SkuLine.{SkuLine}
-use Rattle.dsc_platform.specs.SkuLines.{is_default, place_of}
+use Rattle.dsc_lines.specs.declared.rows.SkuLine.{SkuLine}
+use Rattle.dsc_lines.specs.SkuLines.{is_default, place_of}
 use Rattle.dsc_platform.specs.Stating.{names_of}
 
 -- where the parent of a SKU stands; DEFAULT has none

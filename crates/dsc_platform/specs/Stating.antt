@@ -6,10 +6,10 @@ use Rattle.doc_reading.specs.Reading.{last_or}
 use Rattle.doc_types.specs.declared.arch.Arch.{Arch}
 use Rattle.doc_types.specs.declared.platform.LibraryLine.{LibraryLine}
 use Rattle.doc_types.specs.declared.platform.PcdLine.{PcdLine}
-use Rattle.dsc_platform.specs.declared.rows.KeyValue.TheVariants.{Name, Guid, Arches, Output, SkuChoice, Flash}
-use Rattle.dsc_platform.specs.declared.rows.Said.{Said}
-use Rattle.dsc_platform.specs.declared.rows.Said.TheVariants.{Key, Sku, Library, Pcd}
-use Rattle.dsc_platform.specs.declared.rows.SkuLine.{SkuLine}
+use Rattle.dsc_lines.specs.declared.rows.KeyValue.TheVariants.{Name, Guid, Arches, Output, SkuChoice, Flash}
+use Rattle.dsc_lines.specs.declared.rows.Said.{Said}
+use Rattle.dsc_lines.specs.declared.rows.Said.TheVariants.{Key, Sku, Library, Pcd}
+use Rattle.dsc_lines.specs.declared.rows.SkuLine.{SkuLine}
 use Rattle.dsc_platform.specs.declared.stated.Keys.{Keys}
 use Rattle.dsc_platform.specs.declared.stated.Stated.{Stated}
 

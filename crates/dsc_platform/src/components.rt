@@ -4,10 +4,10 @@ ghost use Rattle.std.specs.List.{flat_map, list_any};
 ghost use Rattle.doc_reading.specs.Reading.{last_or, last_of};
 ghost use Rattle.dsc_platform.specs.Cutting.{is_begun, begins, same_arch, library_for, pcd_for, guid_for, made_component, component_of, built};
 
-use crate::rows::{Begun, Part};
 use build_base::{Guid, Rows, Same, WantOfMemory};
 use doc_types::arch::Arch;
 use doc_types::platform::{Component, LibraryLine, PcdLine};
+use dsc_lines::rows::{Begun, Part};
 use std::alloc::Global;
 
 fn is_begun(part: &Part) -> bool

@@ -1,28 +1,23 @@
 //! The format of a platform's description.
 ghost use Rattle.std.specs.Prelude.{◌≡◌, [], ◌∷◌, ◌++◌, ℕ, List, OnOk, IfOk};
 ghost use Rattle.std.specs.List.{flat_map};
-ghost use Rattle.build_base.specs.Answer.{Answers, Checks};
-ghost use Rattle.doc_reading.specs.Gathering.{judged};
-ghost use Rattle.dsc_platform.specs.declared.rows.Part.{Part as PartRow};
+ghost use Rattle.build_base.specs.Answer.{Checks};
+ghost use Rattle.dsc_lines.specs.declared.rows.Part.{Part as PartRow};
 ghost use Rattle.dsc_platform.specs.Cutting.{begins, built, BlocksHeld};
-ghost use Rattle.dsc_platform.specs.SkuNames.{Placed};
-ghost use Rattle.dsc_platform.specs.Standing.{last_mark, said_marks};
-ghost use Rattle.dsc_platform.specs.Platform.{line_faults, line_row, open_fault};
+ghost use Rattle.dsc_platform.specs.Holding.{Holds};
+ghost use Rattle.dsc_lines.specs.Standing.{last_mark, said_marks};
+ghost use Rattle.dsc_platform.specs.Platform.{open_fault};
 
-use crate::component_line::component_line;
 use crate::components::{begins, push_block};
-use crate::key_line::key_line;
-use crate::library_line::library_line;
-use crate::open_mark::{Open, open_below};
-use crate::pcd_line::pcd_line;
-use crate::rows::{Part, Said};
-use crate::section::{Scope, enter_head};
-use crate::sku_line::sku_line;
 use crate::sku_uses::{SkuUse, push_heads, push_rows};
 use crate::stated::{Stated, keep_rows};
 use build_base::{Place, Refusal, Rows, Taken, WantOfMemory, refuse};
 use doc_reading::Format;
 use doc_types::platform::Component;
+use dsc_lines::lines::line_row;
+use dsc_lines::open_mark::{Open, open_below};
+use dsc_lines::rows::{Part, Said};
+use dsc_lines::section::{Scope, enter_head};
 use indexmap::IndexMap;
 use meta_lexer::head::Head;
 use std::alloc::Global;
@@ -39,6 +34,24 @@ pub struct DscFormat {
     pub done: Rows<Component>,
     pub first: Vec<Part>,
     pub rest: Vec<Part>,
+}
+
+impl DscFormat {
+    /// No lines yet.
+    pub fn new(alloc: Global) -> DscFormat
+        ensures { Holds [] result }
+    {
+        DscFormat {
+            alloc,
+            stated: Stated::new(alloc),
+            standing: Open::Shut,
+            names: IndexMap::new(alloc),
+            uses: Rows::new(alloc),
+            done: Rows::new(alloc),
+            first: Vec::new(alloc),
+            rest: Vec::new(alloc),
+        }
+    }
 }
 
 fn standing_below(standing: Open, rows: &[Said]) -> Open
@@ -67,45 +80,6 @@ fn push_parts(parts: &mut Vec<Part>, more: Vec<Part>) -> Result<(), WantOfMemory
         push_part(parts, part)?;
     }
     Ok(())
-}
-
-// What a line says below a head.
-#[tactic(auto, unfolding(crate::specs::Platform::line_faults, crate::specs::Platform::line_row))]
-fn line_row(
-    alloc: Global,
-    line: &Taken,
-    names: &IndexMap<Vec<u8>, usize>,
-    standing: Open,
-    scope: &Scope,
-) -> Result<Option<Said>, Refusal>
-    ensures { (above : List (List ℕ)) → Placed above names.now → Answers result (judged (line_faults above standing line.now scope.now) (line_row standing line.now scope.now)) }
-{
-    match scope {
-        Scope::Defines => key_line(alloc, line),
-        Scope::SkuIds => {
-            let sku = sku_line(alloc, line, names)?;
-            Ok(sku.map(|sku| Said::Sku(sku)))
-        }
-        Scope::Libraries(arch, kind) => {
-            let library = library_line(alloc, line, *arch, *kind)?;
-            Ok(library.map(|library| Said::Library(library)))
-        }
-        Scope::Components(arch) => {
-            let part = component_line(alloc, line, *arch, standing)?;
-            Ok(part.map(|part| Said::Part(part)))
-        }
-        Scope::Pcds(pcds) => {
-            let pcd = pcd_line(
-                alloc,
-                line,
-                pcds.kind,
-                pcds.store,
-                pcds.arch,
-                pcds.sku.bytes(),
-            )?;
-            Ok(pcd.map(|pcd| Said::Pcd(pcd)))
-        }
-    }
 }
 
 fn check_standing(alloc: Global, line: &Taken, standing: Open) -> Result<(), Refusal>
@@ -140,8 +114,8 @@ fn take_parts(
 impl Format for DscFormat {
     ghost use Rattle.dsc_platform.specs.Platform.{dsc_grammar};
     ghost use Rattle.dsc_platform.specs.Holding.{Holds};
-    ghost use Rattle.dsc_platform.specs.declared.rows.Said.{Said};
-    ghost use Rattle.dsc_platform.specs.declared.section.Scope.{Scope};
+    ghost use Rattle.dsc_lines.specs.declared.rows.Said.{Said};
+    ghost use Rattle.dsc_lines.specs.declared.section.Scope.{Scope};
     ghost use Rattle.doc_reading.specs.Grammar.{Read, gave};
     ghost use Rattle.std.specs.Prelude.{List, ◌++◌};
 

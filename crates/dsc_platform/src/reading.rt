@@ -2,30 +2,30 @@
 ghost use Rattle.std.specs.Prelude.{◌≡◌, ◌++◌, OnOk, IfOk, codes, unwrap_or, map};
 ghost use Rattle.std.specs.List.{list_any};
 ghost use Rattle.build_base.specs.Answer.{Answers, Checks};
-ghost use Rattle.dsc_platform.specs.Cutting.{built};
 ghost use Rattle.build_base.specs.Path.{IsPathField};
+ghost use Rattle.dsc_platform.specs.Cutting.{built};
 ghost use Rattle.dsc_platform.specs.Shape.{HasShape};
-ghost use Rattle.dsc_platform.specs.SkuLines.{is_default};
-ghost use Rattle.dsc_platform.specs.SkuNames.{Placed};
+ghost use Rattle.dsc_lines.specs.SkuLines.{is_default};
+ghost use Rattle.dsc_lines.specs.SkuNames.{Placed};
 ghost use Rattle.dsc_platform.specs.Stating.{names_of};
 ghost use Rattle.dsc_platform.specs.Platform.{front_of, skus_of, with_required, whole_fault, document_of, platform_of};
 
 use crate::components::push_block;
 use crate::format::DscFormat;
-use crate::open_mark::Open;
-use crate::output_folder::OutputFolder;
-use crate::platform_name::PlatformName;
+use crate::named_platform::NamedPlatform;
 use crate::repeats::check_repeats;
-use crate::rows::SkuLine;
-use crate::sku_line::is_default;
 use crate::sku_uses::{SkuUse, check_uses};
 use crate::sku_walks::check_loops;
 use crate::stated::{Keys, Options, Stated};
 use build_base::{Guid, Lines, Path, Permit, Place, Refusal, Rows, Same, Text, WantOfMemory};
 use doc_reading::missing::refuse_missing;
-use doc_reading::read_document;
+use doc_reading::{Whole, read_whole};
 use doc_types::arch::Arch;
 use doc_types::platform::{Component, LibraryLine, PcdLine, PlatformDoc, Sku};
+use dsc_lines::output_folder::OutputFolder;
+use dsc_lines::platform_name::PlatformName;
+use dsc_lines::rows::SkuLine;
+use dsc_lines::sku_line::is_default;
 use indexmap::IndexMap;
 use std::alloc::Global;
 
@@ -121,9 +121,8 @@ fn make_document(
     name: PlatformName,
     guid: Guid,
     arches: Rows<Arch>,
-) -> Result<PlatformDoc, WantOfMemory>
-    ensures value { IfOk result (λ d. d ≡ with_required lines.now options skus.now libraries pcds components name guid arches) }
-    ensures shape { IfOk result (λ d. HasShape d) }
+) -> Result<NamedPlatform, WantOfMemory>
+    ensures { IfOk result (λ d. d ≡ with_required lines.now options skus.now libraries pcds components name guid arches) }
 {
     let Options {
         output,
@@ -131,22 +130,24 @@ fn make_document(
         flash,
     } = options;
     let output = output_of(alloc, output, &name)?;
-    Ok(PlatformDoc {
-        at: Place {
-            path: lines.root.copy(alloc)?,
-            line: 0,
+    Ok(NamedPlatform {
+        document: PlatformDoc {
+            at: Place {
+                path: lines.root.copy(alloc)?,
+                line: 0,
+            },
+            output,
+            name: name.into_text(),
+            guid,
+            arches,
+            sku_choice: sku_choice_of(alloc, sku_choice)?,
+            flash,
+            skus: skus_of(alloc, skus)?,
+            libraries,
+            components,
+            pcds,
+            macros: lines.macros.copy(alloc)?,
         },
-        output,
-        name: name.into_text(),
-        guid,
-        arches,
-        sku_choice: sku_choice_of(alloc, sku_choice)?,
-        flash,
-        skus: skus_of(alloc, skus)?,
-        libraries,
-        components,
-        pcds,
-        macros: lines.macros.copy(alloc)?,
     })
 }
 
@@ -186,9 +187,8 @@ fn end_blocks(format: DscFormat) -> Result<Ended, WantOfMemory>
 
 // The document, where each required key is stated and nothing is at fault in the whole.
 #[tactic(auto, unfolding(crate::specs::Platform::document_of))]
-fn document(alloc: Global, lines: &Lines, ended: Ended) -> Result<PlatformDoc, Refusal>
-    ensures value { Placed (names_of ended.stated.skus) ended.names → Answers result (document_of lines.now ended.stated ended.components ended.uses) }
-    ensures shape { IfOk result (λ d. HasShape d) }
+fn document(alloc: Global, lines: &Lines, ended: Ended) -> Result<NamedPlatform, Refusal>
+    ensures { Placed (names_of ended.stated.skus) ended.names → Answers result (document_of lines.now ended.stated ended.components ended.uses) }
 {
     let Ended {
         stated,
@@ -244,25 +244,28 @@ fn document(alloc: Global, lines: &Lines, ended: Ended) -> Result<PlatformDoc, R
     Ok(document)
 }
 
+impl Whole for DscFormat {
+    ghost use Rattle.dsc_platform.specs.Platform.{platform_made};
+
+    type Made = NamedPlatform;
+
+    ghost made = { platform_made };
+
+    fn finish(self, lines: &Lines) -> Result<NamedPlatform, Refusal> {
+        let alloc = self.alloc;
+        let ended = end_blocks(self)?;
+        document(alloc, lines, ended)
+    }
+}
+
 /// The platform that these lines describe, or the first fault: of the first line that has one, else of the
 /// whole, at its root's line 0 where a required key isn't stated.
-#[tactic(auto, unfolding(crate::specs::Platform::platform_of))]
+#[tactic(auto, unfolding(crate::specs::Platform::platform_of), using(crate::proofs::ShapeOfLines::skus_end))]
 pub fn read_platform(alloc: Global, permit: Permit, lines: &Lines) -> Result<PlatformDoc, Refusal>
     ensures value { Answers result (platform_of lines.now) }
     ensures shape { IfOk result (λ d. HasShape d) }
 {
     let _spent = permit;
-    let format = DscFormat {
-        alloc,
-        stated: Stated::new(alloc),
-        standing: Open::Shut,
-        names: IndexMap::new(alloc),
-        uses: Rows::new(alloc),
-        done: Rows::new(alloc),
-        first: Vec::new(alloc),
-        rest: Vec::new(alloc),
-    };
-    let format = read_document(alloc, format, lines.rows.items())?;
-    let ended = end_blocks(format)?;
-    document(alloc, lines, ended)
+    let platform = read_whole(alloc, DscFormat::new(alloc), lines)?;
+    Ok(platform.into_document())
 }

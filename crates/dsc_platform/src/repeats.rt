@@ -5,7 +5,7 @@ ghost use Rattle.std.specs.HashMap.{get};
 ghost use Rattle.std.specs.List.{list_any};
 ghost use Rattle.build_base.specs.Answer.{Checks};
 ghost use Rattle.doc_types.specs.declared.platform.Component.{Component as Part};
-ghost use Rattle.dsc_platform.specs.SkuNames.{same_key};
+ghost use Rattle.dsc_lines.specs.SkuNames.{same_key};
 ghost use Rattle.dsc_platform.specs.Repeats.{meets, repeats, repeat_fault, repeats_fault, Arched};
 
 use build_base::{Refusal, Rows, WantOfMemory, refuse};

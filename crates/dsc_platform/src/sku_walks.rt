@@ -1,63 +1,17 @@
 //! The check that each SKU's walk by parents comes to DEFAULT.
-ghost use Rattle.std.specs.Prelude.{◌≡◌, ◌++◌, ◌∷◌, [], ℕ, List, map, OnOk, IfOk};
+ghost use Rattle.std.specs.Prelude.{◌≡◌};
 ghost use Rattle.build_base.specs.Answer.{Checks};
-ghost use Rattle.dsc_platform.specs.SkuNames.{Placed};
-ghost use Rattle.dsc_platform.specs.SkuWalks.{parent_place, parents_of, next_of, comes_by, is_loop, loop_fault, loops_from, loops_fault};
+ghost use Rattle.dsc_lines.specs.SkuNames.{Placed};
+ghost use Rattle.dsc_platform.specs.FarPlaces.{Unlooped};
+ghost use Rattle.dsc_platform.specs.SkuWalks.{is_loop, loop_fault, loops_from, loops_fault};
 ghost use Rattle.dsc_platform.specs.Stating.{names_of};
 
-use crate::rows::SkuLine;
-use crate::sku_line::is_default;
-use crate::sku_names::place_of;
-use build_base::{Refusal, WantOfMemory, refuse};
+use crate::far_places::marks_of;
+use crate::parent_places::{next_of, parents_among};
+use build_base::{Refusal, refuse};
+use dsc_lines::rows::SkuLine;
 use indexmap::IndexMap;
 use std::alloc::Global;
-
-fn parent_place(
-    alloc: Global,
-    names: &IndexMap<Vec<u8>, usize>,
-    line: &SkuLine,
-) -> Result<Option<usize>, WantOfMemory>
-    ensures { (ns : List (List ℕ)) → Placed ns names.now → IfOk result (λ place. place ≡ parent_place ns line.now) }
-{
-    if is_default(line.sku.name.bytes()) {
-        return Ok(None);
-    }
-    let place = place_of(alloc, names, line.sku.parent.bytes())?;
-    Ok(place)
-}
-
-fn push_place(places: &mut Vec<Option<usize>>, place: Option<usize>) -> Result<(), WantOfMemory>
-    ensures { OnOk result (places.new.items ≡ places.old.items ++ place ∷ []) }
-{
-    match places.push(place) {
-        Ok(()) => Ok(()),
-        Err(_) => Err(WantOfMemory),
-    }
-}
-
-fn parents_among(
-    alloc: Global,
-    names: &IndexMap<Vec<u8>, usize>,
-    skus: &[SkuLine],
-) -> Result<Vec<Option<usize>>, WantOfMemory>
-    ensures { (ns : List (List ℕ)) → Placed ns names.now → IfOk result (λ parents. parents.items ≡ map (parent_place ns) skus.now) }
-{
-    let mut parents = Vec::new(alloc);
-    for line in skus {
-        let place = parent_place(alloc, names, line)?;
-        push_place(&mut parents, place)?;
-    }
-    Ok(parents)
-}
-
-fn next_of(parents: &[Option<usize>], place: usize) -> Option<usize>
-    ensures { result ≡ next_of parents.now place }
-{
-    match parents.get(place) {
-        Some(next) => *next,
-        None => None,
-    }
-}
 
 // Whether the walk from a place meets it again.
 #[tactic(auto, using(crate::proofs::WalkLemmas::comes_none, crate::proofs::WalkLemmas::comes_step))]
@@ -95,11 +49,34 @@ fn check_loop(
     Ok(())
 }
 
-fn check_walks(alloc: Global, parents: &[Option<usize>], skus: &[SkuLine]) -> Result<(), Refusal>
+// The same, where a place without a mark is on no circle.
+fn check_place(
+    alloc: Global,
+    parents: &[Option<usize>],
+    marks: &[bool],
+    place: usize,
+    line: &SkuLine,
+) -> Result<(), Refusal>
+    requires { Unlooped parents.now marks.now }
+    ensures { Checks result (loop_fault parents.now place line.now) }
+{
+    match marks.get(place) {
+        Some(false) => Ok(()),
+        Some(true) | None => check_loop(alloc, parents, place, line),
+    }
+}
+
+fn check_walks(
+    alloc: Global,
+    parents: &[Option<usize>],
+    marks: &[bool],
+    skus: &[SkuLine],
+) -> Result<(), Refusal>
+    requires { Unlooped parents.now marks.now }
     ensures { Checks result (loops_from parents.now 0 skus.now) }
 {
     for (place, line) in skus.iter().enumerate() {
-        if let Err(refusal) = check_loop(alloc, parents, place, line) {
+        if let Err(refusal) = check_place(alloc, parents, marks, place, line) {
             return Err(refusal);
         }
     }
@@ -116,5 +93,6 @@ pub fn check_loops(
     ensures { Placed (names_of skus.now) names.now → Checks result (loops_fault skus.now) }
 {
     let parents = parents_among(alloc, names, skus)?;
-    check_walks(alloc, parents.as_slice(), skus)
+    let marks = marks_of(alloc, parents.as_slice())?;
+    check_walks(alloc, parents.as_slice(), marks.as_slice(), skus)
 }

@@ -1,18 +1,18 @@
 //! What the lines state, components apart.
 ghost use Rattle.std.specs.Prelude.{◌≡◌, ◌++◌, ◌∷◌, [], OnOk};
 ghost use Rattle.std.specs.List.{flat_map};
-ghost use Rattle.dsc_platform.specs.SkuNames.{Placed};
-ghost use Rattle.dsc_platform.specs.Standing.{parts_in};
-ghost use Rattle.dsc_platform.specs.declared.rows.Said.TheVariants.{Key};
+ghost use Rattle.dsc_lines.specs.SkuNames.{Placed};
+ghost use Rattle.dsc_lines.specs.Standing.{parts_in};
+ghost use Rattle.dsc_lines.specs.declared.rows.Said.TheVariants.{Key};
 ghost use Rattle.dsc_platform.specs.Stating.{nothing, keys_with, with_rows, names_of};
 
-use crate::output_folder::OutputFolder;
-use crate::platform_name::PlatformName;
-use crate::rows::{KeyValue, Part, Said, SkuLine};
-use crate::sku_names::add_name;
 use build_base::{Guid, Path, Rows, Text, WantOfMemory};
 use doc_types::arch::Arch;
 use doc_types::platform::{LibraryLine, PcdLine};
+use dsc_lines::output_folder::OutputFolder;
+use dsc_lines::platform_name::PlatformName;
+use dsc_lines::rows::{KeyValue, Part, Said, SkuLine};
+use dsc_lines::sku_names::add_name;
 use indexmap::IndexMap;
 use std::alloc::Global;
 

@@ -2,11 +2,10 @@
 use Rattle.std.proofs.Common.{◌≡◌, ◌∙◌, List, [], ◌∷◌, ◌++◌, Option, Some, None, option_map, refl, sym, ap, append-nil}
 use Rattle.std.specs.List.{flat_map}
 use Rattle.std.proofs.lemmas.Grind.{flat_map-append}
-use Rattle.build_base.specs.First.{and_then, unless}
 use Rattle.build_base.specs.declared.fault.Place.{Place}
 use Rattle.build_base.specs.declared.lines.Lines.{Lines}
 use Rattle.doc_reading.specs.Blocks.{Block, are_heads, last_block, ended_blocks, with_line, made_of}
-use Rattle.doc_reading.specs.Grammar.{Read, entered, gave, first_fault, read_of}
+use Rattle.doc_reading.specs.Grammar.{Read, entered, gave}
 use Rattle.doc_reading.proofs.BlockLemmas.{block_begun, block_first, block_taken, block_kept, block_ended}
 use Rattle.doc_types.specs.declared.depex.DepexPart.{DepexPart}
 use Rattle.inf_docs.specs.declared.depex.OpenSection.{OpenSection}
@@ -14,7 +13,7 @@ use Rattle.inf_docs.specs.declared.module.ModuleFormat.{ModuleFormat}
 use Rattle.inf_docs.specs.declared.row.Row.{Row}
 use Rattle.inf_docs.specs.declared.section.Scope.{Scope}
 use Rattle.inf_docs.specs.Depex.{read_terms, opened, last_section, parts_in, block_parts, all_parts, with_terms, line_terms}
-use Rattle.inf_docs.specs.Modules.{inf_grammar, tables_of, document_of, module_of}
+use Rattle.inf_docs.specs.Modules.{tables_of, document_of, module_made}
 use Rattle.inf_docs.specs.Reading.{Holds}
 
 terms_more : (rest : List (Read Scope Row)) (rows : List Row) → flat_map read_terms (rest ++ gave rows ∷ []) ≡ flat_map read_terms rest ++ line_terms rows
@@ -63,11 +62,9 @@ parts_ended above section done s d =
     (ap (λ o. done ++ parts_in o) s ∙ ap (λ ps. done ++ ps) (sym (made_last (last_block are_heads above))))
 
 -- the document of what is held after the last line
-pub module_told : (lines : Lines) (format : ModuleFormat) → first_fault inf_grammar lines.rows ≡ None → Holds (read_of inf_grammar lines.rows) format
-    → document_of lines.root format.tables (format.parts ++ parts_in format.section) ≡ module_of lines
-unfolding module_of
-module_told lines format f h =
-    let reads = read_of inf_grammar lines.rows in
+pub module_told : (lines : Lines) (reads : List (Read Scope Row)) (format : ModuleFormat) → Holds reads format
+    → document_of lines.root format.tables (format.parts ++ parts_in format.section) ≡ module_made lines reads
+unfolding module_made
+module_told lines reads format h =
     ap (λ t. document_of lines.root t (format.parts ++ parts_in format.section)) h.tables
     ∙ ap (document_of lines.root (tables_of reads)) (parts_ended reads format.section format.parts h.section h.parts)
-    ∙ sym (ap (λ o. and_then (unless o reads) (λ rs. document_of lines.root (tables_of rs) (all_parts rs))) f)

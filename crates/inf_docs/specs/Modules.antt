@@ -1,11 +1,10 @@
 -- A module's document, or its first fault.
 use Rattle.std.specs.Prelude.{ℕ, ◌++◌, List, [], ◌∷◌, Option, Some, None, unwrap_or, Result, Ok, Err, codes}
 use Rattle.std.specs.List.{flat_map}
-use Rattle.build_base.specs.First.{and_then}
 use Rattle.build_base.specs.declared.guid.Guid.{Guid as GuidBytes}
 use Rattle.build_base.specs.declared.fault.Fault.{Fault}
 use Rattle.build_base.specs.declared.lines.Lines.{Lines}
-use Rattle.doc_reading.specs.Grammar.{Grammar, Read, reading, rows_of}
+use Rattle.doc_reading.specs.Grammar.{Grammar, Read, whole_read, rows_of}
 use Rattle.doc_reading.specs.Meanings.{meaning_faults, meaning_scope}
 use Rattle.doc_reading.specs.Missing.{missing_key}
 use Rattle.doc_reading.specs.Reading.{last_or}
@@ -153,8 +152,10 @@ required root tables parts (Some name) (Some guid) (Some kind) = Ok (with_requir
 unfoldable pub document_of : List ℕ → ModuleTables → List DepexPart → Result InfDoc Fault
 document_of root tables parts = required root tables parts tables.base_name tables.file_guid tables.kind
 
+-- what lines that come to this make: the document, where it is whole
+unfoldable pub module_made : Lines → List (Read Scope Row) → Result InfDoc Fault
+module_made lines reads = document_of lines.root (tables_of reads) (all_parts reads)
+
 -- the fault of the first line that has one, else the document, where it is whole
 unfoldable pub module_of : Lines → Result InfDoc Fault
-module_of lines =
-    and_then (reading inf_grammar lines.rows)
-    (λ reads. document_of lines.root (tables_of reads) (all_parts reads))
+module_of lines = whole_read inf_grammar (module_made lines) lines.rows

@@ -9,7 +9,7 @@ use crate::module::ModuleFormat;
 use crate::tables::ModuleTables;
 use build_base::{Lines, Path, Permit, Place, Refusal, Rows, Same, Text, WantOfMemory};
 use doc_reading::missing::refuse_missing;
-use doc_reading::read_document;
+use doc_reading::{Whole, read_whole};
 use doc_types::depex::DepexPart;
 use doc_types::module::InfDoc;
 use std::alloc::Global;
@@ -78,7 +78,7 @@ fn document(
 }
 
 // The document of what was read, with the parts of the last section.
-fn finish(root: &Path, format: ModuleFormat) -> Result<InfDoc, Refusal>
+fn finished(root: &Path, format: ModuleFormat) -> Result<InfDoc, Refusal>
     ensures { Answers result
         (document_of root.now format.tables (format.parts ++ parts_in format.section)) }
 {
@@ -92,6 +92,18 @@ fn finish(root: &Path, format: ModuleFormat) -> Result<InfDoc, Refusal>
     document(alloc, root, tables, parts)
 }
 
+impl Whole for ModuleFormat {
+    ghost use Rattle.inf_docs.specs.Modules.{module_made};
+
+    type Made = InfDoc;
+
+    ghost made = { module_made };
+
+    fn finish(self, lines: &Lines) -> Result<InfDoc, Refusal> {
+        finished(&lines.root, self)
+    }
+}
+
 /// The module that these lines describe, or the first fault: of the first line that has one, of its faults
 /// the one of the least code, else of the document, at its root's line 0, where a required key isn't stated.
 #[tactic(auto, unfolding(crate::specs::Modules::module_of))]
@@ -100,6 +112,5 @@ pub fn read_inf(alloc: Global, permit: Permit, lines: &Lines) -> Result<InfDoc, 
 {
     let _spent = permit;
     let format = ModuleFormat::new(alloc);
-    let format = read_document(alloc, format, lines.rows.items())?;
-    finish(&lines.root, format)
+    read_whole(alloc, format, lines)
 }

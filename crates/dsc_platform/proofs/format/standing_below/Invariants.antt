@@ -1,6 +1,6 @@
 use Rattle.std.proofs.Common.{◌≡◌, drop}
 use Rattle.std.specs.List.{flat_map}
-use Rattle.dsc_platform.specs.Standing.{last_mark, said_marks}
+use Rattle.dsc_lines.specs.Standing.{last_mark, said_marks}
 use Rattle.dsc_platform.proofs.format.standing_below.Given as goal
 
 abbrev pub invariant-loop-row : goal.invariant-loop-row

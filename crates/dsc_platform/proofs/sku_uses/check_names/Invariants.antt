@@ -1,6 +1,6 @@
 use Rattle.std.proofs.Common.{◌≡◌, ℕ, List, drop}
 use Rattle.meta_lexer.specs.Faults.{first_fault}
-use Rattle.dsc_platform.specs.SkuNames.{Placed}
+use Rattle.dsc_lines.specs.SkuNames.{Placed}
 use Rattle.dsc_platform.specs.SkuUses.{unknown}
 use Rattle.dsc_platform.proofs.sku_uses.check_names.Given as goal
 

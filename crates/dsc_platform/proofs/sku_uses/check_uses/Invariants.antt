@@ -1,7 +1,7 @@
 use Rattle.std.proofs.Common.{◌≡◌, ◌≤◌, ℕ, List, drop, length}
 use Rattle.std.specs.List.{list_any}
 use Rattle.build_base.specs.Answer.{Checks}
-use Rattle.dsc_platform.specs.SkuNames.{Placed}
+use Rattle.dsc_lines.specs.SkuNames.{Placed}
 use Rattle.dsc_platform.specs.SkuUses.{uses_fault, is_chosen}
 use Rattle.dsc_platform.proofs.sku_uses.check_uses.Given as goal
 

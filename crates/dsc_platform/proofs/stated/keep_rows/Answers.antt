@@ -1,5 +1,5 @@
 use Rattle.std.proofs.Common.{◌∙◌, [], ◌∷◌, ◌++◌, ap}
-use Rattle.dsc_platform.specs.Standing.{parts_in}
+use Rattle.dsc_lines.specs.Standing.{parts_in}
 use Rattle.dsc_platform.specs.Stating.{with_rows}
 use Rattle.dsc_platform.proofs.StatedLemmas.{rows_join, parts_more}
 use Rattle.dsc_platform.proofs.stated.keep_rows.Goals as goal

@@ -1,7 +1,7 @@
 use Rattle.std.proofs.Common.{◌≡◌, ◌++◌}
 use Rattle.std.specs.List.{flat_map}
-use Rattle.dsc_platform.specs.SkuNames.{Placed}
-use Rattle.dsc_platform.specs.Standing.{parts_in}
+use Rattle.dsc_lines.specs.SkuNames.{Placed}
+use Rattle.dsc_lines.specs.Standing.{parts_in}
 use Rattle.dsc_platform.specs.Stating.{with_rows, names_of}
 use Rattle.dsc_platform.proofs.stated.keep_rows.Given as goal
 

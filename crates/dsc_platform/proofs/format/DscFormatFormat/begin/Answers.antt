@@ -4,7 +4,7 @@ use Rattle.doc_reading.specs.Grammar.{entered}
 use Rattle.doc_reading.proofs.HeldLemmas.{rows_same}
 use Rattle.dsc_platform.specs.Cutting.{BlocksHeld}
 use Rattle.dsc_platform.specs.SkuUses.{head_uses, uses_in}
-use Rattle.dsc_platform.specs.Standing.{open_below}
+use Rattle.dsc_lines.specs.Standing.{open_below}
 use Rattle.dsc_platform.specs.Stating.{nothing, with_rows}
 use Rattle.dsc_platform.proofs.BlockLemmas.{lines_same}
 use Rattle.dsc_platform.proofs.StatedLemmas.{flat_push}

@@ -2,8 +2,8 @@ use Rattle.std.proofs.Common.{ap, subst}
 use Rattle.build_base.specs.Answer.{Answers}
 use Rattle.doc_reading.specs.Gathering.{judged}
 use Rattle.doc_reading.specs.Grammar.{rows_of}
-use Rattle.dsc_platform.specs.Platform.{line_faults, line_row}
-use Rattle.dsc_platform.specs.Standing.{open_below}
+use Rattle.dsc_lines.specs.Lines.{line_faults, line_row}
+use Rattle.dsc_lines.specs.Standing.{open_below}
 use Rattle.dsc_platform.specs.Stating.{names_of}
 use Rattle.dsc_platform.proofs.format.DscFormatFormat.below.Goals as goal
 

@@ -4,7 +4,7 @@ use Rattle.doc_reading.specs.Grammar.{rows_of, gave}
 use Rattle.doc_reading.proofs.HeldLemmas.{rows_more}
 use Rattle.dsc_platform.specs.Cutting.{lines_of, BlocksHeld}
 use Rattle.dsc_platform.specs.SkuUses.{row_uses, uses_in}
-use Rattle.dsc_platform.specs.Standing.{parts_in, said_marks, last_mark, open_below}
+use Rattle.dsc_lines.specs.Standing.{parts_in, said_marks, last_mark, open_below}
 use Rattle.dsc_platform.specs.Stating.{nothing, with_rows}
 use Rattle.dsc_platform.proofs.BlockLemmas.{lines_more, open_more}
 use Rattle.dsc_platform.proofs.StatedLemmas.{rows_join, flat_push}

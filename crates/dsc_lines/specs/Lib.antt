@@ -1,0 +1,11 @@
+pub mod Arches
+pub mod ComponentLines
+pub mod Forms
+pub mod KeyLines
+pub mod LibraryLines
+pub mod Lines
+pub mod PcdLines
+pub mod Sections
+pub mod SkuLines
+pub mod SkuNames
+pub mod Standing

@@ -1,0 +1,35 @@
+//! What the lines above left open in [Components].
+ghost use Rattle.std.specs.Prelude.{◌≡◌};
+ghost use Rattle.dsc_lines.specs.Standing.{open_with, last_mark, said_marks};
+
+use crate::rows::{Begun, Part, Said, Tag};
+
+/// Whether a component's braces are open, and the tag below which the next line stands.
+#[derive(Clone, Copy, Debug, PartialEq, Eq)]
+pub enum Open {
+    Shut,
+    Untagged,
+    Tagged(Tag),
+}
+
+fn open_with(standing: Open, part: &Part) -> Open
+    ensures { result ≡ open_with standing part.now }
+{
+    match part {
+        Part::Begins(Begun { braced: true, .. }) => Open::Untagged,
+        Part::Begins(_) => Open::Shut,
+        Part::Tagged(tag) => Open::Tagged(*tag),
+        Part::Closes => Open::Shut,
+        Part::Library(_) | Part::Pcd(_) | Part::FileGuid(_, _) => standing,
+    }
+}
+
+/// With one row more.
+pub fn open_below(standing: Open, row: &Said) -> Open
+    ensures { result ≡ last_mark standing (said_marks row.now) }
+{
+    match row {
+        Said::Part(part) => open_with(standing, part),
+        Said::Key(_) | Said::Sku(_) | Said::Library(_) | Said::Pcd(_) => standing,
+    }
+}
