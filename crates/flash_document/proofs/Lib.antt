@@ -3,3 +3,11 @@ pub mod RegionLemmas
 pub mod NameLemmas
 pub mod HeldLemmas
 pub mod ExponentLemmas
+pub mod LoopLemmas
+pub mod WholeLemmas
+pub mod OrderLemmas
+pub mod ShapeLemmas
+pub mod CarryLemmas
+pub mod NestLemmas
+pub mod RowLemmas
+pub mod NestedLemmas

@@ -158,12 +158,16 @@ plan_at names regions (Some volume) = volume_plan names regions volume ∷ []
 unfoldable pub plan_in : List (List ℕ) → List HeldRegion → List (Bor StatedVolume) → ℕ → List VolumePlan
 plan_in names regions volumes p = plan_at names regions (option_map (λ v. v.now) (slice_get volumes p))
 
+-- the volumes in the order of their numbers
+abbrev pub volume_plans : List Stated → List VolumePlan
+volume_plans parts = flat_map (λ p. plan_at (ordered_names parts) (all_held parts) (slice_get (volumes_of parts) p)) (numbered parts)
+
 unfoldable pub document_of : List ℕ → List LineRead → List Stated → FlashDoc
 document_of root lines parts = record {
   at = record { path = root; line = 0 };
   sets = all_sets lines;
   devices = flat_map (part_device (ordered_names parts)) parts;
-  volumes = flat_map (λ p. plan_at (ordered_names parts) (all_held parts) (slice_get (volumes_of parts) p)) (numbered parts);
+  volumes = volume_plans parts;
   rule_list = flat_map part_rule parts;
 }
 

@@ -10,3 +10,8 @@ pub mod Whole
 pub mod Held
 pub mod Document
 pub mod Rules
+pub mod Looping
+pub mod Modules
+pub mod Tables
+pub mod Flash
+pub mod Shape

@@ -41,10 +41,13 @@ type_text kind.UefiApplication = codes "UEFI_APPLICATION"
 type_text kind.UserDefined = codes "USER_DEFINED"
 type_text kind.HostApplication = codes "HOST_APPLICATION"
 
+abbrev pub same_arch : Arch → Arch → Bool
+same_arch first second = same_word (arch_text first) (arch_text second)
+
 -- a rule is for this architecture and type, with this template
 abbrev pub is_for : Arch → ModuleType → List ℕ → RuleDoc → Bool
 is_for wanted module_type template rule =
-    same_word (arch_text rule.arch) (arch_text wanted) && same_word (type_text rule.module_type) (type_text module_type) && same_word rule.template template
+    same_arch rule.arch wanted && same_word (type_text rule.module_type) (type_text module_type) && same_word rule.template template
 
 -- the module's own architecture goes before every one
 abbrev pub rule_place : List RuleDoc → Arch → ModuleType → List ℕ → Option ℕ

@@ -104,7 +104,8 @@ fn part_unstated(alloc: Global, part: &Stated) -> Result<(), Refusal>
     }
 }
 
-fn check_stated(alloc: Global, parts: &[Stated]) -> Result<(), Refusal>
+/// Refuses the first device without a base address or a size.
+pub fn check_stated(alloc: Global, parts: &[Stated]) -> Result<(), Refusal>
     ensures { Checks result (first_fault part_unstated parts.now) }
 {
     for part in parts {
@@ -139,7 +140,8 @@ fn part_too_large(
     size_fault(alloc, &volume.at, size_of(volume, held))
 }
 
-fn check_sizes(
+/// Refuses the first volume that is too large.
+pub fn check_sizes(
     alloc: Global,
     sizes: &IndexMap<Vec<u8>, HeldSizes>,
     parts: &[Stated],
@@ -212,7 +214,8 @@ fn line_unknown(
     }
 }
 
-fn check_names(
+/// Refuses the first name in a region or a section that is no volume's.
+pub fn check_names(
     alloc: Global,
     table: &IndexMap<Vec<u8>, usize>,
     lines: &[LineRead],
@@ -306,7 +309,8 @@ fn part_blocks(
     }
 }
 
-fn check_blocks(
+/// Refuses the first device or volume whose blocks are no whole size.
+pub fn check_blocks(
     alloc: Global,
     sizes: &IndexMap<Vec<u8>, HeldSizes>,
     parts: &[Stated],
@@ -344,7 +348,8 @@ fn part_sizes(
     two_sizes(alloc, &volume.at, held)
 }
 
-fn check_regions(
+/// Refuses the first volume in regions of two sizes.
+pub fn check_regions(
     alloc: Global,
     sizes: &IndexMap<Vec<u8>, HeldSizes>,
     parts: &[Stated],

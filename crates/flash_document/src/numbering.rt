@@ -85,7 +85,7 @@ fn add_waiting(
     }
 }
 
-fn insert(set: &mut BTreeSet<usize>, number: usize) -> Result<(), WantOfMemory>
+pub fn insert(set: &mut BTreeSet<usize>, number: usize) -> Result<(), WantOfMemory>
     ensures { OnOk result ((q : ℕ) → contains nat_cmp set.new q ≡ cond (nat_eq number q) true (contains nat_cmp set.old q)) }
 {
     match set.insert(number) {

@@ -2,7 +2,7 @@
 ghost use Rattle.std.specs.Prelude.{◌≡◌, IfOk};
 ghost use Rattle.std.specs.List.{position};
 ghost use Rattle.build_base.specs.Answer.{Answers};
-ghost use Rattle.flash_document.specs.Rules.{arch_text, type_text, is_for, rule_place, rule_name, rule_of};
+ghost use Rattle.flash_document.specs.Rules.{arch_text, type_text, same_arch, is_for, rule_place, rule_name, rule_of};
 
 use build_base::{Refusal, Text, WantOfMemory, refuse};
 use doc_types::arch::Arch;
@@ -50,11 +50,18 @@ fn type_text(module_type: ModuleType) -> &'static [u8]
     }
 }
 
+/// Two architectures are one.
+pub fn same_arch(first: Arch, second: Arch) -> bool
+    ensures { result ≡ same_arch first second }
+{
+    same_word(arch_text(first), arch_text(second))
+}
+
 // A rule is for this architecture and type, with this template.
 fn is_for(arch: Arch, module_type: ModuleType, template: &[u8], rule: &RuleDoc) -> bool
     ensures { result ≡ is_for arch module_type template.now rule.now }
 {
-    if !same_word(arch_text(rule.arch), arch_text(arch)) {
+    if !same_arch(rule.arch, arch) {
         return false;
     }
     if !same_word(type_text(rule.module_type), type_text(module_type)) {

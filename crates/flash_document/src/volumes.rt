@@ -155,8 +155,8 @@ pub fn ordered_names(
     Ok(ordered)
 }
 
-// The volume of a place.
-fn volume_at<'a>(volumes: &[&'a StatedVolume], place: usize) -> Option<&'a StatedVolume>
+/// The volume of a place.
+pub fn volume_at<'a>(volumes: &[&'a StatedVolume], place: usize) -> Option<&'a StatedVolume>
     ensures some { IfSome result (λ v. option_map (λ w. w.now) (slice_get volumes.now place) ≡ Some v.now) }
     ensures none { IfNone result (option_map (λ w. w.now) (slice_get volumes.now place) ≡ None) }
 {

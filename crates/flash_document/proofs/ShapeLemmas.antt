@@ -1,0 +1,279 @@
+-- A document without a fault has its shape.
+use Rattle.std.proofs.Common.{◌≡◌, ◌∙◌, ℕ, ◌+◌, ◌*◌, ◌%◌, ◌==◌, ◌<◌, ◌≤◌, Bool, true, false, nat_le, List, [], ◌∷◌, ◌++◌, length, map, Option, Some, None, Result, Ok, Err, if◌then◌else◌, unwrap_or, get_or, nat_eq, inl, inr, refl, sym, ap, subst, arith}
+use Rattle.std.specs.Prelude.{IfOk, slice_get}
+use Rattle.std.specs.List.{All, flat_map}
+use Rattle.std.specs.Option.{IfSome}
+use Rattle.std.specs.Cmp.Lexicographic.{pointwise}
+use Rattle.std.proofs.lemmas.List.{length-map, length-append}
+use Rattle.std.proofs.lemmas.List.Elements.{All-nil, All-cons, All-append, All-get_or, All-head, All-tail}
+use Rattle.std.proofs.lemmas.Option.{slice_get_cases, slice_get_within, get_or_from_slice_get}
+use Rattle.std.proofs.lemmas.Bool.Decides.{nat_tests}
+use Rattle.std.proofs.Math.Nat.{mul-mod_right}
+use Rattle.build_base.specs.Answer.{Answers}
+use Rattle.build_base.specs.First.{or_else, unless, and_then}
+use Rattle.build_base.specs.declared.fault.Fault.{Fault}
+use Rattle.build_base.specs.declared.fault.Place.{Place}
+use Rattle.build_base.specs.declared.refusal.Refusal.{Refusal}
+use Rattle.build_base.specs.declared.lines.Lines.{Lines}
+use Rattle.meta_lexer.specs.Faults.{first_fault}
+use Rattle.doc_types.specs.declared.flash.FlashDoc.{FlashDoc}
+use Rattle.doc_types.specs.declared.flash.RegionKind.{RegionKind}
+use Rattle.doc_types.specs.declared.volume.VolumePlan.{VolumePlan}
+use Rattle.doc_types.specs.Volumes.{SizeFits}
+use Rattle.fdf_lines.specs.Grammar.{rows_of_flash}
+use Rattle.fdf_lines.specs.declared.rows.LineRead.{LineRead}
+use Rattle.fdf_lines.specs.declared.rows.RegionContent.{RegionContent}
+use Rattle.fdf_lines.specs.declared.rows.Content.{Content}
+use Rattle.fdf_lines.specs.declared.rows.Content.TheVariants as content
+use Rattle.flash_document.specs.Devices.{capped}
+use Rattle.flash_document.specs.Document.{numbered, ordered_names, kind_numbered, content_kind, region_kind, region_plan, device_plan, part_device, part_rule, plan_at, volume_plan, head_plan, document_of, flash_of_lines}
+use Rattle.flash_document.specs.Flash.{line_of, flash_of}
+use Rattle.flash_document.specs.Names.{folded, place_from, place_of}
+use Rattle.flash_document.specs.Numbering.{order_of}
+use Rattle.flash_document.specs.Parts.{all_stated}
+use Rattle.flash_document.specs.Shape.{HeadFits, KindFits, RegionFits, DeviceFits, SectionFits, NameFits, RuleFits, HasShape}
+use Rattle.flash_document.specs.Whole.{volumes_of, volume_in, names_of, nests_of, nest_in, all_held, held_of, first_size, volume_size, block_of, size_of, size_fault, part_too_large, whole_blocks, unlike, blocks_with, volume_blocks, part_blocks, part_unstated, loop_fault, row_unknown, line_unknown, part_sizes, twin, whole_fault}
+use Rattle.flash_document.specs.declared.held.HeldRegion.{HeldRegion}
+use Rattle.flash_document.specs.declared.held.HeldSizes.{HeldSizes}
+use Rattle.flash_document.specs.declared.stated.Stated.{Stated}
+use Rattle.flash_document.specs.declared.stated.Stated.TheVariants.{Settings, Device, Volume, Rule}
+use Rattle.flash_document.specs.declared.stated.StatedDevice.{StatedDevice}
+use Rattle.flash_document.specs.declared.stated.StatedRegion.{StatedRegion}
+use Rattle.flash_document.specs.declared.stated.StatedVolume.{StatedVolume}
+use Rattle.fdf_lines.specs.declared.rows.LineRead.TheVariants.{Heads, Body}
+use Rattle.fdf_lines.specs.declared.rows.Row.{Row}
+use Rattle.fdf_lines.specs.declared.rows.Row.TheVariants as row
+use Rattle.fdf_lines.specs.declared.rows.Scope.{Scope}
+use Rattle.doc_reading.specs.Grammar.{Read}
+use Rattle.doc_types.specs.declared.volume.SectionPlan.{SectionPlan}
+use Rattle.flash_document.proofs.CarryLemmas.{LineHas, StatedHas, VolumeHas, at_place, all_have, volumes_have}
+use Rattle.flash_document.proofs.NestLemmas.{order_ordered}
+use Rattle.flash_document.proofs.NestedLemmas.{passed, plans_nested}
+use Rattle.flash_document.proofs.OrderLemmas.{order_below}
+use Rattle.flash_document.proofs.RowLemmas.{RowFits, ScopeFits, ReadFits, rows_fit, lines_fit}
+
+-- of two faults neither is there
+neither : (a b : Option Fault) → or_else a b ≡ None → (a ≡ None) × (b ≡ None)
+neither None b h = (refl, h)
+neither (Some fault) b h = absurd cc
+
+-- a place of a name is that of one of them
+place_below : (n : ℕ) (key : List ℕ) (names : List (List ℕ)) (k : ℕ) → place_from n key names ≡ Some k → k < n + length names
+unfolding place_from
+place_below n key [] k h = absurd cc
+place_below n key (name ∷ names) k h =
+    elim (pointwise nat_eq (folded name) key) as (λ b. (if b then Some n else place_from (n + 1) key names) ≡ Some k → k < n + length (name ∷ names)) [
+      | true ↦ λ e. subst (λ o. IfSome o (λ m. m < n + length (name ∷ names))) e (omega arith)
+      | false ↦ λ e. let below : k < n + 1 + length names = place_below (n + 1) key names k e in omega arith
+    ] h
+
+numbered_fits : (count : ℕ) (number : Option ℕ) → ((k : ℕ) → number ≡ Some k → k < 0 + count) → KindFits count (kind_numbered number)
+numbered_fits count None below = tt
+numbered_fits count (Some k) below =
+    let low : k < 0 + count = below k refl in
+    let fits : k < count = omega arith in
+    fits
+
+content_fits : (names : List (List ℕ)) (stated : Content) → KindFits (length names) (content_kind names stated)
+content_fits names (content.Volume name) = numbered_fits (length names) (place_of names name) (place_below 0 (folded name) names)
+content_fits names (content.Tree path) = tt
+content_fits names (content.Bytes bytes) = tt
+
+kind_fits : (names : List (List ℕ)) (stated : Option RegionContent) → KindFits (length names) (region_kind names stated)
+kind_fits names None = tt
+kind_fits names (Some stated) = content_fits names stated.content
+
+regions_fit : (names : List (List ℕ)) (regions : List StatedRegion) → All (RegionFits (length names)) (map (region_plan names) regions)
+regions_fit names [] = All-nil (RegionFits (length names))
+regions_fit names (region ∷ regions) =
+    All-cons (RegionFits (length names)) (region_plan names region) (map (region_plan names) regions) (kind_fits names region.content) (regions_fit names regions)
+
+part_fits : (names : List (List ℕ)) (part : Stated) → All (DeviceFits (length names)) (part_device names part)
+part_fits names Settings = All-nil (DeviceFits (length names))
+part_fits names (Device device) = All-cons (DeviceFits (length names)) (device_plan names device) [] (regions_fit names device.regions) (All-nil (DeviceFits (length names)))
+part_fits names (Volume volume) = All-nil (DeviceFits (length names))
+part_fits names (Rule rule) = All-nil (DeviceFits (length names))
+
+devices_fit : (names : List (List ℕ)) (parts : List Stated) → All (DeviceFits (length names)) (flat_map (part_device names) parts)
+devices_fit names [] = All-nil (DeviceFits (length names))
+devices_fit names (part ∷ parts) =
+    All-append (DeviceFits (length names)) (part_device names part) (flat_map (part_device names) parts) (part_fits names part) (devices_fit names parts)
+
+small_size : (at : Place) (size : ℕ) → size_fault at (Some size) ≡ None → size ≤ 268435456
+small_size at size h =
+    let small : nat_le size 268435456 ≡ true = passed (nat_le size 268435456) _ h in
+    grind (arith, nat_tests)
+
+small_product : (n : ℕ) → capped n ≤ 268435456 → capped n ≡ n
+small_product n h = omega arith
+
+whole_size : (at : Place) (block size : ℕ) → whole_blocks at block (Some size) ≡ None → size % block ≡ 0
+whole_size at block size h =
+    let full : (size % block == 0) ≡ true = passed (size % block == 0) _ h in
+    grind (arith, nat_tests)
+
+held_shape : (at : Place) (block : ℕ) (size : Option ℕ) → size_fault at size ≡ None → whole_blocks at block size ≡ None → SizeFits block size
+held_shape at block None small full = tt
+held_shape at block (Some size) small full = (small_size at size small, whole_size at block size full)
+
+size_shape : (at : Place) (block : ℕ) (blocks : Option ℕ) (held : Option HeldSizes) → size_fault at (volume_size block blocks held) ≡ None → blocks_with at held block blocks ≡ None
+    → SizeFits block (volume_size block blocks held)
+size_shape at block (Some blocks) held small full =
+    let low : capped (block * blocks) ≤ 268435456 = small_size at (capped (block * blocks)) small in
+    let same : capped (block * blocks) ≡ block * blocks = small_product (block * blocks) low in
+    (low, ap (λ n. n % block) same ∙ mul-mod_right block blocks)
+size_shape at block None held small full = held_shape at block (first_size held) small full
+
+-- a volume whose size can be made
+pub record Makes (regions : List HeldRegion) (volume : StatedVolume) : Type 0 where
+  pub small : size_fault volume.at (size_of volume (held_of regions volume)) ≡ None
+  pub full : volume_blocks volume (held_of regions volume) ≡ None
+
+plan_fits : (names : List (List ℕ)) (regions : List HeldRegion) (volume : StatedVolume) → Makes regions volume → HeadFits (volume_plan names regions volume)
+plan_fits names regions volume h = size_shape volume.at (block_of volume (held_of regions volume)) volume.blocks (held_of regions volume) h.small h.full
+
+part_makes : (regions : List HeldRegion) (part : Stated) → part_too_large regions part ≡ None → part_blocks regions part ≡ None → All (Makes regions) (volume_in part)
+part_makes regions Settings small full = All-nil (Makes regions)
+part_makes regions (Device device) small full = All-nil (Makes regions)
+part_makes regions (Volume volume) small full = All-cons (Makes regions) volume [] (record { small = small; full = full }) (All-nil (Makes regions))
+part_makes regions (Rule rule) small full = All-nil (Makes regions)
+
+all_make : (regions : List HeldRegion) (parts : List Stated) → first_fault (part_too_large regions) parts ≡ None → first_fault (part_blocks regions) parts ≡ None
+    → All (Makes regions) (volumes_of parts)
+all_make regions [] small full = All-nil (Makes regions)
+all_make regions (part ∷ parts) small full =
+    let s = neither (part_too_large regions part) (first_fault (part_too_large regions) parts) small in
+    let f = neither (part_blocks regions part) (first_fault (part_blocks regions) parts) full in
+    All-append (Makes regions) (volume_in part) (volumes_of parts) (part_makes regions part s.0 f.0) (all_make regions parts s.1 f.1)
+
+one_fits : (names : List (List ℕ)) (regions : List HeldRegion) (o : Option StatedVolume) → IfSome o (Makes regions) → All HeadFits (plan_at names regions o)
+one_fits names regions None h = All-nil HeadFits
+one_fits names regions (Some volume) h = All-cons HeadFits (volume_plan names regions volume) [] (plan_fits names regions volume h) (All-nil HeadFits)
+
+plans_fit : (names : List (List ℕ)) (regions : List HeldRegion) (volumes : List StatedVolume) → All (Makes regions) volumes → (order : List ℕ)
+    → All HeadFits (flat_map (λ p. plan_at names regions (slice_get volumes p)) order)
+plans_fit names regions volumes all [] = All-nil HeadFits
+plans_fit names regions volumes all (p ∷ order) =
+    All-append HeadFits (plan_at names regions (slice_get volumes p)) (flat_map (λ q. plan_at names regions (slice_get volumes q)) order)
+    (one_fits names regions (slice_get volumes p) (at_place (Makes regions) volumes p (slice_get volumes p) refl all)) (plans_fit names regions volumes all order)
+
+none_some : {X Y : Type 0} {x : X} → None ≡ Some x → Y
+none_some e = absurd cc
+
+-- as many plans as numbers
+plans_count : (names : List (List ℕ)) (regions : List HeldRegion) (volumes : List StatedVolume) (order : List ℕ) → All (λ p. p < length volumes) order
+    → length (flat_map (λ p. plan_at names regions (slice_get volumes p)) order) ≡ length order
+plans_count names regions volumes [] all = refl
+plans_count names regions volumes (p ∷ order) all =
+    length-append (plan_at names regions (slice_get volumes p)) (flat_map (λ q. plan_at names regions (slice_get volumes q)) order)
+    ∙ ap (λ n. n + length (flat_map (λ q. plan_at names regions (slice_get volumes q)) order)) (one (slice_get volumes p) refl)
+    ∙ ap (λ n. 1 + n) (plans_count names regions volumes order (All-tail (λ q. q < length volumes) p order all))
+    ∙ omega arith
+  where
+    one : (o : Option StatedVolume) → slice_get volumes p ≡ o → length (plan_at names regions o) ≡ 1
+    one None e =
+        elim (slice_get_cases volumes p).1 [
+          | inl found ↦ none_some (sym e ∙ found.2)
+          | inr past ↦ absurd (let l = All-head (λ q. q < length volumes) p order all in omega (arith, past.0, l))
+        ]
+    one (Some volume) e = refl
+
+numbered_below : (parts : List Stated) → All (λ p. p < length (volumes_of parts)) (numbered parts)
+numbered_below parts =
+    subst (λ n. All (λ p. p < n) (numbered parts)) (length-map (volumes_of parts) (nest_in (names_of parts))) (order_below (nests_of parts))
+
+-- a list without a fault has none at any item
+faultless : {X : Type 0} (fault : X → Option Fault) (xs : List X) → first_fault fault xs ≡ None → All (λ x. fault x ≡ None) xs
+faultless fault [] h = All-nil (λ x. fault x ≡ None)
+faultless fault (x ∷ xs) h =
+    let both = neither (fault x) (first_fault fault xs) h in
+    All-cons (λ y. fault y ≡ None) x xs both.0 (faultless fault xs both.1)
+
+line_known : (names : List (List ℕ)) (line : LineRead) → line_unknown names line ≡ None → LineHas (λ r. row_unknown names r ≡ None) (λ s. Unit {0}) line
+line_known names (Heads at scopes) h = any scopes
+  where
+    any : (xs : List Scope) → All (λ s. Unit {0}) xs
+    any [] = All-nil (λ s. Unit {0})
+    any (x ∷ xs) = All-cons (λ s. Unit {0}) x xs tt (any xs)
+line_known names (Body rows) h = faultless (row_unknown names) rows h
+
+lines_known : (names : List (List ℕ)) (lines : List LineRead) → All (λ line. line_unknown names line ≡ None) lines → All (LineHas (λ r. row_unknown names r ≡ None) (λ s. Unit {0})) lines
+lines_known names [] all = All-nil (LineHas (λ r. row_unknown names r ≡ None) (λ s. Unit {0}))
+lines_known names (line ∷ lines) all =
+    All-cons (LineHas (λ r. row_unknown names r ≡ None) (λ s. Unit {0})) line lines (line_known names line (All-head (λ l. line_unknown names l ≡ None) line lines all))
+    (lines_known names lines (All-tail (λ l. line_unknown names l ≡ None) line lines all))
+
+-- names of devices, and rules
+device_names : (names : List (List ℕ)) (part : Stated) → StatedHas RowFits ScopeFits part → All NameFits (part_device names part)
+device_names names Settings h = All-nil NameFits
+device_names names (Device device) h = All-cons NameFits (device_plan names device) [] h (All-nil NameFits)
+device_names names (Volume volume) h = All-nil NameFits
+device_names names (Rule rule) h = All-nil NameFits
+
+all_names : (names : List (List ℕ)) (parts : List Stated) → All (StatedHas RowFits ScopeFits) parts → All NameFits (flat_map (part_device names) parts)
+all_names names [] all = All-nil NameFits
+all_names names (part ∷ parts) all =
+    All-append NameFits (part_device names part) (flat_map (part_device names) parts)
+    (device_names names part (All-head (StatedHas RowFits ScopeFits) part parts all)) (all_names names parts (All-tail (StatedHas RowFits ScopeFits) part parts all))
+
+rule_sections_fit : (sections : List SectionPlan) → All (λ s. RowFits (row.RuleSection s)) sections → All (SectionFits 0) sections
+rule_sections_fit [] all = All-nil (SectionFits 0)
+rule_sections_fit (s ∷ sections) all =
+    let h = All-head (λ x. RowFits (row.RuleSection x)) s sections all in
+    All-cons (SectionFits 0) s sections (record { nested = h.1; guid = h.0 }) (rule_sections_fit sections (All-tail (λ x. RowFits (row.RuleSection x)) s sections all))
+
+rule_fits : (part : Stated) → StatedHas RowFits ScopeFits part → All RuleFits (part_rule part)
+rule_fits Settings h = All-nil RuleFits
+rule_fits (Device device) h = All-nil RuleFits
+rule_fits (Volume volume) h = All-nil RuleFits
+rule_fits (Rule rule) h = All-cons RuleFits rule.rule [] (rule_sections_fit rule.rule.file.sections h) (All-nil RuleFits)
+
+rules_fit : (parts : List Stated) → All (StatedHas RowFits ScopeFits) parts → All RuleFits (flat_map part_rule parts)
+rules_fit [] all = All-nil RuleFits
+rules_fit (part ∷ parts) all =
+    All-append RuleFits (part_rule part) (flat_map part_rule parts) (rule_fits part (All-head (StatedHas RowFits ScopeFits) part parts all))
+    (rules_fit parts (All-tail (StatedHas RowFits ScopeFits) part parts all))
+
+document_shape : (root : List ℕ) (lines : List LineRead) (parts : List Stated) → parts ≡ all_stated lines → All (LineHas RowFits ScopeFits) lines → whole_fault lines parts ≡ None
+    → HasShape (document_of root lines parts)
+unfolding whole_fault document_of
+document_shape root lines parts told all h =
+    let regions : List HeldRegion = all_held parts in
+    let names : List (List ℕ) = ordered_names parts in
+    let a = neither (first_fault part_unstated parts) _ h in
+    let b = neither (first_fault (part_too_large regions) parts) _ a.1 in
+    let c = neither (loop_fault parts) _ b.1 in
+    let d = neither (first_fault (line_unknown (names_of parts)) lines) _ c.1 in
+    let e = neither (first_fault (part_blocks regions) parts) _ d.1 in
+    let same : length names ≡ length (flat_map (λ p. plan_at names regions (slice_get (volumes_of parts) p)) (numbered parts)) =
+    length-map (numbered parts) (λ p. get_or (names_of parts) p []) ∙ sym (plans_count names regions (volumes_of parts) (numbered parts) (numbered_below parts)) in
+    let stated : All (StatedHas RowFits ScopeFits) parts = subst (All (StatedHas RowFits ScopeFits)) (sym told) (all_have RowFits ScopeFits lines all) in
+    let known : All (StatedHas (λ r. row_unknown (names_of parts) r ≡ None) (λ s. Unit {0})) parts =
+    subst (All (StatedHas (λ r. row_unknown (names_of parts) r ≡ None) (λ s. Unit {0}))) (sym told)
+    (all_have (λ r. row_unknown (names_of parts) r ≡ None) (λ s. Unit {0}) lines (lines_known (names_of parts) lines (faultless (line_unknown (names_of parts)) lines d.0))) in
+    record {
+      volumes = plans_fit names regions (volumes_of parts) (all_make regions parts b.0 e.0) (numbered parts);
+      regions = subst (λ count. All (DeviceFits count) (flat_map (part_device names) parts)) same (devices_fit names parts);
+      nested = plans_nested (names_of parts) regions (volumes_of parts) names (volumes_have RowFits ScopeFits parts stated)
+          (volumes_have (λ r. row_unknown (names_of parts) r ≡ None) (λ s. Unit {0}) parts known) [] (numbered parts) refl (order_ordered (nests_of parts)) (numbered_below parts);
+      names = all_names names parts stated;
+      rules = rules_fit parts stated;
+    }
+
+whole_shape : (fault : Option Fault) (doc found : FlashDoc) → (fault ≡ None → HasShape doc) → unless fault doc ≡ Ok found → HasShape found
+whole_shape None doc found shape h = subst (λ r. IfOk r HasShape) h (shape refl)
+whole_shape (Some fault) doc found shape h = absurd cc
+
+lines_shape : (root : List ℕ) (lines : List LineRead) (doc : FlashDoc) → All (LineHas RowFits ScopeFits) lines → flash_of_lines root lines ≡ Ok doc → HasShape doc
+unfolding flash_of_lines
+lines_shape root lines doc all h =
+    whole_shape (whole_fault lines (all_stated lines)) (document_of root lines (all_stated lines)) doc (document_shape root lines (all_stated lines) refl all) h
+
+after_rows : (root : List ℕ) (rows : Result (List (Read Scope Row)) Fault) (doc : FlashDoc) → IfOk rows (All ReadFits) → and_then rows (λ reads. flash_of_lines root (map line_of reads)) ≡ Ok doc → HasShape doc
+after_rows root (Ok reads) doc fit h = lines_shape root (map line_of reads) doc (lines_fit reads fit) h
+after_rows root (Err fault) doc fit h = absurd cc
+
+pub shape_of : (lines : Lines) (result : Result FlashDoc Refusal) → Answers result (flash_of lines) → IfOk result HasShape
+unfolding flash_of
+shape_of lines (Err refusal) h = tt
+shape_of lines (Ok doc) h = after_rows lines.root (rows_of_flash lines.rows) doc (rows_fit lines.rows) h
