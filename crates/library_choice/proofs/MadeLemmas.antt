@@ -1,0 +1,62 @@
+-- What is made of what is found.
+use Rattle.std.proofs.Common.{◌≡◌, ◌∙◌, ℕ, ◌≤◌, Bool, true, false, cond, List, [], length, Option, Some, None, Result, Err, sym, ap, subst, arith}
+use Rattle.std.specs.Prelude.{filter, codes}
+use Rattle.std.specs.List.{filter_map}
+use Rattle.std.proofs.lemmas.Bool.{le-leb, lt-leb}
+use Rattle.build_base.specs.Answer.{Refused, Finds as Faulty}
+use Rattle.build_base.specs.declared.refusal.Refusal.{Refusal}
+use Rattle.build_base.specs.declared.refusal.Refusal.TheVariants.{Bad, WantOfMemory}
+use Rattle.build_base.specs.First.{or_fault}
+use Rattle.build_base.specs.FaultText.{fault_of}
+use Rattle.build_base.specs.declared.fault.Fault.{Fault}
+use Rattle.doc_types.specs.declared.choice.Choice.{Choice}
+use Rattle.doc_types.specs.declared.choice.Module.{Module}
+use Rattle.doc_types.specs.declared.module.InfDoc.{InfDoc}
+use Rattle.library_choice.specs.Choices.{classes_fault, choice_of, made}
+use Rattle.library_choice.specs.Closure.{same_path, instance_of, next, nulls, instances, are_few, is_unknown, wanted_by}
+use Rattle.library_choice.specs.Lines.{Setting}
+use Rattle.library_choice.specs.Search.{Finds}
+
+abbrev pub FindsFor : Setting → InfDoc → Option (List (List ℕ)) → Type 0
+FindsFor s inf found = Finds same_path (next s) (filter_map (instance_of s) inf.classes) (nulls s) found
+
+found-is : (s : Setting) (inf : InfDoc) (found : List (List ℕ)) → FindsFor s inf (Some found) → found ≡ instances s inf
+unfolding instances
+found-is s inf found f = f.0
+
+few-is : (s : Setting) (inf : InfDoc) (found : List (List ℕ)) → FindsFor s inf (Some found) → are_few s inf ≡ true
+few-is s inf found f = le-leb (length (instances s inf)) 1024 (subst (λ l. length l ≤ 1024) (found-is s inf found f) f.1)
+
+many-is : (s : Setting) (inf : InfDoc) → FindsFor s inf None → are_few s inf ≡ false
+unfolding instances
+many-is s inf f =
+    let h : 1025 ≤ length (instances s inf) = f in
+    lt-leb (length (instances s inf)) 1024 (omega (arith, h))
+
+pub wanted_some : (s : Setting) (inf : InfDoc) (found : List (List ℕ)) → FindsFor s inf (Some found) → wanted_by s inf ≡ filter (is_unknown s.infs) found
+unfolding wanted_by
+wanted_some s inf found f =
+    ap (λ b. cond b (filter (is_unknown s.infs) (instances s inf)) []) (few-is s inf found f) ∙ ap (filter (is_unknown s.infs)) (sym (found-is s inf found f))
+
+pub wanted_none : (s : Setting) (inf : InfDoc) → FindsFor s inf None → wanted_by s inf ≡ []
+unfolding wanted_by
+wanted_none s inf f = ap (λ b. cond b (filter (is_unknown s.infs) (instances s inf)) []) (many-is s inf f)
+
+pub made_some : (user : Module) (s : Setting) (inf : InfDoc) (found : List (List ℕ)) → FindsFor s inf (Some found) → made user s inf ≡ or_fault (classes_fault s inf found) (choice_of s found)
+unfolding made
+made_some user s inf found f =
+    ap (λ (b : Bool). cond {A = Result Choice Fault} b (or_fault (classes_fault s inf (instances s inf)) (choice_of s (instances s inf))) (Err (fault_of 305 (record { path = user.inf; line = 0 }) (codes "1025")))) (few-is s inf found f)
+    ∙ ap (λ (l : List (List ℕ)). or_fault (classes_fault s inf l) (choice_of s l)) (sym (found-is s inf found f))
+
+pub made_none : (user : Module) (s : Setting) (inf : InfDoc) → FindsFor s inf None → made user s inf ≡ Err (fault_of 305 (record { path = user.inf; line = 0 }) (codes "1025"))
+unfolding made
+made_none user s inf f =
+    ap (λ (b : Bool). cond {A = Result Choice Fault} b (or_fault (classes_fault s inf (instances s inf)) (choice_of s (instances s inf))) (Err (fault_of 305 (record { path = user.inf; line = 0 }) (codes "1025")))) (many-is s inf f)
+
+-- a refusal of a fault is that of an outcome which has it
+pub refused_is : {T : Type 0} (e : Refusal) (fault : Fault) (r : Result T Fault) → r ≡ Err fault → Faulty e (Some fault) → Refused e r
+refused_is (Bad found) fault r is f = is ∙ ap (λ (x : Fault). Err x) (some-is fault found f)
+  where
+    some-is : (x y : Fault) → Some x ≡ Some y → x ≡ y
+    some-is x y e = cc
+refused_is WantOfMemory fault r is f = tt

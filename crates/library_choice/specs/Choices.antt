@@ -1,0 +1,173 @@
+-- What is chosen for a module: its instances, and the constructors and destructors that they have called
+-- (EDK II Build specification, library constructors and destructors).
+use Rattle.std.specs.Prelude.{ℕ, Bool, true, false, ◌&&◌, ◌||◌, ◌==◌, not, nat_eq, if◌then◌else◌, List, [], ◌∷◌, ◌++◌, length, map, reverse, find, Option, Some, None, Result, Ok, Err, codes, slice_get, slice_index_or}
+use Rattle.std.specs.List.{filter_map, flat_map, list_any, range_with_len}
+use Rattle.std.specs.Cmp.Lexicographic.{pointwise}
+use Rattle.build_base.specs.First.{or_else, or_fault}
+use Rattle.build_base.specs.FaultText.{fault_of}
+use Rattle.build_base.specs.declared.fault.Fault.{Fault}
+use Rattle.build_base.specs.declared.fault.Place.{Place}
+use Rattle.meta_lexer.specs.Faults.{first_fault}
+use Rattle.doc_types.specs.declared.choice.Call.{Call}
+use Rattle.doc_types.specs.declared.choice.Choice.{Choice}
+use Rattle.doc_types.specs.declared.choice.Module.{Module}
+use Rattle.doc_types.specs.declared.module.InfDoc.{InfDoc}
+use Rattle.doc_types.specs.declared.module.Named.{Named}
+use Rattle.doc_types.specs.declared.module.Served.{Served}
+use Rattle.doc_types.specs.declared.module_type.ModuleType.{ModuleType}
+use Rattle.doc_types.specs.declared.module_type.ModuleType.TheVariants.{UserDefined, HostApplication}
+use Rattle.doc_types.specs.declared.platform.LibraryLine.{LibraryLine}
+use Rattle.doc_types.specs.declared.platform.PlatformDoc.{PlatformDoc}
+use Rattle.library_choice.specs.declared.caller.Caller.{Caller}
+use Rattle.library_choice.specs.declared.user.User.{User}
+use Rattle.library_choice.specs.Closure.{known, classes_of, next, instances, are_few, setting_of, is_library, same_path}
+use Rattle.library_choice.specs.Found.{is_in, ends}
+use Rattle.library_choice.specs.Lines.{covers, same_type, chosen_line, Setting}
+use Rattle.library_choice.specs.Order.{call_order}
+
+-- modules of these types may use a library of every type
+abbrev pub is_free : ModuleType → Bool
+is_free UserDefined = true
+is_free HostApplication = true
+is_free kind = false
+
+-- no types are all
+abbrev pub takes : User → Served → Bool
+takes user served =
+    is_free user.kind || length served.types == 0 || list_any (λ t. same_type t user.kind) served.types
+
+abbrev pub names : List ℕ → Served → Bool
+names class served = pointwise nat_eq served.name class
+
+-- a LIBRARY_CLASS must name the class, and one that names it must take the module's type
+unfoldable pub served_fault : User → LibraryLine → List ℕ → List Served → Option Fault
+served_fault user line class serves =
+    if list_any (names class) serves
+    then (if list_any (λ served. names class served && takes user served) serves then None
+    else Some (fault_of 302 line.at class)) else Some (fault_of 303 line.at class)
+
+abbrev pub instance_fault : User → LibraryLine → List ℕ → Option InfDoc → Option Fault
+instance_fault user line class None = None
+instance_fault user line class (Some inf) = served_fault user line class inf.serves
+
+abbrev pub line_fault : Setting → Named → Option LibraryLine → Option Fault
+line_fault s class None = Some (fault_of 301 class.at class.name)
+line_fault s class (Some line) = instance_fault s.user line class.name (known s.infs line.instance)
+
+unfoldable pub class_fault : Setting → Named → Option Fault
+class_fault s class =
+    if covers class.arch s.user.arch then line_fault s class (chosen_line s class.name) else None
+
+abbrev pub path_fault : Setting → List ℕ → Option Fault
+path_fault s path = first_fault (class_fault s) (classes_of (known s.infs path))
+
+-- class by class: the module's, and then those of each instance
+unfoldable pub classes_fault : Setting → InfDoc → List (List ℕ) → Option Fault
+classes_fault s inf found =
+    or_else (first_fault (class_fault s) inf.classes)
+    (first_fault (path_fault s) found)
+
+abbrev pub has_call : InfDoc → Bool
+has_call inf = not (length inf.constructors == 0) || not (length inf.destructors == 0)
+
+abbrev pub first_place : Place → List Named → Place
+first_place at [] = at
+first_place at (call ∷ calls) = call.at
+
+abbrev pub call_of : List ℕ → Named → Call
+call_of inf named = record { inf = inf; name = named.name }
+
+-- an instance that has something called; its place is its first constructor's, else its first destructor's
+unfoldable pub caller_of : InfDoc → Caller
+caller_of inf =
+    record {
+      inf = inf.at.path;
+      at = first_place inf.at (inf.constructors ++ inf.destructors);
+      constructors = map (call_of inf.at.path) inf.constructors;
+      destructors = map (call_of inf.at.path) inf.destructors;
+    }
+
+abbrev pub caller_in : Option InfDoc → Option Caller
+caller_in None = None
+caller_in (Some inf) = if has_call inf then Some (caller_of inf) else None
+
+abbrev pub callers : List InfDoc → List (List ℕ) → List Caller
+callers infs found = filter_map (λ path. caller_in (known infs path)) found
+
+-- a walk of one or more classes leads from y to x; none is longer than there are instances
+unfoldable pub leads : Setting → List ℕ → List ℕ → Bool
+leads s y x = is_in same_path (ends (next s) (next s y) 1025) x
+
+-- row y says of each x whether y leads to it
+unfoldable pub reach : Setting → List Caller → List (List Bool)
+reach s cs = map (λ (y : Caller). map (λ (x : Caller). leads s y.inf x.inf) cs) cs
+
+-- x is another than y, and y leads to it
+unfoldable pub before : List (List Bool) → ℕ → ℕ → Bool
+before rows x y = not (x == y) && slice_index_or (slice_index_or rows y []) x false
+
+abbrev pub places : List Caller → List ℕ
+places cs = range_with_len 0 (length cs)
+
+abbrev pub is_looped : List (List Bool) → List ℕ → ℕ → Bool
+is_looped rows all x = list_any (λ y. before rows x y && before rows y x) all
+
+abbrev pub caller_fault : Option Caller → Option Fault
+caller_fault None = None
+caller_fault (Some caller) = Some (fault_of 304 caller.at caller.inf)
+
+abbrev pub looped : List Caller → Option ℕ → Option Fault
+looped cs None = None
+looped cs (Some x) = caller_fault (slice_get cs x)
+
+-- the first that must come before one that must come before it
+unfoldable pub loop_fault : List (List Bool) → List Caller → Option Fault
+loop_fault rows cs = looped cs (find (is_looped rows (places cs)) (places cs))
+
+abbrev pub constructors_in : Option Caller → List Call
+constructors_in None = []
+constructors_in (Some caller) = caller.constructors
+
+abbrev pub destructors_in : Option Caller → List Call
+destructors_in None = []
+destructors_in (Some caller) = caller.destructors
+
+abbrev pub constructors_at : List Caller → ℕ → List Call
+constructors_at cs x = constructors_in (slice_get cs x)
+
+abbrev pub destructors_at : List Caller → ℕ → List Call
+destructors_at cs x = destructors_in (slice_get cs x)
+
+-- destructors run in the reverse order
+unfoldable pub choice_in : List (List ℕ) → List Caller → List ℕ → Choice
+choice_in found cs order =
+    record {
+      library = false;
+      instances = found;
+      constructors = flat_map (constructors_at cs) order;
+      destructors = reverse (flat_map (destructors_at cs) order);
+    }
+
+unfoldable pub choice_by : List (List ℕ) → List Caller → List (List Bool) → Result Choice Fault
+choice_by found cs rows =
+    or_fault (loop_fault rows cs) (Ok (choice_in found cs (call_order (before rows) (places cs))))
+
+unfoldable pub choice_of : Setting → List (List ℕ) → Result Choice Fault
+choice_of s found = choice_by found (callers s.infs found) (reach s (callers s.infs found))
+
+-- more than 1,024 instances come first, then the classes, then calls that need each other
+unfoldable pub made : Module → Setting → InfDoc → Result Choice Fault
+made user s inf =
+    if are_few s inf then or_fault (classes_fault s inf (instances s inf)) (choice_of s (instances s inf))
+    else Err (fault_of 305 (record { path = user.inf; line = 0 }) (codes "1025"))
+
+abbrev pub empty_choice : Choice
+empty_choice = record { library = true; instances = []; constructors = []; destructors = [] }
+
+abbrev pub choice_for : Module → PlatformDoc → List InfDoc → Option InfDoc → Result Choice Fault
+choice_for user platform infs None = Ok empty_choice
+choice_for user platform infs (Some inf) =
+    if is_library inf then Ok empty_choice else made user (setting_of user platform infs inf) inf
+
+unfoldable pub choice : Module → PlatformDoc → List InfDoc → Result Choice Fault
+choice user platform infs = choice_for user platform infs (known infs user.inf)

@@ -1,0 +1,12 @@
+pub mod Best
+pub mod Choices
+pub mod Closure
+pub mod Found
+pub mod Laws
+pub mod Lines
+pub mod Order
+pub mod Reaching
+pub mod Rounds
+pub mod Search
+pub mod Tables
+pub mod Walks

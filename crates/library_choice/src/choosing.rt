@@ -1,0 +1,247 @@
+//! The choice for a module.
+ghost use Rattle.std.specs.Prelude.{◌≡◌, ◌++◌, [], true, reverse, IfOk, OnOk, Some, codes};
+ghost use Rattle.std.specs.List.{filter_map, flat_map};
+ghost use Rattle.std.specs.Option.{option_copied};
+ghost use Rattle.build_base.specs.Answer.{Answers, Checks, Finds as Faulty};
+ghost use Rattle.build_base.specs.FaultText.{fault_of};
+ghost use Rattle.build_base.specs.First.{or_fault};
+ghost use Rattle.library_choice.specs.Choices.{caller_fault, loop_fault, looped, constructors_at, destructors_at, choice_in, choice_by, choice_of, classes_fault, made, empty_choice, choice};
+ghost use Rattle.library_choice.specs.Closure.{same_path, is_known, instance_of, next, nulls, wanted};
+ghost use Rattle.library_choice.specs.Laws.{IsLawful, AreLawful};
+ghost use Rattle.library_choice.specs.Reaching.{IsWhole};
+ghost use Rattle.library_choice.specs.Search.{Finds};
+
+use crate::caller::Caller;
+use crate::callers::callers;
+use crate::closure::instances;
+use crate::order::{call_order, first_looped, places};
+use crate::reach::reach;
+use crate::serving::check_all;
+use crate::tables::Tables;
+use crate::wanted::{known, setting_of};
+use build_base::{Path, Permit, Place, Refusal, Rows, Same, WantOfMemory, refuse};
+use doc_types::choice::{Call, Choice, Module};
+use doc_types::module::InfDoc;
+use doc_types::platform::PlatformDoc;
+use std::alloc::Global;
+
+fn push_calls(alloc: Global, calls: &[Call], out: &mut Vec<Call>) -> Result<(), WantOfMemory>
+    ensures { OnOk result (out.new.items ≡ out.old.items ++ calls.now) }
+{
+    let mut left = calls;
+    while let [call, rest @ ..] = left {
+        let call = call.copy(alloc)?;
+        if out.push(call).is_err() {
+            return Err(WantOfMemory);
+        }
+        left = rest;
+    }
+    Ok(())
+}
+
+fn constructors_at(callers: &[Caller], place: usize) -> &[Call]
+    ensures { result.now ≡ constructors_at callers.now place }
+{
+    match callers.get(place) {
+        Some(caller) => caller.constructors.items(),
+        None => &[],
+    }
+}
+
+fn destructors_at(callers: &[Caller], place: usize) -> &[Call]
+    ensures { result.now ≡ destructors_at callers.now place }
+{
+    match callers.get(place) {
+        Some(caller) => caller.destructors.items(),
+        None => &[],
+    }
+}
+
+fn constructors(
+    alloc: Global,
+    callers: &[Caller],
+    order: &[usize],
+) -> Result<Vec<Call>, WantOfMemory>
+    ensures { IfOk result (λ calls. calls.items ≡ flat_map (constructors_at callers.now) order.now) }
+{
+    let mut calls = Vec::new(alloc);
+    let mut left = order;
+    while let [place, rest @ ..] = left {
+        push_calls(alloc, constructors_at(callers, *place), &mut calls)?;
+        left = rest;
+    }
+    Ok(calls)
+}
+
+fn destructors(
+    alloc: Global,
+    callers: &[Caller],
+    order: &[usize],
+) -> Result<Vec<Call>, WantOfMemory>
+    ensures { IfOk result (λ calls. calls.items ≡ flat_map (destructors_at callers.now) order.now) }
+{
+    let mut calls = Vec::new(alloc);
+    let mut left = order;
+    while let [place, rest @ ..] = left {
+        push_calls(alloc, destructors_at(callers, *place), &mut calls)?;
+        left = rest;
+    }
+    Ok(calls)
+}
+
+fn reversed(alloc: Global, callers: &[Caller], order: &[usize]) -> Result<Vec<Call>, WantOfMemory>
+    ensures { IfOk result (λ calls. calls.items ≡ reverse (flat_map (destructors_at callers.now) order.now)) }
+{
+    let mut calls = destructors(alloc, callers, order)?;
+    calls.reverse();
+    Ok(calls)
+}
+
+#[tactic(auto, unfolding(crate::specs::Choices::choice_in))]
+fn choice_in(
+    alloc: Global,
+    found: Rows<Path>,
+    callers: &[Caller],
+    order: &[usize],
+) -> Result<Choice, WantOfMemory>
+    ensures { IfOk result (λ c. c ≡ choice_in found callers.now order.now) }
+{
+    let constructors = constructors(alloc, callers, order)?;
+    let destructors = reversed(alloc, callers, order)?;
+    Ok(Choice {
+        library: false,
+        instances: found,
+        constructors: Rows::from_vec(constructors),
+        destructors: Rows::from_vec(destructors),
+    })
+}
+
+fn check_caller(alloc: Global, caller: Option<&Caller>) -> Result<(), Refusal>
+    ensures { Checks result (caller_fault (option_copied caller.entry)) }
+{
+    match caller {
+        None => Ok(()),
+        Some(caller) => Err(refuse(alloc, 304, &caller.at, caller.inf.bytes())),
+    }
+}
+
+fn check_looped(alloc: Global, callers: &[Caller], place: Option<usize>) -> Result<(), Refusal>
+    ensures { Checks result (looped callers.now place) }
+{
+    match place {
+        None => Ok(()),
+        Some(place) => check_caller(alloc, callers.get(place)),
+    }
+}
+
+#[tactic(auto, unfolding(crate::specs::Choices::loop_fault, crate::specs::Choices::choice_by))]
+fn choice_by(
+    alloc: Global,
+    found: Rows<Path>,
+    callers: &[Caller],
+    rows: &[Rows<bool>],
+) -> Result<Choice, Refusal>
+    ensures { Answers result (choice_by found callers.now rows.now) }
+{
+    let all = places(alloc, callers.len())?;
+    check_looped(alloc, callers, first_looped(rows, all.items()))?;
+    let order = call_order(alloc, rows, all.items())?;
+    Ok(choice_in(alloc, found, callers, order.items())?)
+}
+
+#[tactic(auto, unfolding(crate::specs::Choices::choice_of))]
+fn choice_of(alloc: Global, tables: &Tables<'_>, found: Rows<Path>) -> Result<Choice, Refusal>
+    requires whole { IsWhole tables.now found }
+    ensures { Answers result (choice_of tables.now found) }
+{
+    let callers = callers(alloc, tables, found.items())?;
+    let rows = reach(alloc, tables, callers.items())?;
+    choice_by(alloc, found, callers.items(), rows.items())
+}
+
+fn checked_choice(
+    alloc: Global,
+    tables: &Tables<'_>,
+    inf: &InfDoc,
+    found: Rows<Path>,
+) -> Result<Choice, Refusal>
+    requires whole { IsWhole tables.now found }
+    ensures { Answers result (or_fault (classes_fault tables.now inf.now found) (choice_of tables.now found)) }
+{
+    check_all(alloc, tables, inf, found.items())?;
+    choice_of(alloc, tables, found)
+}
+
+// The same, with what is known of the instances.
+fn lawful_choice(
+    alloc: Global,
+    tables: &Tables<'_>,
+    inf: &InfDoc,
+    found: Rows<Path>,
+) -> Result<Choice, Refusal>
+    requires { Finds same_path (next tables.now)
+        (filter_map (instance_of tables.now) inf.now.classes) (nulls tables.now) (Some found) }
+    ensures value { Answers result (or_fault (classes_fault tables.now inf.now found) (choice_of tables.now found)) }
+    ensures laws { OnOk result (IsLawful tables.now inf.now) }
+{
+    let choice = checked_choice(alloc, tables, inf, found)?;
+    Ok(choice)
+}
+
+// More than 1,024 instances.
+fn too_many(alloc: Global, inf: &Path) -> Refusal
+    ensures { Faulty result (Some (fault_of 305 (record { path = inf.now; line = 0 }) (codes "1025"))) }
+{
+    match inf.copy(alloc) {
+        Ok(path) => refuse(alloc, 305, &Place { path, line: 0 }, b"1025".as_slice()),
+        Err(_) => Refusal::WantOfMemory,
+    }
+}
+
+#[tactic(auto, unfolding(crate::specs::Choices::made))]
+fn made(alloc: Global, user: &Module, tables: &Tables<'_>, inf: &InfDoc) -> Result<Choice, Refusal>
+    ensures value { Answers result (made user.now tables.now inf.now) }
+    ensures laws { OnOk result (IsLawful tables.now inf.now) }
+{
+    match instances(alloc, tables, inf)? {
+        Some(found) => lawful_choice(alloc, tables, inf, found.paths(alloc)?),
+        None => Err(too_many(alloc, &user.inf)),
+    }
+}
+
+fn empty_choice(alloc: Global) -> Choice
+    ensures { result ≡ empty_choice }
+{
+    Choice {
+        library: true,
+        instances: Rows::new(alloc),
+        constructors: Rows::new(alloc),
+        destructors: Rows::new(alloc),
+    }
+}
+
+/// The library instances of a module in first-found order, and what they have called (EDK II Build specification).
+/// A library chooses nothing. Faults 301 to 305.
+#[tactic(auto, unfolding(crate::specs::Choices::choice))]
+pub fn choose(
+    alloc: Global,
+    permit: Permit,
+    module: &Module,
+    platform: &PlatformDoc,
+    infs: &Rows<InfDoc>,
+) -> Result<Choice, Refusal>
+    requires known { is_known infs.now «module».now.inf ≡ true }
+    requires closed { wanted «module».now platform.now infs.now ≡ [] }
+    ensures value { Answers result (choice «module».now platform.now infs.now) }
+    ensures laws { OnOk result (AreLawful «module».now platform.now infs.now) }
+{
+    let _ = permit;
+    let Some(inf) = known(infs.items(), &module.inf) else {
+        return Ok(empty_choice(alloc));
+    };
+    if !inf.serves.items().is_empty() {
+        return Ok(empty_choice(alloc));
+    }
+    let tables = setting_of(alloc, module, platform, infs.items(), inf)?;
+    made(alloc, module, &tables, inf)
+}

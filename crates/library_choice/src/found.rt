@@ -1,0 +1,104 @@
+//! The instances found so far.
+ghost use Rattle.std.specs.Prelude.{◌≡◌, ◌<◌, ◌∷◌, ◌++◌, [], IfOk, OnOk, length, slice_get, slice_index_or};
+ghost use Rattle.std.specs.Option.{option_copied};
+ghost use Rattle.library_choice.specs.Closure.{same_path};
+ghost use Rattle.library_choice.specs.Found.{is_in, put};
+
+use build_base::{Path, Rows, Same, WantOfMemory};
+use indexmap::IndexMap;
+use std::alloc::Global;
+use std::marker::Model;
+
+/// Paths, each once, in the order in which they were put; a path is looked up in a table.
+#[derive(Drop)]
+pub struct Found {
+    paths: IndexMap<Vec<u8>, Path>,
+}
+
+impl Model for Found {
+    ghost use Rattle.std.specs.Prelude.{List, ℕ, ◌≡◌, map};
+    ghost use Rattle.std.specs.HashMap.{keys, values};
+
+    ghost Value = { List (List ℕ) };
+
+    ghost view = { λ f. values f.paths };
+
+    ghost invariant = { λ f. map (λ k. k.items) (keys f.paths) ≡ values f.paths };
+}
+
+impl Found {
+    /// No paths.
+    pub fn new(alloc: Global) -> Found
+        ensures { result ≡ [] }
+    {
+        Found {
+            paths: IndexMap::new(alloc),
+        }
+    }
+
+    /// How many there are.
+    pub fn len(&self) -> usize
+        ensures { result ≡ length self.now }
+    {
+        self.paths.len()
+    }
+
+    /// The path at a place.
+    pub fn get(&self, place: usize) -> Option<&Path>
+        ensures { option_copied result ≡ slice_get self.now place }
+    {
+        match self.paths.get_index(place) {
+            Some((_, path)) => Some(path),
+            None => None,
+        }
+    }
+
+    /// Whether a path is there.
+    pub fn has(&self, alloc: Global, path: &Path) -> Result<bool, WantOfMemory>
+        ensures { IfOk result (λ there. there ≡ is_in same_path self.now path.now) }
+    {
+        let key = Vec::from_slice(alloc, path.bytes())?;
+        Ok(self.paths.contains_key(&key))
+    }
+
+    /// Puts a path at the end, unless it is there.
+    pub fn put(&mut self, alloc: Global, path: &Path) -> Result<(), WantOfMemory>
+        ensures { OnOk result (self.new ≡ put same_path self.old path.now) }
+    {
+        let key = Vec::from_slice(alloc, path.bytes())?;
+        if self.paths.contains_key(&key) {
+            return Ok(());
+        }
+        let path = path.copy(alloc)?;
+        match self.paths.insert(key, path) {
+            Ok(_) => Ok(()),
+            Err(_) => Err(WantOfMemory),
+        }
+    }
+
+    /// All paths, in order.
+    pub fn paths(&self, alloc: Global) -> Result<Rows<Path>, WantOfMemory>
+        ensures { IfOk result (λ rows. rows ≡ self.now) }
+    {
+        let mut rows = Rows::new(alloc);
+        for place in 0..self.len() {
+            self.push_at(alloc, place, &mut rows)?;
+        }
+        Ok(rows)
+    }
+
+    fn push_at(
+        &self,
+        alloc: Global,
+        place: usize,
+        rows: &mut Rows<Path>,
+    ) -> Result<(), WantOfMemory>
+        requires { place < length self.now }
+        ensures { OnOk result (rows.new ≡ rows.old ++ slice_index_or self.now place [] ∷ []) }
+    {
+        if let Some(path) = self.get(place) {
+            rows.push(path.copy(alloc)?)?;
+        }
+        Ok(())
+    }
+}

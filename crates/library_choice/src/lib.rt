@@ -1,0 +1,21 @@
+//! The library instances of a module, and the order in which they have constructors and destructors called (EDK II
+//! DSC, INF and Build specifications).
+#![tactic(auto)]
+
+mod caller;
+mod callers;
+mod choosing;
+mod closure;
+mod found;
+mod laws;
+mod lines;
+mod order;
+mod reach;
+mod serving;
+mod tables;
+mod user;
+mod wanted;
+
+pub use choosing::choose;
+pub use laws::{instances_stand_by_walks, lines_hold_by_rank};
+pub use wanted::{is_known, next_wanted};
