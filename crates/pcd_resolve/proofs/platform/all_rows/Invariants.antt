@@ -1,0 +1,11 @@
+use Rattle.std.proofs.Common.{◌≡◌, map, drop}
+use Rattle.build_base.specs.First.{with_front}
+use Rattle.pcd_resolve.specs.Listing.{uses_in, stated_in}
+use Rattle.pcd_resolve.specs.Platform.{rows_at}
+use Rattle.pcd_resolve.specs.Rows.{all_rows}
+use Rattle.pcd_resolve.proofs.platform.all_rows.Given as goal
+
+abbrev pub invariant-loop-pcd : goal.invariant-loop-pcd
+invariant-loop-pcd l =
+    with_front l.rows (all_rows (map (rows_at l.ask (uses_in l.ask.modules) (stated_in l.ask.platform)) (map (λ n. n.items) (drop l.pcd-index l.names))))
+    ≡ all_rows (map (rows_at l.ask (uses_in l.ask.modules) (stated_in l.ask.platform)) (map (λ n. n.items) l.names))

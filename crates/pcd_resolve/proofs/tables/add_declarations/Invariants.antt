@@ -1,0 +1,11 @@
+use Rattle.std.proofs.Common.{◌++◌, List, map, take}
+use Rattle.pcd_resolve.specs.Groups.{Grouped}
+use Rattle.pcd_resolve.specs.Listing.{Declared, line_from}
+use Rattle.pcd_resolve.specs.Tables.{declared_name}
+use Rattle.pcd_resolve.specs.Views.{declared_view}
+use Rattle.pcd_resolve.proofs.tables.add_declarations.Given as goal
+
+abbrev pub invariant-loop-line : goal.invariant-loop-line
+invariant-loop-line l =
+    (xs : List Declared) → Grouped declared_view declared_name xs l.fn.table
+    → Grouped declared_view declared_name (xs ++ map (line_from l.from) (take l.line-index l.lines)) l.table

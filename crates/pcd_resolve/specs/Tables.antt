@@ -1,0 +1,34 @@
+-- The names of the lines of tables, and what the tables of a module hold.
+use Rattle.std.specs.Prelude.{◌≡◌, ℕ, List, Option, map}
+use Rattle.doc_types.specs.declared.pcd.PcdSet.{PcdSet}
+use Rattle.doc_types.specs.declared.platform.Component.{Component}
+use Rattle.doc_types.specs.declared.platform.PcdLine.{PcdLine}
+use Rattle.doc_types.specs.declared.values.PcdRow.{PcdRow}
+use Rattle.pcd_resolve.specs.declared.packages.ModuleTables.{ModuleTables}
+use Rattle.pcd_resolve.specs.Groups.{Grouped}
+use Rattle.pcd_resolve.specs.Names.{dotted}
+use Rattle.pcd_resolve.specs.Listing.{Declared, Use, Stated, arch_of, package_lines, packages_in}
+use Rattle.pcd_resolve.specs.Views.{declared_view}
+
+abbrev pub stated_name : Stated → List ℕ
+stated_name stated = dotted stated.line.pcd
+
+abbrev pub use_name : Use → List ℕ
+use_name used = dotted used.line.pcd
+
+abbrev pub set_name : PcdSet → List ℕ
+set_name set = dotted set.pcd
+
+abbrev pub row_name : PcdRow → List ℕ
+row_name row = dotted row.pcd
+
+abbrev pub declared_name : Declared → List ℕ
+declared_name d = dotted d.line.pcd
+
+abbrev pub at_home : Option Component → PcdLine → Stated
+at_home home line = record { home = home; line = line }
+
+-- the tables of a module hold what its parts say
+pub record IsTabled (tables : ModuleTables) : Type 0 where
+  pub packages : map (λ p. p.now) tables.packages.items ≡ packages_in (arch_of tables.parts.now) tables.parts.now.infs
+  pub declared : Grouped declared_view declared_name (package_lines tables.parts.now.decs) tables.declared

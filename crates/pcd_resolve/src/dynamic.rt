@@ -1,0 +1,292 @@
+//! The rows of a dynamic PCD.
+ghost use Rattle.std.specs.Prelude.{◌≡◌, ◌+◌, ◌++◌, ◌∷◌, [], length, map, filter, IfOk, OnOk, option_copied};
+ghost use Rattle.std.specs.Option.{option_map};
+ghost use Rattle.std.specs.Str.{bytes_eq};
+ghost use Rattle.build_base.specs.Answer.{Answers, Checks};
+ghost use Rattle.meta_lexer.specs.Faults.{first_fault};
+ghost use Rattle.meta_lexer.specs.Numbers.{number_of};
+ghost use Rattle.std.specs.List.{All};
+ghost use Rattle.pcd_values.specs.Skus.{WalkEnds, value_within};
+ghost use Rattle.pcd_resolve.specs.Rows.{all_rows};
+ghost use Rattle.pcd_resolve.specs.Assignments.{by_line};
+ghost use Rattle.pcd_resolve.specs.Platform.{too_great, bad_rest, rest_fault, vpd_fault, default_for, sku_assignments, named_if, valued, source, row_by_source, dynamic_rows};
+ghost use Rattle.pcd_resolve.specs.Assignments.{value_from};
+ghost use Rattle.pcd_resolve.specs.Views.{stated_view, given_view};
+
+use crate::assign::{Given, by_declaration, by_line, put, put_sets, value_from};
+use crate::listing::StatedLine;
+use crate::names::is_void;
+use crate::resolve::append;
+use crate::rows::row_of;
+use build_base::{Place, Refusal, Rows, Same, Text, WantOfMemory, refuse};
+use doc_types::package::DecPcd;
+use doc_types::pcd::{Datum, Kind, PcdSet};
+use doc_types::platform::{Sku, Store};
+use doc_types::values::{PcdRow, SkuRow};
+use meta_lexer::numbers::number;
+use pcd_values::sku_value;
+use std::alloc::Global;
+
+fn too_great(n: Option<u64>) -> bool
+    ensures { result ≡ too_great n }
+{
+    match n {
+        Some(n) => n >= 1 << 32,
+        None => true,
+    }
+}
+
+fn bad_rest(datum: Datum, rest: &[Text]) -> bool
+    ensures { result ≡ bad_rest datum rest.now }
+{
+    match rest {
+        [] => false,
+        [field] => {
+            if !is_void(datum) {
+                return false;
+            }
+            match number(field.bytes()) {
+                Some(n) => too_great(Some(n)),
+                None => false,
+            }
+        }
+        [max, _, ..] => {
+            if !is_void(datum) {
+                return true;
+            }
+            too_great(number(max.bytes()))
+        }
+    }
+}
+
+fn rest_fault(alloc: Global, at: &Place, datum: Datum, rest: &[Text]) -> Result<(), Refusal>
+    ensures { Checks result (rest_fault at.now datum rest.now) }
+{
+    match rest {
+        [] => Ok(()),
+        [field, ..] => {
+            if bad_rest(datum, rest) {
+                return Err(refuse(alloc, 401, at, field.bytes()));
+            }
+            Ok(())
+        }
+    }
+}
+
+#[tactic(auto, unfolding(crate::specs::Platform::vpd_fault))]
+fn vpd_fault(alloc: Global, datum: Datum, stated: &StatedLine<'_>) -> Result<(), Refusal>
+    ensures { Checks result (vpd_fault datum (stated_view stated.now)) }
+{
+    match &stated.line.store {
+        Store::Vpd { rest, .. } => rest_fault(alloc, &stated.line.at, datum, rest.items()),
+        _ => Ok(()),
+    }
+}
+
+/// Refuses the first VPD line whose further fields don't fit the type.
+pub fn vpd_faults(alloc: Global, datum: Datum, lines: &[StatedLine<'_>]) -> Result<(), Refusal>
+    ensures { Checks result (first_fault (vpd_fault datum) (map stated_view lines.now)) }
+{
+    for stated in lines {
+        vpd_fault(alloc, datum, stated)?;
+    }
+    Ok(())
+}
+
+fn put_default<'a>(
+    all: &mut Vec<Given<'a>>,
+    line: &'a DecPcd,
+    sku: &[u8],
+) -> Result<(), WantOfMemory>
+    ensures { OnOk result (map given_view all.new.items ≡ map given_view all.old.items ++ default_for line.now sku.now) }
+{
+    if sku == b"DEFAULT".as_slice() {
+        put(all, by_declaration(line))?;
+    }
+    Ok(())
+}
+
+fn put_line<'a>(
+    all: &mut Vec<Given<'a>>,
+    datum: Datum,
+    stated: &StatedLine<'a>,
+    sku: &[u8],
+) -> Result<(), WantOfMemory>
+    ensures { OnOk result (map given_view all.new.items ≡ map given_view all.old.items ++ map (by_line datum) (filter (λ s. bytes_eq s.line.sku sku.now) (stated_view stated.now ∷ []))) }
+{
+    if stated.line.sku.bytes() == sku {
+        put(all, by_line(datum, stated))?;
+    }
+    Ok(())
+}
+
+fn put_lines<'a>(
+    all: &mut Vec<Given<'a>>,
+    datum: Datum,
+    lines: &[StatedLine<'a>],
+    sku: &[u8],
+) -> Result<(), WantOfMemory>
+    ensures { OnOk result (map given_view all.new.items ≡ map given_view all.old.items ++ map (by_line datum) (filter (λ s. bytes_eq s.line.sku sku.now) (map stated_view lines.now))) }
+{
+    for stated in lines {
+        put_line(all, datum, stated, sku)?;
+    }
+    Ok(())
+}
+
+/// The assignments of a PCD for a SKU.
+#[tactic(auto, unfolding(crate::specs::Platform::sku_assignments))]
+pub fn sku_assignments<'a>(
+    alloc: Global,
+    line: &'a DecPcd,
+    lines: &[StatedLine<'a>],
+    sets: &[&'a PcdSet],
+    sku: &[u8],
+) -> Result<Vec<Given<'a>>, WantOfMemory>
+    ensures { IfOk result (λ v. map given_view v.items ≡ sku_assignments line.now (map stated_view lines.now) (map (λ s. s.now) sets.now) sku.now) }
+{
+    let mut all = Vec::new(alloc);
+    put_default(&mut all, line, sku)?;
+    put_lines(&mut all, line.datum, lines, sku)?;
+    put_sets(&mut all, sets)?;
+    Ok(all)
+}
+
+fn put_named(
+    alloc: Global,
+    rows: &mut Rows<SkuRow>,
+    sku: &Text,
+    taken: Option<Given<'_>>,
+) -> Result<(), WantOfMemory>
+    ensures { OnOk result (rows.new ≡ rows.old ++ named_if sku.now (option_map given_view taken.entry)) }
+{
+    match taken {
+        Some(_) => {
+            rows.push(SkuRow {
+                sku: sku.copy(alloc)?,
+                value: sku.copy(alloc)?,
+            })?;
+            Ok(())
+        }
+        None => Ok(()),
+    }
+}
+
+fn put_valued<'a>(
+    alloc: Global,
+    rows: &mut Rows<SkuRow>,
+    line: &'a DecPcd,
+    lines: &[StatedLine<'a>],
+    sets: &[&'a PcdSet],
+    sku: &Sku,
+) -> Result<(), WantOfMemory>
+    ensures { OnOk result (rows.new ≡ rows.old ++ named_if sku.now.name (value_from (sku_assignments line.now (map stated_view lines.now) (map (λ s. s.now) sets.now) sku.now.name))) }
+{
+    let all = sku_assignments(alloc, line, lines, sets, sku.name.bytes())?;
+    put_named(alloc, rows, &sku.name, value_from(all.as_slice()))?;
+    Ok(())
+}
+
+/// The SKUs that have a value of their own, each with its name in the place of the value.
+#[tactic(auto, unfolding(crate::specs::Platform::valued))]
+pub fn valued<'a>(
+    alloc: Global,
+    line: &'a DecPcd,
+    lines: &[StatedLine<'a>],
+    sets: &[&'a PcdSet],
+    skus: &[Sku],
+) -> Result<Rows<SkuRow>, WantOfMemory>
+    ensures { IfOk result (λ rows. rows ≡ valued line.now (map stated_view lines.now) (map (λ s. s.now) sets.now) skus.now) }
+{
+    let mut rows = Rows::new(alloc);
+    for sku in skus {
+        put_valued(alloc, &mut rows, line, lines, sets, sku)?;
+    }
+    Ok(rows)
+}
+
+/// The row of a SKU, by the SKU whose value it takes.
+pub fn row_by_source<'a>(
+    alloc: Global,
+    kind: Kind,
+    line: &'a DecPcd,
+    lines: &[StatedLine<'a>],
+    sets: &[&'a PcdSet],
+    sku: &[u8],
+    from: Option<&Text>,
+) -> Result<Rows<PcdRow>, Refusal>
+    ensures { Answers result (row_by_source kind line.now (map stated_view lines.now) (map (λ s. s.now) sets.now) sku.now (option_copied from.entry)) }
+{
+    let Some(from) = from else {
+        return Ok(Rows::new(alloc));
+    };
+    let all = sku_assignments(alloc, line, lines, sets, from.bytes())?;
+    row_of(alloc, kind, line, sku, all.as_slice())
+}
+
+fn source<'s>(rows: &'s Rows<SkuRow>, skus: &Rows<Sku>, sku: &Text) -> Option<&'s Text>
+    requires { WalkEnds skus.now sku.now }
+    ensures { option_copied result ≡ value_within rows.now skus.now sku.now (length skus.now + 1) }
+{
+    sku_value(rows, skus, sku)
+}
+
+#[tactic(auto, unfolding(crate::specs::Platform::source))]
+fn row_for<'a>(
+    alloc: Global,
+    kind: Kind,
+    line: &'a DecPcd,
+    lines: &[StatedLine<'a>],
+    sets: &[&'a PcdSet],
+    values: &Rows<SkuRow>,
+    skus: &Rows<Sku>,
+    sku: &Sku,
+) -> Result<Rows<PcdRow>, Refusal>
+    requires walk { WalkEnds skus.now sku.now.name }
+    requires values { values.now ≡ valued line.now (map stated_view lines.now) (map (λ s. s.now) sets.now) skus.now }
+    ensures { Answers result (row_by_source kind line.now (map stated_view lines.now) (map (λ s. s.now) sets.now) sku.now.name (source line.now (map stated_view lines.now) (map (λ s. s.now) sets.now) skus.now sku.now.name)) }
+{
+    let from = source(values, skus, &sku.name);
+    row_by_source(alloc, kind, line, lines, sets, sku.name.bytes(), from)
+}
+
+fn rows_for<'a>(
+    alloc: Global,
+    kind: Kind,
+    line: &'a DecPcd,
+    lines: &[StatedLine<'a>],
+    sets: &[&'a PcdSet],
+    values: &Rows<SkuRow>,
+    skus: &Rows<Sku>,
+    picked: &[&Sku],
+) -> Result<Rows<PcdRow>, Refusal>
+    requires walks { All (λ s. WalkEnds skus.now s.now.name) picked.now }
+    requires values { values.now ≡ valued line.now (map stated_view lines.now) (map (λ s. s.now) sets.now) skus.now }
+    ensures { Answers result (all_rows (map (λ sku. row_by_source kind line.now (map stated_view lines.now) (map (λ s. s.now) sets.now) sku.name (source line.now (map stated_view lines.now) (map (λ s. s.now) sets.now) skus.now sku.name)) (map (λ s. s.now) picked.now))) }
+{
+    let mut rows = Rows::new(alloc);
+    for sku in picked {
+        let more = row_for(alloc, kind, line, lines, sets, values, skus, sku)?;
+        append(alloc, &mut rows, more.items())?;
+    }
+    Ok(rows)
+}
+
+/// The rows of a dynamic PCD, one for each chosen SKU.
+#[tactic(auto, unfolding(crate::specs::Platform::dynamic_rows))]
+pub fn dynamic_rows<'a>(
+    alloc: Global,
+    kind: Kind,
+    line: &'a DecPcd,
+    lines: &[StatedLine<'a>],
+    sets: &[&'a PcdSet],
+    skus: &Rows<Sku>,
+    picked: &[&Sku],
+) -> Result<Rows<PcdRow>, Refusal>
+    requires { All (λ s. WalkEnds skus.now s.now.name) picked.now }
+    ensures { Answers result (dynamic_rows kind line.now (map stated_view lines.now) (map (λ s. s.now) sets.now) skus.now (map (λ s. s.now) picked.now)) }
+{
+    vpd_faults(alloc, line.datum, lines)?;
+    let values = valued(alloc, line, lines, sets, skus.items())?;
+    rows_for(alloc, kind, line, lines, sets, &values, skus, picked)
+}

@@ -1,0 +1,22 @@
+//! Kinds and values of the PCDs of a platform and of its modules (EDK II build specification).
+#![tactic(auto)]
+
+pub mod assign;
+pub mod dynamic;
+pub mod faults;
+pub mod groups;
+pub mod kinds;
+pub mod listing;
+pub mod names;
+pub mod packages;
+pub mod platform;
+pub mod resolve;
+pub mod rows;
+pub mod skus;
+pub mod sorted;
+pub mod tables;
+pub mod used;
+pub mod uses;
+
+pub use platform::resolve_platform;
+pub use resolve::resolve_module;

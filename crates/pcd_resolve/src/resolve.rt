@@ -1,0 +1,141 @@
+//! The values of a module.
+ghost use Rattle.std.specs.Prelude.{◌≡◌, ◌++◌, map, IfOk, OnOk};
+ghost use Rattle.build_base.specs.Answer.{Answers};
+ghost use Rattle.pcd_resolve.specs.Groups.{Grouped};
+ghost use Rattle.pcd_resolve.specs.Listing.{stated_in, uses_of_module};
+ghost use Rattle.pcd_resolve.specs.Rows.{all_rows, module_values, names_of, rows_in, sets_in};
+ghost use Rattle.pcd_resolve.specs.Tables.{IsTabled, row_name, set_name, stated_name, use_name};
+ghost use Rattle.pcd_resolve.specs.Views.{stated_view, use_view};
+
+use crate::groups::group;
+use crate::listing::{StatedLine, UseLine};
+use crate::packages::{ModuleTables, declared_in, tables_of};
+use crate::rows::rows_of;
+use crate::sorted::names_of_module;
+use crate::tables::{lines_by_name, rows_by_name, sets_by_name};
+use crate::used::uses_by_name;
+use build_base::{Permit, Refusal, Rows, Same, WantOfMemory};
+use doc_types::asks::ModuleAsk;
+use doc_types::pcd::PcdSet;
+use doc_types::values::{PcdRow, Values};
+use indexmap::IndexMap;
+use std::alloc::Global;
+
+#[tactic(auto, unfolding(crate::specs::Rows::rows_in))]
+fn rows_at<'a>(
+    alloc: Global,
+    ask: &'a ModuleAsk,
+    pcd: &Vec<u8>,
+    tables: &ModuleTables<'a>,
+    uses: &IndexMap<Vec<u8>, Vec<UseLine<'a>>>,
+    lines: &IndexMap<Vec<u8>, Vec<StatedLine<'a>>>,
+    sets: &IndexMap<Vec<u8>, Vec<&'a PcdSet>>,
+    dynamic: &IndexMap<Vec<u8>, Vec<&'a PcdRow>>,
+) -> Result<Rows<PcdRow>, Refusal>
+    requires tabled { IsTabled tables.now }
+    requires parts { tables.now.parts.now ≡ ask.now.parts }
+    requires uses { Grouped use_view use_name (uses_of_module ask.now.parts) uses.now }
+    requires lines { Grouped stated_view stated_name (stated_in ask.now.platform) lines.now }
+    requires sets { Grouped (λ s. s.now) set_name (sets_in ask.now) sets.now }
+    requires dynamic { Grouped (λ r. r.now) row_name ask.now.dynamic.rows dynamic.now }
+    ensures { Answers result (rows_in ask.now (uses_of_module ask.now.parts) (stated_in ask.now.platform) pcd.now.items) }
+{
+    let declared = declared_in(alloc, tables, pcd)?;
+    rows_of(
+        alloc,
+        pcd.as_slice(),
+        &ask.parts.module,
+        group(uses, pcd),
+        group(lines, pcd),
+        declared.as_slice(),
+        group(sets, pcd),
+        group(dynamic, pcd),
+    )
+}
+
+pub(crate) fn append(
+    alloc: Global,
+    rows: &mut Rows<PcdRow>,
+    more: &[PcdRow],
+) -> Result<(), WantOfMemory>
+    ensures { OnOk result (rows.new ≡ rows.old ++ more.now) }
+{
+    for row in more {
+        rows.push(row.copy(alloc)?)?;
+    }
+    Ok(())
+}
+
+fn all_rows<'a>(
+    alloc: Global,
+    ask: &'a ModuleAsk,
+    names: &[Vec<u8>],
+    tables: &ModuleTables<'a>,
+    uses: &IndexMap<Vec<u8>, Vec<UseLine<'a>>>,
+    lines: &IndexMap<Vec<u8>, Vec<StatedLine<'a>>>,
+    sets: &IndexMap<Vec<u8>, Vec<&'a PcdSet>>,
+    dynamic: &IndexMap<Vec<u8>, Vec<&'a PcdRow>>,
+) -> Result<Rows<PcdRow>, Refusal>
+    requires tabled { IsTabled tables.now }
+    requires parts { tables.now.parts.now ≡ ask.now.parts }
+    requires uses { Grouped use_view use_name (uses_of_module ask.now.parts) uses.now }
+    requires lines { Grouped stated_view stated_name (stated_in ask.now.platform) lines.now }
+    requires sets { Grouped (λ s. s.now) set_name (sets_in ask.now) sets.now }
+    requires dynamic { Grouped (λ r. r.now) row_name ask.now.dynamic.rows dynamic.now }
+    ensures { Answers result (all_rows (map (rows_in ask.now (uses_of_module ask.now.parts) (stated_in ask.now.platform)) (map (λ n. n.items) names.now))) }
+{
+    let mut rows = Rows::new(alloc);
+    for pcd in names {
+        let more = rows_at(alloc, ask, pcd, tables, uses, lines, sets, dynamic)?;
+        append(alloc, &mut rows, more.items())?;
+    }
+    Ok(rows)
+}
+
+fn sets_of_ask<'a>(
+    alloc: Global,
+    ask: &'a ModuleAsk,
+) -> Result<IndexMap<Vec<u8>, Vec<&'a PcdSet>>, WantOfMemory>
+    ensures { IfOk result (λ table. Grouped (λ s. s.now) set_name (sets_in ask.now) table) }
+{
+    sets_by_name(alloc, ask.commands.items(), ask.flash.sets.items())
+}
+
+fn rows_by_tables<'a>(
+    alloc: Global,
+    ask: &'a ModuleAsk,
+    names: &[Vec<u8>],
+    tables: &ModuleTables<'a>,
+    uses: &IndexMap<Vec<u8>, Vec<UseLine<'a>>>,
+) -> Result<Rows<PcdRow>, Refusal>
+    requires tabled { IsTabled tables.now }
+    requires parts { tables.now.parts.now ≡ ask.now.parts }
+    requires uses { Grouped use_view use_name (uses_of_module ask.now.parts) uses.now }
+    ensures { Answers result (all_rows (map (rows_in ask.now (uses_of_module ask.now.parts) (stated_in ask.now.platform)) (map (λ n. n.items) names.now))) }
+{
+    let lines = lines_by_name(alloc, &ask.platform)?;
+    let sets = sets_of_ask(alloc, ask)?;
+    let dynamic = rows_by_name(alloc, ask.dynamic.rows.items())?;
+    all_rows(alloc, ask, names, tables, uses, &lines, &sets, &dynamic)
+}
+
+fn values_of(alloc: Global, ask: &ModuleAsk) -> Result<Rows<PcdRow>, Refusal>
+    ensures { Answers result (all_rows (map (rows_in ask.now (uses_of_module ask.now.parts) (stated_in ask.now.platform)) (names_of (uses_of_module ask.now.parts)))) }
+{
+    let names = names_of_module(alloc, &ask.parts)?;
+    let tables = tables_of(alloc, &ask.parts)?;
+    let uses = uses_by_name(alloc, &tables)?;
+    rows_by_tables(alloc, ask, names.as_slice(), &tables, &uses)
+}
+
+/// The values of a module, PCD by PCD in the order of their names, or the first fault: NotDeclared, DatumConflict,
+/// DynamicInComponent, SkuOnFixed, KindConflict, KindAsked, and then that of the value. Those of dynamic PCDs are the
+/// rows that `ask` has of them.
+#[tactic(auto, unfolding(crate::specs::Rows::module_values))]
+pub fn resolve_module(alloc: Global, permit: Permit, ask: &ModuleAsk) -> Result<Values, Refusal>
+    ensures { Answers result (module_values ask.now) }
+{
+    let _spent = permit;
+    let rows = values_of(alloc, ask)?;
+    Ok(Values { rows })
+}

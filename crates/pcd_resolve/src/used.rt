@@ -1,0 +1,131 @@
+//! Uses by the names of their PCDs, with the lines that declare these.
+ghost use Rattle.std.specs.Prelude.{◌≡◌, ◌++◌, ◌∷◌, [], List, map, IfOk, OnOk};
+ghost use Rattle.std.specs.List.{All, flat_map};
+ghost use Rattle.pcd_resolve.specs.Groups.{Grouped};
+ghost use Rattle.pcd_resolve.specs.Listing.{Use, uses_in, uses_of_module};
+ghost use Rattle.pcd_resolve.specs.Tables.{IsTabled, use_name};
+ghost use Rattle.pcd_resolve.specs.Views.{at_view, use_view};
+
+use crate::groups::add;
+use crate::listing::{UseAt, UseLine};
+use crate::names::dotted;
+use crate::packages::{ModuleTables, declared_for, declared_in};
+use crate::uses::uses_of_module;
+use build_base::WantOfMemory;
+use indexmap::IndexMap;
+use std::alloc::Global;
+
+#[tactic(auto, unfolding(crate::specs::Listing::use_of))]
+fn use_of<'a>(
+    alloc: Global,
+    tables: &ModuleTables<'a>,
+    at: &UseAt<'a>,
+    name: &Vec<u8>,
+) -> Result<UseLine<'a>, WantOfMemory>
+    requires tabled { IsTabled tables.now }
+    requires name { name.now.items ≡ use_name (at_view tables.now.parts.now at.now) }
+    ensures { IfOk result (λ used. use_view used ≡ at_view tables.now.parts.now at.now) }
+{
+    let own = declared_for(alloc, tables, at.inf, name)?;
+    let all = declared_in(alloc, tables, name)?;
+    Ok(UseLine {
+        user: &tables.parts.module,
+        line: at.line,
+        own,
+        all,
+    })
+}
+
+#[tactic(auto, unfolding(crate::specs::Listing::use_of))]
+fn name_of(
+    alloc: Global,
+    tables: &ModuleTables<'_>,
+    at: &UseAt<'_>,
+) -> Result<Vec<u8>, WantOfMemory>
+    ensures { IfOk result (λ v. v.items ≡ use_name (at_view tables.now.parts.now at.now)) }
+{
+    Ok(dotted(alloc, &at.line.pcd)?)
+}
+
+fn add_use<'a>(
+    alloc: Global,
+    table: &mut IndexMap<Vec<u8>, Vec<UseLine<'a>>>,
+    tables: &ModuleTables<'a>,
+    at: &UseAt<'a>,
+) -> Result<(), WantOfMemory>
+    requires { IsTabled tables.now }
+    ensures { (xs : List Use) → Grouped use_view use_name xs table.old → OnOk result (Grouped use_view use_name (xs ++ at_view tables.now.parts.now at.now ∷ []) table.new) }
+{
+    let name = name_of(alloc, tables, at)?;
+    let used = use_of(alloc, tables, at, &name)?;
+    add(alloc, table, name, used)?;
+    Ok(())
+}
+
+fn add_uses<'a>(
+    alloc: Global,
+    table: &mut IndexMap<Vec<u8>, Vec<UseLine<'a>>>,
+    tables: &ModuleTables<'a>,
+    uses: &[UseAt<'a>],
+) -> Result<(), WantOfMemory>
+    requires { IsTabled tables.now }
+    ensures { (xs : List Use) → Grouped use_view use_name xs table.old → OnOk result (Grouped use_view use_name (xs ++ map (at_view tables.now.parts.now) uses.now) table.new) }
+{
+    for at in uses {
+        add_use(alloc, table, tables, at)?;
+    }
+    Ok(())
+}
+
+fn add_module<'a>(
+    alloc: Global,
+    table: &mut IndexMap<Vec<u8>, Vec<UseLine<'a>>>,
+    tables: &ModuleTables<'a>,
+) -> Result<(), WantOfMemory>
+    requires { IsTabled tables.now }
+    ensures { (xs : List Use) → Grouped use_view use_name xs table.old → OnOk result (Grouped use_view use_name (xs ++ uses_of_module tables.now.parts.now) table.new) }
+{
+    let uses = uses_of_module(alloc, tables.parts)?;
+    add_uses(alloc, table, tables, uses.as_slice())?;
+    Ok(())
+}
+
+fn add_modules<'a>(
+    alloc: Global,
+    table: &mut IndexMap<Vec<u8>, Vec<UseLine<'a>>>,
+    modules: &[ModuleTables<'a>],
+) -> Result<(), WantOfMemory>
+    requires { All IsTabled modules.now }
+    ensures { (xs : List Use) → Grouped use_view use_name xs table.old → OnOk result (Grouped use_view use_name (xs ++ flat_map (λ t. uses_of_module t.parts.now) modules.now) table.new) }
+{
+    for tables in modules {
+        add_module(alloc, table, tables)?;
+    }
+    Ok(())
+}
+
+/// The uses by a module by their names.
+pub fn uses_by_name<'a>(
+    alloc: Global,
+    tables: &ModuleTables<'a>,
+) -> Result<IndexMap<Vec<u8>, Vec<UseLine<'a>>>, WantOfMemory>
+    requires { IsTabled tables.now }
+    ensures { IfOk result (λ table. Grouped use_view use_name (uses_of_module tables.now.parts.now) table) }
+{
+    let mut table = IndexMap::new(alloc);
+    add_module(alloc, &mut table, tables)?;
+    Ok(table)
+}
+
+/// The uses by modules by their names.
+pub fn all_uses_by_name<'a>(
+    alloc: Global,
+    modules: &[ModuleTables<'a>],
+) -> Result<IndexMap<Vec<u8>, Vec<UseLine<'a>>>, WantOfMemory>
+    requires { All IsTabled modules.now }
+    ensures { IfOk result (λ table. Grouped use_view use_name (uses_in (map (λ t. t.parts.now) modules.now)) table) }
+{
+    let mut table = IndexMap::new(alloc);
+    add_modules(alloc, &mut table, modules)?;
+    Ok(table)
+}
