@@ -13,3 +13,4 @@ pub mod AllBelow
 pub mod ChoiceLemmas
 pub mod ResultLemmas
 pub mod RunLemmas
+mod ImageLemmas

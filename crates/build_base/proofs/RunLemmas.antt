@@ -1,7 +1,7 @@
 -- Images as runs.
-use Rattle.std.proofs.Common.{◌≡◌, ℕ, ◌+◌, ◌-◌, ◌<◌, ◌≤◌, Bool, true, false, List, [], ◌∷◌, ◌++◌, length, get_or, take, drop, replicate, refl, ap, sym, ◌∙◌, arith, append_assoc, append-nil, length-append, length-drop}
+use Rattle.std.proofs.Common.{◌≡◌, ℕ, ◌+◌, ◌-◌, ◌<◌, ◌≤◌, Bool, true, false, List, [], ◌∷◌, ◌++◌, length, get_or, take, drop, refl, ap, sym, ◌∙◌, arith, append_assoc, append-nil, length-append, length-drop}
 use Rattle.std.specs.Prelude.{◌&&◌}
-use Rattle.std.proofs.lemmas.List.{length-replicate, drop_all, take_all}
+use Rattle.std.proofs.lemmas.List.{drop_all, take_all}
 use Rattle.build_base.proofs.Steps.{head_drop}
 use Rattle.build_base.specs.declared.run.Run.{Run}
 use Rattle.build_base.specs.declared.run.Run.TheVariants.{Fill, Bytes}

@@ -9,7 +9,7 @@ pub record World : Type 0 where
 
 -- the most bytes that a file may have to be read
 abbrev pub file_limit : ℕ
-file_limit = 16777216
+file_limit = 67108864
 
 -- what a build gets of a path in a world
 abbrev pub got : World → List ℕ → Got

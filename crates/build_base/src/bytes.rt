@@ -1,5 +1,5 @@
 //! Writing at the end of a vector of bytes.
-ghost use Rattle.std.specs.Prelude.{◌≡◌, ◌≤◌, ◌++◌, ◌-◌, replicate, vec_len, length, OnOk};
+ghost use Rattle.std.specs.Prelude.{◌≡◌, ◌++◌, replicate, OnOk};
 
 use crate::WantOfMemory;
 
@@ -14,14 +14,4 @@ pub fn fill(out: &mut Vec<u8>, count: u64, byte: u8) -> Result<(), WantOfMemory>
         }
         None => Err(WantOfMemory),
     }
-}
-
-/// Appends the free space before a place, and the bytes that stand there.
-pub fn put(out: &mut Vec<u8>, start: u64, bytes: &[u8], free: u8) -> Result<(), WantOfMemory>
-    requires { vec_len out.old ≤ start }
-    ensures { OnOk result (out.new.items ≡ (out.old.items ++ replicate (start - length out.old.items) free) ++ bytes.now) }
-{
-    fill(out, start - out.len() as u64, free)?;
-    out.extend_from_slice(bytes)?;
-    Ok(())
 }

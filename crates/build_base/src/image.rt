@@ -5,9 +5,13 @@ ghost use Rattle.build_base.specs.Runs.{runs_bytes, are_blank};
 use crate::pieces::Pieces;
 use crate::rows::Rows;
 use crate::run::Run;
+use crate::same::Same;
+use crate::same_image::same_pieces;
+use crate::text::WantOfMemory;
+use std::alloc::Global;
 use std::marker::Model;
 
-/// The bytes of a volume or of a device.
+/// The bytes of a volume or of a device. Two images are the same where their bytes are, whatever their runs.
 #[derive(Debug, Drop)]
 pub struct Image {
     runs: Rows<Run>,
@@ -67,5 +71,18 @@ impl Image {
         ensures { result ≡ self.now }
     {
         Pieces::of(self.runs.items())
+    }
+}
+
+impl Same for Image {
+    fn copy(&self, alloc: Global) -> Result<Image, WantOfMemory> {
+        Ok(Image {
+            runs: self.runs.copy(alloc)?,
+            size: self.size,
+        })
+    }
+
+    fn same(&self, other: &Image) -> bool {
+        same_pieces(self.pieces(), other.pieces())
     }
 }

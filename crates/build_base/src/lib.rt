@@ -25,6 +25,7 @@ pub mod run;
 pub mod run_writer;
 pub mod same;
 mod same_guid;
+mod same_image;
 pub mod sure_keeper;
 pub mod text;
 

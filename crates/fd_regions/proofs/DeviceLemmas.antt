@@ -1,6 +1,6 @@
 -- The regions of a device, one after another.
 use Rattle.std.proofs.Common.{◌≡◌, ℕ, ◌+◌, ◌-◌, ◌<◌, ◌≤◌, List, [], ◌∷◌, ◌++◌, length, get_or, drop, replicate, Option, None, Some, refl, ap, sym, ◌∙◌, arith, length-append}
-use Rattle.std.proofs.lemmas.List.{drop_more, drop_all, length-replicate, get_or_default}
+use Rattle.std.proofs.lemmas.List.{drop_all, length-replicate, get_or_default}
 use Rattle.std.proofs.lemmas.Bool.Decides.{nat_tests}
 use Rattle.build_base.proofs.Steps.{head_drop}
 use Rattle.build_base.specs.First.{or_else}

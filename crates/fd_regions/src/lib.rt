@@ -3,8 +3,11 @@
 
 pub mod compose;
 pub mod contents;
-pub mod image;
 
+use build_base::Image;
+pub use build_base::Pieces;
 pub use compose::device;
 pub use contents::Contents;
-pub use image::Device;
+
+/// The image of a flash device, from its base address on, made of its runs.
+pub type Device = Image;

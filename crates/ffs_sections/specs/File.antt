@@ -1,5 +1,5 @@
--- Firmware files: a header of 24 bytes and a body (UEFI PI specification, volume 3, section 3.2.3).
-use Rattle.std.specs.Prelude.{ℕ, ◌+◌, ◌≤◌, ◌==◌, nat_lt, if◌then◌else◌, List, [], ◌∷◌, ◌++◌, length, max, fold, slice_index, Result, Ok, Err}
+-- Firmware files: a header of 24 bytes, of a large file of 32, and a body (UEFI PI specification, volume 3, section 3.2.3).
+use Rattle.std.specs.Prelude.{ℕ, ◌+◌, ◌-◌, ◌%◌, ◌≤◌, ◌==◌, ◌&&◌, Bool, nat_lt, if◌then◌else◌, List, [], ◌∷◌, ◌++◌, length, max, fold, slice_index, Result, Ok, Err}
 use Rattle.byteorder.specs.Endian.{little_bytes}
 use Rattle.build_base.specs.First.{and_then}
 use Rattle.build_base.specs.declared.fault.Fault.{Fault}
@@ -8,9 +8,11 @@ use Rattle.doc_types.specs.declared.image.Body.{Body}
 use Rattle.doc_types.specs.declared.image.Body.TheVariants.{Whole, Sections}
 use Rattle.doc_types.specs.declared.image.ImagePlan.{ImagePlan}
 use Rattle.doc_types.specs.declared.image.FileImage.{FileImage}
-use Rattle.ffs_sections.specs.Sums.{zero_byte}
+use Rattle.ffs_sections.specs.declared.header.Head.{Head}
+use Rattle.ffs_sections.specs.Sums.{zero_byte, summed}
 use Rattle.ffs_sections.specs.Alignment.{is_align, alignments, IsAlignment, step_of, step_bits}
 use Rattle.ffs_sections.specs.Sections.{with_parts, sized}
+use Rattle.ffs_sections.specs.Standard.{FFS_ATTRIB_LARGE_FILE, FFS_ATTRIB_FIXED, FFS_ATTRIB_CHECKSUM, FFS_FIXED_CHECKSUM, FILE_STATE, FILE_LIMIT, FFS3_LIMIT}
 
 -- the greatest alignment of a file and its sections
 abbrev pub greatest : ℕ → List Part → ℕ
@@ -23,46 +25,78 @@ body_align align (Sections parts) = greatest align parts
 abbrev pub plan_step : ImagePlan → ℕ
 plan_step plan = step_of (body_align plan.align plan.body)
 
--- the header with the checksums `sum` of itself and `check` of the body
-unfoldable pub head_bytes : List ℕ → ℕ → ℕ → ℕ → ℕ → ℕ → ℕ → List ℕ
-head_bytes guid sum check kind attributes size state =
-    guid ++ (sum ∷ check ∷ kind ∷ attributes ∷ []) ++ little_bytes 3 size ++ state ∷ []
+-- a header without its own checksum
+unfoldable pub short_fields : List ℕ → Head → List ℕ
+short_fields name head =
+    name ++ (0 ∷ head.check ∷ head.kind ∷ head.attributes ∷ []) ++ little_bytes 3 head.size ++ head.state ∷ []
+
+-- that of a large file: with the attribute for it, no size in its place, and the size behind the state
+unfoldable pub long_fields : List ℕ → Head → List ℕ
+long_fields name head =
+    name ++ (0 ∷ head.check ∷ head.kind ∷ (head.attributes + FFS_ATTRIB_LARGE_FILE) ∷ []) ++ (0 ∷ 0 ∷ 0 ∷ head.state ∷ []) ++ little_bytes 8 head.size
+
+-- a header
+unfoldable pub file_head : Bool → List ℕ → Head → List ℕ
+file_head large name head = summed (if large then long_fields name head else short_fields name head)
+
+-- its length
+abbrev pub head_len : Bool → ℕ
+head_len large = if large then 32 else 24
 
 -- FIXED, CHECKSUM and the alignment
 abbrev pub attributes_of : ImagePlan → ℕ
-attributes_of plan = (if plan.fixed then 0x04 else 0) + (if plan.checksum then 0x40 else 0) + step_bits (plan_step plan)
+attributes_of plan = (if plan.fixed then FFS_ATTRIB_FIXED else 0) + (if plan.checksum then FFS_ATTRIB_CHECKSUM else 0) + step_bits (plan_step plan)
 
--- header made, valid and data valid; with erase polarity 1 the bits are turned round
+-- with erase polarity 1 the bits are turned round
 abbrev pub state_of : ℕ → ℕ
-state_of erase = if erase == 0 then 0x07 else 0xF8
+state_of erase = if erase == 0 then FILE_STATE else 0xFF - FILE_STATE
 
--- the header whose own checksum makes its sum zero, with the state and the body's checksum taken as 0
-unfoldable pub file_head : List ℕ → ℕ → ℕ → ℕ → ℕ → ℕ → List ℕ
-file_head guid check kind attributes size state =
-    head_bytes guid (zero_byte (head_bytes guid 0 0 kind attributes size 0)) check kind attributes size state
+-- in an FFS3 volume a file is large that has more than 0xFFFFFF bytes with a header of 24
+abbrev pub is_large_file : Bool → ℕ → Bool
+is_large_file ffs3 count = ffs3 && nat_lt FILE_LIMIT (24 + count)
 
--- the body's checksum is 0xAA where CHECKSUM isn't asked
+-- the size of a file with its own header, by the length of its body, and the greatest one
+abbrev pub file_size : Bool → ℕ → ℕ
+file_size ffs3 count = head_len (is_large_file ffs3 count) + count
+
+abbrev pub file_limit : Bool → ℕ
+file_limit ffs3 = if ffs3 then FFS3_LIMIT else FILE_LIMIT
+
+-- the header of a plan's file
+abbrev pub plan_head : ImagePlan → List ℕ → Head
+plan_head plan body = record {
+  check = if plan.checksum then zero_byte body else FFS_FIXED_CHECKSUM;
+  kind = plan.file_type;
+  attributes = attributes_of plan;
+  size = file_size plan.ffs3 (length body);
+  state = state_of plan.erase;
+}
+
 unfoldable pub file_bytes : ImagePlan → List ℕ → List ℕ
-file_bytes plan body =
-    file_head plan.guid.0 (if plan.checksum then zero_byte body else 0xAA) plan.file_type (attributes_of plan) (24 + length body) (state_of plan.erase)
-    ++ body
+file_bytes plan body = file_head (is_large_file plan.ffs3 (length body)) plan.guid.0 (plan_head plan body) ++ body
 
 abbrev pub body_of : ImagePlan → Body → Result (List ℕ) Fault
 body_of plan (Whole bytes) = Ok bytes
-body_of plan (Sections parts) = with_parts plan.at [] parts
+body_of plan (Sections parts) = with_parts plan.ffs3 plan.at [] parts
 
 abbrev pub image_of : ImagePlan → List ℕ → FileImage
 image_of plan body =
     record { at = plan.at; guid = plan.guid; align = slice_index alignments (plan_step plan); bytes = file_bytes plan body }
 
--- a file has at most 0xFFFFFF bytes
+-- a file that is too long for its file system is a fault
 abbrev pub file_sized : ImagePlan → List ℕ → Result FileImage Fault
-file_sized plan body = if nat_lt 0xFFFFFF (24 + length body) then Err (sized 612 plan.at (24 + length body)) else Ok (image_of plan body)
+file_sized plan body =
+    let size = file_size plan.ffs3 (length body) in
+    if nat_lt (file_limit plan.ffs3) size then Err (sized 612 plan.at size) else Ok (image_of plan body)
 
 unfoldable pub file_of : ImagePlan → Result FileImage Fault
 file_of plan = if is_align plan.align then and_then (body_of plan plan.body) (file_sized plan) else Err (sized 613 plan.at plan.align)
 
+-- the length of the header that a file begins with: where byte 19 has the attribute of large files it is 32
+unfoldable pub head_at : List ℕ → ℕ
+head_at bytes = if slice_index bytes 19 % 2 == 1 then 32 else 24
+
 -- what a volume can hold: a file whose alignment a header can state, and with a header
 pub record IsFileImage (file : FileImage) : Type 0 where
   pub align : IsAlignment file.align
-  pub head : 24 ≤ length file.bytes
+  pub head : head_at file.bytes ≤ length file.bytes

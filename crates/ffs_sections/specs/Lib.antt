@@ -1,3 +1,4 @@
+pub mod Standard
 pub mod Sums
 pub mod Alignment
 pub mod Sections

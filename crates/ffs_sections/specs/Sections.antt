@@ -1,5 +1,5 @@
 -- The sections of a firmware file, one after another (UEFI PI specification, volume 3, section 3.2.4).
-use Rattle.std.specs.Prelude.{ℕ, ◌+◌, ◌-◌, ◌*◌, ◌/◌, ◌==◌, not, nat_lt, if◌then◌else◌, List, [], ◌∷◌, ◌++◌, length, replicate, Option, Some, None, is_some, is_none, unwrap_or, Result, Ok, decimal, All, ◌≡◌}
+use Rattle.std.specs.Prelude.{ℕ, ◌+◌, ◌-◌, ◌*◌, ◌/◌, ◌==◌, ◌&&◌, Bool, false, not, nat_lt, if◌then◌else◌, List, [], ◌∷◌, ◌++◌, length, replicate, Option, Some, None, is_some, is_none, unwrap_or, Result, Ok, decimal, All, ◌≡◌}
 use Rattle.byteorder.specs.Endian.{little_bytes}
 use Rattle.build_base.specs.First.{first_holding, unless, and_then}
 use Rattle.build_base.specs.declared.fault.Place.{Place}
@@ -9,55 +9,76 @@ use Rattle.doc_types.specs.declared.image.Part.{Part}
 use Rattle.doc_types.specs.declared.image.Body.{Body}
 use Rattle.doc_types.specs.declared.image.Body.TheVariants.{Whole, Sections}
 use Rattle.ffs_sections.specs.Alignment.{is_align, pad_of}
+use Rattle.ffs_sections.specs.Standard.{EFI_SECTION_FREEFORM_SUBTYPE_GUID, EFI_SECTION_RAW, EXTENDED_SIZE, SECTION_LIMIT, FFS3_LIMIT}
 
 abbrev pub guid_bytes : Option Guid → List ℕ
 guid_bytes None = []
 guid_bytes (Some guid) = guid.0
 
--- size and kind, the GUID of a SUBTYPE_GUID section, and the content
-unfoldable pub section_bytes : ℕ → Option Guid → List ℕ → List ℕ
-section_bytes kind guid content =
-    little_bytes 3 (4 + length (guid_bytes guid) + length content) ++ kind ∷ [] ++ guid_bytes guid ++ content
+-- in an FFS3 volume a section is large that has more than 0xFFFFFE bytes with a header of 4 bytes, or 20 with a GUID
+abbrev pub is_large : Bool → Option Guid → ℕ → Bool
+is_large ffs3 guid count = ffs3 && nat_lt SECTION_LIMIT (4 + length (guid_bytes guid) + count)
+
+-- where the content of a section stands in it, by the length of the content
+abbrev pub content_at : Bool → Option Guid → ℕ → ℕ
+content_at ffs3 guid count = (if is_large ffs3 guid count then 8 else 4) + length (guid_bytes guid)
+
+-- the size of a section with its own header, and the greatest one
+abbrev pub section_size : Bool → Option Guid → ℕ → ℕ
+section_size ffs3 guid count = content_at ffs3 guid count + count
+
+abbrev pub section_limit : Bool → ℕ
+section_limit ffs3 = if ffs3 then FFS3_LIMIT else SECTION_LIMIT
+
+-- size and kind; of a large section the kind and then the size
+unfoldable pub section_head : Bool → ℕ → ℕ → List ℕ
+section_head large kind size =
+    if large then little_bytes 3 EXTENDED_SIZE ++ kind ∷ little_bytes 4 size else little_bytes 3 size ++ kind ∷ []
+
+-- the header, the GUID of a SUBTYPE_GUID section, and the content
+unfoldable pub section_bytes : Bool → ℕ → Option Guid → List ℕ → List ℕ
+section_bytes ffs3 kind guid content =
+    section_head (is_large ffs3 guid (length content)) kind (section_size ffs3 guid (length content)) ++ guid_bytes guid ++ content
 
 -- the least multiple of 4 from a place on
 abbrev pub up4 : ℕ → ℕ
 up4 at = (at + 3) / 4 * 4
 
 -- the pad before a section, after a body so long, that aligns the section's content
-abbrev pub part_pad : ℕ → Part → Option ℕ
-part_pad at part = pad_of (up4 at + 4 + length (guid_bytes part.guid)) part.align part.shift
+abbrev pub part_pad : Bool → ℕ → Part → Option ℕ
+part_pad ffs3 at part = pad_of (up4 at + content_at ffs3 part.guid (length part.bytes)) part.align part.shift
 
--- a RAW section of zeros of this size, header and all; none of size 0
+-- a RAW section of zeros of this size, header and all; none of size 0. A pad is shorter than its alignment, and that at most 16M, so none is large.
 abbrev pub pad_section : ℕ → List ℕ
-pad_section size = if size == 0 then [] else section_bytes 0x19 None (replicate (size - 4) 0)
+pad_section size = if size == 0 then [] else section_bytes false EFI_SECTION_RAW None (replicate (size - 4) 0)
 
 -- a body with one section more: zeros up to a multiple of 4, the pad, and the section
-unfoldable pub with_part : List ℕ → Part → List ℕ
-with_part body part =
-    body ++ replicate (up4 (length body) - length body) 0 ++ pad_section (unwrap_or (part_pad (length body) part) 0)
-    ++ section_bytes part.kind part.guid part.bytes
+unfoldable pub with_part : Bool → List ℕ → Part → List ℕ
+with_part ffs3 body part =
+    body ++ replicate (up4 (length body) - length body) 0 ++ pad_section (unwrap_or (part_pad ffs3 (length body) part) 0)
+    ++ section_bytes ffs3 part.kind part.guid part.bytes
 
 -- a fault whose detail is a number
 abbrev pub sized : ℕ → Place → ℕ → Fault
 sized code place size = record { code = code; place = place; detail = decimal size }
 
--- a section has at most 0xFFFFFE bytes
-unfoldable pub part_fault : Place → ℕ → Part → Option Fault
-part_fault place at part =
-    let size = 4 + length (guid_bytes part.guid) + length part.bytes in
+-- an alignment that is none or that no pad makes hold, or a section that is too long for its file system
+unfoldable pub part_fault : Bool → Place → ℕ → Part → Option Fault
+part_fault ffs3 place at part =
+    let size = section_size ffs3 part.guid (length part.bytes) in
     first_holding (
     (not (is_align part.align), sized 613 place part.align)
-    ∷ (is_none (part_pad at part), sized 613 place part.align)
-    ∷ (nat_lt 0xFFFFFE size, sized 611 place size)
+    ∷ (is_none (part_pad ffs3 at part), sized 613 place part.align)
+    ∷ (nat_lt (section_limit ffs3) size, sized 611 place size)
     ∷ [])
 
 -- a body with these sections more, or the first fault of one
-unfoldable pub with_parts : Place → List ℕ → List Part → Result (List ℕ) Fault
-with_parts place body [] = Ok body
-with_parts place body (part ∷ parts) =
-    and_then (unless (part_fault place (length body) part) (with_part body part)) (λ more. with_parts place more parts)
+unfoldable pub with_parts : Bool → Place → List ℕ → List Part → Result (List ℕ) Fault
+with_parts ffs3 place body [] = Ok body
+with_parts ffs3 place body (part ∷ parts) =
+    and_then (unless (part_fault ffs3 place (length body) part) (with_part ffs3 body part)) (λ more. with_parts ffs3 place more parts)
 
 -- a GUID stands in SUBTYPE_GUID sections and in no other
 abbrev pub HaveGuids : Body → Type 0
 HaveGuids (Whole bytes) = Unit {0}
-HaveGuids (Sections parts) = All (λ part. is_some part.guid ≡ (part.kind == 0x18)) parts
+HaveGuids (Sections parts) = All (λ part. is_some part.guid ≡ (part.kind == EFI_SECTION_FREEFORM_SUBTYPE_GUID)) parts

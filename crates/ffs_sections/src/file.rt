@@ -1,32 +1,23 @@
 //! Files: a header and a body.
-ghost use Rattle.std.specs.Prelude.{◌≡◌, ◌≤◌, ◌<◌, ◌+◌, ◌^◌, length, IfOk, if◌then◌else◌};
+ghost use Rattle.std.specs.Prelude.{◌≡◌, ◌≤◌, ◌<◌, ◌^◌, [], length, IfOk, if◌then◌else◌};
+ghost use Rattle.build_base.specs.First.{and_then};
 ghost use Rattle.build_base.specs.Answer.{Answers};
-ghost use Rattle.ffs_sections.specs.Sections.{HaveGuids};
-ghost use Rattle.ffs_sections.specs.File.{greatest, body_align, plan_step, attributes_of, file_bytes, body_of, file_sized, file_of, IsFileImage};
+ghost use Rattle.ffs_sections.specs.Sections.{HaveGuids, with_parts};
+ghost use Rattle.ffs_sections.specs.Standard.{FFS_FIXED_CHECKSUM};
+ghost use Rattle.ffs_sections.specs.File.{greatest, body_align, plan_step, attributes_of, plan_head, file_bytes, file_sized, file_size, file_limit, file_of, is_large_file, head_len, head_at, IsFileImage};
 ghost use Rattle.ffs_sections.specs.Sums.{zero_byte};
 
 use crate::alignment::{is_align, step_align, step_bits, step_of};
 use crate::faults::sized;
 use crate::header::{Head, append_head, state_of};
 use crate::sections::add_parts;
+use crate::standard::{
+    FFS_ATTRIB_CHECKSUM, FFS_ATTRIB_FIXED, FFS_FIXED_CHECKSUM, FFS3_LIMIT, FILE_LIMIT,
+};
 use crate::sums::body_sum;
 use build_base::{Permit, Refusal, Same, Text, WantOfMemory};
 use doc_types::image::{Body, FileImage, ImagePlan, Part};
 use std::alloc::Global;
-
-/// The length of a file's header.
-const HEAD: u64 = 24;
-
-/// The greatest size of a file, header and all.
-const FILE_LIMIT: u64 = 0xFF_FFFF;
-
-/// The attributes FFS_ATTRIB_FIXED and FFS_ATTRIB_CHECKSUM.
-const FIXED: u8 = 0x04;
-
-const CHECKSUM: u8 = 0x40;
-
-/// The file checksum of a file without the attribute CHECKSUM.
-const NO_CHECK: u8 = 0xAA;
 
 fn greatest(align: u32, parts: &[Part]) -> u32
     ensures { result ≡ greatest align parts.now }
@@ -50,62 +41,113 @@ fn body_align(align: u32, body: &Body) -> u32
 fn attributes(plan: &ImagePlan, step: usize) -> u8
     requires step { step ≡ plan_step plan.now }
     requires below { step < 16 }
-    ensures { result ≡ attributes_of plan.now }
+    ensures value { result ≡ attributes_of plan.now }
+    ensures small { result < 128 }
 {
-    let fixed = if plan.fixed { FIXED } else { 0 };
-    let checksum = if plan.checksum { CHECKSUM } else { 0 };
+    let fixed = if plan.fixed { FFS_ATTRIB_FIXED } else { 0 };
+    let checksum = if plan.checksum {
+        FFS_ATTRIB_CHECKSUM
+    } else {
+        0
+    };
     fixed + checksum + step_bits(step)
 }
 
 fn check_byte(checksum: bool, body: &[u8]) -> u8
-    ensures { result ≡ (if checksum then zero_byte body.now else 170) }
+    ensures { result ≡ (if checksum then zero_byte body.now else FFS_FIXED_CHECKSUM) }
 {
-    if checksum { body_sum(body) } else { NO_CHECK }
+    if checksum {
+        body_sum(body)
+    } else {
+        FFS_FIXED_CHECKSUM
+    }
 }
 
-// The bytes of a plan's body.
-fn body(alloc: Global, plan: &ImagePlan) -> Result<Text, Refusal>
-    ensures { Answers result (body_of plan.now plan.now.body) }
+// Whether a file whose body has so many bytes is large.
+fn is_large_file(ffs3: bool, count: u64) -> bool
+    requires { count < 2 ^ 63 }
+    ensures { result ≡ is_large_file ffs3 count }
 {
-    match &plan.body {
-        Body::Whole(bytes) => Ok(bytes.copy(alloc)?),
-        Body::Sections(parts) => {
-            let mut out = Vec::new(alloc);
-            if let Err(refusal) = add_parts(alloc, &mut out, &plan.at, parts.items()) {
-                return Err(refusal);
-            }
-            Ok(Text::from_vec(out))
-        }
+    ffs3 && 24 + count > FILE_LIMIT
+}
+
+fn head_len(large: bool) -> u64
+    ensures value { result ≡ head_len large }
+    ensures short { result ≤ 32 }
+{
+    if large { 32 } else { 24 }
+}
+
+fn file_limit(ffs3: bool) -> u64
+    ensures { result ≡ file_limit ffs3 }
+{
+    if ffs3 { FFS3_LIMIT } else { FILE_LIMIT }
+}
+
+// The header of a plan's file of this size.
+fn plan_head(plan: &ImagePlan, body: &[u8], step: usize, size: u64) -> Head
+    requires step { step ≡ plan_step plan.now }
+    requires below { step < 16 }
+    requires size { size ≡ file_size plan.now.ffs3 (length body.now) }
+    ensures value { result ≡ plan_head plan.now body.now }
+    ensures small { result.attributes < 128 }
+{
+    Head {
+        check: check_byte(plan.checksum, body),
+        kind: plan.file_type,
+        attributes: attributes(plan, step),
+        size,
+        state: state_of(plan.erase),
     }
 }
 
 #[tactic(auto, unfolding(crate::specs::File::file_bytes))]
-fn bytes(alloc: Global, plan: &ImagePlan, body: &[u8], step: usize) -> Result<Text, WantOfMemory>
+fn bytes(
+    alloc: Global,
+    plan: &ImagePlan,
+    name: &[u8; 16],
+    body: &[u8],
+    step: usize,
+) -> Result<Text, WantOfMemory>
+    requires name { name.now ≡ plan.now.guid.0 }
     requires step { step ≡ plan_step plan.now }
     requires below { step < 16 }
-    requires short { length body.now + 24 < 2 ^ 24 }
-    ensures value { IfOk result (λ t. t ≡ file_bytes plan.now body.now) }
-    ensures head { IfOk result (λ t. 24 ≤ length t) }
+    ensures { IfOk result (λ t. t ≡ file_bytes plan.now body.now) }
 {
-    let head = Head {
-        check: check_byte(plan.checksum, body),
-        kind: plan.file_type,
-        attributes: attributes(plan, step),
-        size: 24 + body.len() as u32,
-        state: state_of(plan.erase),
-    };
+    let large = is_large_file(plan.ffs3, body.len() as u64);
+    let size = head_len(large) + body.len() as u64;
+    let head = plan_head(plan, body, step, size);
     let mut out = Vec::new(alloc);
-    append_head(alloc, &mut out, &plan.guid.0, &head)?;
+    append_head(alloc, &mut out, large, name, &head)?;
     out.extend_from_slice(body)?;
     Ok(Text::from_vec(out))
+}
+
+// The same, with a header of the length that it states.
+fn shaped(
+    alloc: Global,
+    plan: &ImagePlan,
+    name: &[u8; 16],
+    body: &[u8],
+    step: usize,
+) -> Result<Text, WantOfMemory>
+    requires name { name.now ≡ plan.now.guid.0 }
+    requires step { step ≡ plan_step plan.now }
+    requires below { step < 16 }
+    ensures value { IfOk result (λ t. t ≡ file_bytes plan.now body.now) }
+    ensures head { IfOk result (λ t. head_at t ≤ length t) }
+{
+    let text = bytes(alloc, plan, name, body, step)?;
+    Ok(text)
 }
 
 fn image(alloc: Global, plan: &ImagePlan, body: &[u8]) -> Result<FileImage, Refusal>
     ensures value { Answers result (file_sized plan.now body.now) }
     ensures shape { IfOk result IsFileImage }
 {
-    let size = HEAD + body.len() as u64;
-    if size > FILE_LIMIT {
+    let count = body.len() as u64;
+    let size = head_len(is_large_file(plan.ffs3, count)) + count;
+    if size > file_limit(plan.ffs3) {
         return Err(Refusal::Bad(sized(alloc, 612, &plan.at, size)?));
     }
     let step = step_of(body_align(plan.align, &plan.body));
@@ -113,8 +155,20 @@ fn image(alloc: Global, plan: &ImagePlan, body: &[u8]) -> Result<FileImage, Refu
         at: plan.at.copy(alloc)?,
         guid: plan.guid,
         align: step_align(step),
-        bytes: bytes(alloc, plan, body, step)?,
+        bytes: shaped(alloc, plan, &plan.guid.0, body, step)?,
     })
+}
+
+// The file of a plan whose body is these sections.
+fn sections_image(alloc: Global, plan: &ImagePlan, parts: &[Part]) -> Result<FileImage, Refusal>
+    ensures value { Answers result (and_then (with_parts plan.now.ffs3 plan.now.at [] parts.now) (file_sized plan.now)) }
+    ensures shape { IfOk result IsFileImage }
+{
+    let mut out = Vec::new(alloc);
+    match add_parts(alloc, &mut out, plan.ffs3, &plan.at, parts) {
+        Ok(()) => image(alloc, plan, out.as_slice()),
+        Err(refusal) => Err(refusal),
+    }
 }
 
 /// The file of a plan, header and body. The first fault is that of the file's alignment (613), of a
@@ -129,8 +183,8 @@ pub fn file_of(alloc: Global, permit: Permit, plan: &ImagePlan) -> Result<FileIm
     if !is_align(plan.align) {
         return Err(Refusal::Bad(sized(alloc, 613, &plan.at, plan.align as u64)?));
     }
-    match body(alloc, plan) {
-        Ok(body) => image(alloc, plan, body.bytes()),
-        Err(refusal) => Err(refusal),
+    match &plan.body {
+        Body::Whole(bytes) => image(alloc, plan, bytes.bytes()),
+        Body::Sections(parts) => sections_image(alloc, plan, parts.items()),
     }
 }

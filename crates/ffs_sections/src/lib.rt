@@ -6,10 +6,11 @@ pub mod faults;
 pub mod file;
 pub mod header;
 pub mod sections;
+pub mod standard;
 pub mod sums;
 #[cfg(test)]
 mod tests;
 
 pub use file::file_of;
 pub use sections::have_guids;
-pub use sums::{body_sum, header_sum};
+pub use sums::{body_sum, header_sum, header_sum_long};

@@ -2,65 +2,106 @@
 ghost use Rattle.std.specs.Prelude.{◌≡◌, ◌≤◌, ◌<◌, ◌+◌, ◌^◌, ◌++◌, length, vec_len, OnOk, IfOk, Some, ◌%◌, ◌==◌, ◌↔◌, IsTrue, All, is_some};
 ghost use Rattle.build_base.specs.First.{unless};
 ghost use Rattle.build_base.specs.Answer.{Grows, Checks};
-ghost use Rattle.ffs_sections.specs.Sections.{guid_bytes, section_bytes, part_pad, pad_section, with_part, part_fault, with_parts, HaveGuids};
+ghost use Rattle.ffs_sections.specs.Standard.{EFI_SECTION_FREEFORM_SUBTYPE_GUID};
+ghost use Rattle.ffs_sections.specs.Sections.{guid_bytes, is_large, content_at, section_limit, section_size, section_head, section_bytes, part_pad, pad_section, with_part, part_fault, with_parts, HaveGuids};
 
 use crate::alignment::{is_align, pad};
 use crate::faults::sized;
+use crate::standard::{
+    EFI_SECTION_FREEFORM_SUBTYPE_GUID, EFI_SECTION_RAW, FFS3_LIMIT, SECTION_LIMIT,
+};
 use build_base::bytes::fill;
 use build_base::{Guid, Place, Refusal, WantOfMemory};
 use doc_types::image::{Body, Part};
 use std::alloc::Global;
 
-/// The section type of raw data, with which pads are made.
-const RAW: u8 = 0x19;
-
-/// The section type with a GUID in its header.
-const SUBTYPE_GUID: u8 = 0x18;
-
-/// The greatest size of a section, header and all.
-const SECTION_LIMIT: u64 = 0xFF_FFFE;
-
-// The length of a section's header.
-fn head_len(guid: &Option<Guid>) -> u64
-    ensures value { result ≡ 4 + length (guid_bytes guid.now) }
-    ensures short { result ≤ 20 }
+fn guid_len(guid: &Option<Guid>) -> u64
+    ensures value { result ≡ length (guid_bytes guid.now) }
+    ensures short { result ≤ 16 }
 {
     match guid {
-        Some(guid) => 4 + guid_len(&guid.0),
-        None => 4,
+        Some(guid) => array_len(&guid.0),
+        None => 0,
     }
 }
 
-fn guid_len(guid: &[u8; 16]) -> u64
+fn array_len(guid: &[u8; 16]) -> u64
     ensures value { result ≡ length guid.now }
     ensures short { result ≡ 16 }
 {
     guid.len() as u64
 }
 
+// Whether a section whose content has so many bytes is large.
+fn is_large(ffs3: bool, guid: &Option<Guid>, count: u64) -> bool
+    requires { count < 2 ^ 63 }
+    ensures { result ≡ is_large ffs3 guid.now count }
+{
+    ffs3 && 4 + guid_len(guid) + count > SECTION_LIMIT
+}
+
+// Where the content of a section stands in it.
+fn content_at(ffs3: bool, guid: &Option<Guid>, count: u64) -> u64
+    requires { count < 2 ^ 63 }
+    ensures value { result ≡ content_at ffs3 guid.now count }
+    ensures short { result ≤ 24 }
+{
+    let head = if is_large(ffs3, guid, count) { 8 } else { 4 };
+    head + guid_len(guid)
+}
+
+fn section_limit(ffs3: bool) -> u64
+    ensures value { result ≡ section_limit ffs3 }
+    ensures most { result ≤ 2 ^ 28 }
+{
+    if ffs3 { FFS3_LIMIT } else { SECTION_LIMIT }
+}
+
 // The pad before a section that comes after `at` bytes, or the section's fault.
 #[tactic(auto, unfolding(crate::specs::Sections::part_fault))]
-fn check_part(alloc: Global, place: &Place, at: u64, part: &Part) -> Result<u64, Refusal>
+fn check_part(
+    alloc: Global,
+    ffs3: bool,
+    place: &Place,
+    at: u64,
+    part: &Part,
+) -> Result<u64, Refusal>
     requires { at < 2 ^ 63 }
-    ensures fault { Checks result (part_fault place.now at part.now) }
-    ensures pad { IfOk result (λ p. part_pad at part.now ≡ Some p) }
+    ensures fault { Checks result (part_fault ffs3 place.now at part.now) }
+    ensures pad { IfOk result (λ p. part_pad ffs3 at part.now ≡ Some p) }
     ensures four { IfOk result (λ p. p % 4 ≡ 0) }
     ensures small { IfOk result (λ p. p < 2 ^ 24) }
-    ensures short { OnOk result (length part.now.bytes < 2 ^ 24) }
+    ensures short { OnOk result (length part.now.bytes < 2 ^ 29) }
 {
     if !is_align(part.align) {
         return Err(Refusal::Bad(sized(alloc, 613, place, part.align as u64)?));
     }
-    let head = head_len(&part.guid);
+    let count = part.bytes.bytes().len() as u64;
+    let head = content_at(ffs3, &part.guid, count);
     let size = match pad((at + 3) / 4 * 4 + head, part.align, part.shift) {
         Some(size) => size,
         None => return Err(Refusal::Bad(sized(alloc, 613, place, part.align as u64)?)),
     };
-    let len = head + part.bytes.bytes().len() as u64;
-    if len > SECTION_LIMIT {
+    let len = head + count;
+    if len > section_limit(ffs3) {
         return Err(Refusal::Bad(sized(alloc, 611, place, len)?));
     }
     Ok(size)
+}
+
+// Appends the size and the kind of a section.
+#[tactic(auto, unfolding(crate::specs::Sections::section_head))]
+fn put_section_head(out: &mut Vec<u8>, large: bool, kind: u8, size: u32) -> Result<(), WantOfMemory>
+    ensures { OnOk result (out.new.items ≡ out.old.items ++ section_head large kind size) }
+{
+    let bytes = size.to_le_bytes();
+    if large {
+        out.extend_from_slice(&[0xFF, 0xFF, 0xFF, kind])?;
+        out.extend_from_slice(&bytes)?;
+        return Ok(());
+    }
+    out.extend_from_slice(&[bytes[0], bytes[1], bytes[2], kind])?;
+    Ok(())
 }
 
 // Appends a RAW section of zeros, or nothing where the size is 0.
@@ -73,8 +114,7 @@ fn pad_section(out: &mut Vec<u8>, size: u64) -> Result<(), WantOfMemory>
     if size == 0 {
         return Ok(());
     }
-    let bytes = (size as u32).to_le_bytes();
-    out.extend_from_slice(&[bytes[0], bytes[1], bytes[2], RAW])?;
+    put_section_head(out, false, EFI_SECTION_RAW, size as u32)?;
     fill(out, size - 4, 0)
 }
 
@@ -82,15 +122,17 @@ fn pad_section(out: &mut Vec<u8>, size: u64) -> Result<(), WantOfMemory>
 #[tactic(auto, unfolding(crate::specs::Sections::section_bytes))]
 fn section(
     out: &mut Vec<u8>,
+    ffs3: bool,
     kind: u8,
     guid: &Option<Guid>,
     content: &[u8],
 ) -> Result<(), WantOfMemory>
-    requires { length content.now < 2 ^ 24 }
-    ensures { OnOk result (out.new.items ≡ out.old.items ++ section_bytes kind guid.now content.now) }
+    requires { length content.now < 2 ^ 29 }
+    ensures { OnOk result (out.new.items ≡ out.old.items ++ section_bytes ffs3 kind guid.now content.now) }
 {
-    let size = (content.len() as u32 + head_len(guid) as u32).to_le_bytes();
-    out.extend_from_slice(&[size[0], size[1], size[2], kind])?;
+    let count = content.len() as u64;
+    let size = (content_at(ffs3, guid, count) + count) as u32;
+    put_section_head(out, is_large(ffs3, guid, count), kind, size)?;
     if let Some(guid) = guid {
         out.extend_from_slice(&guid.0)?;
     }
@@ -100,17 +142,17 @@ fn section(
 
 // Appends a section behind a pad of this size.
 #[tactic(auto, unfolding(crate::specs::Sections::with_part))]
-fn put_part(out: &mut Vec<u8>, part: &Part, pad: u64) -> Result<(), WantOfMemory>
-    requires pad { part_pad (vec_len out.old) part.now ≡ Some pad }
+fn put_part(out: &mut Vec<u8>, ffs3: bool, part: &Part, pad: u64) -> Result<(), WantOfMemory>
+    requires pad { part_pad ffs3 (vec_len out.old) part.now ≡ Some pad }
     requires four { pad % 4 ≡ 0 }
     requires small { pad < 2 ^ 24 }
-    requires short { length part.now.bytes < 2 ^ 24 }
-    ensures { OnOk result (out.new.items ≡ with_part out.old.items part.now) }
+    requires short { length part.now.bytes < 2 ^ 29 }
+    ensures { OnOk result (out.new.items ≡ with_part ffs3 out.old.items part.now) }
 {
     let at = out.len() as u64;
     fill(out, (at + 3) / 4 * 4 - at, 0)?;
     pad_section(out, pad)?;
-    section(out, part.kind, &part.guid, part.bytes.bytes())
+    section(out, ffs3, part.kind, &part.guid, part.bytes.bytes())
 }
 
 /// Whether a GUID stands in the SUBTYPE_GUID sections and in no other.
@@ -124,37 +166,44 @@ pub fn have_guids(body: &Body) -> bool
 }
 
 fn all_guids(parts: &[Part]) -> bool
-    ensures { IsTrue result ↔ All (λ part. is_some part.guid ≡ (part.kind == 24)) parts.now }
+    ensures { IsTrue result ↔ All (λ part. is_some part.guid ≡ (part.kind == EFI_SECTION_FREEFORM_SUBTYPE_GUID)) parts.now }
 {
     for part in parts {
-        if part.guid.is_some() != (part.kind == SUBTYPE_GUID) {
+        if part.guid.is_some() != (part.kind == EFI_SECTION_FREEFORM_SUBTYPE_GUID) {
             return false;
         }
     }
     true
 }
 
-/// Appends sections to a body, each behind the pad that it needs.
+/// Appends sections to a body, each behind the pad that it needs, in a file of FFS3 or of FFS2.
 pub fn add_parts(
     alloc: Global,
     out: &mut Vec<u8>,
+    ffs3: bool,
     place: &Place,
     parts: &[Part],
 ) -> Result<(), Refusal>
-    ensures { Grows result out.new.items (with_parts place.now out.old.items parts.now) }
+    ensures { Grows result out.new.items (with_parts ffs3 place.now out.old.items parts.now) }
 {
     for part in parts {
-        if let Err(refusal) = add_part(alloc, out, place, part) {
+        if let Err(refusal) = add_part(alloc, out, ffs3, place, part) {
             return Err(refusal);
         }
     }
     Ok(())
 }
 
-fn add_part(alloc: Global, out: &mut Vec<u8>, place: &Place, part: &Part) -> Result<(), Refusal>
-    ensures { Grows result out.new.items (unless (part_fault place.now (length out.old.items) part.now) (with_part out.old.items part.now)) }
+fn add_part(
+    alloc: Global,
+    out: &mut Vec<u8>,
+    ffs3: bool,
+    place: &Place,
+    part: &Part,
+) -> Result<(), Refusal>
+    ensures { Grows result out.new.items (unless (part_fault ffs3 place.now (length out.old.items) part.now) (with_part ffs3 out.old.items part.now)) }
 {
-    let pad = check_part(alloc, place, out.len() as u64, part)?;
-    put_part(out, part, pad)?;
+    let pad = check_part(alloc, ffs3, place, out.len() as u64, part)?;
+    put_part(out, ffs3, part, pad)?;
     Ok(())
 }

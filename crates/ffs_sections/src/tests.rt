@@ -118,6 +118,7 @@ fn outcome(alloc: Global, row: &Row, align: u32, shift: u32) -> Option<Text> {
         checksum: row.checksum,
         align: row.align,
         erase: 1,
+        ffs3: false,
         body: sections(alloc, row.sections, align, shift)?,
     };
     if !have_guids(&plan.body) {

@@ -1,18 +1,18 @@
 -- The files of a volume, one after another.
-use Rattle.std.proofs.Common.{◌≡◌, ℕ, ◌+◌, ◌-◌, ◌<◌, ◌≤◌, ◌⊎◌, List, [], ◌∷◌, ◌++◌, length, get_or, drop, None, Some, Option, not, cond, if◌then◌else◌, refl, ap, sym, ◌∙◌, arith, nat_lt, ◌==◌, true, false, subst, inl, inr, eq-eqb, length-append, append_assoc, replicate}
-use Rattle.std.proofs.lemmas.List.{drop_more, drop_all, length-replicate}
+use Rattle.std.proofs.Common.{◌≡◌, ℕ, Bool, ◌+◌, ◌-◌, ◌%◌, ◌<◌, ◌≤◌, ◌⊎◌, List, [], ◌∷◌, ◌++◌, length, get_or, drop, None, Some, not, cond, if◌then◌else◌, refl, ap, sym, ◌∙◌, arith, ◌==◌, true, false, subst, inl, inr, eq-eqb, append_assoc}
+use Rattle.std.proofs.lemmas.List.{drop_more, drop_all}
 use Rattle.std.proofs.lemmas.List.Elements.{All-tail, All-drop, All-filter}
-use Rattle.std.proofs.lemmas.Bool.{cases_eq, cases_lt, ne_eqb}
-use Rattle.std.proofs.lemmas.Bool.Decides.{nat_tests}
+use Rattle.std.proofs.lemmas.Bool.{cases_eq, ne_eqb}
 use Rattle.build_base.specs.First.{or_else}
 use Rattle.build_base.specs.Pieces.{Piece, piece_end, put_pieces}
 use Rattle.build_base.proofs.PieceLemmas.{Laid, Laid-one, length_put, put_two, put_pieces-append}
 use Rattle.doc_types.specs.declared.image.FileImage.{FileImage}
 use Rattle.ffs_sections.specs.Alignment.{IsAlignment}
-use Rattle.ffs_sections.specs.File.{state_of}
-use Rattle.ffs_sections.proofs.HeadLemmas.{length_head}
-use Rattle.fv_compose.specs.Place.{start_of, up}
-use Rattle.fv_compose.specs.Files.{is_top, top_of, plain_files, end_of, file_end, pad_fault, pads_fault, AreAligned, placed_pieces, files_pieces, pad_bytes, top_start, bytes_in, top_bytes}
+use Rattle.ffs_sections.specs.File.{head_at}
+use Rattle.fv_compose.specs.Place.{IsHead, up}
+use Rattle.fv_compose.specs.Files.{is_top, top_of, plain_files, end_of, file_start, file_end, pad_fault, pads_fault, AreAligned, placed_pieces, files_pieces, top_start, bytes_in, top_bytes}
+use Rattle.fv_compose.specs.Pads.{pad_bytes}
+use Rattle.fv_compose.proofs.PadLemmas.{length_pad}
 use Rattle.build_base.specs.Runs.{free_byte}
 use Rattle.fv_compose.specs.Turns.{next_end, own_pad_fault, own_pieces, own_bytes}
 use Rattle.fv_compose.specs.Volume.{holds, taken_by}
@@ -45,20 +45,20 @@ pub end_all : (at : ℕ) (files : List FileImage) (i : ℕ) → length files ≤
 unfolding end_of
 end_all at files i h = rw (plain_all files i h) refl
 
-pub pads_more : (at : ℕ) (files : List FileImage) (i : ℕ) (file : FileImage) → i < length files → file ≡ get_or files i file
-    → pads_fault at (plain_files (drop i files)) ≡ or_else (own_pad_fault at file) (pads_fault (next_end at file) (plain_files (drop (i + 1) files)))
+pub pads_more : (ffs3 : Bool) (at : ℕ) (files : List FileImage) (i : ℕ) (file : FileImage) → i < length files → file ≡ get_or files i file
+    → pads_fault ffs3 at (plain_files (drop i files)) ≡ or_else (own_pad_fault ffs3 at file) (pads_fault ffs3 (next_end at file) (plain_files (drop (i + 1) files)))
 unfolding pads_fault
-pads_more at files i file h e =
+pads_more ffs3 at files i file h e =
     let rest : List FileImage = plain_files (drop (i + 1) files) in
     rw (plain_more files i file h e)
-    (elim (is_top file) as (λ b. pads_fault at (if b then rest else file ∷ rest) ≡ or_else (if b then None else pad_fault at (start_of at file.align) file) (pads_fault (if b then at else file_end at file) rest)) [
+    (elim (is_top file) as (λ b. pads_fault ffs3 at (if b then rest else file ∷ rest) ≡ or_else (if b then None else pad_fault ffs3 at (file_start at file) file) (pads_fault ffs3 (if b then at else file_end at file) rest)) [
       | true ↦ refl
       | false ↦ refl
     ])
 
-pub pads_all : (at : ℕ) (files : List FileImage) (i : ℕ) → length files ≤ i → pads_fault at (plain_files (drop i files)) ≡ None
+pub pads_all : (ffs3 : Bool) (at : ℕ) (files : List FileImage) (i : ℕ) → length files ≤ i → pads_fault ffs3 at (plain_files (drop i files)) ≡ None
 unfolding pads_fault
-pads_all at files i h = rw (plain_all files i h) refl
+pads_all ffs3 at files i h = rw (plain_all files i h) refl
 
 pieces_more : (erase at : ℕ) (files : List FileImage) (i : ℕ) (file : FileImage) → i < length files → file ≡ get_or files i file
     → files_pieces erase at (plain_files (drop i files)) ≡ own_pieces erase at file ++ files_pieces erase (next_end at file) (plain_files (drop (i + 1) files))
@@ -66,7 +66,7 @@ unfolding files_pieces
 pieces_more erase at files i file h e =
     let rest : List FileImage = plain_files (drop (i + 1) files) in
     rw (plain_more files i file h e)
-    (elim (is_top file) as (λ b. files_pieces erase at (if b then rest else file ∷ rest) ≡ (if b then [] else placed_pieces erase at (start_of at file.align) file.bytes) ++ files_pieces erase (if b then at else file_end at file) rest) [
+    (elim (is_top file) as (λ b. files_pieces erase at (if b then rest else file ∷ rest) ≡ (if b then [] else placed_pieces erase at (file_start at file) file.bytes) ++ files_pieces erase (if b then at else file_end at file) rest) [
       | true ↦ refl
       | false ↦ refl
     ])
@@ -88,7 +88,7 @@ unfolding end_of AreAligned
 end_after at [] a = omega arith
 end_after at (file ∷ files) a =
     let k : Known file.align = known_alignment file.align (a 0 file (omega arith)) in
-    let near = start_near at file.align k in
+    let near = start_near at file.align (head_at file.bytes) k in
     let first : at ≤ up 8 at = up_after 8 at (omega arith) in
     let more : file_end at file ≤ end_of (file_end at file) files = end_after (file_end at file) files (All-tail (λ f. IsAlignment f.align) file files a) in
     omega arith
@@ -96,11 +96,6 @@ end_after at (file ∷ files) a =
 pub end_left : (at : ℕ) (files : List FileImage) (i : ℕ) → AreAligned files → at ≤ end_of at (plain_files (drop i files))
 unfolding AreAligned
 end_left at files i a = end_after at (plain_files (drop i files)) (aligned_plain (drop i files) (All-drop (λ f. IsAlignment f.align) i files a))
-
-pub length_pad : (erase size : ℕ) → 24 ≤ size → length (pad_bytes erase size) ≡ size
-unfolding pad_bytes
-length_pad erase size h =
-    simp length-append (let a = length_head (replicate 16 255) 170 240 0 size (state_of erase) in let b = length-replicate (size - 24) (free_byte erase) in omega arith)
 
 -- a start that leaves no space, or that of a pad file
 abbrev pub Spaced : ℕ → ℕ → Type 0
@@ -140,47 +135,36 @@ laid_placed erase at size start bytes ps s rest =
           rw t (Laid-one at size q (p ∷ ps) first (Laid-one (piece_end q) size p ps (omega arith) rest))
     ]
 
-pub spaced_start : (at align : ℕ) → IsAlignment align → Spaced at (start_of at align)
-spaced_start at align a = (start_is at align (known_alignment align a)).pad
+head_either : (b : Bool) → IsHead (if b then 32 else 24)
+head_either true = inr refl
+head_either false = inl refl
+
+pub is_head : (bytes : List ℕ) → IsHead (head_at bytes)
+unfolding head_at
+is_head bytes = head_either (get_or bytes 19 0 % 2 == 1)
+
+pub spaced_start : (at : ℕ) (file : FileImage) → IsAlignment file.align → Spaced at (file_start at file)
+spaced_start at file a = (start_is at file.align (head_at file.bytes) (known_alignment file.align a) (is_head file.bytes)).pad
 
 pub laid_files : (erase at size : ℕ) (files : List FileImage) (ps : List Piece) → AreAligned files → Laid (end_of at files) size ps → Laid at size (files_pieces erase at files ++ ps)
 unfolding end_of files_pieces AreAligned
 laid_files erase at size [] ps a rest = rest
 laid_files erase at size (file ∷ files) ps a rest =
     let more : Laid (file_end at file) size (files_pieces erase (file_end at file) files ++ ps) = laid_files erase (file_end at file) size files ps (All-tail (λ f. IsAlignment f.align) file files a) rest in
-    rw append_assoc (laid_placed erase at size (start_of at file.align) file.bytes (files_pieces erase (file_end at file) files ++ ps) (spaced_start at file.align (a 0 file (omega arith))) more)
-
--- a pad without a fault is short
-pub pad_short : (at start : ℕ) (file : FileImage) → up 8 at ≤ start → pad_fault at start file ≡ None → start ≤ up 8 at + 16777215
-unfolding pad_fault
-pad_short at start file low n =
-    elim (cases_lt 16777215 (start - up 8 at)) [
-      | inl lt ↦ let t : nat_lt 16777215 (start - up 8 at) ≡ true = grind (arith, nat_tests) in absurd (let s = rw t at n in cc)
-      | inr le ↦ omega arith
-    ]
+    rw append_assoc (laid_placed erase at size (file_start at file) file.bytes (files_pieces erase (file_end at file) files ++ ps) (spaced_start at file (a 0 file (omega arith))) more)
 
 -- what stands so far and the files that are left are the whole
 pub record Filed (whole : List ℕ) (last erase : ℕ) (out : List ℕ) (rest : List FileImage) : Type 0 where
   pub items : whole ≡ put_pieces (free_byte erase) out (files_pieces erase (length out) rest)
   pub last_is : last ≡ end_of (length out) rest
-  pub pads : pads_fault (length out) rest ≡ None
 
 length_own : (free erase : ℕ) (out : List ℕ) (file : FileImage) → IsAlignment file.align → length (put_pieces free out (own_pieces erase (length out) file)) ≡ next_end (length out) file
 unfolding put_pieces
 length_own free erase out file a =
-    elim (is_top file) as (λ b. length (put_pieces free out (if b then [] else placed_pieces erase (length out) (start_of (length out) file.align) file.bytes)) ≡ (if b then length out else file_end (length out) file)) [
+    elim (is_top file) as (λ b. length (put_pieces free out (if b then [] else placed_pieces erase (length out) (file_start (length out) file) file.bytes)) ≡ (if b then length out else file_end (length out) file)) [
       | true ↦ refl
-      | false ↦ length_placed free erase out (start_of (length out) file.align) file.bytes (spaced_start (length out) file.align a)
+      | false ↦ length_placed free erase out (file_start (length out) file) file.bytes (spaced_start (length out) file a)
     ]
-
-or_else_none : {T : Type 0} (a b : Option T) → or_else a b ≡ None → (a ≡ None) × (b ≡ None)
-or_else_none None b h = (refl, h)
-or_else_none (Some x) b h = absurd cc
-
--- the pad before the next file, and those after it
-pub pads_left : (at : ℕ) (files : List FileImage) (i : ℕ) (file : FileImage) → i < length files → file ≡ get_or files i file → pads_fault at (plain_files (drop i files)) ≡ None
-    → (own_pad_fault at file ≡ None) × (pads_fault (next_end at file) (plain_files (drop (i + 1) files)) ≡ None)
-pads_left at files i file h e n = or_else_none (own_pad_fault at file) (pads_fault (next_end at file) (plain_files (drop (i + 1) files))) (sym (pads_more at files i file h e) ∙ n)
 
 pub filed_more : (whole : List ℕ) (last erase : ℕ) (out next : List ℕ) (files : List FileImage) (i : ℕ) (file : FileImage) → Filed whole last erase out (plain_files (drop i files)) → IsAlignment file.align → i < length files → file ≡ get_or files i file
     → next ≡ put_pieces (free_byte erase) out (own_pieces erase (length out) file) → Filed whole last erase next (plain_files (drop (i + 1) files))
@@ -192,7 +176,6 @@ filed_more whole last erase out next files i file s a h e n =
           (s.items ∙ ap (λ z. put_pieces (free_byte erase) out z) (pieces_more erase (length out) files i file h e)
           ∙ put_pieces-append (free_byte erase) out (own_pieces erase (length out) file) (files_pieces erase (next_end (length out) file) (plain_files (drop (i + 1) files))));
       last_is = rw l (s.last_is ∙ end_more (length out) files i file h e);
-      pads = rw l (pads_left (length out) files i file h e s.pads).1;
     }
 
 pub filed_end : (whole : List ℕ) (last erase : ℕ) (out : List ℕ) (files : List FileImage) (i : ℕ) → Filed whole last erase out (plain_files (drop i files)) → length files ≤ i → (out ≡ whole) × (length out ≡ last)
@@ -225,11 +208,6 @@ top_none files i h = rw (drop_all i files h) refl
 pub own_none : (free erase : ℕ) (out : List ℕ) (file : FileImage) → is_top file ≡ true → put_pieces free out (own_pieces erase (length out) file) ≡ out
 unfolding put_pieces
 own_none free erase out file t = rw t refl
-
-pub own_short : (at : ℕ) (file : FileImage) → is_top file ≡ false → IsAlignment file.align → own_pad_fault at file ≡ None → start_of at file.align ≤ up 8 at + 16777215
-own_short at file t a n =
-    let pad : pad_fault at (start_of at file.align) file ≡ None = rw t at n in
-    pad_short at (start_of at file.align) file (start_is at file.align (known_alignment file.align a)).after pad
 
 -- a top file ends at the volume's end
 pub length_top : (free erase : ℕ) (out next : List ℕ) (file : FileImage) (size : ℕ) → holds true (taken_by (length out) (Some file)) size ≡ true

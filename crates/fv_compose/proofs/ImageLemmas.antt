@@ -1,15 +1,14 @@
 -- The whole image of a volume.
-use Rattle.std.proofs.Common.{◌≡◌, ℕ, ◌+◌, ◌-◌, ◌≤◌, List, [], ◌∷◌, ◌++◌, length, replicate, Option, None, Some, is_some, true, false, ap, sym, ◌∙◌, arith, append-nil, length-append, refl}
+use Rattle.std.proofs.Common.{◌≡◌, ℕ, ◌+◌, ◌-◌, ◌≤◌, List, [], ◌∷◌, ◌++◌, length, replicate, Option, None, Some, is_some, true, false, ap, sym, ◌∙◌, arith, append-nil, length-append}
 use Rattle.build_base.specs.declared.guid.Guid.{Guid}
 use Rattle.build_base.specs.Pieces.{Piece, put_pieces}
 use Rattle.build_base.proofs.PieceLemmas.{Laid, Laid-one, Laid-none, put_image, put_pieces-append}
 use Rattle.doc_types.specs.declared.image.FileImage.{FileImage}
 use Rattle.doc_types.specs.declared.volume_head.VolumeHead.{VolumeHead}
 use Rattle.fv_compose.specs.Header.{head_of, extended_bytes, extended_pieces, start_pieces, first_end}
-use Rattle.fv_compose.specs.Files.{plain_files, top_of, top_start, top_pieces, files_pieces, AreAligned, pads_fault, top_pad_fault}
+use Rattle.fv_compose.specs.Files.{plain_files, top_of, top_start, top_pieces, files_pieces, AreAligned}
 use Rattle.build_base.specs.Runs.{free_byte}
-use Rattle.build_base.specs.First.{or_else}
-use Rattle.fv_compose.specs.Volume.{holds, taken_by, last_end, volume_image, place_fault, top_fault}
+use Rattle.fv_compose.specs.Volume.{holds, taken_by, last_end, volume_image}
 use Rattle.fv_compose.proofs.HeaderLemmas.{head_length, written}
 use Rattle.fv_compose.proofs.LengthLemmas.{holds_room}
 use Rattle.fv_compose.proofs.FileLemmas.{laid_files, laid_placed, top_spaced, top_low, aligned_plain}
@@ -63,17 +62,3 @@ image_is plan files size head body out a room h l b o =
 pub first_small : (name : Option Guid) → first_end name ≤ 116
 first_small None = omega arith
 first_small (Some name) = omega arith
-
-or_else_rest : {T : Type 0} (a b : Option T) → or_else a b ≡ None → b ≡ None
-or_else_rest None b h = h
-or_else_rest (Some x) b h = absurd cc
-
-or_else_front : {T : Type 0} (a b : Option T) → or_else a b ≡ None → a ≡ None
-or_else_front None b h = refl
-or_else_front (Some x) b h = absurd cc
-
--- a volume whose places have no fault has no pad that is too long
-pub places_pads : (plan : VolumeHead) (files : List FileImage) (size : ℕ) → place_fault plan files size ≡ None → pads_fault (first_end plan.name_guid) (plain_files files) ≡ None
-places_pads plan files size h =
-    or_else_front (pads_fault (first_end plan.name_guid) (plain_files files)) (top_pad_fault (last_end plan files) (top_of files) size)
-    (or_else_rest (top_fault plan (top_of files) size) _ h)

@@ -5,3 +5,4 @@ pub mod LengthLemmas
 pub mod FileLemmas
 pub mod TopLemmas
 pub mod ImageLemmas
+mod PadLemmas

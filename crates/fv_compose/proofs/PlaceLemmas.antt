@@ -5,7 +5,7 @@ use Rattle.std.proofs.lemmas.List.Sums.{AllPass-from_list_all}
 use Rattle.std.proofs.lemmas.Bool.Decides.{nat_tests}
 use Rattle.std.proofs.lemmas.Bool.{cases_lt, cases_eq}
 use Rattle.build_base.specs.Least.{IsLeast}
-use Rattle.fv_compose.specs.Place.{IsStart, IsUp, up, start_of}
+use Rattle.fv_compose.specs.Place.{IsStart, IsUp, IsHead, up, start_of}
 use Rattle.ffs_sections.specs.Alignment.{IsAlignment, alignments}
 
 pub up_after : (unit at : ℕ) → 0 < unit → at ≤ up unit at
@@ -59,58 +59,63 @@ known_alignment align c =
     let k : ℕ = c.0 in
     known_is align (subst (λ n. known n ≡ true) c.2 (AllPass-from_list_all known alignments refl k align c.1))
 
-start_whole : (align x : ℕ) → align % 16 ≡ 0 → 24 ≤ up align x → (up align x - 24) % 8 ≡ 0
+pub head_short : (head : ℕ) → IsHead head → head ≤ 32
+head_short head (inl e) = omega (arith, e)
+head_short head (inr e) = omega (arith, e)
+
+start_whole : (align head x : ℕ) → align % 16 ≡ 0 → IsHead head → head ≤ up align x → (up align x - head) % 8 ≡ 0
 unfolding up
-start_whole align x h k =
+start_whole align head x h i k =
     let a : 16 * (align / 16) ≡ align = omega arith in
     let m : (x + (align - 1)) / align * (16 * (align / 16)) ≡ (x + (align - 1)) / align * align = ap (λ n. (x + (align - 1)) / align * n) a in
-    omega arith
+    elim i [ inl e ↦ omega arith | inr e ↦ omega arith ]
 
-start_same : (at align : ℕ) → (up 8 at + 24) % align ≡ 0 → start_of at align ≡ up 8 at
+start_same : (at align head : ℕ) → (up 8 at + head) % align ≡ 0 → start_of at align head ≡ up 8 at
 unfolding start_of
-start_same at align h = grind (arith, nat_tests)
+start_same at align head h = grind (arith, nat_tests)
 
-start_later : (at align : ℕ) → (up 8 at + 24) % align ≢ 0 → start_of at align ≡ up align (up 8 at + 48) - 24
+start_later : (at align head : ℕ) → (up 8 at + head) % align ≢ 0 → start_of at align head ≡ up align (up 8 at + 24 + head) - head
 unfolding start_of
-start_later at align h = grind (arith, nat_tests)
+start_later at align head h = grind (arith, nat_tests)
 
-pub start_is : (at align : ℕ) → Known align → IsStart at align (start_of at align)
-start_is at align k =
-    elim (cases_eq ((up 8 at + 24) % align) 0) [
-      | inl e ↦ rw (start_same at align e) record { eight = up_whole 8 at; after = omega arith; aligned = e; pad = inl refl }
+pub start_is : (at align head : ℕ) → Known align → IsHead head → IsStart at align head (start_of at align head)
+start_is at align head k i =
+    elim (cases_eq ((up 8 at + head) % align) 0) [
+      | inl e ↦ rw (start_same at align head e) record { eight = up_whole 8 at; after = omega arith; aligned = e; pad = inl refl }
       | inr n ↦
-          let after : up 8 at + 48 ≤ up align (up 8 at + 48) = up_after align (up 8 at + 48) k.positive in
-          let back : up align (up 8 at + 48) - 24 + 24 ≡ up align (up 8 at + 48) = omega arith in
-          let ne : (align ≡ 1) → ⊥ = λ one. n (ap (λ u. (up 8 at + 24) % u) one ∙ mod-one (up 8 at + 24)) in
+          let after : up 8 at + 24 + head ≤ up align (up 8 at + 24 + head) = up_after align (up 8 at + 24 + head) k.positive in
+          let back : up align (up 8 at + 24 + head) - head + head ≡ up align (up 8 at + 24 + head) = omega arith in
+          let ne : (align ≡ 1) → ⊥ = λ one. n (ap (λ u. (up 8 at + head) % u) one ∙ mod-one (up 8 at + head)) in
           let kind : align % 16 ≡ 0 = elim k.kind [ inl one ↦ absurd (ne one) | inr h ↦ h ] in
-          rw (start_later at align n) record {
-            eight = start_whole align (up 8 at + 48) kind (omega arith);
+          rw (start_later at align head n) record {
+            eight = start_whole align head (up 8 at + 24 + head) kind i (omega arith);
             after = omega arith;
-            aligned = rw back (up_whole align (up 8 at + 48));
+            aligned = rw back (up_whole align (up 8 at + 24 + head));
             pad = inr (omega arith);
           }
     ]
 
-pub start_least : (at align m : ℕ) → Known align → IsStart at align m → start_of at align ≤ m
-start_least at align m k p =
-    elim (cases_eq ((up 8 at + 24) % align) 0) [
-      | inl e ↦ rw (start_same at align e) p.after
+pub start_least : (at align head m : ℕ) → Known align → IsStart at align head m → start_of at align head ≤ m
+start_least at align head m k p =
+    elim (cases_eq ((up 8 at + head) % align) 0) [
+      | inl e ↦ rw (start_same at align head e) p.after
       | inr n ↦
-          let more : up 8 at + 24 ≤ m = elim p.pad [ inl same ↦ absurd (n (ap (λ u. (u + 24) % align) (sym same) ∙ p.aligned)) | inr h ↦ h ] in
-          let least : up align (up 8 at + 48) ≤ m + 24 = up_least align (up 8 at + 48) (m + 24) k.positive p.aligned (omega arith) in
-          rw (start_later at align n) (omega arith)
+          let more : up 8 at + 24 ≤ m = elim p.pad [ inl same ↦ absurd (n (ap (λ u. (u + head) % align) (sym same) ∙ p.aligned)) | inr h ↦ h ] in
+          let least : up align (up 8 at + 24 + head) ≤ m + head = up_least align (up 8 at + 24 + head) (m + head) k.positive p.aligned (omega arith) in
+          rw (start_later at align head n) (omega arith)
     ]
 
-pub start_is_least : (at align : ℕ) → IsAlignment align → IsLeast (IsStart at align) (start_of at align)
-start_is_least at align a =
-    let k : Known align = known_alignment align a in record { holds = start_is at align k; least = λ m p. start_least at align m k p }
+pub start_is_least : (at align head : ℕ) → IsAlignment align → IsHead head → IsLeast (IsStart at align head) (start_of at align head)
+start_is_least at align head a i =
+    let k : Known align = known_alignment align a in
+    record { holds = start_is at align head k i; least = λ m p. start_least at align head m k p }
 
-pub start_near : (at align : ℕ) → Known align → (up 8 at ≤ start_of at align) × (start_of at align < up 8 at + 24 + align)
-start_near at align k =
-    elim (cases_eq ((up 8 at + 24) % align) 0) [
-      | inl e ↦ rw (start_same at align e) (omega arith, omega (arith, k.positive))
+pub start_near : (at align head : ℕ) → Known align → (up 8 at ≤ start_of at align head) × (start_of at align head < up 8 at + 24 + align)
+start_near at align head k =
+    elim (cases_eq ((up 8 at + head) % align) 0) [
+      | inl e ↦ rw (start_same at align head e) (omega arith, omega (arith, k.positive))
       | inr n ↦
-          let after : up 8 at + 48 ≤ up align (up 8 at + 48) = up_after align (up 8 at + 48) k.positive in
-          let near : up align (up 8 at + 48) < up 8 at + 48 + align = up_near align (up 8 at + 48) k.positive in
-          rw (start_later at align n) (omega arith, omega arith)
+          let after : up 8 at + 24 + head ≤ up align (up 8 at + 24 + head) = up_after align (up 8 at + 24 + head) k.positive in
+          let near : up align (up 8 at + 24 + head) < up 8 at + 24 + head + align = up_near align (up 8 at + 24 + head) k.positive in
+          rw (start_later at align head n) (omega arith, omega arith)
     ]

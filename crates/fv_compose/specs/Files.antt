@@ -1,16 +1,18 @@
 -- The files of a volume in their places, and the pad files between them.
-use Rattle.std.specs.Prelude.{◌≡◌, ℕ, ◌+◌, ◌-◌, ◌*◌, ◌^◌, ◌<◌, ◌≤◌, ◌==◌, Bool, true, not, nat_lt, if◌then◌else◌, List, [], ◌∷◌, ◌++◌, length, replicate, All, Option, Some, None}
+use Rattle.std.specs.Prelude.{◌≡◌, ℕ, ◌+◌, ◌-◌, ◌*◌, ◌^◌, ◌<◌, ◌≤◌, ◌==◌, ◌&&◌, Bool, true, not, nat_lt, if◌then◌else◌, List, [], ◌∷◌, ◌++◌, length, All, Option, Some, None}
 use Rattle.std.specs.List.{filter, find}
 use Rattle.std.specs.Str.{bytes_eq}
 use Rattle.build_base.specs.First.{first_holding, or_else}
 use Rattle.build_base.specs.Pieces.{Piece}
-use Rattle.build_base.specs.Runs.{free_byte, runs_bytes, kept_bytes, are_blank}
+use Rattle.build_base.specs.Runs.{runs_bytes, kept_bytes, are_blank}
 use Rattle.build_base.specs.declared.run.Run.{Run}
 use Rattle.build_base.specs.declared.fault.Fault.{Fault}
 use Rattle.doc_types.specs.declared.image.FileImage.{FileImage}
 use Rattle.ffs_sections.specs.Alignment.{IsAlignment}
-use Rattle.ffs_sections.specs.File.{file_head, state_of}
+use Rattle.ffs_sections.specs.File.{head_at}
 use Rattle.ffs_sections.specs.Sections.{sized}
+use Rattle.ffs_sections.specs.Standard.{FILE_LIMIT}
+use Rattle.fv_compose.specs.Pads.{pad_bytes}
 use Rattle.fv_compose.specs.Place.{start_of, up}
 
 -- EFI_FFS_VOLUME_TOP_FILE_GUID, 1BA0062E-C779-4582-8566-336AE8F78F09
@@ -33,28 +35,24 @@ top_of files = find is_top files
 unfoldable pub plain_files : List FileImage → List FileImage
 plain_files files = filter (λ file. not (is_top file)) files
 
--- the header of a pad file: a name of ones, no checksum of the body, and the type EFI_FV_FILETYPE_FFS_PAD
-abbrev pub pad_header : ℕ → ℕ → List ℕ
-pad_header erase size = file_head (replicate 16 0xFF) 0xAA 0xF0 0 size (state_of erase)
-
--- a pad file of this size
-unfoldable pub pad_bytes : ℕ → ℕ → List ℕ
-pad_bytes erase size = pad_header erase size ++ replicate (size - 24) (free_byte erase)
-
 -- a file at its start, and between an end and it a pad file where there is space
 unfoldable pub placed_pieces : ℕ → ℕ → ℕ → List ℕ → List Piece
 placed_pieces erase at start bytes =
     if start == up 8 at then record { start = start; bytes = bytes } ∷ []
     else record { start = up 8 at; bytes = pad_bytes erase (start - up 8 at) } ∷ record { start = start; bytes = bytes } ∷ []
 
+-- where a file starts after an end
+abbrev pub file_start : ℕ → FileImage → ℕ
+file_start at file = start_of at file.align (head_at file.bytes)
+
 abbrev pub file_end : ℕ → FileImage → ℕ
-file_end at file = start_of at file.align + length file.bytes
+file_end at file = file_start at file + length file.bytes
 
 -- files one after another from an end on, each at the least place that it may start at
 unfoldable pub files_pieces : ℕ → ℕ → List FileImage → List Piece
 files_pieces erase at [] = []
 files_pieces erase at (file ∷ files) =
-    placed_pieces erase at (start_of at file.align) file.bytes ++ files_pieces erase (file_end at file) files
+    placed_pieces erase at (file_start at file) file.bytes ++ files_pieces erase (file_end at file) files
 
 -- the end of the last of them
 unfoldable pub end_of : ℕ → List FileImage → ℕ
@@ -69,18 +67,19 @@ abbrev pub top_pieces : ℕ → ℕ → Option FileImage → ℕ → List Piece
 top_pieces erase at None size = []
 top_pieces erase at (Some file) size = placed_pieces erase at (top_start file size) file.bytes
 
--- a pad between an end and a start that is too long for the size field of its header
-unfoldable pub pad_fault : ℕ → ℕ → FileImage → Option Fault
-pad_fault at start file = first_holding ((nat_lt 0xFFFFFF (start - up 8 at), sized 704 file.at (start - up 8 at)) ∷ [])
+-- a pad between an end and a start that is too long for FFS2; in an FFS3 volume none is
+unfoldable pub pad_fault : Bool → ℕ → ℕ → FileImage → Option Fault
+pad_fault ffs3 at start file =
+    first_holding ((not ffs3 && nat_lt FILE_LIMIT (start - up 8 at), sized 704 file.at (start - up 8 at)) ∷ [])
 
 -- the first such pad between files one after another
-unfoldable pub pads_fault : ℕ → List FileImage → Option Fault
-pads_fault at [] = None
-pads_fault at (file ∷ files) = or_else (pad_fault at (start_of at file.align) file) (pads_fault (file_end at file) files)
+unfoldable pub pads_fault : Bool → ℕ → List FileImage → Option Fault
+pads_fault ffs3 at [] = None
+pads_fault ffs3 at (file ∷ files) = or_else (pad_fault ffs3 at (file_start at file) file) (pads_fault ffs3 (file_end at file) files)
 
-abbrev pub top_pad_fault : ℕ → Option FileImage → ℕ → Option Fault
-top_pad_fault at None size = None
-top_pad_fault at (Some file) size = pad_fault at (top_start file size) file
+abbrev pub top_pad_fault : Bool → ℕ → Option FileImage → ℕ → Option Fault
+top_pad_fault ffs3 at None size = None
+top_pad_fault ffs3 at (Some file) size = pad_fault ffs3 at (top_start file size) file
 
 unfoldable pub AreAligned : List FileImage → Type 0
 AreAligned files = All (λ file. IsAlignment file.align) files

@@ -1,10 +1,10 @@
 -- The header of a firmware volume, and its extended header (UEFI PI specification, volume 3, section 3.2.1).
-use Rattle.std.specs.Prelude.{ℕ, ◌+◌, ◌-◌, ◌*◌, ◌/◌, ◌%◌, List, [], ◌∷◌, ◌++◌, replicate, codes, Option, Some, None}
+use Rattle.std.specs.Prelude.{ℕ, ◌+◌, ◌-◌, ◌*◌, ◌/◌, ◌%◌, Bool, if◌then◌else◌, List, [], ◌∷◌, ◌++◌, replicate, codes, Option, Some, None}
 use Rattle.byteorder.specs.Endian.{little_bytes}
 use Rattle.build_base.specs.Pieces.{Piece}
 use Rattle.build_base.specs.declared.guid.Guid.{Guid}
 use Rattle.doc_types.specs.declared.volume_head.VolumeHead.{VolumeHead}
-use Rattle.ffs_sections.specs.File.{file_head, state_of}
+use Rattle.fv_compose.specs.Pads.{pad_header}
 
 -- the sum of the 16-bit words
 unfoldable pub words_sum : List ℕ → ℕ
@@ -21,13 +21,21 @@ abbrev pub ffs2 : List ℕ
 ffs2 =
     0x78 ∷ 0xE5 ∷ 0x8C ∷ 0x8C ∷ 0x3D ∷ 0x8A ∷ 0x1C ∷ 0x4F ∷ 0x99 ∷ 0x35 ∷ 0x89 ∷ 0x61 ∷ 0x85 ∷ 0xC3 ∷ 0x2D ∷ 0xD3 ∷ []
 
+-- EFI_FIRMWARE_FILE_SYSTEM3_GUID, 5473c07a-3dcb-4dca-bd6f-1e9689e7349a
+abbrev pub ffs3 : List ℕ
+ffs3 =
+    0x7A ∷ 0xC0 ∷ 0x73 ∷ 0x54 ∷ 0xCB ∷ 0x3D ∷ 0xCA ∷ 0x4D ∷ 0xBD ∷ 0x6F ∷ 0x1E ∷ 0x96 ∷ 0x89 ∷ 0xE7 ∷ 0x34 ∷ 0x9A ∷ []
+
+abbrev pub file_system : Bool → List ℕ
+file_system third = if third then ffs3 else ffs2
+
 -- the zero vector, the file system and the volume's length
-unfoldable pub head_start : ℕ → List ℕ
-head_start size = replicate 16 0 ++ ffs2 ++ little_bytes 8 size
+unfoldable pub head_start : Bool → ℕ → List ℕ
+head_start third size = replicate 16 0 ++ file_system third ++ little_bytes 8 size
 
 -- and the signature, the attributes and the header's length
-unfoldable pub head_front : ℕ → ℕ → List ℕ
-head_front size attributes = head_start size ++ codes "_FVH" ++ little_bytes 4 attributes ++ little_bytes 2 0x48
+unfoldable pub head_front : Bool → ℕ → ℕ → List ℕ
+head_front third size attributes = head_start third size ++ codes "_FVH" ++ little_bytes 4 attributes ++ little_bytes 2 0x48
 
 -- checksum, place of the extended header, a reserved byte, revision 2, and a block map of one entry and its end
 unfoldable pub head_back : ℕ → ℕ → ℕ → ℕ → List ℕ
@@ -42,7 +50,7 @@ extended_place (Some name) = 0x60
 -- the header with this checksum
 unfoldable pub head_list : VolumeHead → ℕ → ℕ → List ℕ
 head_list plan size sum =
-    head_front size plan.attributes ++ head_back sum (extended_place plan.name_guid) (size / plan.block_size) plan.block_size
+    head_front plan.ffs3 size plan.attributes ++ head_back sum (extended_place plan.name_guid) (size / plan.block_size) plan.block_size
 
 -- the header whose words sum to zero
 unfoldable pub head_of : VolumeHead → ℕ → List ℕ
@@ -50,7 +58,7 @@ head_of plan size = head_list plan size (zero_word (head_list plan size 0))
 
 -- the pad file with the extended header: the volume's name and the length of the extended header
 unfoldable pub extended_bytes : ℕ → List ℕ → List ℕ
-extended_bytes erase name = file_head (replicate 16 0xFF) 0xAA 0xF0 0 0x2C (state_of erase) ++ name ++ little_bytes 4 0x14
+extended_bytes erase name = pad_header erase 0x2C ++ name ++ little_bytes 4 0x14
 
 abbrev pub extended_pieces : ℕ → Option Guid → List Piece
 extended_pieces erase None = []

@@ -1,5 +1,6 @@
-pub mod Place
+pub mod Pads
 pub mod Header
+pub mod Place
 pub mod Files
-pub mod Turns
 pub mod Volume
+pub mod Turns

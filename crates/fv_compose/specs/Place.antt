@@ -10,14 +10,18 @@ pub record IsUp (unit at n : ℕ) : Type 0 where
 unfoldable pub up : ℕ → ℕ → ℕ
 up unit at = ((at + (unit - 1)) / unit) * unit
 
--- where a file of this alignment may start after an end: its body is aligned, and the space before it is nothing or can hold a pad file
-pub record IsStart (at align start : ℕ) : Type 0 where
+-- where a file of this alignment, with a header so long, may start after an end: its body is aligned, and the space before it is nothing or can hold a pad file
+pub record IsStart (at align head start : ℕ) : Type 0 where
   pub eight : start % 8 ≡ 0
   pub after : up 8 at ≤ start
-  pub aligned : (start + 24) % align ≡ 0
+  pub aligned : (start + head) % align ≡ 0
   pub pad : (start ≡ up 8 at) ⊎ (up 8 at + 24 ≤ start)
 
 -- the least of them
-unfoldable pub start_of : ℕ → ℕ → ℕ
-start_of at align =
-    if (up 8 at + 24) % align == 0 then up 8 at else up align (up 8 at + 48) - 24
+unfoldable pub start_of : ℕ → ℕ → ℕ → ℕ
+start_of at align head =
+    if (up 8 at + head) % align == 0 then up 8 at else up align (up 8 at + 24 + head) - head
+
+-- a header has 24 bytes, that of a large file 32
+abbrev pub IsHead : ℕ → Type 0
+IsHead head = (head ≡ 24) ⊎ (head ≡ 32)

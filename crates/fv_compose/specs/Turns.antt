@@ -1,11 +1,10 @@
 -- What each file adds to a volume where its files are gone through in order: the top file adds nothing among the others.
-use Rattle.std.specs.Prelude.{ℕ, if◌then◌else◌, length, List, [], Option, Some, None}
+use Rattle.std.specs.Prelude.{ℕ, Bool, if◌then◌else◌, length, List, [], Option, Some, None}
 use denote.Ref.{Bor}
 use Rattle.build_base.specs.Pieces.{Piece}
 use Rattle.build_base.specs.declared.fault.Fault.{Fault}
 use Rattle.doc_types.specs.declared.image.FileImage.{FileImage}
-use Rattle.fv_compose.specs.Place.{start_of}
-use Rattle.fv_compose.specs.Files.{is_top, file_end, pad_fault, placed_pieces}
+use Rattle.fv_compose.specs.Files.{is_top, file_start, file_end, pad_fault, placed_pieces}
 
 -- what a reference points to
 abbrev pub pointed : {A : Type 0} → Option (Bor A) → Option A
@@ -15,11 +14,11 @@ pointed (Some x) = Some x.now
 abbrev pub next_end : ℕ → FileImage → ℕ
 next_end at file = if is_top file then at else file_end at file
 
-abbrev pub own_pad_fault : ℕ → FileImage → Option Fault
-own_pad_fault at file = if is_top file then None else pad_fault at (start_of at file.align) file
+abbrev pub own_pad_fault : Bool → ℕ → FileImage → Option Fault
+own_pad_fault ffs3 at file = if is_top file then None else pad_fault ffs3 at (file_start at file) file
 
 abbrev pub own_pieces : ℕ → ℕ → FileImage → List Piece
-own_pieces erase at file = if is_top file then [] else placed_pieces erase at (start_of at file.align) file.bytes
+own_pieces erase at file = if is_top file then [] else placed_pieces erase at (file_start at file) file.bytes
 
 abbrev pub own_bytes : FileImage → ℕ
 own_bytes file = if is_top file then 0 else length file.bytes

@@ -8,9 +8,11 @@ use Rattle.build_base.specs.declared.fault.Place.{Place}
 use Rattle.build_base.specs.declared.fault.Fault.{Fault}
 use Rattle.doc_types.specs.declared.image.FileImage.{FileImage}
 use Rattle.doc_types.specs.declared.volume_head.VolumeHead.{VolumeHead}
+use Rattle.ffs_sections.specs.File.{head_at}
 use Rattle.fv_compose.specs.Place.{up}
 use Rattle.fv_compose.specs.Header.{start_pieces, first_end}
 use Rattle.fv_compose.specs.Files.{top_files, top_of, plain_files, files_pieces, end_of, top_start, top_pieces, pads_fault, top_pad_fault}
+use Rattle.doc_types.specs.Volumes.{size_limit}
 pub use Rattle.doc_types.specs.Volumes.{SizeFits, HasShape}
 
 -- the end of the files but the top file
@@ -33,7 +35,7 @@ pub record Fits (block : ℕ) (top : Bool) (taken size : ℕ) : Type 0 where
 
 -- the stated length where it holds all, or the least multiple of a block that does
 unfoldable pub blocks_for : ℕ → Bool → ℕ → Option ℕ
-blocks_for block top taken = find (λ size. holds top taken size && size % block == 0) (range_with_len 0 0x10000001)
+blocks_for block top taken = find (λ size. holds top taken size && size % block == 0) (range_with_len 0 (size_limit + 1))
 
 abbrev pub length_for : ℕ → Option ℕ → Bool → ℕ → Option ℕ
 length_for block None top taken = blocks_for block top taken
@@ -41,7 +43,7 @@ length_for block (Some size) top taken = if holds top taken size then Some size 
 
 -- the length that is named as given where it doesn't hold all
 abbrev pub given_size : ℕ → Option ℕ → ℕ
-given_size block None = if block == 0 then 0 else 0x10000000
+given_size block None = if block == 0 then 0 else size_limit
 given_size block (Some size) = size
 
 -- what is needed of it: space that a pad file doesn't fit into counts as one of 24 bytes
@@ -67,7 +69,7 @@ twice_fault plan files = later_fault plan (drop 1 (top_files files))
 
 -- a start that is no multiple of 8, or at which the file's body isn't aligned
 abbrev pub start_fault : VolumeHead → ℕ → FileImage → Option Fault
-start_fault plan start file = first_holding ((not (start % 8 == 0 && (start + 24) % file.align == 0), named 703 file.at plan) ∷ [])
+start_fault plan start file = first_holding ((not (start % 8 == 0 && (start + head_at file.bytes) % file.align == 0), named 703 file.at plan) ∷ [])
 
 abbrev pub top_fault : VolumeHead → Option FileImage → ℕ → Option Fault
 top_fault plan None size = None
@@ -77,7 +79,7 @@ top_fault plan (Some file) size = start_fault plan (top_start file size) file
 abbrev pub place_fault : VolumeHead → List FileImage → ℕ → Option Fault
 place_fault plan files size =
     or_else (top_fault plan (top_of files) size)
-    (or_else (pads_fault (first_end plan.name_guid) (plain_files files)) (top_pad_fault (last_end plan files) (top_of files) size))
+    (or_else (pads_fault plan.ffs3 (first_end plan.name_guid) (plain_files files)) (top_pad_fault plan.ffs3 (last_end plan files) (top_of files) size))
 
 -- each byte is that of the header, the file or the pad that covers its place, or else the erase byte
 unfoldable pub volume_image : VolumeHead → List FileImage → ℕ → List ℕ
@@ -99,6 +101,6 @@ volume_of plan files = and_then (unless (twice_fault plan files) (length_of plan
 -- a length that a volume may have
 pub record IsLength (block : ℕ) (top : Bool) (taken size : ℕ) : Type 0 where
   pub room : holds top taken size ≡ true
-  pub small : size ≤ 0x10000000
+  pub small : size ≤ size_limit
   pub block_some : 0 < block
   pub block_small : block ≤ size

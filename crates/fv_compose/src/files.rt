@@ -1,29 +1,28 @@
 //! The files of a volume in their places, and the pad files between them.
-ghost use Rattle.std.specs.Prelude.{◌≡◌, ◌≤◌, ◌<◌, ◌+◌, ◌^◌, ◌++◌, ◌*◌, ◌⊎◌, length, OnOk, IfOk, None, if◌then◌else◌, is_some, true, is_none};
+ghost use Rattle.std.specs.Prelude.{◌≡◌, ◌≤◌, ◌<◌, ◌+◌, ◌^◌, ◌++◌, ◌*◌, ◌⊎◌, length, OnOk, IfOk, None, if◌then◌else◌, is_some, true, is_none, not, ◌&&◌, nat_lt};
 ghost use Rattle.build_base.specs.Answer.{Checks};
 ghost use Rattle.build_base.specs.Pieces.{put_pieces};
 ghost use Rattle.build_base.specs.Runs.{free_byte, Written};
 ghost use Rattle.ffs_sections.specs.Alignment.{IsAlignment};
-ghost use Rattle.fv_compose.specs.Place.{up, start_of};
-ghost use Rattle.fv_compose.specs.Files.{is_top, top_of, plain_files, pad_header, pad_bytes, bytes_in, top_bytes, placed_pieces, file_end, files_pieces, end_of, top_pieces, pad_fault, pads_fault, top_pad_fault, AreAligned};
+ghost use Rattle.ffs_sections.specs.Standard.{FILE_LIMIT};
+ghost use Rattle.fv_compose.specs.Place.{up};
+ghost use Rattle.fv_compose.specs.Files.{is_top, top_of, plain_files, bytes_in, top_bytes, placed_pieces, file_end, files_pieces, end_of, top_pieces, pad_fault, pads_fault, top_pad_fault, AreAligned};
 ghost use Rattle.fv_compose.specs.Turns.{pointed, next_end, own_pad_fault, own_pieces, own_bytes};
 ghost use Rattle.fv_compose.specs.Volume.{taken_by, holds};
 
-use crate::header::{NO_CHECK, PAD, PAD_NAME};
+use crate::pad::put_pad;
 use crate::place::{place_of, start, up};
 use build_base::{Refusal, RunWriter, Same, Text, WantOfMemory};
 use doc_types::image::FileImage;
 use ffs_sections::faults::sized;
-use ffs_sections::header::{Head, append_head, state_of};
+use ffs_sections::header::head_at;
+use ffs_sections::standard::FILE_LIMIT;
 use std::alloc::Global;
 
 /// EFI_FFS_VOLUME_TOP_FILE_GUID.
 static TOP_NAME: [u8; 16] = [
     0x2E, 0x06, 0xA0, 0x1B, 0x79, 0xC7, 0x82, 0x45, 0x85, 0x66, 0x33, 0x6A, 0xE8, 0xF7, 0x8F, 0x09,
 ];
-
-/// The greatest size of a pad file.
-const PAD_LIMIT: u64 = 0xFF_FFFF;
 
 /// Whether a file is the volume top file.
 #[tactic(auto, unfolding(crate::specs::Files::is_top))]
@@ -55,7 +54,8 @@ fn next_end(at: u128, file: &FileImage) -> u128
     if is_top(file) {
         return at;
     }
-    start(at, file.align) + file.bytes.bytes().len() as u128
+    let bytes = file.bytes.bytes();
+    start(at, file.align, head_at(bytes)) + bytes.len() as u128
 }
 
 /// The end of the files but the top file, in a volume whose header ends at `first`.
@@ -73,41 +73,60 @@ pub(crate) fn end_of(first: u128, files: &[FileImage]) -> u128
     end
 }
 
+// Whether a pad file of this size is too long for its file system.
+fn is_long(ffs3: bool, pad: u64) -> bool
+    ensures { result ≡ (not ffs3 && nat_lt FILE_LIMIT pad) }
+{
+    !ffs3 && pad > FILE_LIMIT
+}
+
 // The fault of a pad before a start that is too long.
 #[tactic(auto, unfolding(crate::specs::Files::pad_fault))]
-fn check_pad(alloc: Global, at: u64, start: u64, file: &FileImage) -> Result<(), Refusal>
+fn check_pad(
+    alloc: Global,
+    ffs3: bool,
+    at: u64,
+    start: u64,
+    file: &FileImage,
+) -> Result<(), Refusal>
     requires near { at ≤ 2 ^ 32 }
     requires after { up 8 at ≤ start }
-    ensures { Checks result (pad_fault at start file.now) }
+    ensures { Checks result (pad_fault ffs3 at start file.now) }
 {
     let pad = start - up(8, at as u128) as u64;
-    if pad > PAD_LIMIT {
+    if is_long(ffs3, pad) {
         return Err(Refusal::Bad(sized(alloc, 704, &file.at, pad)?));
     }
     Ok(())
 }
 
 // The same before a file, which isn't the top file.
-fn check_own_pad(alloc: Global, at: u64, file: &FileImage) -> Result<(), Refusal>
+fn check_own_pad(alloc: Global, ffs3: bool, at: u64, file: &FileImage) -> Result<(), Refusal>
     requires near { at ≤ 2 ^ 32 }
     requires aligned { IsAlignment file.now.align }
-    ensures { Checks result (own_pad_fault at file.now) }
+    ensures { Checks result (own_pad_fault ffs3 at file.now) }
 {
     if is_top(file) {
         return Ok(());
     }
-    check_pad(alloc, at, place_of(at, file.align).file, file)
+    let head = head_at(file.bytes.bytes());
+    check_pad(alloc, ffs3, at, place_of(at, file.align, head).file, file)
 }
 
 /// The first pad between files, the top file apart, that is too long.
-pub(crate) fn check_pads(alloc: Global, first: u64, files: &[FileImage]) -> Result<(), Refusal>
+pub(crate) fn check_pads(
+    alloc: Global,
+    ffs3: bool,
+    first: u64,
+    files: &[FileImage],
+) -> Result<(), Refusal>
     requires aligned { AreAligned files.now }
     requires short { end_of first (plain_files files.now) ≤ 2 ^ 28 }
-    ensures { Checks result (pads_fault first (plain_files files.now)) }
+    ensures { Checks result (pads_fault ffs3 first (plain_files files.now)) }
 {
     let mut at = first;
     for file in files {
-        if let Err(refusal) = check_own_pad(alloc, at, file) {
+        if let Err(refusal) = check_own_pad(alloc, ffs3, at, file) {
             return Err(refusal);
         }
         at = next_end(at as u128, file) as u64;
@@ -118,17 +137,24 @@ pub(crate) fn check_pads(alloc: Global, first: u64, files: &[FileImage]) -> Resu
 /// The pad before the top file where it is too long.
 pub(crate) fn check_top_pad(
     alloc: Global,
+    ffs3: bool,
     at: u64,
     top: Option<&FileImage>,
     size: u64,
 ) -> Result<(), Refusal>
     requires near { size ≤ 2 ^ 28 }
     requires room { holds (is_some (pointed top)) (taken_by at (pointed top)) size ≡ true }
-    ensures { Checks result (top_pad_fault at (pointed top.entry) size) }
+    ensures { Checks result (top_pad_fault ffs3 at (pointed top.entry) size) }
 {
     match top {
         None => Ok(()),
-        Some(file) => check_pad(alloc, at, size - file.bytes.bytes().len() as u64, file),
+        Some(file) => check_pad(
+            alloc,
+            ffs3,
+            at,
+            size - file.bytes.bytes().len() as u64,
+            file,
+        ),
     }
 }
 
@@ -146,53 +172,6 @@ pub(crate) fn taken_by(end: u128, top: Option<&FileImage>) -> u128
     }
 }
 
-// Writes a pad file.
-fn put_pad(alloc: Global, out: &mut RunWriter, size: u64, erase: u8) -> Result<(), WantOfMemory>
-    requires least { 24 ≤ size }
-    requires most { size ≤ 16777215 }
-    requires free { out.old.free ≡ free_byte erase }
-    ensures bytes { OnOk result (out.new.bytes ≡ out.old.bytes ++ pad_bytes erase size) }
-    ensures len { OnOk result (length out.new.bytes ≡ length out.old.bytes + size) }
-    ensures kept { OnOk result (out.new.kept ≡ out.old.kept + 24) }
-    ensures free { OnOk result (out.new.free ≡ out.old.free) }
-{
-    let head = pad_head(alloc, size as u32, erase)?;
-    put_pad_file(out, Text::from_vec(head), size, erase)?;
-    Ok(())
-}
-
-// The header of a pad file.
-fn pad_head(alloc: Global, size: u32, erase: u8) -> Result<Vec<u8>, WantOfMemory>
-    ensures bytes { IfOk result (λ head. head.items ≡ pad_header erase size) }
-    ensures length { IfOk result (λ head. length head.items ≡ 24) }
-{
-    let head = Head {
-        check: NO_CHECK,
-        kind: PAD,
-        attributes: 0,
-        size,
-        state: state_of(erase),
-    };
-    let mut bytes = Vec::new(alloc);
-    append_head(alloc, &mut bytes, &PAD_NAME, &head)?;
-    Ok(bytes)
-}
-
-#[tactic(auto, unfolding(crate::specs::Files::pad_bytes))]
-fn put_pad_file(out: &mut RunWriter, head: Text, size: u64, erase: u8) -> Result<(), WantOfMemory>
-    requires least { 24 ≤ size }
-    requires head { head ≡ pad_header erase size }
-    requires short { length head ≡ 24 }
-    requires free { out.old.free ≡ free_byte erase }
-    ensures bytes { OnOk result (out.new.bytes ≡ out.old.bytes ++ pad_bytes erase size) }
-    ensures kept { OnOk result (out.new.kept ≡ out.old.kept + 24) }
-    ensures free { OnOk result (out.new.free ≡ out.old.free) }
-{
-    out.put(head)?;
-    out.fill(size - 24)?;
-    Ok(())
-}
-
 // Writes a file at its start, with a pad file before it where there is space.
 #[tactic(auto, unfolding(crate::specs::Files::placed_pieces, build_base::specs::Pieces::put_pieces))]
 fn put_placed(
@@ -204,7 +183,6 @@ fn put_placed(
 ) -> Result<(), WantOfMemory>
     requires near { length out.old.bytes ≤ 2 ^ 28 }
     requires room { (start ≡ up 8 (length out.old.bytes)) ⊎ (up 8 (length out.old.bytes) + 24 ≤ start) }
-    requires pad { start ≤ up 8 (length out.old.bytes) + 16777215 }
     requires free { out.old.free ≡ free_byte erase }
     ensures bytes { OnOk result (out.new.bytes ≡ put_pieces (free_byte erase) out.old.bytes (placed_pieces erase (length out.old.bytes) start bytes.now)) }
     ensures kept { OnOk result (out.new.kept ≤ out.old.kept + length bytes.now + 32) }
@@ -232,7 +210,6 @@ fn put_file(
 ) -> Result<(), WantOfMemory>
     requires near { length out.old.bytes ≤ 2 ^ 28 }
     requires aligned { IsAlignment file.now.align }
-    requires pad { own_pad_fault (length out.old.bytes) file.now ≡ None }
     requires free { out.old.free ≡ free_byte erase }
     ensures bytes { OnOk result (out.new.bytes ≡ put_pieces (free_byte erase) out.old.bytes (own_pieces erase (length out.old.bytes) file.now)) }
     ensures kept { OnOk result (out.new.kept ≤ out.old.kept + own_bytes file.now + 32) }
@@ -241,7 +218,8 @@ fn put_file(
     if is_top(file) {
         return Ok(());
     }
-    let placed = place_of(out.length(), file.align);
+    let head = head_at(file.bytes.bytes());
+    let placed = place_of(out.length(), file.align, head);
     put_placed(alloc, out, placed.file, &file.bytes, erase)?;
     Ok(())
 }
@@ -255,7 +233,6 @@ pub(crate) fn put_files(
 ) -> Result<(), WantOfMemory>
     requires aligned { AreAligned files.now }
     requires short { end_of (length out.old.bytes) (plain_files files.now) ≤ 2 ^ 28 }
-    requires pads { pads_fault (length out.old.bytes) (plain_files files.now) ≡ None }
     requires free { out.old.free ≡ free_byte erase }
     ensures bytes { OnOk result (out.new.bytes ≡ put_pieces (free_byte erase) out.old.bytes (files_pieces erase (length out.old.bytes) (plain_files files.now))) }
     ensures len { OnOk result (length out.new.bytes ≡ end_of (length out.old.bytes) (plain_files files.now)) }
@@ -278,7 +255,6 @@ pub(crate) fn put_top(
 ) -> Result<(), WantOfMemory>
     requires near { size ≤ 2 ^ 28 }
     requires room { holds (is_some (pointed top)) (taken_by (length out.old.bytes) (pointed top)) size ≡ true }
-    requires pad { top_pad_fault (length out.old.bytes) (pointed top) size ≡ None }
     requires free { out.old.free ≡ free_byte erase }
     ensures bytes { OnOk result (out.new.bytes ≡ put_pieces (free_byte erase) out.old.bytes (top_pieces erase (length out.old.bytes) (pointed top.entry) size)) }
     ensures len { OnOk result (length out.new.bytes ≤ size) }

@@ -3,33 +3,47 @@ ghost use Rattle.std.specs.Prelude.{◌≡◌, ◌≤◌, ◌<◌, ◌+◌, ◌%
 ghost use Rattle.byteorder.specs.Endian.{little_bytes};
 ghost use Rattle.build_base.specs.Pieces.{put_pieces};
 ghost use Rattle.build_base.specs.Runs.{free_byte};
-ghost use Rattle.fv_compose.specs.Header.{words_sum, zero_word, head_start, head_front, head_back, head_list, head_of, extended_place, extended_bytes, start_pieces, first_end};
+ghost use Rattle.fv_compose.specs.Header.{words_sum, zero_word, file_system, head_start, head_front, head_back, head_list, head_of, extended_place, extended_bytes, start_pieces, first_end};
 
+use crate::pad::pad_head;
 use build_base::bytes::fill;
 use build_base::{Guid, WantOfMemory};
 use doc_types::volume_head::VolumeHead;
-use ffs_sections::header::{Head, append_head, state_of};
 use std::alloc::Global;
 
-/// EFI_FIRMWARE_FILE_SYSTEM2_GUID.
+/// EFI_FIRMWARE_FILE_SYSTEM2_GUID, 8c8ce578-8a3d-4f1c-9935-896185c32dd3.
 static FFS2: [u8; 16] = [
     0x78, 0xE5, 0x8C, 0x8C, 0x3D, 0x8A, 0x1C, 0x4F, 0x99, 0x35, 0x89, 0x61, 0x85, 0xC3, 0x2D, 0xD3,
 ];
 
+/// EFI_FIRMWARE_FILE_SYSTEM3_GUID, 5473c07a-3dcb-4dca-bd6f-1e9689e7349a.
+static FFS3: [u8; 16] = [
+    0x7A, 0xC0, 0x73, 0x54, 0xCB, 0x3D, 0xCA, 0x4D, 0xBD, 0x6F, 0x1E, 0x96, 0x89, 0xE7, 0x34, 0x9A,
+];
+
 /// The length of a volume's header.
 const LENGTH: u16 = 0x48;
+
+/// The end of the pad file with the extended header, and its size.
+const EXTENDED_END: u64 = 0x74;
+
+const EXTENDED_SIZE: u64 = 0x2C;
 
 /// The length of an extended header, and its place in a volume.
 const EXTENDED_LENGTH: u32 = 0x14;
 
 const EXTENDED_PLACE: u16 = 0x60;
 
-/// The name of a pad file, its type EFI_FV_FILETYPE_FFS_PAD, and its file checksum.
-pub(crate) static PAD_NAME: [u8; 16] = [0xFF; 16];
-
-pub(crate) const PAD: u8 = 0xF0;
-
-pub(crate) const NO_CHECK: u8 = 0xAA;
+// The name of a file system.
+fn file_system(ffs3: bool) -> &'static [u8]
+    ensures { result.now ≡ file_system ffs3 }
+{
+    if ffs3 {
+        FFS3.as_slice()
+    } else {
+        FFS2.as_slice()
+    }
+}
 
 // The sum of the 16-bit words of some bytes, modulo 2^16.
 fn words_sum(bytes: &[u8]) -> u16
@@ -57,20 +71,25 @@ fn zero_word(bytes: &[u8]) -> u16
 }
 
 #[tactic(auto, unfolding(crate::specs::Header::head_start))]
-fn put_head_start(out: &mut Vec<u8>, size: u64) -> Result<(), WantOfMemory>
-    ensures { OnOk result (out.new.items ≡ out.old.items ++ head_start size) }
+fn put_head_start(out: &mut Vec<u8>, ffs3: bool, size: u64) -> Result<(), WantOfMemory>
+    ensures { OnOk result (out.new.items ≡ out.old.items ++ head_start ffs3 size) }
 {
     fill(out, 16, 0)?;
-    out.extend_from_slice(&FFS2)?;
+    out.extend_from_slice(file_system(ffs3))?;
     out.extend_from_slice(&size.to_le_bytes())?;
     Ok(())
 }
 
 #[tactic(auto, unfolding(crate::specs::Header::head_front))]
-fn put_head_front(out: &mut Vec<u8>, size: u64, attributes: u32) -> Result<(), WantOfMemory>
-    ensures { OnOk result (out.new.items ≡ out.old.items ++ head_front size attributes) }
+fn put_head_front(
+    out: &mut Vec<u8>,
+    ffs3: bool,
+    size: u64,
+    attributes: u32,
+) -> Result<(), WantOfMemory>
+    ensures { OnOk result (out.new.items ≡ out.old.items ++ head_front ffs3 size attributes) }
 {
-    put_head_start(out, size)?;
+    put_head_start(out, ffs3, size)?;
     out.extend_from_slice(b"_FVH")?;
     out.extend_from_slice(&attributes.to_le_bytes())?;
     out.extend_from_slice(&LENGTH.to_le_bytes())?;
@@ -119,8 +138,8 @@ pub(crate) fn first_end(name: &Option<Guid>) -> u64
     ensures some { 0 < result }
 {
     match name {
-        Some(_) => 116,
-        None => 72,
+        Some(_) => EXTENDED_END,
+        None => LENGTH as u64,
     }
 }
 
@@ -132,7 +151,7 @@ fn put_head(out: &mut Vec<u8>, plan: &VolumeHead, size: u64, sum: u16) -> Result
     requires size { size < 2 ^ 32 }
     ensures { OnOk result (out.new.items ≡ out.old.items ++ head_list plan.now size sum) }
 {
-    put_head_front(out, size, plan.attributes)?;
+    put_head_front(out, plan.ffs3, size, plan.attributes)?;
     let blocks = (size / plan.block_size) as u32;
     let extended = extended_place(&plan.name_guid);
     put_head_back(out, sum, extended, blocks, plan.block_size as u32)
@@ -179,14 +198,8 @@ fn put_extended_file(
 ) -> Result<(), WantOfMemory>
     ensures { OnOk result (out.new.items ≡ out.old.items ++ extended_bytes erase name.now) }
 {
-    let head = Head {
-        check: NO_CHECK,
-        kind: PAD,
-        attributes: 0,
-        size: 44,
-        state: state_of(erase),
-    };
-    append_head(alloc, out, &PAD_NAME, &head)?;
+    let head = pad_head(alloc, EXTENDED_SIZE, erase)?;
+    out.extend_from_slice(head.as_slice())?;
     out.extend_from_slice(name)?;
     out.extend_from_slice(&EXTENDED_LENGTH.to_le_bytes())?;
     Ok(())

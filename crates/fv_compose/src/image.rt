@@ -15,8 +15,9 @@ use crate::header::{first_end, start_bytes};
 use crate::length::{full, length_for};
 use build_base::{Fault, Permit, Place, Refusal, Rows, Run, RunWriter, Same, Text, WantOfMemory};
 use doc_types::image::FileImage;
-use doc_types::volume_head::VolumeHead;
+use doc_types::volume_head::{SIZE_LIMIT, VolumeHead};
 use ffs_sections::alignment::is_alignment;
+use ffs_sections::header::head_at;
 use std::alloc::Global;
 
 /// Whether a stated size is a whole number of blocks and at most 256M.
@@ -25,7 +26,7 @@ pub fn has_shape(plan: &VolumeHead) -> bool
 {
     match plan.size {
         None => true,
-        Some(size) => size <= 0x1000_0000 && is_multiple(size, plan.block_size),
+        Some(size) => size <= SIZE_LIMIT && is_multiple(size, plan.block_size),
     }
 }
 
@@ -96,7 +97,7 @@ fn check_start(
     requires aligned { IsAlignment file.now.align }
     ensures { Checks result (start_fault plan.now start file.now) }
 {
-    if start % 8 == 0 && (start + 24) % file.align as u64 == 0 {
+    if start % 8 == 0 && (start + head_at(file.bytes.bytes()) as u64) % file.align as u64 == 0 {
         return Ok(());
     }
     Err(Refusal::Bad(named(alloc, 703, &file.at, plan)?))
@@ -137,8 +138,8 @@ fn check_places(
     ensures { Checks result (place_fault plan.now files.now size) }
 {
     check_top(alloc, plan, top, end, size)?;
-    check_pads(alloc, first_end(&plan.name_guid), files)?;
-    check_top_pad(alloc, end, top, size)?;
+    check_pads(alloc, plan.ffs3, first_end(&plan.name_guid), files)?;
+    check_top_pad(alloc, plan.ffs3, end, top, size)?;
     Ok(())
 }
 
@@ -153,7 +154,6 @@ fn image(
     requires aligned { AreAligned files.now }
     requires top { pointed top ≡ top_of files.now }
     requires length { IsLength plan.now.block_size (is_some (pointed top)) (taken_by (last_end plan.now files.now) (pointed top)) size }
-    requires places { place_fault plan.now files.now size ≡ None }
     ensures value { IfOk result (λ runs. runs_bytes runs ≡ volume_image plan.now files.now size) }
     ensures runs { IfOk result (AreRunsOf files.now) }
 {

@@ -4,17 +4,11 @@ ghost use Rattle.build_base.specs.Least.{IsLeast};
 ghost use Rattle.fv_compose.specs.Place.{up};
 ghost use Rattle.fv_compose.specs.Volume.{holds, Fits, blocks_for, length_for, given_size, needed_of, full_fault, SizeFits, IsLength};
 
-use crate::place::up;
+use crate::place::{LEAST_PAD, up};
 use build_base::{Fault, Same, Text, WantOfMemory};
-use doc_types::volume_head::VolumeHead;
+use doc_types::volume_head::{SIZE_LIMIT, VolumeHead};
 use itoa::Buffer;
 use std::alloc::Global;
-
-/// The greatest length of a volume whose description states none.
-const LIMIT: u64 = 0x1000_0000;
-
-/// The length of a pad file without a body.
-const LEAST_PAD: u128 = 24;
 
 // Whether a length holds what is taken, with the space before a top file.
 fn holds(top: bool, taken: u128, size: u128) -> bool
@@ -49,7 +43,7 @@ fn blocks_for(block: u64, top: bool, taken: u128) -> Option<u64>
         return None;
     }
     let size = least_length(block as u128, top, taken);
-    if size > LIMIT as u128 {
+    if size > SIZE_LIMIT as u128 {
         return None;
     }
     Some(size as u64)
@@ -85,7 +79,7 @@ fn given_size(block: u64, size: Option<u64>) -> u64
 {
     match size {
         Some(size) => size,
-        None => { if block == 0 { 0 } else { LIMIT } }
+        None => { if block == 0 { 0 } else { SIZE_LIMIT } }
     }
 }
 

@@ -5,10 +5,13 @@ pub mod files;
 pub mod header;
 pub mod image;
 pub mod length;
+mod pad;
 pub mod place;
-pub mod volume;
 
+use build_base::Image;
 pub use build_base::Pieces;
 pub use image::{are_aligned, compose, has_shape};
 pub use place::{Placed, place_of};
-pub use volume::Volume;
+
+/// The image of a firmware volume, made of its runs.
+pub type Volume = Image;

@@ -1,5 +1,4 @@
-use Rattle.std.proofs.Common.{◌≡◌, ◌+◌, ◌++◌, length, drop, ap, ◌∙◌, arith, length-append}
-use Rattle.std.proofs.lemmas.Grind.{common_steps}
+use Rattle.std.proofs.Common.{◌≡◌, ◌+◌, length, drop, ap, ◌∙◌, arith, length-append}
 use Rattle.build_base.specs.Runs.{runs_bytes, run_bytes}
 use Rattle.build_base.proofs.RunLemmas.{runs_left, runs_end}
 use Rattle.build_base.proofs.image.total.Goals as goal

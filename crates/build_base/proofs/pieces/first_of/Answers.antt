@@ -1,5 +1,5 @@
-use Rattle.std.proofs.Common.{◌≡◌, ◌+◌, ◌++◌, [], length, drop, ap, sym, ◌∙◌, arith, true}
-use Rattle.build_base.specs.Runs.{runs_bytes, run_bytes, are_blank, is_blank}
+use Rattle.std.proofs.Common.{◌≡◌, ◌+◌, [], length, sym, ◌∙◌, arith}
+use Rattle.build_base.specs.Runs.{run_bytes}
 use Rattle.build_base.proofs.RunLemmas.{runs_left, runs_end, blank_left, runs_tail, blank_tail}
 use Rattle.build_base.proofs.pieces.first_of.Goals as goal
 

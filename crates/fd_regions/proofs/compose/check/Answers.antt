@@ -1,4 +1,4 @@
-use Rattle.std.proofs.Common.{◌≡◌, ◌+◌, ◌∙◌, get_or, [], length, sym, ap, arith}
+use Rattle.std.proofs.Common.{◌∙◌, get_or, [], arith}
 use Rattle.build_base.proofs.AnswerLemmas.{finds_first, finds_rest}
 use Rattle.fd_regions.proofs.DeviceLemmas.{fault_more, fault_end, same_part}
 use Rattle.fd_regions.proofs.compose.check.Goals as goal

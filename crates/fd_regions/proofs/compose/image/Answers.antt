@@ -1,7 +1,6 @@
-use Rattle.std.proofs.Common.{◌≡◌, ◌+◌, get_or, drop, length, ◌∙◌, arith, refl, [], sym, ap}
-use Rattle.std.specs.List.{sum_by}
+use Rattle.std.proofs.Common.{get_or, length, ◌∙◌, arith, refl, []}
 use Rattle.std.proofs.lemmas.List.Sums.{sum_by-drop_more}
-use Rattle.fd_regions.proofs.DeviceLemmas.{Fits, left_start, left_more, left_fits, left_end, left_small, same_part}
+use Rattle.fd_regions.proofs.DeviceLemmas.{left_start, left_more, left_fits, left_end, left_small, same_part}
 use Rattle.fd_regions.proofs.compose.image.Goals as goal
 
 pub loop-i-init : goal.loop-i-init

@@ -1,6 +1,5 @@
-use Rattle.std.proofs.Common.{◌≡◌, ◌≤◌, ◌+◌, drop, length}
+use Rattle.std.proofs.Common.{◌≤◌, ◌+◌, drop, length}
 use Rattle.std.specs.List.{sum_by}
-use Rattle.build_base.specs.Runs.{free_byte}
 use Rattle.fd_regions.specs.Device.{device_image}
 use Rattle.fd_regions.proofs.DeviceLemmas.{Left}
 use Rattle.fd_regions.proofs.compose.image.Given as goal

@@ -12,7 +12,7 @@ check_own_pad-requires-clause-aligned c = alignment_at c.args.files.now c.loop-f
 
 pub returns-in-Err : goal.returns-in-Err
 returns-in-Err c =
-    finds_first c.in-Err.refusal _ _ _ (c.loop-file.invariant.fault ∙ pads_more c.loop-file.at c.args.files.now c.loop-file.file-index c.file-item.result (omega arith) c.file-item.is) c.in-Err.ensures
+    finds_first c.in-Err.refusal _ _ _ (c.loop-file.invariant.fault ∙ pads_more c.args.ffs3 c.loop-file.at c.args.files.now c.loop-file.file-index c.file-item.result (omega arith) c.file-item.is) c.in-Err.ensures
 
 pub next_end-at-requires-clause-aligned : goal.next_end-at-requires-clause-aligned
 next_end-at-requires-clause-aligned c = alignment_at c.args.files.now c.loop-file.file-index c.file-item.result c.requires.aligned (omega arith) c.file-item.is
@@ -25,9 +25,9 @@ pub loop-file-preserved : goal.loop-file-preserved
 loop-file-preserved c =
     rw c.next_end-at.ensures.value record {
       fault =
-          finds_rest _ _ _ (c.loop-file.invariant.fault ∙ pads_more c.loop-file.at c.args.files.now c.loop-file.file-index c.file-item.result (omega arith) c.file-item.is) c.in_default.ensures;
+          finds_rest _ _ _ (c.loop-file.invariant.fault ∙ pads_more c.args.ffs3 c.loop-file.at c.args.files.now c.loop-file.file-index c.file-item.result (omega arith) c.file-item.is) c.in_default.ensures;
       short = omega (arith, end_more c.loop-file.at c.args.files.now c.loop-file.file-index c.file-item.result (omega arith) c.file-item.is);
     }
 
 pub returns : goal.returns
-returns c = c.loop-file.invariant.fault ∙ pads_all c.loop-file.at c.args.files.now c.loop-file.file-index (omega arith)
+returns c = c.loop-file.invariant.fault ∙ pads_all c.args.ffs3 c.loop-file.at c.args.files.now c.loop-file.file-index (omega arith)

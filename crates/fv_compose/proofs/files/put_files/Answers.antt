@@ -1,6 +1,6 @@
 use Rattle.std.proofs.Common.{length, arith, ◌∙◌}
 use Rattle.std.proofs.lemmas.Grind.{common_steps}
-use Rattle.fv_compose.proofs.FileLemmas.{filed_more, filed_end, end_left, pads_left, alignment_at, bytes_more}
+use Rattle.fv_compose.proofs.FileLemmas.{filed_more, filed_end, end_left, alignment_at, bytes_more}
 use Rattle.fv_compose.proofs.files.put_files.Goals as goal
 
 pub put_file-requires-clause-near : goal.put_file-requires-clause-near
@@ -10,10 +10,6 @@ put_file-requires-clause-near c =
 
 pub put_file-requires-clause-aligned : goal.put_file-requires-clause-aligned
 put_file-requires-clause-aligned c = alignment_at c.args.files.now c.loop-image.image-index c.image-item.result c.requires.aligned (omega arith) c.image-item.is
-
-pub put_file-requires-clause-pad : goal.put_file-requires-clause-pad
-put_file-requires-clause-pad c =
-    (pads_left (length c.loop-image.out.bytes) c.args.files.now c.loop-image.image-index c.image-item.result (omega arith) c.image-item.is c.loop-image.invariant.filed.pads).0
 
 pub loop-image-preserved : goal.loop-image-preserved
 loop-image-preserved c = record {

@@ -1,22 +1,14 @@
-use Rattle.std.proofs.Common.{◌≡◌, arith, ap, length, refl, false}
+use Rattle.std.proofs.Common.{arith, ap, length, refl, false}
 use Rattle.build_base.specs.Pieces.{put_pieces}
 use Rattle.build_base.specs.Runs.{free_byte}
-use Rattle.fv_compose.proofs.FileLemmas.{top_spaced, top_low, pad_short, length_top}
+use Rattle.fv_compose.proofs.FileLemmas.{top_low, length_top}
 use Rattle.fv_compose.proofs.LengthLemmas.{holds_room}
-use Rattle.std.proofs.lemmas.Grind.{common_steps}
 use Rattle.fv_compose.proofs.files.put_top.Goals as goal
 
 pub put_placed-requires-clause-near : goal.put_placed-requires-clause-near
 put_placed-requires-clause-near c =
     let room = rw c.in-Some.is at c.requires.room in
     omega (arith, top_low (length c.args.out.now.bytes) c.in-Some.file.now c.args.size room)
-
-pub put_placed-requires-clause-pad : goal.put_placed-requires-clause-pad
-put_placed-requires-clause-pad c =
-    let room = rw c.in-Some.is at c.requires.room in
-    let pad = rw c.in-Some.is at c.requires.pad in
-    let low = (top_spaced (length c.args.out.now.bytes) c.in-Some.file.now c.args.size room).0 in
-    omega (arith, pad_short (length c.args.out.now.bytes) _ c.in-Some.file.now low pad, ap length c.bytes.ensures)
 
 pub returns-in-None-clause-bytes : goal.returns-in-None-clause-bytes
 unfolding put_pieces

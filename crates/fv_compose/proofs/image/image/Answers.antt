@@ -6,7 +6,7 @@ use Rattle.fv_compose.specs.Header.{first_end}
 use Rattle.fv_compose.specs.Files.{plain_files, files_pieces, top_pieces, top_of}
 use Rattle.fv_compose.specs.Volume.{last_end}
 use Rattle.fv_compose.proofs.FileLemmas.{bytes_with_top}
-use Rattle.fv_compose.proofs.ImageLemmas.{image_is, taken_after, first_small, places_pads}
+use Rattle.fv_compose.proofs.ImageLemmas.{image_is, taken_after, first_small}
 use Rattle.fv_compose.proofs.image.image.Goals as goal
 
 pub put_files-requires-clause-short : goal.put_files-requires-clause-short
@@ -15,12 +15,6 @@ put_files-requires-clause-short c =
     let l : length c.put.new.self.bytes ≡ first_end c.args.plan.now.name_guid = ap length e ∙ (let k = c.in_ok-head.ensures.length in grind (arith, common_steps)) in
     let room = taken_after (last_end c.args.plan.now c.args.files.now) c.args.size _ c.requires.length.room in
     rw l (omega arith)
-
-pub put_files-requires-clause-pads : goal.put_files-requires-clause-pads
-put_files-requires-clause-pads c =
-    let e : c.put.new.self.bytes ≡ c.in_ok-head.head.items = c.in_ok-put.ensures.bytes ∙ rw (c.new-out.ensures, c.from_vec.ensures) refl in
-    let l : length c.put.new.self.bytes ≡ first_end c.args.plan.now.name_guid = ap length e ∙ (let k = c.in_ok-head.ensures.length in grind (arith, common_steps)) in
-    rw l (places_pads c.args.plan.now c.args.files.now c.args.size c.requires.places)
 
 pub returns-clause-value : goal.returns-clause-value
 returns-clause-value c =

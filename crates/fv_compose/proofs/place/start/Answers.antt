@@ -1,6 +1,12 @@
 use Rattle.std.proofs.Common.{arith}
-use Rattle.fv_compose.proofs.PlaceLemmas.{known_alignment}
+use Rattle.fv_compose.proofs.PlaceLemmas.{known_alignment, head_short}
 use Rattle.fv_compose.proofs.place.start.Goals as goal
 
+pub start_from-requires-clause-short : goal.start_from-requires-clause-short
+start_from-requires-clause-short c = head_short c.args.head c.requires.head
+
 pub returns-clause-near : goal.returns-clause-near
-returns-clause-near c = let k = known_alignment c.args.align c.requires.alignment in omega arith
+returns-clause-near c =
+    let k = known_alignment c.args.align c.requires.alignment in
+    let h = head_short c.args.head c.requires.head in
+    omega arith

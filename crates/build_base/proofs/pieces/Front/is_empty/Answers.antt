@@ -1,5 +1,4 @@
-use Rattle.std.proofs.Common.{◌≡◌, [], ◌∙◌, length, ap}
-use Rattle.std.proofs.lemmas.Grind.{common_steps}
+use Rattle.std.proofs.Common.{◌≡◌, [], ◌∙◌}
 use Rattle.build_base.proofs.RunLemmas.{front_none}
 use Rattle.build_base.proofs.pieces.Front.is_empty.Goals as goal
 

@@ -1,6 +1,5 @@
-use Rattle.std.proofs.Common.{◌≡◌, ◌++◌, [], ◌∷◌, ◌+◌, length, true, ap, sym, ◌∙◌, arith, length-append}
-use Rattle.std.proofs.lemmas.Grind.{common_steps}
-use Rattle.build_base.specs.Runs.{runs_bytes, kept_bytes, are_blank, run_bytes}
+use Rattle.std.proofs.Common.{length, ap, ◌∙◌, arith, length-append}
+use Rattle.build_base.specs.Runs.{runs_bytes, run_bytes}
 use Rattle.build_base.proofs.RunLemmas.{runs_more, kept_more, blank_more}
 use Rattle.build_base.proofs.run_writer.RunWriter.append.Goals as goal
 

@@ -1,5 +1,4 @@
-use Rattle.std.proofs.Common.{rules, ◌≡◌, [], length, true, ap, sym, ◌∙◌}
-use Rattle.std.proofs.lemmas.Grind.{common_steps}
+use Rattle.std.proofs.Common.{rules}
 use Rattle.build_base.specs.Runs.{runs_bytes, kept_bytes, are_blank}
 use Rattle.build_base.proofs.run_writer.RunWriter.new.Goals as goal
 

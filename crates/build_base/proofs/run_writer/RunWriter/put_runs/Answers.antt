@@ -1,5 +1,4 @@
-use Rattle.std.proofs.Common.{◌≡◌, ◌++◌, ◌∙◌, arith, true, ap, sym, append-nil, subst}
-use Rattle.build_base.specs.Runs.{is_blank, runs_bytes}
+use Rattle.std.proofs.Common.{◌++◌, ◌∙◌, arith, ap, sym, append-nil}
 use Rattle.build_base.proofs.RunLemmas.{blank_left, copied_more, runs_end}
 use Rattle.build_base.proofs.run_writer.RunWriter.put_runs.Goals as goal
 
