@@ -11,7 +11,8 @@ one_of_both : {X : Type 0} (t : Bool) (a b : Fault) → (if t then Some b else S
 one_of_both true a b e = absurd cc
 one_of_both false a b e = absurd cc
 
-both_none : (f g : Option Fault) → lesser f g ≡ None → (f ≡ None) × (g ≡ None)
+-- neither of two
+pub both_none : (f g : Option Fault) → lesser f g ≡ None → (f ≡ None) × (g ≡ None)
 both_none None g e = (refl, e)
 both_none (Some a) None e = absurd cc
 both_none (Some a) (Some b) e = one_of_both (nat_lt b.code a.code) a b e

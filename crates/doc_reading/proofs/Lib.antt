@@ -5,3 +5,4 @@ pub mod GatheringLemmas
 pub mod HeldLemmas
 pub mod BlockLemmas
 pub mod FaultlessLemmas
+pub mod KeptLemmas

@@ -105,12 +105,17 @@ form_fault g above line OpenHead = Some (fault_of 111 line.at (codes "\""))
 form_fault g above line BadHead = Some (fault_of 114 line.at line.text)
 form_fault g above line Body = fault_in (body_given g above line (scopes_above above))
 
+-- what is left open below the last line
+abbrev pub end_fault : {S R : Type 0} → Grammar S R → List (Read S R) → Taken → Bool → Option Fault
+end_fault g reads line last = if last then g.left_open reads line else None
+
 -- the fault by what stands above, and what is open below the last line
 abbrev pub open_fault : {S R : Type 0} → Grammar S R → List (Read S R) → Taken → Bool → LineForm → Option Fault
-open_fault g above line last (Heads heads) = g.at_heads above line heads
+open_fault g above line last (Heads heads) =
+    lesser (g.at_heads above line heads) (end_fault g (above ++ form_read g above line (Heads heads)) line last)
 open_fault g above line last OpenHead = None
 open_fault g above line last BadHead = None
-open_fault g above line last form = if last then g.left_open (above ++ form_read g above line form) line else None
+open_fault g above line last form = end_fault g (above ++ form_read g above line form) line last
 
 -- the least of both
 abbrev pub fault_as : {S R : Type 0} → Grammar S R → List (Read S R) → Taken → Bool → LineForm → Option Fault

@@ -4,13 +4,13 @@ ghost use Rattle.build_base.specs.Answer.{Answers, AnswersAs, Checks};
 ghost use Rattle.build_base.specs.declared.fault.Fault.{Fault as Found};
 ghost use Rattle.doc_reading.specs.declared.form.LineForm.{LineForm as Form};
 ghost use Rattle.doc_reading.specs.declared.form.LineForm.TheVariants as form;
-ghost use Rattle.doc_reading.specs.Grammar.{Read, heads_entered, rows_given, body_given, read_of, first_fault, fault_as, form_read};
+ghost use Rattle.doc_reading.specs.Grammar.{Read, heads_entered, rows_given, body_given, read_of, end_fault, first_fault, fault_as, form_read};
 ghost use Rattle.doc_reading.specs.Holding.{Held};
 
 use crate::form::{LineForm, form_of};
 use crate::format::Format;
 use crate::gathered::Gathered;
-use crate::least_check::with_check;
+use crate::least_check::{lesser_check, with_check};
 use crate::reader::{Reader, read_lines};
 use build_base::{Refusal, Rows, Taken, refuse};
 use meta_lexer::head::Head;
@@ -83,7 +83,7 @@ impl<F: Format> Document<F::Scope, F> {
     // Refuses what is open below the last line.
     fn check_end(&self, line: &Taken, last: bool) -> Result<(), Refusal>
         ensures { (above : List (Read F.Scope F.Row)) → F.holds above self.now.format →
-            Checks result (if last then F.grammar.left_open above line.now else None) }
+            Checks result (end_fault F.grammar above line.now last) }
     {
         if last {
             return self.format.check_open(line);
@@ -110,9 +110,9 @@ impl<F: Format> Document<F::Scope, F> {
     }
 
     // Enters the sections of heads.
-    fn take_heads(&mut self, line: &Taken, heads: &[Head]) -> Result<(), Refusal>
-        ensures fault { (above : List (Read F.Scope F.Row)) (last : Bool) (hs : _) →
-            hs ≡ heads.now → Held F.holds above self.old →
+    fn take_heads(&mut self, line: &Taken, heads: &[Head], last: bool) -> Result<(), Refusal>
+        ensures fault { (above : List (Read F.Scope F.Row)) (hs : _) → hs ≡ heads.now →
+            Held F.holds above self.old →
             Checks result (fault_as F.grammar above line.now last (form.Heads hs)) }
         ensures rows { (above : List (Read F.Scope F.Row)) (hs : _) → hs ≡ heads.now →
             Held F.holds above self.old →
@@ -122,12 +122,15 @@ impl<F: Format> Document<F::Scope, F> {
         let above = self.format.check_heads(line, heads);
         match scopes_of(self.alloc, &self.format, line, heads) {
             Ok(scopes) => {
-                above?;
                 self.format.begin(&line.at, scopes.items())?;
                 self.scopes = Some(scopes);
+                lesser_check(above, self.check_end(line, last))?;
                 Ok(())
             }
-            Err(refusal) => Err(with_check(refusal, above)),
+            Err(Refusal::WantOfMemory) => Err(Refusal::WantOfMemory),
+            Err(refusal) => {
+                Err(with_check(refusal, lesser_check(above, self.check_end(line, last))))
+            }
         }
     }
 
@@ -140,7 +143,7 @@ impl<F: Format> Document<F::Scope, F> {
     {
         match form {
             LineForm::Blank => self.check_end(line, last),
-            LineForm::Heads(heads) => self.take_heads(line, heads.items()),
+            LineForm::Heads(heads) => self.take_heads(line, heads.items(), last),
             LineForm::OpenHead => { Err(refuse(self.alloc, 111, &line.at, b"\"".as_slice())) }
             LineForm::BadHead => Err(refuse(self.alloc, 114, &line.at, line.text.bytes())),
             LineForm::Body => self.take_body(line, last),

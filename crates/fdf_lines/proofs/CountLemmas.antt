@@ -6,8 +6,8 @@ use Rattle.std.proofs.lemmas.List.{drop_all}
 use Rattle.build_base.specs.declared.fault.Place.{Place}
 use Rattle.doc_reading.specs.Blocks.{are_heads}
 use Rattle.doc_reading.specs.Grammar.{Read, entered, gave}
-use Rattle.fdf_lines.specs.declared.rows.Row.{Row}
-use Rattle.fdf_lines.specs.declared.rows.Scope.{Scope}
+use Rattle.fdf_words.specs.declared.rows.Row.{Row}
+use Rattle.fdf_words.specs.declared.rows.Scope.{Scope}
 use Rattle.fdf_lines.specs.Counts.{count_of, saturated, statements_in, lines_here, statements_here}
 
 -- a count past 64 bits stands still
@@ -47,7 +47,7 @@ or_false : (t : Bool) → (t || false) ≡ (false || t)
 or_false true = refl
 or_false false = refl
 
-or_join : (a b c : Bool) → (a || (b || c)) ≡ ((a || b) || c)
+pub or_join : (a b c : Bool) → (a || (b || c)) ≡ ((a || b) || c)
 or_join true b c = refl
 or_join false b c = refl
 
@@ -55,11 +55,11 @@ or_true : (t : Bool) → (t || true) ≡ true
 or_true true = refl
 or_true false = refl
 
-or_none : (t : Bool) → (t || false) ≡ t
+pub or_none : (t : Bool) → (t || false) ≡ t
 or_none true = refl
 or_none false = refl
 
-any_end : {T : Type 0} (test : T → Bool) (xs : List T) (x : T) → list_any test (xs ++ x ∷ []) ≡ (list_any test xs || test x)
+pub any_end : {T : Type 0} (test : T → Bool) (xs : List T) (x : T) → list_any test (xs ++ x ∷ []) ≡ (list_any test xs || test x)
 any_end test [] x = or_false (test x)
 any_end test (y ∷ xs) x = ap (λ t. test y || t) (any_end test xs x) ∙ or_join (test y) (list_any test xs) (test x)
 

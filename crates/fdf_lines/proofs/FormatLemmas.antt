@@ -5,11 +5,11 @@ use Rattle.build_base.specs.FaultText.{fault_of}
 use Rattle.build_base.specs.declared.fault.Place.{Place}
 use Rattle.build_base.specs.declared.lines.Taken.{Taken}
 use Rattle.doc_reading.specs.Grammar.{Read, entered, gave}
-use Rattle.fdf_lines.specs.declared.rows.LineRead.{LineRead}
-use Rattle.fdf_lines.specs.declared.rows.Row.{Row}
-use Rattle.fdf_lines.specs.declared.rows.Scope.{Scope}
+use Rattle.fdf_words.specs.declared.rows.LineRead.{LineRead}
+use Rattle.fdf_words.specs.declared.rows.Row.{Row}
+use Rattle.fdf_words.specs.declared.rows.Scope.{Scope}
 use Rattle.fdf_lines.specs.declared.section.FlashSection.{FlashSection}
-use Rattle.fdf_lines.specs.declared.standing.Marks.{Marks}
+use Rattle.fdf_words.specs.declared.marks.Marks.{Marks}
 use Rattle.fdf_lines.specs.Counts.{count_of, saturated, one_scope, scopes_in, heads_above, statements_in, statements_here}
 use Rattle.fdf_lines.specs.Grammar.{many_fault, heads_fault}
 use Rattle.fdf_lines.specs.Reads.{read_as, reads_as}

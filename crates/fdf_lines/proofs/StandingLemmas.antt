@@ -1,15 +1,15 @@
 -- What stands open, with one line more.
-use Rattle.std.proofs.Common.{◌≡◌, ◌∙◌, Bool, List, [], ◌∷◌, ◌++◌, fold, refl, sym, ap, append-nil}
+use Rattle.std.proofs.Common.{◌≡◌, ◌∙◌, Bool, false, List, [], ◌∷◌, ◌++◌, fold, refl, sym, ap, append-nil}
 use Rattle.std.specs.List.{flat_map}
 use Rattle.std.proofs.lemmas.Grind.{flat_map-append}
 use Rattle.build_base.specs.declared.fault.Place.{Place}
 use Rattle.doc_reading.specs.Grammar.{Read, entered, gave}
-use Rattle.fdf_lines.specs.declared.rows.Row.{Row}
-use Rattle.fdf_lines.specs.declared.rows.Scope.{Scope}
-use Rattle.fdf_lines.specs.declared.standing.Marks.{Marks}
-use Rattle.fdf_lines.specs.declared.standing.Open.{Open}
-use Rattle.fdf_lines.specs.declared.standing.Waiting.{Waiting}
-use Rattle.fdf_lines.specs.Standing.{last_mark, marks_in, left_by, open_marks, waiting_marks, pair_marks, unfiled_marks, open_begun, waiting_begun, pair_begun, has_rule, marks_below, marks_begun, marks_with}
+use Rattle.fdf_words.specs.declared.rows.Row.{Row}
+use Rattle.fdf_words.specs.declared.rows.Scope.{Scope}
+use Rattle.fdf_words.specs.declared.marks.Marks.{Marks}
+use Rattle.fdf_words.specs.declared.marks.Open.{Open}
+use Rattle.fdf_words.specs.declared.marks.Waiting.{Waiting}
+use Rattle.fdf_lines.specs.Standing.{last_mark, marks_in, left_by, open_marks, waiting_marks, pair_marks, unfiled_marks, open_begun, waiting_begun, pair_begun, has_rule, has_volume, no_marks, volume_below, marks_below, marks_begun, marks_with}
 
 last_join : {M : Type 0} (mark : M) (xs ys : List M) → last_mark mark (xs ++ ys) ≡ last_mark (last_mark mark xs) ys
 last_join mark [] ys = refl
@@ -72,3 +72,13 @@ marks_more above rows =
     (left_more _ pair_begun pair_marks above rows ∙ sym (pair_fold old rows))
     (left_more _ has_rule unfiled_marks above rows ∙ sym (unfiled_fold old rows))
     ∙ of_fields (fold marks_with old rows)
+
+pub volume_begin : (above : List (Read Scope Row)) (at : Place) (scopes : List Scope) → volume_below (above ++ entered at scopes ∷ []) ≡ has_volume scopes
+volume_begin above at scopes = left_begun false has_volume no_marks above at scopes
+
+no_marks_left : (mark : Bool) (rows : List Row) → last_mark mark (flat_map no_marks rows) ≡ mark
+no_marks_left mark [] = refl
+no_marks_left mark (r ∷ rows) = no_marks_left mark rows
+
+pub volume_more : (above : List (Read Scope Row)) (rows : List Row) → volume_below (above ++ gave rows ∷ []) ≡ volume_below above
+volume_more above rows = left_more false has_volume no_marks above rows ∙ no_marks_left (volume_below above) rows

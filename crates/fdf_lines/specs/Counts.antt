@@ -5,10 +5,10 @@ use Rattle.meta_lexer.specs.Parts.{first_text}
 use Rattle.meta_lexer.specs.declared.head.Head.{Head}
 use Rattle.doc_reading.specs.Blocks.{are_heads}
 use Rattle.doc_reading.specs.Grammar.{Read, entered, gave}
-use Rattle.fdf_lines.specs.declared.rows.Row.{Row}
-use Rattle.fdf_lines.specs.declared.rows.Row.TheVariants as row
-use Rattle.fdf_lines.specs.declared.rows.Scope.{Scope}
-use Rattle.fdf_lines.specs.declared.rows.Scope.TheVariants as scope
+use Rattle.fdf_words.specs.declared.rows.Row.{Row}
+use Rattle.fdf_words.specs.declared.rows.Row.TheVariants as row
+use Rattle.fdf_words.specs.declared.rows.Scope.{Scope}
+use Rattle.fdf_words.specs.declared.rows.Scope.TheVariants as scope
 use Rattle.fdf_lines.specs.declared.section.FlashSection.{FlashSection}
 use Rattle.fdf_lines.specs.declared.section.FlashSection.TheVariants.{Defines, Device, Volume, Rule}
 use Rattle.fdf_lines.specs.Sections.{section_named}

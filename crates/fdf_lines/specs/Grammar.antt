@@ -1,28 +1,29 @@
 -- The lines of a flash description (EDK II FDF specification, section 3), or the first fault of one.
-use Rattle.std.specs.Prelude.{ℕ, ◌+◌, Bool, nat_le, nat_lt, if◌then◌else◌, List, [], ◌∷◌, Option, Some, None, Result, codes, ◌-◌, length, drop}
-use Rattle.build_base.specs.First.{and_then, unless}
+use Rattle.std.specs.Prelude.{ℕ, ◌+◌, Bool, true, false, ◌&&◌, ◌||◌, ◌==◌, nat_le, nat_lt, if◌then◌else◌, List, [], ◌∷◌, length, Option, Some, None, Result, codes}
 use Rattle.build_base.specs.FaultText.{fault_of}
 use Rattle.build_base.specs.declared.fault.Fault.{Fault}
 use Rattle.build_base.specs.declared.lines.Taken.{Taken}
 use Rattle.doc_reading.specs.Grammar.{Grammar, Read, reading}
 use Rattle.doc_reading.specs.Least.{least_of}
 use Rattle.doc_reading.specs.Values.{of_read_line}
-use Rattle.fdf_lines.specs.declared.rows.Row.{Row}
-use Rattle.fdf_lines.specs.declared.rows.Row.TheVariants as row
-use Rattle.fdf_lines.specs.declared.rows.Scope.{Scope}
-use Rattle.fdf_lines.specs.declared.rows.Scope.TheVariants as scope
+use Rattle.fdf_words.specs.declared.rows.Row.{Row}
+use Rattle.fdf_words.specs.declared.rows.Row.TheVariants as row
+use Rattle.fdf_words.specs.declared.rows.Scope.{Scope}
+use Rattle.fdf_words.specs.declared.rows.Scope.TheVariants as scope
 use Rattle.fdf_lines.specs.declared.section.FlashSection.TheVariants as section
-use Rattle.fdf_lines.specs.declared.standing.Marks.{Marks}
-use Rattle.fdf_lines.specs.declared.standing.Open.{Open}
-use Rattle.fdf_lines.specs.declared.standing.Open.TheVariants.{Shut, InApriori, InFile, InRule}
+use Rattle.fdf_words.specs.declared.marks.Marks.{Marks}
+use Rattle.fdf_words.specs.declared.marks.Open.{Open}
+use Rattle.fdf_words.specs.declared.marks.Open.TheVariants.{Shut, InApriori, InFile, InRule}
 use Rattle.fdf_lines.specs.Counts.{heads_above, heads_here, statements_here}
-use Rattle.fdf_lines.specs.DeviceLines.{device_faults, device_row}
-use Rattle.fdf_lines.specs.Keys.{is_set}
+use Rattle.fdf_words.specs.DeviceLines.{device_faults, device_row}
+use Rattle.fdf_words.specs.Keys.{is_set}
 use Rattle.fdf_lines.specs.Rules.{rule_faults, rule_row}
 use Rattle.fdf_lines.specs.Sections.{head_meaning, meaning_faults, meaning_scope}
-use Rattle.fdf_lines.specs.SetLines.{set_faults, set_row}
-use Rattle.fdf_lines.specs.Standing.{marks_below, unfiled_below}
-use Rattle.fdf_lines.specs.VolumeLines.{volume_faults, volume_row}
+use Rattle.fdf_words.specs.SetLines.{set_faults, set_row}
+use Rattle.fdf_lines.specs.Standing.{marks_below, volume_below}
+use Rattle.fdf_volumes.specs.VolumeLines.{volume_faults, volume_row}
+use Rattle.fdf_words.specs.Words.{last_byte, word_of}
+use Rattle.meta_lexer.specs.Words.{same_word}
 
 -- the rank of a value that a line gives to a PCD
 abbrev pub rank_of : Scope → ℕ
@@ -68,8 +69,22 @@ open_fault line InRule = Some (fault_of 247 line.at (codes "{"))
 abbrev pub unfiled_fault : Taken → Bool → Option Fault
 unfiled_fault line unfiled = if unfiled then Some (fault_of 247 line.at (codes "FILE")) else None
 
-abbrev pub left_fault : Taken → Marks → Option Fault
-left_fault line marks = least_of (open_fault line marks.braces ∷ unfiled_fault line marks.unfiled ∷ [])
+-- a statement of a volume that opens braces
+unfoldable pub opens : List ℕ → Bool
+opens text = (same_word (word_of text) (codes "FILE") || same_word (word_of text) (codes "APRIORI")) && (nat_lt 0 (length text) && (last_byte text == 123))
+
+abbrev pub are_shut : Open → Bool
+are_shut Shut = true
+are_shut InApriori = false
+are_shut (InFile filled) = false
+are_shut InRule = false
+
+-- braces that the last line opens, also where it has a fault of its own
+abbrev pub begun_fault : Taken → Marks → Bool → Option Fault
+begun_fault line marks volume = if volume && (are_shut marks.braces && opens line.text) then Some (fault_of 246 line.at (codes "{")) else None
+
+abbrev pub left_fault : Taken → Marks → Bool → Option Fault
+left_fault line marks volume = least_of (open_fault line marks.braces ∷ begun_fault line marks volume ∷ unfiled_fault line marks.unfiled ∷ [])
 
 -- with the heads above and those of this line
 abbrev pub heads_fault : Taken → Marks → ℕ → ℕ → ℕ → Option Fault
@@ -88,17 +103,9 @@ flash_grammar =
           (heads_above section.Device above + heads_here section.Device heads)
           (heads_above section.Volume above + heads_here section.Volume heads)
           (heads_above section.Rule above + heads_here section.Rule heads);
-      left_open = λ above line. left_fault line (marks_below above);
+      left_open = λ above line. left_fault line (marks_below above) (volume_below above);
     }
-
--- a rule whose head is the last line has no file
-abbrev pub end_fault : Bool → List Taken → Option Fault
-end_fault unfiled [] = None
-end_fault unfiled (line ∷ lines) = unfiled_fault line unfiled
-
-abbrev pub filed : List Taken → List (Read Scope Row) → Result (List (Read Scope Row)) Fault
-filed lines reads = unless (end_fault (unfiled_below reads) (drop (length lines - 1) lines)) reads
 
 -- what the lines of a flash description come to, or the fault of the first that has one
 unfoldable pub rows_of_flash : List Taken → Result (List (Read Scope Row)) Fault
-rows_of_flash lines = and_then (reading flash_grammar lines) (filed lines)
+rows_of_flash lines = reading flash_grammar lines

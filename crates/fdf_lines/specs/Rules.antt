@@ -14,21 +14,21 @@ use Rattle.doc_types.specs.declared.volume.Align.{Align}
 use Rattle.doc_types.specs.declared.volume.Align.TheVariants.{Unset, Auto, Bytes}
 use Rattle.doc_types.specs.declared.volume.SectionSource.{SectionSource}
 use Rattle.doc_types.specs.declared.volume.SectionSource.TheVariants.{Template, Words, Refused}
-use Rattle.fdf_lines.specs.declared.rows.Row.{Row}
-use Rattle.fdf_lines.specs.declared.rows.Row.TheVariants as row
+use Rattle.fdf_words.specs.declared.rows.Row.{Row}
+use Rattle.fdf_words.specs.declared.rows.Row.TheVariants as row
 use Rattle.fdf_lines.specs.declared.rule_options.RuleOption.{RuleOption}
 use Rattle.fdf_lines.specs.declared.rule_options.RuleOption.TheVariants as option
 use Rattle.fdf_lines.specs.declared.rule_options.RuleOptions.{RuleOptions}
 use Rattle.fdf_lines.specs.declared.rule_line.RuleKind.{RuleKind}
 use Rattle.fdf_lines.specs.declared.rule_line.RuleKind.TheVariants as kind_
-use Rattle.fdf_lines.specs.declared.standing.Marks.{Marks}
-use Rattle.fdf_lines.specs.declared.standing.Open.{Open}
-use Rattle.fdf_lines.specs.declared.standing.Open.TheVariants.{InRule}
-use Rattle.fdf_lines.specs.declared.words.Options.{Options}
-use Rattle.fdf_lines.specs.InfLines.{quoted_front}
-use Rattle.fdf_lines.specs.Numbers.{bad_line}
-use Rattle.fdf_lines.specs.Statements.{file_parts, head_with}
-use Rattle.fdf_lines.specs.Words.{is_close, word_of, after_word, after_equals, alignment_of}
+use Rattle.fdf_words.specs.declared.marks.Marks.{Marks}
+use Rattle.fdf_words.specs.declared.marks.Open.{Open}
+use Rattle.fdf_words.specs.declared.marks.Open.TheVariants.{InRule}
+use Rattle.fdf_words.specs.declared.words.Options.{Options}
+use Rattle.fdf_volumes.specs.InfLines.{quoted_front}
+use Rattle.fdf_words.specs.Numbers.{bad_line}
+use Rattle.fdf_volumes.specs.Statements.{file_parts, head_with}
+use Rattle.fdf_words.specs.Words.{is_close, word_of, after_word, after_equals, alignment_of}
 
 -- the names that are filled in when the rule is used
 abbrev pub rule_names : List (List ℕ)

@@ -2,18 +2,18 @@
 use Rattle.std.specs.Prelude.{Bool, true, false, List, [], ◌∷◌}
 use Rattle.std.specs.List.{flat_map, list_any}
 use Rattle.doc_reading.specs.Grammar.{Read, entered, gave}
-use Rattle.fdf_lines.specs.declared.rows.Row.{Row}
-use Rattle.fdf_lines.specs.declared.rows.Row.TheVariants as row
-use Rattle.fdf_lines.specs.declared.rows.Scope.{Scope}
-use Rattle.fdf_lines.specs.declared.rows.Scope.TheVariants as scope
-use Rattle.fdf_lines.specs.declared.rows.DeviceKey as key_type
-use Rattle.fdf_lines.specs.declared.rows.DeviceKey.TheVariants as key
-use Rattle.fdf_lines.specs.declared.standing.Body.TheVariants.{Nothing, Sections, Whole}
-use Rattle.fdf_lines.specs.declared.standing.Marks.{Marks}
-use Rattle.fdf_lines.specs.declared.standing.Open.{Open}
-use Rattle.fdf_lines.specs.declared.standing.Open.TheVariants.{Shut, InApriori, InFile, InRule}
-use Rattle.fdf_lines.specs.declared.standing.Waiting.{Waiting}
-use Rattle.fdf_lines.specs.declared.standing.Waiting.TheVariants.{NoRegion, Started, Named}
+use Rattle.fdf_words.specs.declared.rows.Row.{Row}
+use Rattle.fdf_words.specs.declared.rows.Row.TheVariants as row
+use Rattle.fdf_words.specs.declared.rows.Scope.{Scope}
+use Rattle.fdf_words.specs.declared.rows.Scope.TheVariants as scope
+use Rattle.fdf_words.specs.declared.rows.DeviceKey as key_type
+use Rattle.fdf_words.specs.declared.rows.DeviceKey.TheVariants as key
+use Rattle.fdf_words.specs.declared.marks.Body.TheVariants.{Nothing, Sections, Whole}
+use Rattle.fdf_words.specs.declared.marks.Marks.{Marks}
+use Rattle.fdf_words.specs.declared.marks.Open.{Open}
+use Rattle.fdf_words.specs.declared.marks.Open.TheVariants.{Shut, InApriori, InFile, InRule}
+use Rattle.fdf_words.specs.declared.marks.Waiting.{Waiting}
+use Rattle.fdf_words.specs.declared.marks.Waiting.TheVariants.{NoRegion, Started, Named}
 
 -- of some marks the last
 abbrev pub last_mark : {M : Type 0} → M → List M → M
@@ -92,6 +92,22 @@ has_rule scopes = list_any is_rule scopes
 
 abbrev pub unfiled_below : List (Read Scope Row) → Bool
 unfiled_below reads = left_by false has_rule unfiled_marks reads
+
+abbrev pub is_volume : Scope → Bool
+is_volume (scope.Volume name) = true
+is_volume scope.Settings = false
+is_volume (scope.Device name) = false
+is_volume (scope.Rule rule) = false
+
+abbrev pub has_volume : List Scope → Bool
+has_volume scopes = list_any is_volume scopes
+
+abbrev pub no_marks : Row → List Bool
+no_marks r = []
+
+-- whether the last heads begin a volume
+abbrev pub volume_below : List (Read Scope Row) → Bool
+volume_below reads = left_by false has_volume no_marks reads
 
 -- all of these
 abbrev pub marks_below : List (Read Scope Row) → Marks

@@ -2,8 +2,8 @@
 ghost use Rattle.std.specs.Prelude.{◌≡◌};
 ghost use Rattle.fdf_lines.specs.Counts.{count_of, saturated, one_if, same_section, section_of, one_scope, is_named, one_head, is_statement, begins_statement};
 
-use crate::rows::{Row, Scope};
 use crate::section::{FlashSection, section_named};
+use fdf_words::rows::{Row, Scope};
 use meta_lexer::head::Head;
 use meta_lexer::parts::first_text;
 

@@ -1,37 +1,43 @@
 //! The format of a flash description, and what its lines come to.
-ghost use Rattle.std.specs.Prelude.{◌≡◌, ◌+◌, IfOk, OnOk, length, [], ◌∷◌, ◌++◌};
+ghost use Rattle.std.specs.Prelude.{◌≡◌, ◌+◌, ◌&&◌, ◌==◌, nat_lt, IfOk, OnOk, length, [], ◌∷◌, ◌++◌};
 ghost use Rattle.build_base.specs.Answer.{Answers, AnswersAs, Checks};
 ghost use Rattle.doc_reading.specs.Gathering.{judged};
 ghost use Rattle.fdf_lines.specs.Counts.{saturated, heads_here, count_of, one_scope};
-ghost use Rattle.fdf_lines.specs.Grammar.{rank_of, scope_faults, scope_row, line_faults, line_row, is_full, many_fault, open_fault, unfiled_fault, left_fault, heads_fault, end_fault, rows_of_flash};
+ghost use Rattle.fdf_lines.specs.Grammar.{rank_of, scope_faults, scope_row, line_faults, line_row, is_full, many_fault, open_fault, opens, are_shut, begun_fault, unfiled_fault, left_fault, heads_fault, rows_of_flash};
+ghost use Rattle.fdf_lines.specs.Limits.{WithinLimits};
 ghost use Rattle.fdf_lines.specs.Reads.{reads_as};
+ghost use Rattle.fdf_words.specs.Words.{last_byte};
 
 use crate::counts::{heads_of, scopes_of, statements_of};
-use crate::device_line::device_line;
-use crate::keys::is_set;
-use crate::rows::{LineRead, Row, Scope};
 use crate::rule_line::rule_line;
 use crate::section::{FlashSection, enter};
-use crate::set_line::set_line;
-use crate::standing::{Marks, Open, Waiting, marks_after, marks_begun};
-use crate::volume_line::volume_line;
+use crate::standing::{has_volume, marks_after, marks_begun};
 use build_base::{Lines, Place, Refusal, Rows, Same, Taken, WantOfMemory, refuse};
-use doc_reading::least_check::{least_of_five, least_of_two};
+use doc_reading::least_check::{least_of_five, least_of_three};
 use doc_reading::value_fields::open_quote;
 use doc_reading::{Format, read_document};
+use fdf_volumes::volume_line::volume_line;
+use fdf_words::device_line::device_line;
+use fdf_words::keys::is_set;
+use fdf_words::marks::{Marks, Open, Waiting};
+use fdf_words::rows::{LineRead, Row, Scope};
+use fdf_words::set_line::set_line;
+use fdf_words::words::first_word;
 use meta_lexer::head::Head;
+use meta_lexer::words::same_word;
 use std::alloc::Global;
 
 /// How many devices, volumes and rules there may be, and statements of a volume.
 const LIMIT: u64 = 65535;
 
-/// What is kept of the lines above: what they came to, what they left open, how many statements the last volumes
-/// have, and how many devices, volumes and rules there are.
+/// What is kept of the lines above: what they came to, what they left open, whether the last heads begin a volume, how
+/// many statements it has, and how many devices, volumes and rules there are.
 #[derive(Drop)]
 pub struct FlashLines {
     pub alloc: Global,
     pub reads: Rows<LineRead>,
     pub marks: Marks,
+    pub volume: bool,
     pub statements: u64,
     pub devices: u64,
     pub volumes: u64,
@@ -125,11 +131,45 @@ fn check_filed(alloc: Global, line: &Taken, unfiled: bool) -> Result<(), Refusal
     Ok(())
 }
 
-fn check_left(alloc: Global, line: &Taken, marks: Marks) -> Result<(), Refusal>
-    ensures { Checks result (left_fault line.now marks) }
+fn ends_with_brace(text: &[u8]) -> bool
+    ensures { result ≡ (nat_lt 0 (length text.now) && (last_byte text.now == 123)) }
 {
-    least_of_two(
+    !text.is_empty() && text[text.len() - 1] == b'{'
+}
+
+#[tactic(auto, unfolding(crate::specs::Grammar::opens))]
+fn opens(text: &[u8]) -> bool
+    ensures { result ≡ opens text.now }
+{
+    let (word, _) = first_word(text);
+    (same_word(word, b"FILE".as_slice()) || same_word(word, b"APRIORI".as_slice()))
+        && ends_with_brace(text)
+}
+
+fn are_shut(braces: Open) -> bool
+    ensures { result ≡ are_shut braces }
+{
+    match braces {
+        Open::Shut => true,
+        Open::InApriori | Open::InFile(_) | Open::InRule => false,
+    }
+}
+
+fn check_begun(alloc: Global, line: &Taken, marks: Marks, volume: bool) -> Result<(), Refusal>
+    ensures { Checks result (begun_fault line.now marks volume) }
+{
+    if volume && are_shut(marks.braces) && opens(line.text.bytes()) {
+        return Err(refuse(alloc, 246, &line.at, b"{".as_slice()));
+    }
+    Ok(())
+}
+
+fn check_left(alloc: Global, line: &Taken, marks: Marks, volume: bool) -> Result<(), Refusal>
+    ensures { Checks result (left_fault line.now marks volume) }
+{
+    least_of_three(
         check_braces(alloc, line, marks.braces),
+        check_begun(alloc, line, marks, volume),
         check_filed(alloc, line, marks.unfiled),
     )
 }
@@ -151,16 +191,6 @@ fn check_counts(
         check_many(alloc, line, volumes),
         check_many(alloc, line, rules),
     )
-}
-
-// Refuses a rule whose head is the last line.
-fn check_end(alloc: Global, end: &[Taken], unfiled: bool) -> Result<(), Refusal>
-    ensures { Checks result (end_fault unfiled end.now) }
-{
-    match end {
-        [line, ..] => check_filed(alloc, line, unfiled),
-        [] => Ok(()),
-    }
 }
 
 fn copied_scopes(alloc: Global, scopes: &[Scope]) -> Result<Rows<Scope>, WantOfMemory>
@@ -188,8 +218,8 @@ fn with_scopes(above: u64, section: FlashSection, scopes: &[Scope]) -> u64
 impl Format for FlashLines {
     ghost use Rattle.fdf_lines.specs.Grammar.{flash_grammar};
     ghost use Rattle.fdf_lines.specs.Holding.{Holds};
-    ghost use Rattle.fdf_lines.specs.declared.rows.Row.{Row};
-    ghost use Rattle.fdf_lines.specs.declared.rows.Scope.{Scope};
+    ghost use Rattle.fdf_words.specs.declared.rows.Row.{Row};
+    ghost use Rattle.fdf_words.specs.declared.rows.Scope.{Scope};
     ghost use Rattle.doc_reading.specs.Grammar.{Read, gave};
     ghost use Rattle.std.specs.Prelude.{List, ◌++◌};
 
@@ -231,7 +261,7 @@ impl Format for FlashLines {
     }
 
     fn check_open(&self, line: &Taken) -> Result<(), Refusal> {
-        check_left(self.alloc, line, self.marks)
+        check_left(self.alloc, line, self.marks, self.volume)
     }
 
     fn begin(&mut self, at: &Place, scopes: &[Scope]) -> Result<(), WantOfMemory> {
@@ -241,6 +271,7 @@ impl Format for FlashLines {
         };
         self.reads.push(heads)?;
         self.marks = marks_begun(scopes);
+        self.volume = has_volume(scopes);
         self.statements = 0;
         self.devices = with_scopes(self.devices, FlashSection::Device, scopes);
         self.volumes = with_scopes(self.volumes, FlashSection::Volume, scopes);
@@ -260,10 +291,12 @@ impl Format for FlashLines {
     }
 }
 
-/// What the lines of a flash description come to, or the fault of the first line that has one.
-#[tactic(auto, unfolding(crate::specs::Grammar::rows_of_flash))]
+/// What the lines of a flash description come to, or the fault of the first line that has one. There are at most
+/// 65,535 devices, volumes and rules, and as many statements below each line of heads.
+#[tactic(auto, unfolding(crate::specs::Grammar::rows_of_flash), using(crate::proofs::LimitLemmas::within_held))]
 pub fn read_rows(alloc: Global, lines: &Lines) -> Result<Rows<LineRead>, Refusal>
-    ensures { AnswersAs reads_as result (rows_of_flash lines.now.rows) }
+    ensures rows { AnswersAs reads_as result (rows_of_flash lines.now.rows) }
+    ensures limits { IfOk result (λ rows. WithinLimits (reads_as rows)) }
 {
     let format = FlashLines {
         alloc,
@@ -274,14 +307,12 @@ pub fn read_rows(alloc: Global, lines: &Lines) -> Result<Rows<LineRead>, Refusal
             pair: false,
             unfiled: false,
         },
+        volume: false,
         statements: 0,
         devices: 0,
         volumes: 0,
         rules: 0,
     };
-    let taken = lines.rows.items();
-    let format = read_document(alloc, format, taken)?;
-    let end = taken.len().saturating_sub(1);
-    check_end(alloc, &taken[end..], format.marks.unfiled)?;
+    let format = read_document(alloc, format, lines.rows.items())?;
     Ok(format.reads)
 }

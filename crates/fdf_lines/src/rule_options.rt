@@ -1,11 +1,11 @@
 //! The options of a rule's sections.
 ghost use Rattle.std.specs.Prelude.{◌≡◌};
 ghost use Rattle.std.specs.Option.{option_map};
-ghost use Rattle.fdf_lines.specs.Words.{after_word, after_equals};
+ghost use Rattle.fdf_words.specs.Words.{after_word, after_equals};
 ghost use Rattle.fdf_lines.specs.Rules.{rule_option, rule_align, within_word, build_number, with_optional, with_rule_align, put_number, with_number, with_rule_option, next_rule, rule_parts};
 
-use crate::words::{after_equals, alignment_of, first_word};
 use doc_types::volume::Align;
+use fdf_words::words::{after_equals, alignment_of, first_word};
 use meta_lexer::lookup;
 use meta_lexer::numbers::number;
 use meta_lexer::words::same_word;

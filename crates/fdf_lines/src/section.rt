@@ -5,10 +5,10 @@ ghost use Rattle.build_base.specs.Answer.{Answers};
 ghost use Rattle.doc_reading.specs.Gathering.{judged};
 ghost use Rattle.fdf_lines.specs.Sections.{section_named, is_name_byte, is_image_name, plain_meaning, device_meaning, volume_meaning, rule_scope, rule_meaning, meaning_of, head_meaning, meaning_faults, meaning_scope};
 
-use crate::rows::{RuleScope, Scope};
 use build_base::{Refusal, Taken, Text, WantOfMemory, refuse};
 use doc_types::arch::{Arch, arch_named};
 use doc_types::module_type::{ModuleType, module_type_named};
+use fdf_words::rows::{RuleScope, Scope};
 use meta_lexer::head::Head;
 use meta_lexer::lookup;
 use meta_lexer::parts::first_text;

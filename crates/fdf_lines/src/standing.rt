@@ -1,44 +1,10 @@
 //! What stands open below some lines.
 ghost use Rattle.std.specs.Prelude.{◌≡◌, fold};
 ghost use Rattle.std.specs.List.{list_any};
-ghost use Rattle.fdf_lines.specs.Standing.{last_mark, open_marks, waiting_marks, key_marks, pair_marks, unfiled_marks, is_rule, has_rule, marks_with, marks_begun};
+ghost use Rattle.fdf_lines.specs.Standing.{last_mark, open_marks, waiting_marks, key_marks, pair_marks, unfiled_marks, is_rule, has_rule, is_volume, has_volume, marks_with, marks_begun};
 
-use crate::rows::{DeviceKey, DeviceNumber, Row, Scope};
-
-/// What the body of a file has so far: nothing, sections, or the path of the whole.
-#[derive(Clone, Copy, Debug, PartialEq, Eq)]
-pub enum Body {
-    Nothing,
-    Sections,
-    Whole,
-}
-
-/// Which braces are open.
-#[derive(Clone, Copy, Debug, PartialEq, Eq)]
-pub enum Open {
-    Shut,
-    InApriori,
-    InFile(Body),
-    InRule,
-}
-
-/// Whether a region waits for what fills it: none, one without its PCDs, or one with them.
-#[derive(Clone, Copy, Debug, PartialEq, Eq)]
-pub enum Waiting {
-    NoRegion,
-    Started,
-    Named,
-}
-
-/// What the lines above leave: open braces, a region, whether a device's BlockSize waits for its NumBlocks and
-/// a rule for its file.
-#[derive(Clone, Copy, Debug, PartialEq, Eq)]
-pub struct Marks {
-    pub braces: Open,
-    pub waiting: Waiting,
-    pub pair: bool,
-    pub unfiled: bool,
-}
+use fdf_words::marks::{Body, Marks, Open, Waiting};
+use fdf_words::rows::{DeviceKey, DeviceNumber, Row, Scope};
 
 fn open_with(braces: Open, row: &Row) -> Open
     ensures { result ≡ last_mark braces (open_marks row.now) }
@@ -128,6 +94,22 @@ fn has_rule(scopes: &[Scope]) -> bool
     ensures { result ≡ has_rule scopes.now }
 {
     scopes.iter().any(|scope| is_rule(scope))
+}
+
+fn is_volume(scope: &Scope) -> bool
+    ensures { result ≡ is_volume scope.now }
+{
+    match scope {
+        Scope::Volume(_) => true,
+        Scope::Settings | Scope::Device(_) | Scope::Rule(_) => false,
+    }
+}
+
+/// Whether heads that enter these scopes begin a volume.
+pub fn has_volume(scopes: &[Scope]) -> bool
+    ensures { result ≡ has_volume scopes.now }
+{
+    scopes.iter().any(|scope| is_volume(scope))
 }
 
 /// What heads leave that enter these scopes.

@@ -11,3 +11,4 @@ pub mod CarryLemmas
 pub mod NestLemmas
 pub mod RowLemmas
 pub mod NestedLemmas
+pub mod CountLemmas

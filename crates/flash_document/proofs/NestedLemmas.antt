@@ -14,12 +14,12 @@ use Rattle.std.proofs.lemmas.Option.{slice_get_cases, slice_get-map, unwrap_or-s
 use Rattle.build_base.specs.declared.fault.Fault.{Fault}
 use Rattle.build_base.specs.declared.fault.Place.{Place}
 use Rattle.doc_types.specs.declared.volume.VolumePlan.{VolumePlan}
-use Rattle.fdf_lines.specs.declared.rows.Row.{Row}
-use Rattle.fdf_lines.specs.declared.rows.Row.TheVariants as row
-use Rattle.fdf_lines.specs.declared.rows.Scope.{Scope}
-use Rattle.fdf_lines.specs.declared.rows.SectionBody.{SectionBody}
-use Rattle.fdf_lines.specs.declared.rows.SectionBody.TheVariants as body
-use Rattle.fdf_lines.specs.declared.rows.SectionLine.{SectionLine}
+use Rattle.fdf_words.specs.declared.rows.Row.{Row}
+use Rattle.fdf_words.specs.declared.rows.Row.TheVariants as row
+use Rattle.fdf_words.specs.declared.rows.Scope.{Scope}
+use Rattle.fdf_words.specs.declared.rows.SectionBody.{SectionBody}
+use Rattle.fdf_words.specs.declared.rows.SectionBody.TheVariants as body
+use Rattle.fdf_words.specs.declared.rows.SectionLine.{SectionLine}
 use Rattle.flash_document.specs.Document.{body_source, section_plan, file_plan, item_plan, polarity_of, erase_flag, exponent, attributes_of, head_plan, volume_plan, plan_at}
 use Rattle.flash_document.specs.Names.{folded, place_from, place_of}
 use Rattle.flash_document.specs.Numbering.{has, nest_of, all_among}

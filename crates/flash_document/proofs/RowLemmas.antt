@@ -5,7 +5,7 @@ use Rattle.std.specs.List.{All, list_all, flat_map}
 use Rattle.std.specs.Option.{IfSome, option_map}
 use Rattle.std.proofs.lemmas.Bool.{cases_Bool, and_parts, not-true}
 use Rattle.std.proofs.lemmas.List.Elements.{All-nil, All-cons, All-append, All-push, All-head, All-tail}
-use Rattle.build_base.specs.First.{unless, and_then}
+use Rattle.build_base.specs.First.{unless}
 use Rattle.build_base.specs.Guid.{guid_of}
 use Rattle.build_base.specs.Path.{path_field}
 use Rattle.build_base.specs.declared.fault.Fault.{Fault}
@@ -16,7 +16,7 @@ use Rattle.meta_lexer.specs.Lookup.{lookup}
 use Rattle.meta_lexer.specs.Words.{same_word}
 use Rattle.meta_lexer.specs.declared.head.Head.{Head}
 use Rattle.doc_reading.specs.Gathering.{given_in, gathered, least_in, judged}
-use Rattle.doc_reading.specs.Grammar.{Grammar, Read, entered, gave, entry_of, outcome_of, heads_entered, rows_given, body_given, entry_read, body_read, form_read, more_read, read_of, scopes_above, reading}
+use Rattle.doc_reading.specs.Grammar.{Grammar, Read, entered, gave, entry_of, outcome_of, heads_entered, rows_given, body_given, entry_read, body_read, form_read, more_read, read_of, scopes_above}
 use Rattle.doc_reading.specs.Least.{least_of}
 use Rattle.doc_reading.specs.declared.form.LineForm.{LineForm}
 use Rattle.doc_reading.specs.declared.form.LineForm.TheVariants as form
@@ -25,33 +25,33 @@ use Rattle.doc_types.specs.declared.pcd.PcdName.{PcdName}
 use Rattle.doc_types.specs.declared.volume.Align.{Align}
 use Rattle.doc_types.specs.declared.volume.InfLine.{InfLine}
 use Rattle.doc_types.specs.declared.volume.SectionSource.TheVariants.{Template, Words, Refused}
-use Rattle.fdf_lines.specs.Bodies.{path_row, words_row, guid_row, value_row, equals_row, named_row, kind_row, aligned_row, section_row, section_words, section_word, named_value, some_text, whole_row, words_in_quotes, maybe_align}
-use Rattle.fdf_lines.specs.DeviceLines as device
-use Rattle.fdf_lines.specs.Grammar.{flash_grammar, line_row, scope_row, rank_of, rows_of_flash, filed}
-use Rattle.fdf_lines.specs.Keys.{key_pair, is_set, device_word, volume_word}
+use Rattle.fdf_volumes.specs.Bodies.{path_row, words_row, guid_row, value_row, equals_row, named_row, kind_row, aligned_row, section_row, section_words, section_word, named_value, some_text, whole_row, words_in_quotes, maybe_align}
+use Rattle.fdf_words.specs.DeviceLines as device
+use Rattle.fdf_lines.specs.Grammar.{flash_grammar, line_row, scope_row, rank_of, rows_of_flash}
+use Rattle.fdf_words.specs.Keys.{key_pair, is_set, device_word, volume_word}
 use Rattle.fdf_lines.specs.Rules as rule
 use Rattle.fdf_lines.specs.Sections.{is_image_name, head_meaning, parts_meaning, meaning_of, meaning_scope, plain_meaning, device_meaning, volume_meaning, rule_meaning, rule_scope, section_named}
-use Rattle.fdf_lines.specs.SetLines.{made_set, halves_row, set_row}
+use Rattle.fdf_words.specs.SetLines.{made_set, halves_row, set_row}
 use Rattle.fdf_lines.specs.Standing.{marks_below}
-use Rattle.fdf_lines.specs.Statements.{named_file, parts_row, file_row, named_member, member_of, member_name, member_row, made_apriori, apriori_named, apriori_row, file_parts}
-use Rattle.fdf_lines.specs.VolumeKeys as volume
-use Rattle.fdf_lines.specs.VolumeLines as lines
-use Rattle.fdf_lines.specs.declared.rows.Row.{Row}
-use Rattle.fdf_lines.specs.declared.rows.Row.TheVariants as row
-use Rattle.fdf_lines.specs.declared.rows.Scope.{Scope}
-use Rattle.fdf_lines.specs.declared.rows.Scope.TheVariants as scope
-use Rattle.fdf_lines.specs.InfLines.{inf_of}
-use Rattle.fdf_lines.specs.Words.{is_close, word_of, after_word}
-use Rattle.fdf_lines.specs.declared.body.SectionWord.{SectionWord}
-use Rattle.fdf_lines.specs.declared.body.SectionWord.TheVariants as section
-use Rattle.fdf_lines.specs.declared.keys.DeviceWord.{DeviceWord}
-use Rattle.fdf_lines.specs.declared.keys.DeviceWord.TheVariants as device_word_
-use Rattle.fdf_lines.specs.declared.keys.VolumeWord.{VolumeWord}
-use Rattle.fdf_lines.specs.declared.keys.VolumeWord.TheVariants as volume_word_
-use Rattle.fdf_lines.specs.declared.number.Numbered.{Numbered}
-use Rattle.fdf_lines.specs.declared.rows.DeviceKey.{DeviceKey}
-use Rattle.fdf_lines.specs.declared.rows.VolumeKey.{VolumeKey}
-use Rattle.fdf_lines.specs.declared.rows.VolumeKey.TheVariants as volume_key
+use Rattle.fdf_volumes.specs.Statements.{named_file, parts_row, file_row, named_member, member_of, member_name, member_row, made_apriori, apriori_named, apriori_row, file_parts}
+use Rattle.fdf_volumes.specs.VolumeKeys as volume
+use Rattle.fdf_volumes.specs.VolumeLines as lines
+use Rattle.fdf_words.specs.declared.rows.Row.{Row}
+use Rattle.fdf_words.specs.declared.rows.Row.TheVariants as row
+use Rattle.fdf_words.specs.declared.rows.Scope.{Scope}
+use Rattle.fdf_words.specs.declared.rows.Scope.TheVariants as scope
+use Rattle.fdf_volumes.specs.InfLines.{inf_of}
+use Rattle.fdf_words.specs.Words.{is_close, word_of, after_word}
+use Rattle.fdf_volumes.specs.declared.body.SectionWord.{SectionWord}
+use Rattle.fdf_volumes.specs.declared.body.SectionWord.TheVariants as section
+use Rattle.fdf_words.specs.declared.keys.DeviceWord.{DeviceWord}
+use Rattle.fdf_words.specs.declared.keys.DeviceWord.TheVariants as device_word_
+use Rattle.fdf_words.specs.declared.keys.VolumeWord.{VolumeWord}
+use Rattle.fdf_words.specs.declared.keys.VolumeWord.TheVariants as volume_word_
+use Rattle.fdf_words.specs.declared.number.Numbered.{Numbered}
+use Rattle.fdf_words.specs.declared.rows.DeviceKey.{DeviceKey}
+use Rattle.fdf_words.specs.declared.rows.VolumeKey.{VolumeKey}
+use Rattle.fdf_words.specs.declared.rows.VolumeKey.TheVariants as volume_key
 use Rattle.fdf_lines.specs.declared.rule_line.RuleKind.{RuleKind}
 use Rattle.fdf_lines.specs.declared.rule_line.RuleKind.TheVariants as rule_kind_
 use Rattle.fdf_lines.specs.declared.rule_options.RuleOptions.{RuleOptions}
@@ -59,12 +59,12 @@ use Rattle.fdf_lines.specs.declared.section.HeadMeaning.{HeadMeaning}
 use Rattle.fdf_lines.specs.declared.section.HeadMeaning.TheVariants as meaning
 use Rattle.fdf_lines.specs.declared.section.FlashSection.{FlashSection}
 use Rattle.fdf_lines.specs.declared.section.FlashSection.TheVariants as flash_section
-use Rattle.fdf_lines.specs.declared.standing.Marks.{Marks}
-use Rattle.fdf_lines.specs.declared.standing.Open.{Open}
-use Rattle.fdf_lines.specs.declared.standing.Open.TheVariants as braces_
-use Rattle.fdf_lines.specs.declared.volume_line.Statement.{Statement}
-use Rattle.fdf_lines.specs.declared.volume_line.Statement.TheVariants as statement
-use Rattle.fdf_lines.specs.declared.words.Options.{Options}
+use Rattle.fdf_words.specs.declared.marks.Marks.{Marks}
+use Rattle.fdf_words.specs.declared.marks.Open.{Open}
+use Rattle.fdf_words.specs.declared.marks.Open.TheVariants as braces_
+use Rattle.fdf_volumes.specs.declared.volume_line.Statement.{Statement}
+use Rattle.fdf_volumes.specs.declared.volume_line.Statement.TheVariants as statement
+use Rattle.fdf_words.specs.declared.words.Options.{Options}
 use Rattle.doc_types.specs.declared.arch.Arch.{Arch}
 use Rattle.doc_types.specs.declared.module_type.ModuleType.{ModuleType}
 use Rattle.flash_document.specs.Flash.{line_of}
@@ -545,13 +545,9 @@ unless_fits : (fault : Option Fault) (reads : List (Read Scope Row)) → All Rea
 unless_fits None reads all = all
 unless_fits (Some fault) reads all = tt
 
-then_fits : (r : Result (List (Read Scope Row)) Fault) (taken : List Taken) → IfOk r (All ReadFits) → IfOk (and_then r (filed taken)) (All ReadFits)
-then_fits (Ok reads) taken all = unless_fits _ reads all
-then_fits (Err fault) taken all = tt
-
 pub rows_fit : (taken : List Taken) → IfOk (rows_of_flash taken) (All ReadFits)
 unfolding rows_of_flash
-rows_fit taken = then_fits (reading flash_grammar taken) taken (unless_fits _ (read_of flash_grammar taken) (all_read taken [] (All-nil ReadFits)))
+rows_fit taken = unless_fits _ (read_of flash_grammar taken) (all_read taken [] (All-nil ReadFits))
 
 pub lines_fit : (reads : List (Read Scope Row)) → All ReadFits reads → All (LineHas RowFits ScopeFits) (map line_of reads)
 lines_fit [] all = All-nil (LineHas RowFits ScopeFits)

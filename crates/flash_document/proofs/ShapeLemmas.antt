@@ -21,10 +21,12 @@ use Rattle.doc_types.specs.declared.flash.RegionKind.{RegionKind}
 use Rattle.doc_types.specs.declared.volume.VolumePlan.{VolumePlan}
 use Rattle.doc_types.specs.Volumes.{SizeFits}
 use Rattle.fdf_lines.specs.Grammar.{rows_of_flash}
-use Rattle.fdf_lines.specs.declared.rows.LineRead.{LineRead}
-use Rattle.fdf_lines.specs.declared.rows.RegionContent.{RegionContent}
-use Rattle.fdf_lines.specs.declared.rows.Content.{Content}
-use Rattle.fdf_lines.specs.declared.rows.Content.TheVariants as content
+use Rattle.fdf_lines.specs.Limits.{WithinLimits}
+use Rattle.fdf_lines.specs.declared.section.FlashSection.TheVariants as section
+use Rattle.fdf_words.specs.declared.rows.LineRead.{LineRead}
+use Rattle.fdf_words.specs.declared.rows.RegionContent.{RegionContent}
+use Rattle.fdf_words.specs.declared.rows.Content.{Content}
+use Rattle.fdf_words.specs.declared.rows.Content.TheVariants as content
 use Rattle.flash_document.specs.Devices.{capped}
 use Rattle.flash_document.specs.Document.{numbered, ordered_names, kind_numbered, content_kind, region_kind, region_plan, device_plan, part_device, part_rule, plan_at, volume_plan, head_plan, document_of, flash_of_lines}
 use Rattle.flash_document.specs.Flash.{line_of, flash_of}
@@ -40,13 +42,14 @@ use Rattle.flash_document.specs.declared.stated.Stated.TheVariants.{Settings, De
 use Rattle.flash_document.specs.declared.stated.StatedDevice.{StatedDevice}
 use Rattle.flash_document.specs.declared.stated.StatedRegion.{StatedRegion}
 use Rattle.flash_document.specs.declared.stated.StatedVolume.{StatedVolume}
-use Rattle.fdf_lines.specs.declared.rows.LineRead.TheVariants.{Heads, Body}
-use Rattle.fdf_lines.specs.declared.rows.Row.{Row}
-use Rattle.fdf_lines.specs.declared.rows.Row.TheVariants as row
-use Rattle.fdf_lines.specs.declared.rows.Scope.{Scope}
+use Rattle.fdf_words.specs.declared.rows.LineRead.TheVariants.{Heads, Body}
+use Rattle.fdf_words.specs.declared.rows.Row.{Row}
+use Rattle.fdf_words.specs.declared.rows.Row.TheVariants as row
+use Rattle.fdf_words.specs.declared.rows.Scope.{Scope}
 use Rattle.doc_reading.specs.Grammar.{Read}
 use Rattle.doc_types.specs.declared.volume.SectionPlan.{SectionPlan}
 use Rattle.flash_document.proofs.CarryLemmas.{LineHas, StatedHas, VolumeHas, at_place, all_have, volumes_have}
+use Rattle.flash_document.proofs.CountLemmas.{FewStated, all_count, one_device, volumes_count, one_rule, order_few, plans_few, few_stated, few_plans}
 use Rattle.flash_document.proofs.NestLemmas.{order_ordered}
 use Rattle.flash_document.proofs.NestedLemmas.{passed, plans_nested}
 use Rattle.flash_document.proofs.OrderLemmas.{order_below}
@@ -234,10 +237,34 @@ rules_fit (part ∷ parts) all =
     All-append RuleFits (part_rule part) (flat_map part_rule parts) (rule_fits part (All-head (StatedHas RowFits ScopeFits) part parts all))
     (rules_fit parts (All-tail (StatedHas RowFits ScopeFits) part parts all))
 
-document_shape : (root : List ℕ) (lines : List LineRead) (parts : List Stated) → parts ≡ all_stated lines → All (LineHas RowFits ScopeFits) lines → whole_fault lines parts ≡ None
+-- as many as the lines may state
+record Few (parts : List Stated) : Type 0 where
+  devices : (names : List (List ℕ)) → length (flat_map (part_device names) parts) ≤ 65535
+  volumes : length (volumes_of parts) ≤ 65535
+  rules : length (flat_map part_rule parts) ≤ 65535
+  items : All FewStated (volumes_of parts)
+
+no_more : (a b c : ℕ) → a ≤ b → b ≤ c → a ≤ c
+no_more a b c l m = omega arith
+
+few_lines : (reads : List (Read Scope Row)) → WithinLimits reads → Few (all_stated (map line_of reads))
+few_lines reads limits =
+    record {
+      devices = λ names. no_more _ _ 65535 (all_count (part_device names) section.Device (one_device names) reads) limits.devices;
+      volumes = no_more _ _ 65535 (volumes_count reads) limits.volumes;
+      rules = no_more _ _ 65535 (all_count part_rule section.Rule one_rule reads) limits.rules;
+      items = few_stated reads limits.statements;
+    }
+
+few_numbered : (parts : List Stated) → length (volumes_of parts) ≤ 65535 → length (numbered parts) ≤ 65535
+few_numbered parts l =
+    no_more (length (numbered parts)) (length (nests_of parts)) 65535 (order_few (nests_of parts))
+    (subst (λ n. n ≤ 65535) (sym (length-map (volumes_of parts) (nest_in (names_of parts)))) l)
+
+document_shape : (root : List ℕ) (lines : List LineRead) (parts : List Stated) → parts ≡ all_stated lines → All (LineHas RowFits ScopeFits) lines → Few parts → whole_fault lines parts ≡ None
     → HasShape (document_of root lines parts)
 unfolding whole_fault document_of
-document_shape root lines parts told all h =
+document_shape root lines parts told all few h =
     let regions : List HeldRegion = all_held parts in
     let names : List (List ℕ) = ordered_names parts in
     let a = neither (first_fault part_unstated parts) _ h in
@@ -258,22 +285,27 @@ document_shape root lines parts told all h =
           (volumes_have (λ r. row_unknown (names_of parts) r ≡ None) (λ s. Unit {0}) parts known) [] (numbered parts) refl (order_ordered (nests_of parts)) (numbered_below parts);
       names = all_names names parts stated;
       rules = rules_fit parts stated;
+      device_count = few.devices names;
+      volume_count = no_more _ (length (numbered parts)) 65535 (plans_few names regions (volumes_of parts) (numbered parts)) (few_numbered parts few.volumes);
+      rule_count = few.rules;
+      items = few_plans names regions (volumes_of parts) few.items (numbered parts);
     }
 
 whole_shape : (fault : Option Fault) (doc found : FlashDoc) → (fault ≡ None → HasShape doc) → unless fault doc ≡ Ok found → HasShape found
 whole_shape None doc found shape h = subst (λ r. IfOk r HasShape) h (shape refl)
 whole_shape (Some fault) doc found shape h = absurd cc
 
-lines_shape : (root : List ℕ) (lines : List LineRead) (doc : FlashDoc) → All (LineHas RowFits ScopeFits) lines → flash_of_lines root lines ≡ Ok doc → HasShape doc
+lines_shape : (root : List ℕ) (lines : List LineRead) (doc : FlashDoc) → All (LineHas RowFits ScopeFits) lines → Few (all_stated lines) → flash_of_lines root lines ≡ Ok doc → HasShape doc
 unfolding flash_of_lines
-lines_shape root lines doc all h =
-    whole_shape (whole_fault lines (all_stated lines)) (document_of root lines (all_stated lines)) doc (document_shape root lines (all_stated lines) refl all) h
+lines_shape root lines doc all few h =
+    whole_shape (whole_fault lines (all_stated lines)) (document_of root lines (all_stated lines)) doc (document_shape root lines (all_stated lines) refl all few) h
 
-after_rows : (root : List ℕ) (rows : Result (List (Read Scope Row)) Fault) (doc : FlashDoc) → IfOk rows (All ReadFits) → and_then rows (λ reads. flash_of_lines root (map line_of reads)) ≡ Ok doc → HasShape doc
-after_rows root (Ok reads) doc fit h = lines_shape root (map line_of reads) doc (lines_fit reads fit) h
-after_rows root (Err fault) doc fit h = absurd cc
+after_rows : (root : List ℕ) (rows : Result (List (Read Scope Row)) Fault) (doc : FlashDoc) → IfOk rows (All ReadFits) → IfOk rows WithinLimits
+    → and_then rows (λ reads. flash_of_lines root (map line_of reads)) ≡ Ok doc → HasShape doc
+after_rows root (Ok reads) doc fit limits h = lines_shape root (map line_of reads) doc (lines_fit reads fit) (few_lines reads limits) h
+after_rows root (Err fault) doc fit limits h = absurd cc
 
-pub shape_of : (lines : Lines) (result : Result FlashDoc Refusal) → Answers result (flash_of lines) → IfOk result HasShape
+pub shape_of : (lines : Lines) (result : Result FlashDoc Refusal) → Answers result (flash_of lines) → IfOk result (λ flash. IfOk (rows_of_flash lines.rows) WithinLimits) → IfOk result HasShape
 unfolding flash_of
-shape_of lines (Err refusal) h = tt
-shape_of lines (Ok doc) h = after_rows lines.root (rows_of_flash lines.rows) doc (rows_fit lines.rows) h
+shape_of lines (Err refusal) h limits = tt
+shape_of lines (Ok doc) h limits = after_rows lines.root (rows_of_flash lines.rows) doc (rows_fit lines.rows) limits h

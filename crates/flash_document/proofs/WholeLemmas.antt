@@ -1,6 +1,6 @@
 -- A flash description put together.
 use Rattle.std.proofs.Common.{◌≡◌, ◌∙◌, ℕ, List, [], ◌∷◌, ◌++◌, map, Option, Some, None, refl, sym, ap, subst, Bor}
-use Rattle.std.specs.Prelude.{slice_get, Result, Ok, Err}
+use Rattle.std.specs.Prelude.{slice_get, Result, Ok, Err, IfOk}
 use Rattle.std.specs.List.{flat_map}
 use Rattle.std.specs.Option.{option_map}
 use Rattle.std.proofs.lemmas.Option.{slice_get-map}
@@ -15,10 +15,10 @@ use Rattle.doc_reading.specs.Grammar.{Read}
 use Rattle.doc_types.specs.declared.flash.FlashDoc.{FlashDoc}
 use Rattle.fdf_lines.specs.Grammar.{rows_of_flash}
 use Rattle.fdf_lines.specs.Reads.{read_as, reads_as}
-use Rattle.fdf_lines.specs.declared.rows.LineRead.{LineRead}
-use Rattle.fdf_lines.specs.declared.rows.LineRead.TheVariants.{Heads, Body}
-use Rattle.fdf_lines.specs.declared.rows.Row.{Row}
-use Rattle.fdf_lines.specs.declared.rows.Scope.{Scope}
+use Rattle.fdf_words.specs.declared.rows.LineRead.{LineRead}
+use Rattle.fdf_words.specs.declared.rows.LineRead.TheVariants.{Heads, Body}
+use Rattle.fdf_words.specs.declared.rows.Row.{Row}
+use Rattle.fdf_words.specs.declared.rows.Scope.{Scope}
 use Rattle.flash_document.specs.Document.{plan_at, plan_in, flash_of_lines}
 use Rattle.flash_document.specs.Flash.{line_of, flash_of}
 use Rattle.flash_document.specs.Numbering.{first_loop}
@@ -73,3 +73,8 @@ flash_refused lines fault h = ap (λ r. and_then r (λ rs. flash_of_lines lines.
 pub flash_stopped : (lines : Lines) (refusal : Refusal) → Refused refusal (rows_of_flash lines.rows) → Refused refusal (flash_of lines)
 flash_stopped lines (Bad fault) h = flash_refused lines fault h
 flash_stopped lines WantOfMemory h = tt
+
+-- what holds in any case holds where there is a document
+pub where_ok : {T : Type 0} {P : Type 0} (r : Result T Refusal) → P → IfOk r (λ x. P)
+where_ok (Ok x) p = p
+where_ok (Err refusal) p = tt

@@ -2,13 +2,13 @@
 use Rattle.std.specs.Prelude.{ℕ, ◌+◌, ◌*◌, ◌^◌, ◌-◌, Bool, true, false, min, if◌then◌else◌, List, [], ◌∷◌, ◌++◌, fold, Option, Some, None}
 use Rattle.doc_reading.specs.Reading.{last_of}
 use Rattle.build_base.specs.declared.fault.Place.{Place}
-use Rattle.fdf_lines.specs.declared.rows.LineRead.{LineRead}
-use Rattle.fdf_lines.specs.declared.rows.Row.{Row}
-use Rattle.fdf_lines.specs.declared.rows.Row.TheVariants as row
-use Rattle.fdf_lines.specs.declared.rows.DeviceKey.{DeviceKey}
-use Rattle.fdf_lines.specs.declared.rows.DeviceKey.TheVariants.{BaseAddress, Size, ErasePolarity, BlockSize, NumBlocks}
-use Rattle.fdf_lines.specs.declared.rows.DeviceNumber.{DeviceNumber}
-use Rattle.fdf_lines.specs.declared.rows.RegionContent.{RegionContent}
+use Rattle.fdf_words.specs.declared.rows.LineRead.{LineRead}
+use Rattle.fdf_words.specs.declared.rows.Row.{Row}
+use Rattle.fdf_words.specs.declared.rows.Row.TheVariants as row
+use Rattle.fdf_words.specs.declared.rows.DeviceKey.{DeviceKey}
+use Rattle.fdf_words.specs.declared.rows.DeviceKey.TheVariants.{BaseAddress, Size, ErasePolarity, BlockSize, NumBlocks}
+use Rattle.fdf_words.specs.declared.rows.DeviceNumber.{DeviceNumber}
+use Rattle.fdf_words.specs.declared.rows.RegionContent.{RegionContent}
 use Rattle.build_base.specs.First.{or_else}
 use Rattle.flash_document.specs.declared.device.BlockSum.{BlockSum}
 use Rattle.flash_document.specs.declared.stated.StatedDevice.{StatedDevice}

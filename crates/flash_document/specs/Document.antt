@@ -19,13 +19,13 @@ use Rattle.doc_types.specs.declared.volume.SectionSource.{SectionSource}
 use Rattle.doc_types.specs.declared.volume.SectionSource.TheVariants as source
 use Rattle.doc_types.specs.declared.volume.VolumePlan.{VolumePlan}
 use Rattle.doc_types.specs.declared.volume_head.VolumeHead.{VolumeHead}
-use Rattle.fdf_lines.specs.declared.rows.Content.{Content}
-use Rattle.fdf_lines.specs.declared.rows.Content.TheVariants as content
-use Rattle.fdf_lines.specs.declared.rows.LineRead.{LineRead}
-use Rattle.fdf_lines.specs.declared.rows.RegionContent.{RegionContent}
-use Rattle.fdf_lines.specs.declared.rows.SectionBody.{SectionBody}
-use Rattle.fdf_lines.specs.declared.rows.SectionBody.TheVariants as body
-use Rattle.fdf_lines.specs.declared.rows.SectionLine.{SectionLine}
+use Rattle.fdf_words.specs.declared.rows.Content.{Content}
+use Rattle.fdf_words.specs.declared.rows.Content.TheVariants as content
+use Rattle.fdf_words.specs.declared.rows.LineRead.{LineRead}
+use Rattle.fdf_words.specs.declared.rows.RegionContent.{RegionContent}
+use Rattle.fdf_words.specs.declared.rows.SectionBody.{SectionBody}
+use Rattle.fdf_words.specs.declared.rows.SectionBody.TheVariants as body
+use Rattle.fdf_words.specs.declared.rows.SectionLine.{SectionLine}
 use Rattle.flash_document.specs.declared.held.HeldRegion.{HeldRegion}
 use Rattle.flash_document.specs.declared.held.HeldSizes.{HeldSizes}
 use Rattle.flash_document.specs.declared.stated.Stated.{Stated}

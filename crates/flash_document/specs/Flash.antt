@@ -6,10 +6,10 @@ use Rattle.build_base.specs.declared.lines.Lines.{Lines}
 use Rattle.doc_reading.specs.Grammar.{Read, entered, gave}
 use Rattle.doc_types.specs.declared.flash.FlashDoc.{FlashDoc}
 use Rattle.fdf_lines.specs.Grammar.{rows_of_flash}
-use Rattle.fdf_lines.specs.declared.rows.LineRead.{LineRead}
-use Rattle.fdf_lines.specs.declared.rows.LineRead.TheVariants.{Heads, Body}
-use Rattle.fdf_lines.specs.declared.rows.Row.{Row}
-use Rattle.fdf_lines.specs.declared.rows.Scope.{Scope}
+use Rattle.fdf_words.specs.declared.rows.LineRead.{LineRead}
+use Rattle.fdf_words.specs.declared.rows.LineRead.TheVariants.{Heads, Body}
+use Rattle.fdf_words.specs.declared.rows.Row.{Row}
+use Rattle.fdf_words.specs.declared.rows.Scope.{Scope}
 use Rattle.flash_document.specs.Document.{flash_of_lines}
 
 -- what a line came to

@@ -1,10 +1,10 @@
 -- What the sections of a flash description state, each below each of its heads, in file order (EDK II FDF specification).
 use Rattle.std.specs.Prelude.{ℕ, ◌+◌, List, [], ◌∷◌, ◌++◌}
 use Rattle.build_base.specs.declared.fault.Place.{Place}
-use Rattle.fdf_lines.specs.declared.rows.LineRead.{LineRead}
-use Rattle.fdf_lines.specs.declared.rows.LineRead.TheVariants.{Heads, Body}
-use Rattle.fdf_lines.specs.declared.rows.Scope.{Scope}
-use Rattle.fdf_lines.specs.declared.rows.Scope.TheVariants.{Settings, Device, Volume, Rule}
+use Rattle.fdf_words.specs.declared.rows.LineRead.{LineRead}
+use Rattle.fdf_words.specs.declared.rows.LineRead.TheVariants.{Heads, Body}
+use Rattle.fdf_words.specs.declared.rows.Scope.{Scope}
+use Rattle.fdf_words.specs.declared.rows.Scope.TheVariants.{Settings, Device, Volume, Rule}
 use Rattle.flash_document.specs.declared.stated.Stated.{Stated}
 use Rattle.flash_document.specs.declared.stated.Stated.TheVariants as stated
 use Rattle.flash_document.specs.Devices.{device_of}

@@ -5,15 +5,15 @@ use Rattle.doc_reading.specs.Reading.{last_of}
 use Rattle.build_base.specs.declared.fault.Place.{Place}
 use Rattle.doc_types.specs.declared.pcd.PcdName.{PcdName}
 use Rattle.doc_types.specs.declared.pcd.PcdSet.{PcdSet}
-use Rattle.fdf_lines.specs.declared.rows.LineRead.{LineRead}
-use Rattle.fdf_lines.specs.declared.rows.LineRead.TheVariants.{Heads, Body}
-use Rattle.fdf_lines.specs.declared.rows.Scope.{Scope}
-use Rattle.fdf_lines.specs.declared.rows.Row.{Row}
-use Rattle.fdf_lines.specs.declared.rows.Row.TheVariants as row
-use Rattle.fdf_lines.specs.declared.rows.DeviceKey.{DeviceKey}
-use Rattle.fdf_lines.specs.declared.rows.DeviceKey.TheVariants.{BaseAddress}
-use Rattle.fdf_lines.specs.declared.rows.RegionPcds.{RegionPcds}
-use Rattle.fdf_lines.specs.declared.rows.RegionStart.{RegionStart}
+use Rattle.fdf_words.specs.declared.rows.LineRead.{LineRead}
+use Rattle.fdf_words.specs.declared.rows.LineRead.TheVariants.{Heads, Body}
+use Rattle.fdf_words.specs.declared.rows.Scope.{Scope}
+use Rattle.fdf_words.specs.declared.rows.Row.{Row}
+use Rattle.fdf_words.specs.declared.rows.Row.TheVariants as row
+use Rattle.fdf_words.specs.declared.rows.DeviceKey.{DeviceKey}
+use Rattle.fdf_words.specs.declared.rows.DeviceKey.TheVariants.{BaseAddress}
+use Rattle.fdf_words.specs.declared.rows.RegionPcds.{RegionPcds}
+use Rattle.fdf_words.specs.declared.rows.RegionStart.{RegionStart}
 use Rattle.flash_document.specs.Columns.{row_at, in_row, column}
 use Rattle.flash_document.specs.Devices.{numbers, number_of}
 

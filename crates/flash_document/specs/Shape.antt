@@ -86,9 +86,17 @@ VolumesFit v (plan ∷ plans) = VolumeFits v plan × VolumesFit (v + 1) plans
 abbrev pub RuleFits : RuleDoc → Type 0
 RuleFits rule = FileFits 0 rule.file
 
+-- a volume has no more statements than its section may have
+abbrev pub FewItems : VolumePlan → Type 0
+FewItems plan = length plan.items ≤ 65535
+
 pub record HasShape (flash : FlashDoc) : Type 0 where
   pub volumes : All HeadFits flash.volumes
   pub regions : All (DeviceFits (length flash.volumes)) flash.devices
   pub nested : VolumesFit 0 flash.volumes
   pub names : All NameFits flash.devices
   pub rules : All RuleFits flash.rule_list
+  pub device_count : length flash.devices ≤ 65535
+  pub volume_count : length flash.volumes ≤ 65535
+  pub rule_count : length flash.rule_list ≤ 65535
+  pub items : All FewItems flash.volumes

@@ -6,16 +6,16 @@ use Rattle.build_base.specs.declared.guid.Guid.{Guid}
 use Rattle.doc_types.specs.declared.volume.FilePlan.{FilePlan}
 use Rattle.doc_types.specs.declared.volume.Member.{Member}
 use Rattle.doc_types.specs.declared.volume.SectionPlan.{SectionPlan}
-use Rattle.fdf_lines.specs.declared.rows.LineRead.{LineRead}
-use Rattle.fdf_lines.specs.declared.rows.Row.{Row}
-use Rattle.fdf_lines.specs.declared.rows.Row.TheVariants as row
-use Rattle.fdf_lines.specs.declared.rows.VolumeKey.{VolumeKey}
-use Rattle.fdf_lines.specs.declared.rows.VolumeKey.TheVariants.{BlockSize, NumBlocks, FvBaseAddress, FvAlignment, ErasePolarity}
-use Rattle.fdf_lines.specs.declared.rows.VolumeSetting.{VolumeSetting}
-use Rattle.fdf_lines.specs.declared.rows.VolumeSetting.TheVariants.{Number, Attribute, ForceRebase, NameGuid, FileSystem}
-use Rattle.fdf_lines.specs.declared.rows.FileHead.{FileHead}
-use Rattle.fdf_lines.specs.declared.rows.RuleScope.{RuleScope}
-use Rattle.fdf_lines.specs.declared.rows.SectionLine.{SectionLine}
+use Rattle.fdf_words.specs.declared.rows.LineRead.{LineRead}
+use Rattle.fdf_words.specs.declared.rows.Row.{Row}
+use Rattle.fdf_words.specs.declared.rows.Row.TheVariants as row
+use Rattle.fdf_words.specs.declared.rows.VolumeKey.{VolumeKey}
+use Rattle.fdf_words.specs.declared.rows.VolumeKey.TheVariants.{BlockSize, NumBlocks, FvBaseAddress, FvAlignment, ErasePolarity}
+use Rattle.fdf_words.specs.declared.rows.VolumeSetting.{VolumeSetting}
+use Rattle.fdf_words.specs.declared.rows.VolumeSetting.TheVariants.{Number, Attribute, ForceRebase, NameGuid, FileSystem}
+use Rattle.fdf_words.specs.declared.rows.FileHead.{FileHead}
+use Rattle.fdf_words.specs.declared.rows.RuleScope.{RuleScope}
+use Rattle.fdf_words.specs.declared.rows.SectionLine.{SectionLine}
 use Rattle.flash_document.specs.declared.stated.StatedVolume.{StatedVolume}
 use Rattle.flash_document.specs.declared.stated.StatedItem.{StatedItem}
 use Rattle.flash_document.specs.declared.stated.StatedItem.TheVariants as item

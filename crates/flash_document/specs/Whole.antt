@@ -8,16 +8,16 @@ use Rattle.build_base.specs.FaultText.{fault_of}
 use Rattle.build_base.specs.declared.fault.Fault.{Fault}
 use Rattle.build_base.specs.declared.fault.Place.{Place}
 use Rattle.meta_lexer.specs.Faults.{first_fault}
-use Rattle.fdf_lines.specs.declared.rows.LineRead.{LineRead}
-use Rattle.fdf_lines.specs.declared.rows.LineRead.TheVariants.{Heads, Body}
-use Rattle.fdf_lines.specs.declared.rows.Row.{Row}
-use Rattle.fdf_lines.specs.declared.rows.Row.TheVariants as row
-use Rattle.fdf_lines.specs.declared.rows.Content.{Content}
-use Rattle.fdf_lines.specs.declared.rows.Content.TheVariants as content
-use Rattle.fdf_lines.specs.declared.rows.RegionContent.{RegionContent}
-use Rattle.fdf_lines.specs.declared.rows.SectionBody.{SectionBody}
-use Rattle.fdf_lines.specs.declared.rows.SectionBody.TheVariants as body
-use Rattle.fdf_lines.specs.declared.rows.SectionLine.{SectionLine}
+use Rattle.fdf_words.specs.declared.rows.LineRead.{LineRead}
+use Rattle.fdf_words.specs.declared.rows.LineRead.TheVariants.{Heads, Body}
+use Rattle.fdf_words.specs.declared.rows.Row.{Row}
+use Rattle.fdf_words.specs.declared.rows.Row.TheVariants as row
+use Rattle.fdf_words.specs.declared.rows.Content.{Content}
+use Rattle.fdf_words.specs.declared.rows.Content.TheVariants as content
+use Rattle.fdf_words.specs.declared.rows.RegionContent.{RegionContent}
+use Rattle.fdf_words.specs.declared.rows.SectionBody.{SectionBody}
+use Rattle.fdf_words.specs.declared.rows.SectionBody.TheVariants as body
+use Rattle.fdf_words.specs.declared.rows.SectionLine.{SectionLine}
 use Rattle.flash_document.specs.declared.stated.Stated.{Stated}
 use Rattle.flash_document.specs.declared.stated.Stated.TheVariants.{Settings, Device, Volume, Rule}
 use Rattle.flash_document.specs.declared.stated.StatedItem.{StatedItem}

@@ -13,7 +13,7 @@ use crate::held::{HeldSizes, held_in};
 use crate::names::{add_name, place_in};
 use crate::stated::{Stated, StatedVolume};
 use build_base::{Place, Refusal, Rows, Text, WantOfMemory, refuse};
-use fdf_lines::rows::{Content, LineRead, Row, SectionBody};
+use fdf_words::rows::{Content, LineRead, Row, SectionBody};
 use indexmap::IndexMap;
 use itoa::Buffer;
 use std::alloc::Global;

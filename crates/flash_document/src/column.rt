@@ -2,7 +2,7 @@
 ghost use Rattle.std.specs.Prelude.{◌≡◌, IfSome, IfNone, Some, None};
 ghost use Rattle.flash_document.specs.Columns.{row_at};
 
-use fdf_lines::rows::{LineRead, Row};
+use fdf_words::rows::{LineRead, Row};
 
 /// What a line says below the head of a number.
 pub fn row_at(line: &LineRead, k: usize) -> Option<&Row>

@@ -6,7 +6,7 @@ ghost use Rattle.flash_document.specs.Devices.{is_key, number_of, sum_counted, s
 use crate::column::row_at;
 use crate::stated::{StatedDevice, StatedRegion, region_content_copy};
 use build_base::{Place, Rows, Same, Text, WantOfMemory};
-use fdf_lines::rows::{DeviceKey, DeviceNumber, LineRead, RegionContent, RegionStart, Row};
+use fdf_words::rows::{DeviceKey, DeviceNumber, LineRead, RegionContent, RegionStart, Row};
 use std::alloc::Global;
 
 /// Two keys are one.

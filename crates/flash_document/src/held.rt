@@ -8,7 +8,7 @@ ghost use Rattle.flash_document.specs.Held.{with_region, Sizes};
 use crate::names::folded;
 use crate::stated::{Stated, StatedRegion, StatedVolume};
 use build_base::{Rows, Same, Text, WantOfMemory};
-use fdf_lines::rows::Content;
+use fdf_words::rows::Content;
 use indexmap::IndexMap;
 use std::alloc::Global;
 

@@ -1,5 +1,6 @@
 //! What the sections of a flash description state.
 ghost use Rattle.std.specs.Prelude.{◌≡◌, ◌++◌, ◌∷◌, [], IfOk, OnOk, List};
+ghost use Rattle.flash_document.specs.Sets.{section_lines};
 ghost use Rattle.flash_document.specs.Parts.{stated_of, stated_from, stated_below, all_stated};
 
 use crate::device::device_of;
@@ -8,7 +9,7 @@ use crate::sets::section_lines;
 use crate::stated::Stated;
 use crate::volume::volume_of;
 use build_base::{Place, Rows, WantOfMemory};
-use fdf_lines::rows::{LineRead, Scope};
+use fdf_words::rows::{LineRead, Scope};
 use std::alloc::Global;
 
 fn stated_of(
@@ -43,16 +44,19 @@ fn push_stated(
     Ok(())
 }
 
+// Only at heads are the lines below looked through for the next ones.
 fn push_below(
     alloc: Global,
     parts: &mut Rows<Stated>,
     line: &LineRead,
-    section: &[LineRead],
+    below: &[LineRead],
 ) -> Result<(), WantOfMemory>
-    ensures { OnOk result (parts.new ≡ parts.old ++ stated_below line.now section.now) }
+    ensures { OnOk result (parts.new ≡ parts.old ++ stated_below line.now (section_lines below.now)) }
 {
     match line {
-        LineRead::Heads { at, scopes } => push_stated(alloc, parts, at, scopes.items(), section),
+        LineRead::Heads { at, scopes } => {
+            push_stated(alloc, parts, at, scopes.items(), section_lines(below))
+        }
         LineRead::Body(_) => Ok(()),
     }
 }
@@ -64,7 +68,7 @@ pub fn all_stated(alloc: Global, lines: &[LineRead]) -> Result<Rows<Stated>, Wan
     let mut parts = Rows::new(alloc);
     let mut left = lines;
     while let [line, rest @ ..] = left {
-        push_below(alloc, &mut parts, line, section_lines(rest))?;
+        push_below(alloc, &mut parts, line, rest)?;
         left = rest;
     }
     Ok(parts)

@@ -15,7 +15,7 @@ use build_base::{Rows, Same, WantOfMemory};
 use doc_types::flash::{DevicePlan, Region, RegionKind};
 use doc_types::volume::{FilePlan, Item, RuleDoc, SectionPlan, SectionSource, VolumePlan};
 use doc_types::volume_head::VolumeHead;
-use fdf_lines::rows::{Content, RegionContent, SectionBody, SectionLine};
+use fdf_words::rows::{Content, RegionContent, SectionBody, SectionLine};
 use indexmap::IndexMap;
 use std::alloc::Global;
 

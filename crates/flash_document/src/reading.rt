@@ -1,6 +1,8 @@
 //! Reading a flash description.
 ghost use Rattle.std.specs.Prelude.{◌≡◌, IfOk};
 ghost use Rattle.build_base.specs.Answer.{Answers};
+ghost use Rattle.fdf_lines.specs.Grammar.{rows_of_flash};
+ghost use Rattle.fdf_lines.specs.Limits.{WithinLimits};
 ghost use Rattle.flash_document.specs.Flash.{flash_of};
 ghost use Rattle.flash_document.specs.Shape.{HasShape};
 
@@ -11,7 +13,8 @@ use fdf_lines::read_rows;
 use std::alloc::Global;
 
 fn read_document(alloc: Global, lines: &Lines) -> Result<FlashDoc, Refusal>
-    ensures { Answers result (flash_of lines.now) }
+    ensures document { Answers result (flash_of lines.now) }
+    ensures limits { IfOk result (λ flash. IfOk (rows_of_flash lines.now.rows) WithinLimits) }
 {
     match read_rows(alloc, lines) {
         Ok(rows) => flash_of_lines(alloc, &lines.root, rows.items()),

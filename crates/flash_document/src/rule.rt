@@ -8,7 +8,7 @@ use crate::column::row_at;
 use crate::stated::{Stated, StatedRule, head_copy};
 use build_base::{Place, Rows, Same, WantOfMemory};
 use doc_types::volume::{FilePlan, RuleDoc, SectionPlan};
-use fdf_lines::rows::{FileHead, LineRead, Row, RuleScope};
+use fdf_words::rows::{FileHead, LineRead, Row, RuleScope};
 use std::alloc::Global;
 
 fn sections_of(

@@ -1,7 +1,7 @@
 //! The values that a flash description gives to PCDs.
 ghost use Rattle.std.specs.Prelude.{◌≡◌, ◌+◌, ◌++◌, ◌∷◌, [], IfOk, OnOk, IfSome, IfNone, Some, None, List, take, decimal};
 ghost use Rattle.std.specs.List.{position_or_len};
-ghost use Rattle.fdf_lines.specs.declared.rows.Row.TheVariants as row;
+ghost use Rattle.fdf_words.specs.declared.rows.Row.TheVariants as row;
 ghost use Rattle.flash_document.specs.Columns.{row_at};
 ghost use Rattle.flash_document.specs.Sets.{is_heads, section_lines, automatic, pcd_set, has_key, region_above, region_sets, sets_at, line_sets, section_sets, bases_from, sets_below, all_sets};
 
@@ -9,7 +9,7 @@ use crate::column::row_at;
 use crate::device::{is_key, number_of};
 use build_base::{Place, Rows, Same, Text, WantOfMemory};
 use doc_types::pcd::{PcdName, PcdSet};
-use fdf_lines::rows::{DeviceKey, DeviceNumber, LineRead, RegionPcds, RegionStart, Row, Scope};
+use fdf_words::rows::{DeviceKey, DeviceNumber, LineRead, RegionPcds, RegionStart, Row, Scope};
 use itoa::Buffer;
 use std::alloc::Global;
 
@@ -194,16 +194,18 @@ fn bases_of(alloc: Global, scopes: &[Scope], lines: &[LineRead]) -> Result<Rows<
     Ok(bases)
 }
 
+// Only at heads are the lines below looked through for the next ones.
 fn push_sets_below(
     alloc: Global,
     sets: &mut Rows<PcdSet>,
     line: &LineRead,
-    section: &[LineRead],
+    below: &[LineRead],
 ) -> Result<(), WantOfMemory>
-    ensures { OnOk result (sets.new ≡ sets.old ++ sets_below line.now section.now) }
+    ensures { OnOk result (sets.new ≡ sets.old ++ sets_below line.now (section_lines below.now)) }
 {
     match line {
         LineRead::Heads { scopes, .. } => {
+            let section = section_lines(below);
             let bases = bases_of(alloc, scopes.items(), section)?;
             push_section_sets(alloc, sets, bases.items(), section)
         }
@@ -218,7 +220,7 @@ pub fn all_sets(alloc: Global, lines: &[LineRead]) -> Result<Rows<PcdSet>, WantO
     let mut sets = Rows::new(alloc);
     let mut left = lines;
     while let [line, rest @ ..] = left {
-        push_sets_below(alloc, &mut sets, line, section_lines(rest))?;
+        push_sets_below(alloc, &mut sets, line, rest)?;
         left = rest;
     }
     Ok(sets)

@@ -3,7 +3,7 @@ ghost use Rattle.std.specs.Prelude.{◌≡◌, IfOk};
 
 use build_base::{Guid, Path, Place, Rows, Same, Text, WantOfMemory, copied};
 use doc_types::volume::{InfLine, Member, RuleDoc};
-use fdf_lines::rows::{Content, FileHead, RegionContent, SectionBody, SectionLine};
+use fdf_words::rows::{Content, FileHead, RegionContent, SectionBody, SectionLine};
 use std::alloc::Global;
 
 /// A region of a device and what fills it.

@@ -8,7 +8,7 @@ use crate::column::row_at;
 use crate::stated::{StatedFile, StatedItem, StatedVolume, head_copy, section_copy};
 use build_base::{Guid, Path, Place, Rows, Same, Text, WantOfMemory};
 use doc_types::volume::Member;
-use fdf_lines::rows::{
+use fdf_words::rows::{
     AprioriHead, FileHead, LineRead, Row, SectionLine, VolumeKey, VolumeSetting,
 };
 use std::alloc::Global;

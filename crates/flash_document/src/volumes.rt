@@ -14,7 +14,7 @@ use crate::plan::volume_plan;
 use crate::stated::{Stated, StatedItem, StatedVolume};
 use build_base::{Rows, Same, Text, WantOfMemory};
 use doc_types::volume::VolumePlan;
-use fdf_lines::rows::{SectionBody, SectionLine};
+use fdf_words::rows::{SectionBody, SectionLine};
 use indexmap::IndexMap;
 use std::alloc::Global;
 

@@ -27,7 +27,7 @@ use crate::volumes::{names_of, nests_of, ordered_names, volume_at, volume_plans,
 use build_base::{Path, Place, Refusal, Rows, Same, Text, WantOfMemory, refuse};
 use doc_types::flash::{DevicePlan, FlashDoc};
 use doc_types::volume::VolumePlan;
-use fdf_lines::rows::LineRead;
+use fdf_words::rows::LineRead;
 use indexmap::IndexMap;
 use std::alloc::Global;
 
