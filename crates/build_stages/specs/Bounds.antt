@@ -1,6 +1,7 @@
 -- The bounds of stages, word by word, and what stages one after the other give; the form is this
 -- project's own.
 use Rattle.std.specs.Bool.{if◌then◌else◌}
+use Rattle.std.specs.Prelude.{◌&&◌}
 use Rattle.std.proofs.Common.{Bool, true, false, ◌≡◌, ℕ, ◌<◌, ◌≤◌, ◌+◌, ◌-◌, arith, refl, map, [], ◌∷◌, Some, None, Result, Ok, Err, All}
 use Rattle.std.proofs.lemmas.List.Elements.{All-nil, All-cons}
 use Rattle.build_base.specs.First.{and_then}
@@ -8,7 +9,7 @@ use Rattle.build_base.specs.declared.fault.Fault.{Fault}
 use Rattle.step_engine.specs.declared.talk.Ask.{Ask}
 use Rattle.step_engine.specs.declared.talk.Answer.{Answer}
 use Rattle.build_stages.specs.Stages.{Stages, end, stage, bind, Fits, Known, first_stop, unless_stopped, run, gather, advance, AreLower, IsWithin}
-use Rattle.build_stages.specs.Writing.{attempt}
+use Rattle.build_stages.specs.Writing.{attempt, when}
 
 pub attempt_lower : {K O A B : Type 0} (rank : K → ℕ) (bound : ℕ) (r : Result A Fault) (next : A → Stages K O B) → ((x : A) → AreLower rank bound (next x)) → AreLower rank bound (attempt r next)
 attempt_lower rank bound (Ok x) next h = h x
@@ -76,3 +77,18 @@ pub choose_within : {K O A : Type 0} (fits : Fits K O) (n : ℕ) (b : Bool) (s t
     → IsWithin fits n s → IsWithin fits n t → IsWithin fits n (if b then s else t)
 choose_within fits n true s t h k = h
 choose_within fits n false s t h k = k
+
+-- what holds may be taken for granted
+pub when_lower : {K O A : Type 0} (rank : K → ℕ) (bound : ℕ) (b : Bool) (s : Stages K O A)
+    → (b ≡ true → AreLower rank bound s) → AreLower rank bound (when b s)
+when_lower rank bound true s h = h refl
+when_lower rank bound false s h = tt
+
+pub when_within : {K O A : Type 0} (fits : Fits K O) (n : ℕ) (b : Bool) (s : Stages K O A)
+    → IsWithin fits n s → IsWithin fits n (when b s)
+when_within fits n true s w = w
+when_within fits n false s w = tt
+
+pub both_hold : (a b : Bool) → (a && b) ≡ true → (a ≡ true) × (b ≡ true)
+both_hold true b e = (refl, e)
+both_hold false b e = absurd (cc)

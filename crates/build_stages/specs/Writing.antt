@@ -1,5 +1,5 @@
 -- Words to write the stages of a key, in this project's own form of steps.
-use Rattle.std.specs.Prelude.{ℕ, List, Option, Some, Result, Ok, Err, slice_get}
+use Rattle.std.specs.Prelude.{ℕ, Bool, true, false, List, Option, Some, Result, Ok, Err, slice_get}
 use Rattle.build_base.specs.declared.fault.Fault.{Fault}
 use Rattle.step_engine.specs.declared.talk.Answer.{Answer}
 use Rattle.step_engine.specs.declared.talk.Answer.TheVariants as answer
@@ -10,6 +10,11 @@ use Rattle.build_stages.specs.Stages.{Stages, end, misfit}
 abbrev pub attempt : {K O A B : Type 0} → Result A Fault → (A → Stages K O B) → Stages K O B
 attempt (Ok x) next = next x
 attempt (Err fault) next = end (Err fault)
+
+-- goes on where this holds; in a world it does
+abbrev pub when : {K O A : Type 0} → Bool → Stages K O A → Stages K O A
+when true s = s
+when false s = end (Err misfit)
 
 abbrev pub part_of : {O : Type 0} → Option (Answer O) → Result O Fault
 part_of (Some (answer.Part (Good out))) = Ok out

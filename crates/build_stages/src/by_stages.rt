@@ -2,14 +2,29 @@
 ghost use Rattle.std.specs.Prelude.{◌≡◌, IfOk};
 ghost use Rattle.build_stages.specs.Stages.{misfit, meaning_of};
 ghost use Rattle.step_engine.specs.Turns.{IsTurn};
-ghost use Rattle.step_engine.specs.declared.talk.Outcome.TheVariants.{Bad};
+ghost use Rattle.step_engine.specs.declared.talk.Outcome.TheVariants.{Good, Bad};
 
 use crate::known::Known;
 use crate::staged::StagedRules;
 use crate::stop::Stop;
 use build_base::{Fault, Path, Permit, Place, Text, WantOfMemory};
+use shared_value::Shared;
 use std::alloc::Global;
 use step_engine::{Outcome, Talk, Turn};
+
+// The outcome of a step that gives something.
+fn good<O: Drop>(alloc: Global, out: O) -> Result<Outcome<O>, WantOfMemory>
+    ensures { IfOk result (λ outcome. outcome ≡ Good out) }
+{
+    Ok(Outcome::Good(Shared::new(alloc, out)?))
+}
+
+// The outcome of a step that ends with a fault.
+fn bad<O>(alloc: Global, fault: Fault) -> Result<Outcome<O>, WantOfMemory>
+    ensures { IfOk result (λ outcome. outcome ≡ Bad fault) }
+{
+    Ok(Outcome::Bad(Shared::new(alloc, fault)?))
+}
 
 // The outcome after an answer that no world gives: a fault of code 0, which no fault of a build
 // has.
@@ -17,11 +32,14 @@ fn misfit<O>(alloc: Global) -> Result<Outcome<O>, WantOfMemory>
     ensures { IfOk result (λ outcome. outcome ≡ Bad misfit) }
 {
     match Path::new(alloc, b"talk") {
-        Ok(path) => Ok(Outcome::Bad(Fault {
-            code: 0,
-            place: Place { path, line: 0 },
-            detail: Text::of(alloc, b"")?,
-        })),
+        Ok(path) => {
+            let fault = Fault {
+                code: 0,
+                place: Place { path, line: 0 },
+                detail: Text::of(alloc, b"")?,
+            };
+            bad(alloc, fault)
+        }
         Err(_) => Err(WantOfMemory),
     }
 }
@@ -38,9 +56,9 @@ pub fn turn_by<S: StagedRules>(
 {
     let known = Known::of(alloc, talk)?;
     match rules.outcome(alloc, key, &known, permit) {
-        Ok(out) => Ok(Turn::Done(Outcome::Good(out))),
+        Ok(out) => Ok(Turn::Done(good(alloc, out)?)),
         Err(Stop::Wants(asks, permit)) => Ok(Turn::Ask(asks, permit)),
-        Err(Stop::Fails(fault)) => Ok(Turn::Done(Outcome::Bad(fault))),
+        Err(Stop::Fails(fault)) => Ok(Turn::Done(bad(alloc, fault)?)),
         Err(Stop::Misfit) => Ok(Turn::Done(misfit(alloc)?)),
         Err(Stop::WantOfMemory) => Err(WantOfMemory),
     }

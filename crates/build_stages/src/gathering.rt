@@ -18,7 +18,7 @@ fn fault_in<O>(answer: &Answer<O>) -> Option<&Fault>
     ensures { option_copied result ≡ fault_in answer.now }
 {
     match answer {
-        Answer::Part(Outcome::Bad(fault)) => Some(fault),
+        Answer::Part(Outcome::Bad(fault)) => Some(fault.value()),
         _ => None,
     }
 }

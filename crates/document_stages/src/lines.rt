@@ -15,7 +15,8 @@ fn got<K, O>(alloc: Global, answer: &Answer<O>) -> Result<Got, Stop<K>>
     ensures { GivesIn (λ got. got) result (got_in answer.now) }
 {
     match answer {
-        Answer::Bytes(text) => {
+        Answer::Bytes(bytes) => {
+            let text = bytes.value();
             if text.bytes().len() as u64 > FILE_LIMIT {
                 return Err(Stop::Misfit);
             }

@@ -39,11 +39,11 @@ pub act_read : {K O : Type 0} (s : Setting K O) (k : K) (y : State K O) (t : Kno
 act_read s k y t files reads r d = record {
   ready = record { kept = kept_of s y.fresh files [] y.ran reads reads d.kept; finds = r.finds };
   grows = λ e h. h;
-  going = λ top x g w. going_read s top k (s.means.rank k) x y t g w files reads d.moves;
+  going = λ top x g w. going_read s top k x y t g w files reads d.moves;
 }
 
-pub notes_read : {K O : Type 0} (s : Setting K O) (k : K) (y : State K O) (t : Known K) (files : ReadFiles) (reads : Option (List (List ℕ))) → Adds s (k ∷ []) (s.means.rank k) (reading y) (state y.fresh files [] reads) → Notes s k y (state y.fresh files y.ran reads) t
-notes_read s k y t files reads a top x g w = noted_read s top k (s.means.rank k) x y t g w files reads a
+pub notes_read : {K O : Type 0} (s : Setting K O) (k : K) (y : State K O) (t : Known K) (files : ReadFiles) (reads : Option (List (List ℕ))) → Adds s k (reading y) (state y.fresh files [] reads) → Notes s k y (state y.fresh files y.ran reads) t
+notes_read s k y t files reads a top x g w = noted_read s top k x y t g w files reads a
 
 -- one act after another for the same key
 pub act_then : {K O : Type 0} (s : Setting K O) (k : K) (y z v : State K O) (t u w : Known K) → IsAct s k y z t u → IsAct s k z v u w → IsAct s k y v t w
@@ -52,10 +52,6 @@ act_then s k y z v t u w a b = record {
   grows = λ e h. b.grows e (a.grows e h);
   going = λ top x g n. b.going top x (a.going top x g n) n;
 }
-
--- after an act, and then a refusal
-pub notes_then : {K O : Type 0} (s : Setting K O) (k : K) (y z v : State K O) (t u : Known K) → IsAct s k y z t u → z.ran ≡ v.ran → z.reads ≡ v.reads → Notes s k y v t
-notes_then s k y z v t u a b c top x g n = noted_of s top x z v b c (going_noted s top x z u (a.going top x g n))
 
 pub finds_push : {K O : Type 0} (t u : Known K) (e : Entry K O) (fresh : List (Entry K O)) → IsPlaced e.key (Done (length fresh)) t u → Finds t fresh → Finds u (fresh ++ e ∷ [])
 finds_push {K} {O} t u e fresh p f j i r = elim (p.cases j) as (λ _. (d : Entry K O) × (slice_get (fresh ++ e ∷ []) i ≡ Some d) × (d.key ≡ j)) [

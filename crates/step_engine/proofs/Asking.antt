@@ -10,7 +10,7 @@ use Rattle.step_engine.specs.Items.{IsStill}
 
 -- it isn't
 pub still_none : {K O : Type 0} (s : Setting K O) (k : K) (x : State K O) → AreKept s x → IsStill s k x x
-still_none s k x q = record { moves = moves_none s (k ∷ []) (s.means.rank k) x; kept = q }
+still_none s k x q = record { moves = moves_none s k x; kept = q }
 
 pub still_then : {K O : Type 0} (s : Setting K O) (k : K) (h1 : Option Files) (c0 c1 : ℕ) (x y z : State K O) → IsUnderWay s k h1 c0 c1 x y → IsStill (at_held s h1) k y z → IsStill s k x z
 still_then s k h1 c0 c1 x y z way d = record {

@@ -5,7 +5,7 @@ use Rattle.build_base.specs.World.{World}
 use Rattle.step_engine.specs.Entries.{IsSound, AreSound, IsValid}
 use Rattle.step_engine.specs.Needed.{IsNeeded, IsStale}
 use Rattle.step_engine.specs.Build.{Setting, IsHere, HasRead, added_to}
-use Rattle.step_engine.specs.Engine.{State, state, ReadFiles, AreKept, HasTalkParts, IsKnown, IsPathAsked, IsFrom, Grows, AddsPaths, Adds, Moves}
+use Rattle.step_engine.specs.Engine.{State, state, ReadFiles, AreKept, HasTalkParts, IsKnown, IsPathAsked, IsFrom, Grows, Adds, Moves}
 use Rattle.step_engine.proofs.Moves.{none_in, one_in, added_none, added_twice, distinct_append, has_key_grows, known_grows, asked_through, needs_one}
 use Rattle.step_engine.specs.declared.talk.Entry.{Entry}
 use Rattle.step_engine.specs.Table.{Known, IsPlaced, IsDone, IsStarted}
@@ -124,8 +124,8 @@ module _ {K O : Type 0} (s : Setting K O) (top : K) (x y : State K O) (t u : Kno
   going_reused e p wanted here old valid = going_made e (λ d. absurd (let a : Some Checking ≡ Some (Done d.0) = sym here ∙ d.1 in cc)) p wanted (λ w i. inr (e, old, refl, valid w i))
 
 -- files were read for a key that is needed
-module _ {K O : Type 0} (s : Setting K O) (top k : K) (bound : ℕ) (x y : State K O) (t : Known K) (g : IsGoing s top x y t) (wanted : IsWanted s top k) (files : ReadFiles) (reads : Option (List (List ℕ))) where
-  paths_more : AddsPaths s (k ∷ []) (reading y) (state y.fresh files [] reads) → (HasRead s top x.reads reads)
+module _ {K O : Type 0} (s : Setting K O) (top k : K) (x y : State K O) (t : Known K) (g : IsGoing s top x y t) (wanted : IsWanted s top k) (files : ReadFiles) (reads : Option (List (List ℕ))) where
+  paths_more : Adds s k (reading y) (state y.fresh files [] reads) → (HasRead s top x.reads reads)
   paths_more b = (
     g.paths ++ b.added,
     b.is ∙ (ap (λ r. added_to r b.added) g.reads ∙ added_twice x.reads g.paths b.added),
@@ -136,13 +136,12 @@ module _ {K O : Type 0} (s : Setting K O) (top k : K) (bound : ℕ) (x y : State
     ]),
   )
 
-  pub noted_read : Adds s (k ∷ []) bound (reading y) (state y.fresh files [] reads) → AreNoted s top x (state y.fresh files y.ran reads)
-  noted_read b = record { ran = (let n = going_noted s top x y t g in n.ran); read = paths_more b.paths }
+  pub noted_read : Adds s k (reading y) (state y.fresh files [] reads) → AreNoted s top x (state y.fresh files y.ran reads)
+  noted_read b = record { ran = (let n = going_noted s top x y t g in n.ran); read = paths_more b }
 
-  pub going_read : Moves s (k ∷ []) bound [] (reading y) (state y.fresh files [] reads) → IsGoing s top x (state y.fresh files y.ran reads) t
+  pub going_read : Moves s k (reading y) (state y.fresh files [] reads) → IsGoing s top x (state y.fresh files y.ran reads) t
   going_read m =
-      let b = m.adds.paths in
-      let r = paths_more b in
+      let b = m.adds in
       record {
         added = g.added;
         is = g.is;

@@ -13,7 +13,7 @@ use Rattle.step_engine.specs.Needed.{IsNeededBy}
 use Rattle.step_engine.specs.Needed.IsNeededBy.{asked}
 use Rattle.step_engine.specs.Turns.{AreLawful}
 use Rattle.step_engine.specs.Build.{Setting, setting, IsHere, IsEntryOf}
-use Rattle.step_engine.specs.Engine.{State, AreKept, IsKnown, HasParts, HasTalkParts, AddsPaths, Adds, Moves, IsNext, IsPathAsked, Grows, IsAnswered, AreAnswered, IsCheckedBatch, IsChecked}
+use Rattle.step_engine.specs.Engine.{State, AreKept, IsKnown, HasParts, HasTalkParts, Adds, Moves, IsNext, IsPathAsked, Grows, IsAnswered, AreAnswered, IsCheckedBatch}
 use Rattle.step_engine.specs.Loops.{IsUnderWay, IsAnswering, IsCheckingBatch, IsChecking, IsRunning}
 use Rattle.step_engine.proofs.Talks.{follows_front, follows_push, next_asked}
 use Rattle.step_engine.proofs.Moves.{none_in, one_in, added_none, moves_none, moves_then, adds_then, has_key_grows, needed_itself}
@@ -47,13 +47,13 @@ pub here_on : {K O : Type 0} (s : Setting K O) (k : K) (h1 : (Option Files)) (c0
 here_on s k h1 c0 c1 x y way w i = subst (λ h. IsHere (at_held s h) w) (sym way.held_is) i
 
 module _ {K O : Type 0} (s : Setting K O) (k : K) (h1 : Option Files) (c0 c1 : ℕ) (x y z : State K O) (way : IsUnderWay s k h1 c0 c1 x y) where
-  pub way_moves : Moves (at_held s h1) (k ∷ []) (s.means.rank k) [] y z → Moves s (k ∷ []) (s.means.rank k) [] x z
-  way_moves m = moves_then s k k (s.means.rank k) (s.means.rank k) x y z way.moves (omega arith) (λ w i. needed_itself s.means w k) (subst (λ h. Moves (at_held s h) (k ∷ []) (s.means.rank k) [] y z) way.held_is m)
+  pub way_moves : Moves (at_held s h1) k y z → Moves s k x z
+  way_moves m = moves_then s k x y z way.moves (subst (λ h. Moves (at_held s h) k y z) way.held_is m)
 
-  pub way_adds : Adds (at_held s h1) (k ∷ []) (s.means.rank k) y z → Adds s (k ∷ []) (s.means.rank k) x z
-  way_adds a = adds_then s k k (s.means.rank k) (s.means.rank k) x y z way.moves (omega arith) (λ w i. needed_itself s.means w k) (subst (λ h. Adds (at_held s h) (k ∷ []) (s.means.rank k) y z) way.held_is a)
+  pub way_adds : Adds (at_held s h1) k y z → Adds s k x z
+  way_adds a = adds_then s k x y z way.moves (subst (λ h. Adds (at_held s h) k y z) way.held_is a)
 
-  pub way_more : (h2 : Option Files) (c2 : ℕ) → Moves (at_held s h1) (k ∷ []) (s.means.rank k) [] y z → AreKept (at_held s h1) z → h2 ≡ h1 → c2 ≡ c1 → IsUnderWay s k h2 c0 c2 x z
+  pub way_more : (h2 : Option Files) (c2 : ℕ) → Moves (at_held s h1) k y z → AreKept (at_held s h1) z → h2 ≡ h1 → c2 ≡ c1 → IsUnderWay s k h2 c0 c2 x z
   way_more h2 c2 m q e d = record {
     held_is = e ∙ way.held_is;
     count = d ∙ way.count;
@@ -62,12 +62,12 @@ module _ {K O : Type 0} (s : Setting K O) (k : K) (h1 : Option Files) (c0 c1 : �
   }
 
 pub way_none : {K O : Type 0} (s : Setting K O) (k : K) (c : ℕ) (x : State K O) → AreKept s x → IsUnderWay s k s.held c c x x
-way_none s k c x q = record { held_is = refl; count = refl; moves = moves_none s (k ∷ []) (s.means.rank k) x; kept = q }
+way_none s k c x q = record { held_is = refl; count = refl; moves = moves_none s k x; kept = q }
 
 -- a field
 pub answered_field : {K O : Type 0} (s : Setting K O) (k : K) (i : ℕ) (x : State K O) (text : List ℕ) → AreKept s x → text ≡ slice_index_or s.job i [] → IsAnswered s k (ask.Field i) x x (answer.Field text)
 answered_field {K} {O} s k i x text q e = record {
-  moves = moves_none s (k ∷ []) (s.means.rank k) x;
+  moves = moves_none s k x;
   kept = q;
   right = λ w h. ap answer.Field (e ∙ ap (λ (f : List (List ℕ)). slice_index_or f i []) (sym h.fields));
   small = tt;
@@ -79,7 +79,7 @@ pub answered_part : {K O : Type 0} (s : Setting K O) (k part : K) (x : State K O
 answered_part {K} {O} s k part x r q f =
     let e = f.0 in
     record {
-      moves = moves_none s (k ∷ []) (s.means.rank k) x;
+      moves = moves_none s k x;
       kept = q;
       right = λ w h.
           let sound : IsSound s.means e = All-contains (IsSound s.means) x.fresh e (q.sound h.sound) f.1 in
@@ -90,15 +90,15 @@ answered_part {K} {O} s k part x r q f =
     }
 
 -- a file
-paths_read : {K O : Type 0} (s : Setting K O) (k : K) (p : List ℕ) (x y : State K O) → ((w : World) → IsHere s w → IsPathAsked s.means w (k ∷ []) p) → IsRead p x.files x.reads y.reads → AddsPaths s (k ∷ []) x y
-paths_read s k p x y n (inl l) = record {
+pub adds_read : {K O : Type 0} (s : Setting K O) (k : K) (p : List ℕ) (x y : State K O) → ((w : World) → IsHere s w → IsPathAsked s.means w (k ∷ []) p) → IsRead p x.files x.reads y.reads → Adds s k x y
+adds_read s k p x y n (inl l) = record {
   added = [];
   is = l ∙ added_none x.reads;
   distinct = tt;
   is_new = λ q h _. none_in q h;
   asked = λ w i q h. absurd (none_in q h);
 }
-paths_read s k p x y n (inr l) = record {
+adds_read s k p x y n (inr l) = record {
   added = p ∷ [];
   is = l.0;
   distinct = (none_in p, tt);
@@ -106,36 +106,19 @@ paths_read s k p x y n (inr l) = record {
   asked = λ w i q h. subst (IsPathAsked s.means w (k ∷ [])) (one_in q p h) (n w i);
 }
 
-pub adds_read : {K O : Type 0} (s : Setting K O) (k : K) (p : List ℕ) (x y : State K O) → y.ran ≡ x.ran → ((w : World) → IsHere s w → IsPathAsked s.means w (k ∷ []) p) → IsRead p x.files x.reads y.reads → Adds s (k ∷ []) (s.means.rank k) x y
-adds_read s k p x y e n r = record {
-  keys = record {
-    added = [];
-    is = e ∙ sym (append-nil x.ran);
-    distinct = tt;
-    is_new = λ q h _. none_in q h;
-    lower = λ q h. absurd (none_in q h);
-    step = λ w i q h. absurd (none_in q h);
-  };
-  paths = paths_read s k p x y n r;
-}
-
-path_read : {K O : Type 0} (s : Setting K O) (k : K) (p : List ℕ) (x y : State K O) (n : (w : World) → IsHere s w → IsPathAsked s.means w (k ∷ []) p) (r : IsRead p x.files x.reads y.reads) → IsKnown y.files p → (q : List ℕ) → Contains (paths_read s k p x y n r).added q → IsKnown y.files q
-unfolding paths_read
+path_read : {K O : Type 0} (s : Setting K O) (k : K) (p : List ℕ) (x y : State K O) (n : (w : World) → IsHere s w → IsPathAsked s.means w (k ∷ []) p) (r : IsRead p x.files x.reads y.reads) → IsKnown y.files p → (q : List ℕ) → Contains (adds_read s k p x y n r).added q → IsKnown y.files q
+unfolding adds_read
 path_read s k p x y n (inl l) has q h = absurd (none_in q h)
 path_read s k p x y n (inr l) has q h = subst (IsKnown y.files) (one_in q p h) has
 
-pub answered_file : {K O : Type 0} (s : Setting K O) (k : K) (p : List ℕ) (x y : State K O) (a : Answer O) → y.ran ≡ x.ran → y.fresh ≡ x.fresh → ((w : World) → IsHere s w → IsPathAsked s.means w (k ∷ []) p) → IsRead p x.files x.reads y.reads → AreKept s x → IsReadOk p s.held x.files y.files a → IsAnswered s k (ask.File p) x y a
+pub answered_file : {K O : Type 0} (s : Setting K O) (k : K) (p : List ℕ) (x y : State K O) (a : Answer O) → y.fresh ≡ x.fresh → ((w : World) → IsHere s w → IsPathAsked s.means w (k ∷ []) p) → IsRead p x.files x.reads y.reads → AreKept s x → IsReadOk p s.held x.files y.files a → IsAnswered s k (ask.File p) x y a
 unfolding adds_read
-answered_file {K} {O} s k p x y a e f n r q o = record {
+answered_file {K} {O} s k p x y a f n r q o = record {
   moves = record {
-    adds = adds_read s k p x y e n r;
-    done = λ q h. absurd (none_in q h);
+    adds = adds_read s k p x y n r;
     read = path_read s k p x y n r o.has;
     grows = λ d h. rw f h;
     grows_files = o.grows;
-    lower = λ d h. inl (rw f at h);
-    needed = λ w i d h. inl (rw f at h);
-    ran = λ w i d h. inl (rw f at h);
   };
   kept = record {
     sound = λ old. rw f (q.sound old);
@@ -294,29 +277,6 @@ checking_batch_high {K} {O} s law k part h1 c0 c1 x y items pairs i p way e l g 
       absurd (omega (arith, law.lower k part n.talk (asks_of pairs) n.follows n.next c, high));
 }
 
--- a batch was wrong
-pub checking_wrong : {K O : Type 0} (s : Setting K O) (e : Entry K O) (h1 : (Option Files)) (c0 c1 : ℕ) (x y z : State K O) (items : List (Batch K O)) (i : ℕ) (b : Batch K O) → IsUnderWay s e.key h1 c0 c1 x y → items ≡ e.talk.batches → i < length items → b ≡ get_or items i b → IsCheckedBatch (at_held s h1) e.key b.pairs y z false → IsChecked s e x z false
-checking_wrong {K} {O} s e h1 c0 c1 x y z items i b way is l g r = record {
-  moves = way_moves s e.key h1 c0 c1 x y z way r.moves;
-  kept = subst (λ h. AreKept (at_held s h) z) way.held_is r.kept;
-  right = λ f. cc;
-  parts = λ f. cc;
-  wrong = λ f w h v.
-      let P : Batch K O → Type 0 = λ b. AreRight s.means w b.pairs in
-      r.wrong refl w (here_on s e.key h1 c0 c1 x y way w h) (All-contains P e.talk.batches b v (item_in items e.talk.batches i b is l g));
-}
-
-pub checking_all : {K O : Type 0} (s : Setting K O) (e : Entry K O) (h1 : (Option Files)) (c0 c1 : ℕ) (x y : State K O) (items : List (Batch K O)) (i : ℕ) → IsUnderWay s e.key h1 c0 c1 x y → IsChecking s items i y → items ≡ e.talk.batches → length items ≤ i → IsChecked s e x y true
-checking_all {K} {O} s e h1 c0 c1 x y items i way n is l =
-    let whole : take i items ≡ e.talk.batches = take_whole items i l ∙ is in
-    record {
-      moves = way.moves;
-      kept = way.kept;
-      right = λ f w h. subst (IsRight s.means w) whole (n.right w h);
-      parts = λ f. subst (HasTalkParts y.fresh) whole n.parts;
-      wrong = λ f. cc;
-    }
-
 -- a run
 pub running_none : {K O : Type 0} (s : Setting K O) (k : K) (y : State K O) → IsRunning s k y []
 running_none {K} {O} s k y = record {
@@ -338,11 +298,6 @@ running_more {K} {O} s k y z talk pairs asks n e is grows t small parts =
       small = All-push (λ (b : Batch K O). ArePairsSmall b.pairs) talk b n.small small;
       parts = has_parts_push y.fresh z.fresh talk b grows n.parts (subst (HasParts z.fresh) (sym is) parts);
     }
-
-pub running_falls : {K O : Type 0} (s : Setting K O) (law : AreLawful s.means) (k : K) (y : State K O) (talk : List (Batch K O)) (pairs : List (Pair K O)) (asks : List (Ask K)) → IsRunning s k y talk → s.means.next k talk ≡ Some asks → asks_of pairs ≡ asks → ArePairsSmall pairs → s.means.left k (talk ++ record { pairs = pairs } ∷ []) < s.means.left k talk
-running_falls {K} {O} s law k y talk pairs asks n e is small =
-    let b : Batch K O = record { pairs = pairs } in
-    law.falls k talk b n.follows (e ∙ ap Some (sym is)) (All-push (λ (b : Batch K O). ArePairsSmall b.pairs) talk b n.small small)
 
 pub checking_batch_step : {K O : Type 0} (s : Setting K O) (k : K) (pairs : List (Pair K O)) (i : ℕ) (x y z : State K O) (p : Pair K O) (r : Answer O) (b c same : Bool) → IsCheckingBatch s pairs i y b → i < length pairs → p ≡ get_or pairs i p → Grows y.fresh z.fresh → ((w : World) → IsHere s w → r ≡ right s.means w p.ask) → ((part : K) → p.ask ≡ ask.Part part → HasKey z.fresh part) → (IsTrue same ↔ (r ≡ p.answer)) → (same ≡ true → c ≡ b) → (same ≡ false → c ≡ false) → IsCheckingBatch s pairs (i + 1) z c
 checking_batch_step s k pairs i x y z p r b c true n l e grows t parts d same_right other_right = rw (same_right refl) (checking_batch_same s k pairs i x y z p r b n l e grows t parts (d.0 refl))

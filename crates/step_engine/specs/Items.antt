@@ -23,7 +23,7 @@ use Rattle.step_engine.specs.declared.items.Checked.TheVariants as checked
 
 -- files were read for the key, and not all its parts are done
 pub record IsStill {K O : Type 0} (s : Setting K O) (k : K) (x y : State K O) : Type 0 where
-  pub moves : Moves s (k ∷ []) (s.means.rank k) [] x y
+  pub moves : Moves s k x y
   pub kept : AreKept s y
 
 -- the step has asked its next asks

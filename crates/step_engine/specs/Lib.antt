@@ -18,3 +18,4 @@ pub mod Wanting
 pub mod Pooling
 pub mod Scanning
 pub mod Settling
+pub mod Seeing

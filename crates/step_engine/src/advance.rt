@@ -22,6 +22,13 @@ use build_base::rows::Rows;
 use build_base::text::{Text, WantOfMemory};
 use std::alloc::Global;
 
+/// Counts what a visit did for the keys under way.
+pub fn count_act(acts: &mut u64, done: bool) {
+    if done {
+        *acts = acts.saturating_add(1);
+    }
+}
+
 // A step that asked is answered where all has an answer by now, and else it waits on.
 fn resume<R: Rules, T: Tree>(
     alloc: Global,
@@ -33,13 +40,14 @@ fn resume<R: Rules, T: Tree>(
     places: &Places<R::Key>,
     tree: &mut T,
     files: &mut FilesRead,
+    acts: &mut u64,
 ) -> Result<Item<R::Key, R::Out>, EngineRefusal>
     requires kept { AreKept (setting R.means (T.held tree.old) job.now old.now) (state fresh.now.items (read_at files.old) [] (T.reads tree.old)) }
     requires finds { Finds (place_at R.Key.cmp places.now) fresh.now.items }
     requires asked { IsAsked (setting R.means (T.held tree.old) job.now old.now) (state fresh.now.items (read_at files.old) [] (T.reads tree.old)) asked.key asked.talk.batches asked.asks }
     ensures held { T.held tree.new ≡ T.held tree.old }
     ensures count { Counts (T.faults tree.old) (T.faults tree.new) result }
-    ensures adds { Adds (setting R.means (T.held tree.old) job.now old.now) (asked.key ∷ []) (R.means.rank asked.key) (state fresh.now.items (read_at files.old) [] (T.reads tree.old)) (state fresh.now.items (read_at files.new) [] (T.reads tree.new)) }
+    ensures adds { Adds (setting R.means (T.held tree.old) job.now old.now) asked.key (state fresh.now.items (read_at files.old) [] (T.reads tree.old)) (state fresh.now.items (read_at files.new) [] (T.reads tree.new)) }
     ensures ok { IfOk result (IsResumed (setting R.means (T.held tree.old) job.now old.now) asked.key (state fresh.now.items (read_at files.old) [] (T.reads tree.old)) (state fresh.now.items (read_at files.new) [] (T.reads tree.new))) }
 {
     let Asked {
@@ -59,6 +67,7 @@ fn resume<R: Rules, T: Tree>(
             asks,
         }));
     };
+    count_act(acts, true);
     let mut talk = talk;
     talk.batches.push(Batch { pairs })?;
     Ok(Item::Run(Run { key, talk, permit }))
@@ -75,25 +84,31 @@ fn check_next<R: Rules, T: Tree>(
     places: &Places<R::Key>,
     tree: &mut T,
     files: &mut FilesRead,
+    acts: &mut u64,
 ) -> Result<Checked<R::Key, R::Out>, EngineRefusal>
     requires kept { AreKept (setting R.means (T.held tree.old) job.now old.now) (state fresh.now.items (read_at files.old) [] (T.reads tree.old)) }
     requires finds { Finds (place_at R.Key.cmp places.now) fresh.now.items }
     requires check { IsCheck (setting R.means (T.held tree.old) job.now old.now) (state fresh.now.items (read_at files.old) [] (T.reads tree.old)) check.entry check.batch }
     ensures held { T.held tree.new ≡ T.held tree.old }
     ensures count { Counts (T.faults tree.old) (T.faults tree.new) result }
-    ensures adds { Adds (setting R.means (T.held tree.old) job.now old.now) (check.entry.key ∷ []) (R.means.rank check.entry.key) (state fresh.now.items (read_at files.old) [] (T.reads tree.old)) (state fresh.now.items (read_at files.new) [] (T.reads tree.new)) }
+    ensures adds { Adds (setting R.means (T.held tree.old) job.now old.now) check.entry.key (state fresh.now.items (read_at files.old) [] (T.reads tree.old)) (state fresh.now.items (read_at files.new) [] (T.reads tree.new)) }
     ensures ok { IfOk result (IsCheckedOn (setting R.means (T.held tree.old) job.now old.now) check.entry.key (state fresh.now.items (read_at files.old) [] (T.reads tree.old)) (state fresh.now.items (read_at files.new) [] (T.reads tree.new))) }
 {
     let Check { entry, batch } = check;
-    let found = match entry.talk.batches.items().get(batch) {
+    let talk = entry.talk.value();
+    let found = match talk.batches.items().get(batch) {
         Some(batch) => {
             let pairs = &batch.pairs;
             check_batch(
                 alloc, rules, job, old, &entry.key, pairs, fresh, places, tree, files,
             )?
         }
-        None => return Ok(Checked::Right(entry)),
+        None => {
+            count_act(acts, true);
+            return Ok(Checked::Right(entry));
+        }
     };
+    count_act(acts, found.is_some());
     match found {
         Some(true) => Ok(Checked::Next(Check {
             entry,
@@ -116,6 +131,7 @@ pub fn advance<R: Rules, T: Tree>(
     tree: &mut T,
     book: &mut Book<R::Key>,
     files: &mut FilesRead,
+    acts: &mut u64,
 ) -> Result<Option<Item<R::Key, R::Out>>, EngineRefusal>
     requires ready { IsReady (setting R.means (T.held tree.old) job.now old.now) (state fresh.old.items (read_at files.old) book.old (T.reads tree.old)) (place_at R.Key.cmp places.old) }
     requires item { IsItem (setting R.means (T.held tree.old) job.now old.now) (state fresh.old.items (read_at files.old) book.old (T.reads tree.old)) item }
@@ -127,11 +143,15 @@ pub fn advance<R: Rules, T: Tree>(
     match item {
         Item::Run(run) => Ok(Some(Item::Run(run))),
         Item::Asked(asked) => {
-            let item = resume(alloc, rules, job, old, asked, fresh, places, tree, files)?;
+            let item = resume(
+                alloc, rules, job, old, asked, fresh, places, tree, files, acts,
+            )?;
             Ok(Some(item))
         }
         Item::Check(check) => {
-            let checked = check_next(alloc, rules, job, old, check, fresh, places, tree, files)?;
+            let checked = check_next(
+                alloc, rules, job, old, check, fresh, places, tree, files, acts,
+            )?;
             match checked {
                 Checked::Right(entry) => {
                     make_old(alloc, entry, fresh, places)?;
@@ -184,6 +204,7 @@ pub fn advance_all<R: Rules, T: Tree>(
     tree: &mut T,
     book: &mut Book<R::Key>,
     files: &mut FilesRead,
+    acts: &mut u64,
     rest: &mut Vec<Item<R::Key, R::Out>>,
 ) -> Result<Vec<Run<R::Key, R::Out>>, EngineRefusal>
     requires ready { IsReady (setting R.means (T.held tree.old) job.now old.now) (state fresh.old.items (read_at files.old) book.old (T.reads tree.old)) (place_at R.Key.cmp places.old) }
@@ -197,7 +218,7 @@ pub fn advance_all<R: Rules, T: Tree>(
     let mut runs = Vec::new(alloc);
     for item in items {
         let left = advance(
-            alloc, rules, job, old, item, fresh, places, tree, book, files,
+            alloc, rules, job, old, item, fresh, places, tree, book, files, acts,
         )?;
         sort_in(left, &mut runs, rest)?;
     }

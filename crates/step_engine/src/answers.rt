@@ -20,16 +20,18 @@ use build_base::outside::Tree;
 use build_base::rows::Rows;
 use build_base::same::Same;
 use build_base::text::{Text, WantOfMemory};
+use shared_value::Shared;
 use std::alloc::Global;
 
 // The text of a field, which is empty where there is none.
-fn field(alloc: Global, job: &Rows<Text>, number: u8) -> Result<Text, WantOfMemory>
+fn field(alloc: Global, job: &Rows<Text>, number: u8) -> Result<Shared<Text>, WantOfMemory>
     ensures { IfOk result (λ text. text ≡ slice_index_or job.now number []) }
 {
-    match job.items().get(number as usize) {
-        Some(text) => text.copy(alloc),
-        None => Text::of(alloc, b""),
-    }
+    let text = match job.items().get(number as usize) {
+        Some(text) => text.copy(alloc)?,
+        None => Text::of(alloc, b"")?,
+    };
+    Shared::new(alloc, text)
 }
 
 /// Whether a part that is asked is of lower rank.
@@ -81,7 +83,7 @@ fn answer<R: Rules, T: Tree>(
     requires next { (w : World) → IsHere (setting R.means (T.held tree.old) job.now old.now) w → (asks : List (Ask R.Key)) × Contains asks ask.now × IsNext R.means w key.now asks }
     ensures held { T.held tree.new ≡ T.held tree.old }
     ensures count { Counts (T.faults tree.old) (T.faults tree.new) result }
-    ensures adds { Adds (setting R.means (T.held tree.old) job.now old.now) (key.now ∷ []) (R.means.rank key.now) (state fresh.now.items (read_at files.old) [] (T.reads tree.old)) (state fresh.now.items (read_at files.new) [] (T.reads tree.new)) }
+    ensures adds { Adds (setting R.means (T.held tree.old) job.now old.now) key.now (state fresh.now.items (read_at files.old) [] (T.reads tree.old)) (state fresh.now.items (read_at files.new) [] (T.reads tree.new)) }
     ensures ok { IfOk result (λ r. MatchOption r (IsStill (setting R.means (T.held tree.old) job.now old.now) key.now (state fresh.now.items (read_at files.old) [] (T.reads tree.old)) (state fresh.now.items (read_at files.new) [] (T.reads tree.new))) (IsAnswered (setting R.means (T.held tree.old) job.now old.now) key.now ask.now (state fresh.now.items (read_at files.old) [] (T.reads tree.old)) (state fresh.now.items (read_at files.new) [] (T.reads tree.new)))) }
 {
     match ask {
@@ -116,7 +118,7 @@ pub fn answers<R: Rules, T: Tree>(
     requires next { (w : World) → IsHere (setting R.means (T.held tree.old) job.now old.now) w → IsNext R.means w key.now asks.now }
     ensures held { T.held tree.new ≡ T.held tree.old }
     ensures count { Counts (T.faults tree.old) (T.faults tree.new) result }
-    ensures adds { Adds (setting R.means (T.held tree.old) job.now old.now) (key.now ∷ []) (R.means.rank key.now) (state fresh.now.items (read_at files.old) [] (T.reads tree.old)) (state fresh.now.items (read_at files.new) [] (T.reads tree.new)) }
+    ensures adds { Adds (setting R.means (T.held tree.old) job.now old.now) key.now (state fresh.now.items (read_at files.old) [] (T.reads tree.old)) (state fresh.now.items (read_at files.new) [] (T.reads tree.new)) }
     ensures ok { IfOk result (λ r. MatchOption r (IsStill (setting R.means (T.held tree.old) job.now old.now) key.now (state fresh.now.items (read_at files.old) [] (T.reads tree.old)) (state fresh.now.items (read_at files.new) [] (T.reads tree.new))) (AreAnswered (setting R.means (T.held tree.old) job.now old.now) key.now asks.now (state fresh.now.items (read_at files.old) [] (T.reads tree.old)) (state fresh.now.items (read_at files.new) [] (T.reads tree.new)))) }
 {
     let mut pairs = Rows::new(alloc);
@@ -149,7 +151,7 @@ pub fn check_batch<R: Rules, T: Tree>(
     requires next { (w : World) → IsHere (setting R.means (T.held tree.old) job.now old.now) w → IsNext R.means w key.now (asks_of pairs.now) }
     ensures held { T.held tree.new ≡ T.held tree.old }
     ensures count { Counts (T.faults tree.old) (T.faults tree.new) result }
-    ensures adds { Adds (setting R.means (T.held tree.old) job.now old.now) (key.now ∷ []) (R.means.rank key.now) (state fresh.now.items (read_at files.old) [] (T.reads tree.old)) (state fresh.now.items (read_at files.new) [] (T.reads tree.new)) }
+    ensures adds { Adds (setting R.means (T.held tree.old) job.now old.now) key.now (state fresh.now.items (read_at files.old) [] (T.reads tree.old)) (state fresh.now.items (read_at files.new) [] (T.reads tree.new)) }
     ensures ok { IfOk result (λ r. MatchOption r (IsStill (setting R.means (T.held tree.old) job.now old.now) key.now (state fresh.now.items (read_at files.old) [] (T.reads tree.old)) (state fresh.now.items (read_at files.new) [] (T.reads tree.new))) (IsCheckedBatch (setting R.means (T.held tree.old) job.now old.now) key.now pairs.now (state fresh.now.items (read_at files.old) [] (T.reads tree.old)) (state fresh.now.items (read_at files.new) [] (T.reads tree.new)))) }
 {
     let mut right = true;

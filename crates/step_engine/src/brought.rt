@@ -2,7 +2,7 @@
 ghost use Rattle.std.specs.Prelude.{◌≡◌, ◌≤◌, true, IfOk, OnOk, IsTrue, ◌↔◌};
 ghost use Rattle.step_engine.specs.Entries.{AreSound};
 ghost use Rattle.step_engine.specs.Needed.{IsBad};
-ghost use Rattle.step_engine.specs.Caches.{AreInOrder, PutsMissing, IsJoined};
+ghost use Rattle.step_engine.specs.Caches.{AreInOrder, AddsMissing, AreOthers, IsJoined};
 ghost use Rattle.step_engine.specs.Build.{setting, Counts, IsEntryOf, Ran, RanAll, HasRead, Built};
 
 use crate::cache::Cache;
@@ -39,36 +39,56 @@ fn is_bad<O>(outcome: &Outcome<O>) -> bool
     }
 }
 
-// Puts an entry where none has its key.
-fn put_missing<K: StepKey, O: Same + Drop>(
+// Adds the entry where none of those made has its key.
+fn add_missing<K: StepKey, O: Same + Drop>(
     alloc: Global,
     entry: &Entry<K, O>,
-    cache: &mut Cache<K, O>,
+    made: &Cache<K, O>,
+    others: &mut Vec<Entry<K, O>>,
 ) -> Result<(), WantOfMemory>
-    ensures { OnOk result (PutsMissing K.cmp entry.now cache.old cache.new) }
+    ensures { OnOk result (AddsMissing made.now entry.now others.old.items others.new.items) }
 {
-    if let Some(_found) = cache.get(&entry.key) {
+    if let Some(_found) = made.get(&entry.key) {
         return Ok(());
     }
     let entry = entry.copy(alloc)?;
-    cache.put(entry)
+    if others.push(entry).is_err() {
+        return Err(WantOfMemory);
+    }
+    Ok(())
+}
+
+// The old entries of keys of which none was made.
+fn other_entries<K: StepKey, O: Same + Drop>(
+    alloc: Global,
+    old: &Cache<K, O>,
+    made: &Cache<K, O>,
+) -> Result<Vec<Entry<K, O>>, WantOfMemory>
+    ensures others { IfOk result (λ others. AreOthers made.now old.now others.items) }
+    ensures sorted { AreInOrder K.cmp old.now }
+{
+    let mut others = Vec::new(alloc);
+    for entry in old.entries() {
+        add_missing(alloc, entry, made, &mut others)?;
+    }
+    Ok(others)
 }
 
 // The entries made, with those of other keys.
 fn joined<K: StepKey, O: Same + Drop>(
     alloc: Global,
     old: &Cache<K, O>,
-    fresh: Cache<K, O>,
+    made: Cache<K, O>,
 ) -> Result<Cache<K, O>, WantOfMemory>
-    requires { AreInOrder K.cmp fresh }
-    ensures joined { IfOk result (IsJoined fresh old.now) }
+    ensures joined { IfOk result (IsJoined made old.now) }
     ensures sorted { IfOk result (AreInOrder K.cmp) }
 {
-    let mut both = fresh;
-    for entry in old.entries() {
-        put_missing(alloc, entry, &mut both)?;
+    let mut others = other_entries(alloc, old, &made)?;
+    let mut all = made.into_entries();
+    if all.append(&mut others).is_err() {
+        return Err(WantOfMemory);
     }
-    Ok(both)
+    in_order(alloc, all)
 }
 
 /// The outcome of a key, from the entries that an earlier build left.

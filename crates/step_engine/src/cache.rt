@@ -64,6 +64,15 @@ impl<K: StepKey, O: Drop> Cache<K, O> {
         keep_in(&mut self.store, wanted)
     }
 
+    // All entries, moved out.
+    pub(crate) fn into_entries(self) -> Vec<Entry<K, O>>
+        ensures all { result.items ≡ self }
+        ensures sorted { AreInOrder K.cmp result.items }
+    {
+        let Cache { store } = self;
+        store
+    }
+
     // The entry of a key.
     pub(crate) fn get(&self, key: &K) -> Option<&Entry<K, O>>
         ensures some { IfSome result (λ e. Contains self.now e.now × (e.now.key ≡ key.now)) }

@@ -1,6 +1,6 @@
 //! The entries of a build as a cache.
 ghost use Rattle.std.specs.Prelude.{IfOk, OnOk, IsPermutation};
-ghost use Rattle.step_engine.specs.Caches.{PutsMissing};
+ghost use Rattle.step_engine.specs.Caches.{AreInOrder, PutsMissing};
 ghost use Rattle.step_engine.specs.Rounds.{IsOneEach, AreSame};
 
 use crate::cache::Cache;
@@ -43,7 +43,8 @@ fn put_all<K: StepKey, O: Same + Drop>(
     alloc: Global,
     entries: Vec<Entry<K, O>>,
 ) -> Result<Cache<K, O>, WantOfMemory>
-    ensures { IsOneEach entries.items → IfOk result (λ cache. AreSame entries.items cache) }
+    ensures same { IsOneEach entries.items → IfOk result (λ cache. AreSame entries.items cache) }
+    ensures sorted { IfOk result (AreInOrder K.cmp) }
 {
     let mut cache = Cache::new(alloc);
     for entry in entries {
@@ -57,7 +58,8 @@ pub fn in_order<K: StepKey, O: Same + Drop>(
     alloc: Global,
     entries: Vec<Entry<K, O>>,
 ) -> Result<Cache<K, O>, WantOfMemory>
-    ensures { IsOneEach entries.items → IfOk result (λ cache. AreSame entries.items cache) }
+    ensures same { IsOneEach entries.items → IfOk result (λ cache. AreSame entries.items cache) }
+    ensures sorted { IfOk result (AreInOrder K.cmp) }
 {
     let entries = sorted(entries)?;
     put_all(alloc, entries)

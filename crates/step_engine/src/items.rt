@@ -1,6 +1,8 @@
 //! What is under way.
+ghost use Rattle.std.specs.Prelude.{◌≡◌, ◌<◌, ◌≤◌, length, get_or, IfSome, IfNone};
+
 use crate::rules::Turn;
-use crate::talk::{Ask, Entry, Talk};
+use crate::talk::{Ask, Batch, Entry, Talk};
 use build_base::book::Permit;
 use build_base::rows::Rows;
 
@@ -63,4 +65,16 @@ pub enum Checked<K, O> {
     Right(Entry<K, O>),
     Wrong(K),
     Next(Check<K, O>),
+}
+
+/// A batch of an entry.
+pub fn batch_at<K, O>(entry: &Entry<K, O>, number: usize) -> Option<&Batch<K, O>>
+    ensures some { IfSome result (λ b. (number < length entry.now.talk.batches) × (b.now ≡ get_or entry.now.talk.batches number b.now)) }
+    ensures none { IfNone result (length entry.now.talk.batches ≤ number) }
+{
+    let talk = entry.talk.value();
+    match talk.batches.items().get(number) {
+        Some(batch) => Some(batch),
+        None => None,
+    }
 }

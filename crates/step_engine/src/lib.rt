@@ -18,6 +18,7 @@ mod round;
 pub mod rules;
 mod same;
 mod scan;
+mod seen;
 mod settle;
 mod table;
 pub mod talk;

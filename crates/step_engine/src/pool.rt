@@ -18,13 +18,6 @@ pub struct Pool<K: StepKey, O: Drop> {
     pub parked: BTreeMap<K, Queue<K, O>>,
 }
 
-impl<K: StepKey, O: Drop> Pool<K, O> {
-    /// Whether no key is to be looked at.
-    pub fn is_at_rest(&self) -> bool {
-        self.news.is_empty() && self.woken.is_empty()
-    }
-}
-
 /// Takes out the keys that wait for a part.
 pub fn taken<K: StepKey, O: Drop>(
     alloc: Global,

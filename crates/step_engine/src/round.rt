@@ -7,7 +7,7 @@ ghost use Rattle.step_engine.specs.Table.{place_at};
 ghost use Rattle.step_engine.specs.Items.{IsReady, AreItems, AreItemsWanted};
 ghost use Rattle.step_engine.specs.Taking.{IsList, ListNotes};
 
-use crate::advance::advance_all;
+use crate::advance::{advance_all, count_act};
 use crate::cache::Cache;
 use crate::files::FilesRead;
 use crate::items::Item;
@@ -40,6 +40,7 @@ pub fn round<H: Threads + Sync, R: Rules, T: Tree, G: Gate>(
     workers: u32,
     gate: &G,
     waves: &mut u64,
+    acts: &mut u64,
 ) -> Result<Vec<Item<R::Key, R::Out>>, EngineRefusal>
     requires some { 1 ≤ workers }
     requires most { workers ≤ 64 }
@@ -52,8 +53,9 @@ pub fn round<H: Threads + Sync, R: Rules, T: Tree, G: Gate>(
 {
     let mut left = Vec::new(alloc);
     let runs = advance_all(
-        alloc, rules, job, old, items, fresh, places, tree, book, files, &mut left,
+        alloc, rules, job, old, items, fresh, places, tree, book, files, acts, &mut left,
     )?;
+    count_act(acts, !runs.is_empty());
     let done = turns(rt, alloc, rules, runs, workers, gate, waves)?;
     take_all(alloc, done, fresh, places, &mut left)?;
     Ok(left)

@@ -10,6 +10,7 @@ ghost use Rattle.step_engine.specs.Scanning.{AreUnderWay, AreAllWanted};
 ghost use Rattle.step_engine.specs.Settling.{IsVisited, IsBroughtTo, TopNotes, Begins};
 ghost use Rattle.step_engine.specs.Opening.{OpensNoted};
 
+use crate::advance::count_act;
 use crate::cache::Cache;
 use crate::files::FilesRead;
 use crate::open::open_all;
@@ -45,6 +46,7 @@ fn visit<H: Threads + Sync, R: Rules, T: Tree, G: Gate>(
     workers: u32,
     gate: &G,
     waves: &mut u64,
+    acts: &mut u64,
     pool: &mut Pool<R::Key, R::Out>,
 ) -> Result<(), EngineRefusal>
     requires some { 1 ≤ workers }
@@ -57,9 +59,11 @@ fn visit<H: Threads + Sync, R: Rules, T: Tree, G: Gate>(
     ensures ok { IfOk result (λ _. IsVisited R.Key.cmp (setting R.means (T.held tree.old) job.now old.now) (state fresh.old.items (read_at files.old) book.old (T.reads tree.old)) (state fresh.new.items (read_at files.new) book.new (T.reads tree.new)) (place_at R.Key.cmp places.old) (place_at R.Key.cmp places.new) pool.old pool.new) }
 {
     let able = take_able(alloc, rules, old, pool, places, book)?;
+    count_act(acts, !pool.news.is_empty());
     let first = fresh.len();
     let left = round(
         rt, alloc, rules, job, old, able, fresh, places, tree, book, files, workers, gate, waves,
+        acts,
     )?;
     put_back(alloc, left, fresh, first, pool)?;
     Ok(())
@@ -91,9 +95,10 @@ fn begin<K: StepKey, O: Same + Drop>(
 
 /// The outcome of a key, for the sake of which other keys are brought.
 ///
-/// A visit takes all new and all woken keys, so a visit that leaves none of either is the last one.
-/// A key waits only for parts of lower rank, so one of those under way is always able to go on, and
-/// the top key is done before that.
+/// Each visit does something for some key: it opens one, makes its turn, answers or checks a batch of
+/// it, or makes its entry. What is done is counted, up to the greatest number of 64 bits, and a visit
+/// that did nothing is the last one. A key waits only for parts of lower rank, so one of those under
+/// way is always able to go on, and the top key is done before that.
 pub fn settle<H: Threads + Sync, R: Rules, T: Tree, G: Gate>(
     rt: &H,
     alloc: Global,
@@ -119,17 +124,19 @@ pub fn settle<H: Threads + Sync, R: Rules, T: Tree, G: Gate>(
 {
     let mut pool = begin(alloc, old, top, places, book)?;
     let mut waves = 0;
-    for _number in 0..u64::MAX {
+    let mut acts = 0;
+    while acts < u64::MAX {
         if let Some(outcome) = result_of(top, fresh, places) {
             return Ok(outcome.copy(alloc)?);
         }
-        if pool.is_at_rest() {
-            return Err(EngineRefusal::WantOfMemory);
-        }
+        let before = acts;
         visit(
             rt, alloc, rules, job, old, fresh, places, tree, book, files, workers, gate,
-            &mut waves, &mut pool,
+            &mut waves, &mut acts, &mut pool,
         )?;
+        if acts <= before {
+            return Err(EngineRefusal::WantOfMemory);
+        }
     }
     Err(EngineRefusal::WantOfMemory)
 }

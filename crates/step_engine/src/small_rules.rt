@@ -11,6 +11,7 @@ use build_base::path::Path;
 use build_base::rows::Rows;
 use build_base::same::Same;
 use build_base::text::{Text, WantOfMemory};
+use shared_value::Shared;
 use std::alloc::Global;
 
 impl StepKey for u32 {
@@ -87,11 +88,12 @@ fn absent(alloc: Global, key: u32) -> Result<Outcome<Text>, WantOfMemory>
         line: 0,
     };
     let detail = Text::of(alloc, b"")?;
-    Ok(Outcome::Bad(Fault {
+    let fault = Fault {
         code: 103,
         place,
         detail,
-    }))
+    };
+    Ok(Outcome::Bad(Shared::new(alloc, fault)?))
 }
 
 fn joined(alloc: Global, first: &Text, second: &Text) -> Result<Outcome<Text>, WantOfMemory>
@@ -99,7 +101,7 @@ fn joined(alloc: Global, first: &Text, second: &Text) -> Result<Outcome<Text>, W
 {
     let mut bytes = Vec::from_slice(alloc, first.bytes())?;
     bytes.extend_from_slice(second.bytes())?;
-    Ok(Outcome::Good(Text::from_vec(bytes)))
+    Ok(Outcome::Good(Shared::new(alloc, Text::from_vec(bytes))?))
 }
 
 fn whole_file(
@@ -111,7 +113,7 @@ fn whole_file(
     ensures { IfOk result (λ outcome. outcome ≡ whole_file key first.now second.now) }
 {
     match (first, second) {
-        (Answer::Bytes(bytes), Answer::Field(more)) => joined(alloc, bytes, more),
+        (Answer::Bytes(bytes), Answer::Field(more)) => joined(alloc, bytes.value(), more.value()),
         _ => absent(alloc, key),
     }
 }
@@ -130,7 +132,7 @@ fn together(
             Ok(Outcome::Bad(fault.copy(alloc)?))
         }
         (Answer::Part(Outcome::Good(bytes)), Answer::Part(Outcome::Good(more))) => {
-            joined(alloc, bytes, more)
+            joined(alloc, bytes.value(), more.value())
         }
         _ => absent(alloc, key),
     }

@@ -12,6 +12,7 @@ use crate::table::make_new;
 use crate::talk::Entry;
 use build_base::outside::Gate;
 use build_base::text::WantOfMemory;
+use shared_value::Shared;
 use std::alloc::Global;
 use std::thread::Threads;
 use wave_pool::run_wave;
@@ -65,6 +66,7 @@ pub fn take_turn<K: StepKey, O: Drop>(
             asks,
         }))),
         Turn::Done(result) => {
+            let talk = Shared::new(alloc, talk)?;
             make_new(alloc, Entry { key, talk, result }, fresh, places)?;
             Ok(None)
         }

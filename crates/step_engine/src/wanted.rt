@@ -4,7 +4,7 @@ ghost use Rattle.step_engine.specs.Meaning.{asks_of};
 ghost use Rattle.step_engine.specs.Wanting.{AddsParts, ArePartsOf, IsAskedBy, WantsItem};
 
 use crate::answers::is_lower;
-use crate::items::Item;
+use crate::items::{Item, batch_at};
 use crate::places::{Place, Places};
 use crate::rules::{Rules, StepKey};
 use crate::talk::{Ask, Pair};
@@ -90,7 +90,7 @@ fn want_item<R: Rules>(
             want_asks(alloc, rules, &asked.key, &asked.asks, places, wanted)?;
             Ok(())
         }
-        Item::Check(check) => match check.entry.talk.batches.items().get(check.batch) {
+        Item::Check(check) => match batch_at(&check.entry, check.batch) {
             Some(batch) => {
                 want_pairs(alloc, rules, &check.entry.key, &batch.pairs, places, wanted)?;
                 Ok(())

@@ -8,25 +8,25 @@ use Rattle.step_engine.proofs.advance.check_next.Goals as goal
 
 pub check_batch-requires-clause-next : goal.check_batch-requires-clause-next
 check_batch-requires-clause-next g c =
-    let a = rw c.items.ensures at c.in-Some.ensures.lookup in
+    let a = rw (c.items.ensures, c.value-talk.ensures) at c.in-Some.ensures.lookup in
     λ κs q w i. check_asks _ _ c.args.check.entry c.args.check.batch c.requires.check c.in-Some.batch.now a.3.0 a.1 w i
 
 pub returns-in-None-clause-adds : goal.returns-in-None-clause-adds
-returns-in-None-clause-adds g c = adds_none _ _ _ _
+returns-in-None-clause-adds g c = adds_none _ _ _
 
 pub returns-in-None-clause-ok : goal.returns-in-None-clause-ok
 returns-in-None-clause-ok g c =
-    let a = rw c.items.ensures at c.in-None.ensures.lookup in
+    let a = rw (c.items.ensures, c.value-talk.ensures) at c.in-None.ensures.lookup in
     record { still = still_none _ _ _ c.requires.kept; outcome = (check_good _ _ c.args.check.entry c.args.check.batch c.requires.check (ltb-false _ _ (sym a.0)), refl) }
 
 pub returns-in-Some-true-clause-ok : goal.returns-in-Some-true-clause-ok
 returns-in-Some-true-clause-ok g c =
-    let a = rw c.items.ensures at c.in-Some.ensures.lookup in
+    let a = rw (c.items.ensures, c.value-talk.ensures) at c.in-Some.ensures.lookup in
     let d = rw (c.in-Some-true.is, c.in-Some-true.field-0-test) at c.in_ok-found-in-Some.ensures.ok in
     record { still = record { moves = d.moves; kept = d.kept }; outcome = (check_more _ _ c.args.check.entry c.args.check.batch c.requires.check _ c.in-Some.batch.now a.3.0 a.1 d, refl) }
 
 pub returns-in-Some-false-clause-ok : goal.returns-in-Some-false-clause-ok
 returns-in-Some-false-clause-ok g c =
-    let a = rw c.items.ensures at c.in-Some.ensures.lookup in
+    let a = rw (c.items.ensures, c.value-talk.ensures) at c.in-Some.ensures.lookup in
     let d = rw (c.in-Some-false.is, c.in-Some-false.field-0-test) at c.in_ok-found-in-Some.ensures.ok in
     record { still = record { moves = d.moves; kept = d.kept }; outcome = (check_stale _ _ c.args.check.entry c.args.check.batch c.requires.check _ c.in-Some.batch.now a.3.0 a.1 d, refl) }

@@ -8,38 +8,38 @@ use Rattle.step_engine.proofs.answers.answer.Goals as goal
 pub returns-in_err-answer-in-File-clause-adds : goal.returns-in_err-answer-in-File-clause-adds
 returns-in_err-answer-in-File-clause-adds g c =
     let laws = g.met.R.Rules g.world.𝓛 g.world.𝓜 g.world.𝓡 ((λ s x. x), (λ x. x), (λ x. x), λ x. x) in
-    adds_read _ _ _ _ _ refl (λ w i. file_asked _ laws.lawful w _ _ _ (c.requires.next w i) c.in-File.is) c.read_once.ensures.read
+    adds_read _ _ _ _ _ (λ w i. file_asked _ laws.lawful w _ _ _ (c.requires.next w i) c.in-File.is) c.read_once.ensures.read
 
 pub returns-in_ok-answer-in-File-clause-adds : goal.returns-in_ok-answer-in-File-clause-adds
 returns-in_ok-answer-in-File-clause-adds g c =
     let laws = g.met.R.Rules g.world.𝓛 g.world.𝓜 g.world.𝓡 ((λ s x. x), (λ x. x), (λ x. x), λ x. x) in
-    adds_read _ _ _ _ _ refl (λ w i. file_asked _ laws.lawful w _ _ _ (c.requires.next w i) c.in-File.is) c.read_once.ensures.read
+    adds_read _ _ _ _ _ (λ w i. file_asked _ laws.lawful w _ _ _ (c.requires.next w i) c.in-File.is) c.read_once.ensures.read
 
 pub returns-in_ok-answer-in-File-clause-ok : goal.returns-in_ok-answer-in-File-clause-ok
 returns-in_ok-answer-in-File-clause-ok g c =
     let laws = g.met.R.Rules g.world.𝓛 g.world.𝓜 g.world.𝓡 ((λ s x. x), (λ x. x), (λ x. x), λ x. x) in
-    rw c.in-File.is (answered_file _ _ _ _ _ _ refl refl (λ w i. file_asked _ laws.lawful w _ _ _ (c.requires.next w i) c.in-File.is) c.read_once.ensures.read c.requires.kept c.in_ok-answer-in-File.ensures.ok)
+    rw c.in-File.is (answered_file _ _ _ _ _ _ refl (λ w i. file_asked _ laws.lawful w _ _ _ (c.requires.next w i) c.in-File.is) c.read_once.ensures.read c.requires.kept c.in_ok-answer-in-File.ensures.ok)
 
 pub returns-in_err-field-in-Field-clause-adds : goal.returns-in_err-field-in-Field-clause-adds
-returns-in_err-field-in-Field-clause-adds g c = adds_none _ _ _ _
+returns-in_err-field-in-Field-clause-adds g c = adds_none _ _ _
 
 pub returns-in_ok-field-in-Field-clause-adds : goal.returns-in_ok-field-in-Field-clause-adds
-returns-in_ok-field-in-Field-clause-adds g c = adds_none _ _ _ _
+returns-in_ok-field-in-Field-clause-adds g c = adds_none _ _ _
 
 pub returns-in_ok-field-in-Field-clause-ok : goal.returns-in_ok-field-in-Field-clause-ok
 returns-in_ok-field-in-Field-clause-ok g c = rw c.in-Field.is (answered_field _ _ _ _ _ c.requires.kept c.in_ok-field-in-Field.ensures)
 
 pub returns-in_err-copy-in-Some-clause-adds : goal.returns-in_err-copy-in-Some-clause-adds
-returns-in_err-copy-in-Some-clause-adds g c = adds_none _ _ _ _
+returns-in_err-copy-in-Some-clause-adds g c = adds_none _ _ _
 
 pub returns-in_ok-copy-in-Some-clause-adds : goal.returns-in_ok-copy-in-Some-clause-adds
-returns-in_ok-copy-in-Some-clause-adds g c = adds_none _ _ _ _
+returns-in_ok-copy-in-Some-clause-adds g c = adds_none _ _ _
 
 pub returns-in_ok-copy-in-Some-clause-ok : goal.returns-in_ok-copy-in-Some-clause-ok
 returns-in_ok-copy-in-Some-clause-ok g c = rw (c.in-Part.is, c.in_ok-copy-in-Some.ensures) (answered_part _ _ _ _ _ c.requires.kept c.in-Some.ensures)
 
 pub returns-in-None-clause-adds : goal.returns-in-None-clause-adds
-returns-in-None-clause-adds g c = adds_none _ _ _ _
+returns-in-None-clause-adds g c = adds_none _ _ _
 
 pub returns-in-None-clause-ok : goal.returns-in-None-clause-ok
 returns-in-None-clause-ok g c = still_none _ _ _ c.requires.kept
