@@ -1,1 +1,3 @@
 pub mod ValueLemmas
+mod KindLemmas
+mod ImageValues

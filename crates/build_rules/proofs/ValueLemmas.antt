@@ -20,7 +20,7 @@ use Rattle.step_engine.specs.declared.talk.Ask.TheVariants as ask
 use Rattle.step_engine.specs.declared.talk.Answer.{Answer}
 use Rattle.build_stages.specs.Stages.{end, run, outcome_of, meaning_of}
 use Rattle.build_stages.specs.StagesLaws.{value_is}
-use Rattle.build_stages.specs.Bounds.{run_bind}
+use Rattle.build_stages.specs.Bounds.{both_hold, run_bind}
 use Rattle.document_stages.specs.Documents.{lines_of}
 use Rattle.document_stages.specs.Worlds.{TellsFiles}
 use Rattle.document_stages.proofs.DocumentWorlds.{run_lines}
@@ -45,7 +45,7 @@ got_within limit (Some bytes) =
       | false ↦ λ e. tt
     ]) refl
 
-file_fits : (path : List ℕ) (got : Got) → fits (ask.File path) (answer_of got) ≡ true
+pub file_fits : (path : List ℕ) (got : Got) → fits (ask.File path) (answer_of got) ≡ true
 file_fits path (File bytes) = refl
 file_fits path Absent = refl
 file_fits path TooLong = refl
@@ -64,21 +64,21 @@ ended_as fits o variant read (Ok lines) = refl
 ended_as fits o variant read (Err fault) = refl
 
 -- a document in a world
-document_run : {A : Type 0} (w : World) (variant : A → Out) (read : Lines → Result A Fault) (fixed : List Macro) (path : List ℕ)
-    → run fits (right (meaning_of key_cmp edk) w) (document_stages variant read fixed path) ≡ given_as variant (and_then (lines_in w path [] fixed) read)
-document_run w variant read fixed path =
-    run_bind fits (right (meaning_of key_cmp edk) w) (lines_of path [] fixed) (λ lines. end (given_as variant (read lines)))
+pub document_run : {A : Type 0} (w : World) (variant : A → Out) (read : Lines → Result A Fault) (macros fixed : List Macro) (path : List ℕ)
+    → run fits (right (meaning_of key_cmp edk) w) (document_stages variant read macros fixed path) ≡ given_as variant (and_then (lines_in w path macros fixed) read)
+document_run w variant read macros fixed path =
+    run_bind fits (right (meaning_of key_cmp edk) w) (lines_of path macros fixed) (λ lines. end (given_as variant (read lines)))
     ∙ ap (λ (r : Result Lines Fault). and_then r (λ lines. run fits (right (meaning_of key_cmp edk) w) (end (given_as variant (read lines)))))
-    (run_lines fits (right (meaning_of key_cmp edk) w) (got w) (tells w (right (meaning_of key_cmp edk) w) (λ path. refl)) path [] fixed)
-    ∙ ended_as fits (right (meaning_of key_cmp edk) w) variant read (lines_in w path [] fixed)
+    (run_lines fits (right (meaning_of key_cmp edk) w) (got w) (tells w (right (meaning_of key_cmp edk) w) (λ path. refl)) path macros fixed)
+    ∙ ended_as fits (right (meaning_of key_cmp edk) w) variant read (lines_in w path macros fixed)
 
 pub dec_is : (w : World) (path : List ℕ) → value_in w (key.Dec path) ≡ outcome_of (given_as out.Dec (dec_value w path))
-dec_is w path = value_is key_cmp edk edk_is_bounded w (key.Dec path) ∙ ap outcome_of (document_run w out.Dec package_of [] path)
+dec_is w path = value_is key_cmp edk edk_is_bounded w (key.Dec path) ∙ ap outcome_of (document_run w out.Dec package_of [] [] path)
 
 pub inf_is : (w : World) (path : List ℕ) → value_in w (key.Inf path) ≡ outcome_of (given_as out.Inf (inf_value w path))
-inf_is w path = value_is key_cmp edk edk_is_bounded w (key.Inf path) ∙ ap outcome_of (document_run w out.Inf module_of [] path)
+inf_is w path = value_is key_cmp edk edk_is_bounded w (key.Inf path) ∙ ap outcome_of (document_run w out.Inf module_of [] [] path)
 
-path_some : (b : Bool) (text : List ℕ) → is_some (if b then Some text else None) ≡ true → path_named (if b then Some text else None) ≡ Ok text
+pub path_some : (b : Bool) (text : List ℕ) → is_some (if b then Some text else None) ≡ true → path_named (if b then Some text else None) ≡ Ok text
 path_some true text e = refl
 path_some false text e = absurd (cc)
 
@@ -88,8 +88,9 @@ named w e = path_some (is_path (field w 0) && nat_le (length (field w 0)) 512) (
 platform_run : (w : World) → is_some (path_field (field w 0)) ≡ true
     → run fits (right (meaning_of key_cmp edk) w) platform_stages ≡ given_as out.Platform (platform_value w)
 platform_run w e =
-    ap (λ (r : Result (List ℕ) Fault). run fits (right (meaning_of key_cmp edk) w) (attempt r (λ path. document_stages out.Platform platform_of (job_macros w) path))) (named w e)
-    ∙ document_run w out.Platform platform_of (job_macros w) (field w 0)
+    ap (λ (r : Result (List ℕ) Fault). run fits (right (meaning_of key_cmp edk) w) (attempt r (λ path. document_stages out.Platform platform_of [] (job_macros w) path))) (named w e)
+    ∙ document_run w out.Platform platform_of [] (job_macros w) (field w 0)
 
 pub platform_is : (w : World) → IsWorld (meaning_of key_cmp edk) w → value_in w key.Platform ≡ outcome_of (given_as out.Platform (platform_value w))
-platform_is w e = value_is key_cmp edk edk_is_bounded w key.Platform ∙ ap outcome_of (platform_run w e)
+platform_is w e =
+    value_is key_cmp edk edk_is_bounded w key.Platform ∙ ap outcome_of (platform_run w (both_hold (is_some (path_field (field w 0))) _ e).0)

@@ -22,6 +22,8 @@ kind_of (out.Values values) = 5
 kind_of (out.Code texts) = 6
 kind_of (out.Depex bytes) = 7
 kind_of (out.File file) = 8
+kind_of (out.Volume image) = 9
+kind_of (out.Device image) = 10
 kind_of (out.Report text) = 11
 kind_of (out.All outputs) = 12
 

@@ -1,6 +1,10 @@
 pub mod Defines
 pub mod Fits
 pub mod Trees
+pub mod ImageTrees
+pub mod Outputs
+pub mod AllTree
 pub mod Rules
+pub mod ImageBounds
 pub mod RulesBounds
 pub mod Values

@@ -1,6 +1,6 @@
 -- The steps of a build as rules: what each key asks and gives, and its rank. The rule is this
 -- project's own.
-use Rattle.std.specs.Prelude.{ℕ, ◌+◌, ◌*◌, Bool, List, [], Result, slice_index_or}
+use Rattle.std.specs.Prelude.{ℕ, ◌+◌, ◌*◌, ◌==◌, ◌&&◌, Bool, true, if◌then◌else◌, List, [], length, Result, slice_index_or}
 use Rattle.std.specs.Option.{is_some}
 use Rattle.build_base.specs.Path.{path_field}
 use Rattle.build_base.specs.World.{World}
@@ -15,13 +15,25 @@ use Rattle.step_pack.specs.declared.key.Key.{Key}
 use Rattle.step_pack.specs.declared.key.Key.TheVariants as key
 use Rattle.step_pack.specs.declared.out.Out.{Out}
 use Rattle.build_rules.specs.Fits.{fits}
-use Rattle.build_rules.specs.Trees.{EdkStages, dec_stages, inf_stages, platform_stages, unbuilt}
+use Rattle.build_rules.specs.AllTree.{all_stages}
+use Rattle.build_rules.specs.ImageTrees.{file_stages, volume_stages, device_stages}
+use Rattle.build_rules.specs.Trees.{EdkStages, dec_stages, inf_stages, platform_stages, flash_stages, unbuilt}
 
 abbrev pub stages_of : Key → EdkStages
 stages_of (key.Dec path) = dec_stages path
 stages_of (key.Inf path) = inf_stages path
 stages_of key.Platform = platform_stages
-stages_of _ = unbuilt
+stages_of key.Flash = flash_stages
+stages_of (key.Choice m) = unbuilt
+stages_of key.PlatformPcds = unbuilt
+stages_of (key.Values m) = unbuilt
+stages_of (key.Code m) = unbuilt
+stages_of (key.Depex m) = unbuilt
+stages_of (key.File v i) = file_stages v i
+stages_of (key.Volume v) = volume_stages v
+stages_of (key.Device d) = device_stages d
+stages_of key.Report = unbuilt
+stages_of key.All = all_stages
 
 -- a volume's number is below 2^32, so that a device's rank is above those of all volumes
 abbrev pub rank_of : Key → ℕ
@@ -45,11 +57,31 @@ abbrev pub most_of : Key → ℕ
 most_of (key.Dec path) = most_files
 most_of (key.Inf path) = most_files
 most_of key.Platform = 1 + most_files
-most_of _ = 0
+most_of key.Flash = 1 + most_files
+most_of (key.Choice m) = 0
+most_of key.PlatformPcds = 0
+most_of (key.Values m) = 0
+most_of (key.Code m) = 0
+most_of (key.Depex m) = 0
+most_of (key.File v i) = 2
+most_of (key.Volume v) = 2
+most_of (key.Device d) = 2
+most_of key.Report = 0
+most_of key.All = 2
 
--- the field 0 of a job names a file
+abbrev pub is_empty : List ℕ → Bool
+is_empty text = length text == 0
+
+abbrev pub is_path_or_empty : List ℕ → Bool
+is_path_or_empty text = if is_empty text then true else is_some (path_field text)
+
+-- The field 0 of a job names a file, and so does 7 where it isn't empty. Images and a report can't be
+-- asked for yet.
 abbrev pub is_job : List (List ℕ) → Bool
-is_job fields = is_some (path_field (slice_index_or fields 0 []))
+is_job fields =
+    is_some (path_field (slice_index_or fields 0 []))
+    && (is_path_or_empty (slice_index_or fields 7 [])
+    && (is_empty (slice_index_or fields 8 []) && is_empty (slice_index_or fields 9 [])))
 
 abbrev pub edk : Staged Key Out
 edk = record { stages = stages_of; rank = rank_of; most = most_of; fits = fits; is_job = is_job }

@@ -1,6 +1,6 @@
 -- The bounds of the steps of a build: what they ask is of lower rank, and how many batches they
 -- ask.
-use Rattle.std.proofs.Common.{◌≡◌, ℕ, ◌+◌, ◌-◌, ◌≤◌, arith, List, [], ◌∷◌, Result, subst}
+use Rattle.std.proofs.Common.{◌≡◌, ℕ, ◌+◌, ◌-◌, ◌≤◌, arith, List, [], ◌∷◌, Option, Some, None, Result, subst}
 use Rattle.std.proofs.lemmas.List.Elements.{All-cons}
 use Rattle.build_base.specs.declared.lines.Macro.{Macro}
 use Rattle.step_engine.specs.declared.talk.Ask.TheVariants as ask
@@ -18,64 +18,91 @@ use Rattle.step_pack.specs.declared.out.Out.TheVariants as out
 use Rattle.dec_docs.specs.Package.{package_of}
 use Rattle.inf_docs.specs.Modules.{module_of}
 use Rattle.build_rules.specs.Fits.{fits}
-use Rattle.build_rules.specs.Trees.{given_as, document_stages, root_in, macros_in, platform_given}
+use Rattle.doc_types.specs.declared.platform.PlatformDoc.{PlatformDoc}
+use Rattle.flash_document.specs.Flash.{flash_of}
+use Rattle.build_rules.specs.ImageBounds.{file_lower, volume_lower, device_lower, all_lower, file_within, volume_within, device_within, all_within}
+use Rattle.build_rules.specs.Trees.{given_as, document_stages, root_in, macros_in, platform_given, platform_in, flash_root, flash_from, flash_given}
 use Rattle.build_rules.specs.Rules.{stages_of, rank_of, most_of, edk}
 
-document_lower : {A : Type 0} (variant : A → Out) (read : Lines → Result A Fault) (bound : ℕ) (fixed : List Macro) (path : List ℕ)
-    → AreLower rank_of bound (document_stages variant read fixed path)
-document_lower variant read bound fixed path =
-    bind_lower rank_of bound (lines_of path [] fixed) (λ lines. end (given_as variant (read lines)))
-    (lines_lower Out rank_of bound most_files path [] fixed []) (λ lines. tt)
+document_lower : {A : Type 0} (variant : A → Out) (read : Lines → Result A Fault) (bound : ℕ) (macros fixed : List Macro) (path : List ℕ)
+    → AreLower rank_of bound (document_stages variant read macros fixed path)
+document_lower variant read bound macros fixed path =
+    bind_lower rank_of bound (lines_of path macros fixed) (λ lines. end (given_as variant (read lines)))
+    (lines_lower Out rank_of bound most_files path macros fixed []) (λ lines. tt)
 
-document_within : {A : Type 0} (variant : A → Out) (read : Lines → Result A Fault) (fixed : List Macro) (path : List ℕ)
-    → IsWithin fits most_files (document_stages variant read fixed path)
-document_within variant read fixed path =
-    within_more fits (most_files + 0) most_files (document_stages variant read fixed path) (omega arith)
-    (bind_within fits most_files 0 (lines_of path [] fixed) (λ lines. end (given_as variant (read lines)))
-    (lines_within fits most_files path [] fixed []) (λ lines. tt))
+document_within : {A : Type 0} (variant : A → Out) (read : Lines → Result A Fault) (macros fixed : List Macro) (path : List ℕ)
+    → IsWithin fits most_files (document_stages variant read macros fixed path)
+document_within variant read macros fixed path =
+    within_more fits (most_files + 0) most_files (document_stages variant read macros fixed path) (omega arith)
+    (bind_within fits most_files 0 (lines_of path macros fixed) (λ lines. end (given_as variant (read lines)))
+    (lines_within fits most_files path macros fixed []) (λ lines. tt))
+
+flash_lower : (platform : PlatformDoc) (fixed : List Macro) (root : Option (List ℕ)) → AreLower rank_of 3 (flash_from platform fixed root)
+flash_lower platform fixed None = tt
+flash_lower platform fixed (Some path) = document_lower out.Flash flash_of 3 platform.macros fixed path
+
+flash_within : (platform : PlatformDoc) (fixed : List Macro) (root : Option (List ℕ)) → IsWithin fits most_files (flash_from platform fixed root)
+flash_within platform fixed None = tt
+flash_within platform fixed (Some path) = document_within out.Flash flash_of platform.macros fixed path
+
+-- a first batch, and then what two batches less one may ask
+first_of_two : most_files ≡ (1 + most_files) - 1
+first_of_two = omega arith
 
 lower : (k : Key) → AreLower rank_of (rank_of k) (stages_of k)
-lower (key.Dec path) = document_lower out.Dec package_of 1 [] path
-lower (key.Inf path) = document_lower out.Inf module_of 1 [] path
+lower (key.Dec path) = document_lower out.Dec package_of 1 [] [] path
+lower (key.Inf path) = document_lower out.Inf module_of 1 [] [] path
 lower key.Platform = (
   All-cons (IsLower rank_of 2) (ask.Field 0) (ask.Field 2 ∷ ask.Field 3 ∷ ask.Field 5 ∷ []) tt
       (All-cons (IsLower rank_of 2) (ask.Field 2) (ask.Field 3 ∷ ask.Field 5 ∷ []) tt
       (all_two (IsLower rank_of 2) (ask.Field 3) (ask.Field 5) tt tt)),
   λ given. attempt_lower rank_of 2 (root_in given) _ (λ path. attempt_lower rank_of 2 (macros_in given) _ (λ fixed.
-      document_lower out.Platform platform_of 2 fixed path)),
+      document_lower out.Platform platform_of 2 [] fixed path)),
 )
-lower key.Flash = tt
+lower key.Flash = (
+  All-cons (IsLower rank_of 3) (ask.Part key.Platform) (ask.Field 2 ∷ ask.Field 3 ∷ ask.Field 5 ∷ ask.Field 7 ∷ []) (omega arith)
+      (All-cons (IsLower rank_of 3) (ask.Field 2) (ask.Field 3 ∷ ask.Field 5 ∷ ask.Field 7 ∷ []) tt
+      (All-cons (IsLower rank_of 3) (ask.Field 3) (ask.Field 5 ∷ ask.Field 7 ∷ []) tt
+      (all_two (IsLower rank_of 3) (ask.Field 5) (ask.Field 7) tt tt))),
+  λ given. attempt_lower rank_of 3 (platform_in given 0) _ (λ platform. attempt_lower rank_of 3 (macros_in given) _ (λ fixed.
+      attempt_lower rank_of 3 (flash_root platform given) _ (λ root. flash_lower platform fixed root))),
+)
 lower (key.Choice m) = tt
 lower key.PlatformPcds = tt
 lower (key.Values m) = tt
 lower (key.Code m) = tt
 lower (key.Depex m) = tt
-lower (key.File v i) = tt
-lower (key.Volume v) = tt
-lower (key.Device d) = tt
+lower (key.File v i) = file_lower v i
+lower (key.Volume v) = volume_lower v
+lower (key.Device d) = device_lower d
 lower key.Report = tt
-lower key.All = tt
+lower key.All = all_lower
 
 within : (k : Key) → IsWithin fits (most_of k) (stages_of k)
-within (key.Dec path) = document_within out.Dec package_of [] path
-within (key.Inf path) = document_within out.Inf module_of [] path
+within (key.Dec path) = document_within out.Dec package_of [] [] path
+within (key.Inf path) = document_within out.Inf module_of [] [] path
 within key.Platform = (
   omega arith,
-  λ given fit. subst (λ m. IsWithin fits m (platform_given given)) (let same : most_files ≡ (1 + most_files) - 1 = omega arith in same)
+  λ given fit. subst (λ m. IsWithin fits m (platform_given given)) first_of_two
       (attempt_within fits most_files (root_in given) _ (λ path. attempt_within fits most_files (macros_in given) _ (λ fixed.
-      document_within out.Platform platform_of fixed path))),
+      document_within out.Platform platform_of [] fixed path))),
 )
-within key.Flash = tt
+within key.Flash = (
+  omega arith,
+  λ given fit. subst (λ m. IsWithin fits m (flash_given given)) first_of_two
+      (attempt_within fits most_files (platform_in given 0) _ (λ platform. attempt_within fits most_files (macros_in given) _ (λ fixed.
+      attempt_within fits most_files (flash_root platform given) _ (λ root. flash_within platform fixed root)))),
+)
 within (key.Choice m) = tt
 within key.PlatformPcds = tt
 within (key.Values m) = tt
 within (key.Code m) = tt
 within (key.Depex m) = tt
-within (key.File v i) = tt
-within (key.Volume v) = tt
-within (key.Device d) = tt
+within (key.File v i) = file_within v i
+within (key.Volume v) = volume_within v
+within (key.Device d) = device_within d
 within key.Report = tt
-within key.All = tt
+within key.All = all_within
 
 pub edk_is_bounded : AreBounded edk
 edk_is_bounded = record { lower = lower; within = within }

@@ -14,9 +14,9 @@ fn equals_at(text: &[u8]) -> Option<usize>
     text.iter().position(|byte| *byte == b'=')
 }
 
-// The name and the value of a text `NAME=VALUE` or `NAME`.
+/// The name and the value of a text `NAME=VALUE` or `NAME`.
 #[tactic(auto, unfolding(crate::specs::Defines::macro_of))]
-fn halves(text: &[u8]) -> (&[u8], &[u8])
+pub fn halves(text: &[u8]) -> (&[u8], &[u8])
     ensures name { result.0.now ≡ (macro_of text.now).name }
     ensures value { result.1.now ≡ (macro_of text.now).value }
 {
@@ -70,7 +70,7 @@ fn macros_of(alloc: Global, texts: &[u8]) -> Result<Rows<Macro>, WantOfMemory>
     each_macro(alloc, parts.as_slice())
 }
 
-fn or_default<'a>(text: &'a [u8], default: &'a [u8]) -> &'a [u8]
+pub fn or_default<'a>(text: &'a [u8], default: &'a [u8]) -> &'a [u8]
     ensures { result.now ≡ or_default text.now default.now }
 {
     if text.is_empty() { default } else { text }

@@ -5,7 +5,7 @@ ghost use Rattle.step_engine.specs.Meaning.{IsWorld};
 ghost use Rattle.build_stages.specs.Stages.{meaning_of};
 ghost use Rattle.step_pack.specs.Keys.{key_cmp};
 ghost use Rattle.build_rules.specs.Rules.{edk};
-ghost use Rattle.build_rules.specs.Values.{GivesPackage, GivesModule, GivesPlatform};
+ghost use Rattle.build_rules.specs.Values.{GivesPackage, GivesModule, GivesPlatform, GivesFlash, GivesFile, GivesVolume, GivesDevice, GivesAll};
 
 /// A package's step gives what its lines come to.
 pub fn packages_are_read()
@@ -20,4 +20,32 @@ pub fn modules_are_read()
 /// The platform's step gives what its lines come to, where the job's first field names a file.
 pub fn platforms_are_read()
     ensures { (w : World) → IsWorld (meaning_of key_cmp edk) w → GivesPlatform w }
+{}
+
+/// The flash description's step gives what the lines of its file come to, which start with the
+/// platform's macros.
+pub fn flash_descriptions_are_read()
+    ensures { (w : World) → IsWorld (meaning_of key_cmp edk) w → GivesFlash w }
+{}
+
+/// The step of an item gives its file, or the first fault: of a volume that it holds, then of a file that
+/// it asks for, then of the file itself.
+pub fn files_are_made()
+    ensures { (w : World) (v i : ℕ) → IsWorld (meaning_of key_cmp edk) w → GivesFile w v i }
+{}
+
+/// The step of a volume gives its image, or the first fault: of its files, and then of itself.
+pub fn volumes_are_made()
+    ensures { (w : World) (v : ℕ) → IsWorld (meaning_of key_cmp edk) w → GivesVolume w v }
+{}
+
+/// The step of a device gives its image, or the first fault: of a volume that it holds, then of a file
+/// that it asks for, then of the device itself.
+pub fn devices_are_made()
+    ensures { (w : World) (d : ℕ) → IsWorld (meaning_of key_cmp edk) w → GivesDevice w d }
+{}
+
+/// The whole build gives its files, or the first fault of a volume or a device.
+pub fn builds_give_their_files()
+    ensures { (w : World) → IsWorld (meaning_of key_cmp edk) w → GivesAll w }
 {}

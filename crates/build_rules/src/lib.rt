@@ -1,10 +1,15 @@
 //! The steps of a build: what each asks, and what it gives.
 #![tactic(auto)]
 
+pub mod all;
 pub mod defines;
 pub mod documents;
+pub mod images;
+pub mod job;
 pub mod laws;
+pub mod outputs;
 pub mod rules;
 pub mod shapes;
 
+pub use job::is_job;
 pub use rules::EdkRules;

@@ -1,5 +1,7 @@
 //! The steps of a build as rules of the engine.
-use crate::documents::{dec, inf, platform};
+use crate::all::all;
+use crate::documents::{dec, flash, inf, platform};
+use crate::images::{device, file, volume};
 pub use crate::shapes::EdkRules;
 use build_base::{Permit, WantOfMemory};
 use build_stages::{Known, StagedRules, Stop, turn_by};
@@ -38,7 +40,17 @@ impl StagedRules for EdkRules {
             Key::Dec(path) => dec(alloc, known, path, permit),
             Key::Inf(path) => inf(alloc, known, path, permit),
             Key::Platform => platform(alloc, known, permit),
-            _ => Err(Stop::Misfit),
+            Key::Flash => flash(alloc, known, permit),
+            Key::File(volume, item) => file(alloc, known, *volume, *item, permit),
+            Key::Volume(number) => volume(alloc, known, *number, permit),
+            Key::Device(number) => device(alloc, known, *number, permit),
+            Key::All => all(alloc, known, permit),
+            Key::Choice(_)
+            | Key::PlatformPcds
+            | Key::Values(_)
+            | Key::Code(_)
+            | Key::Depex(_)
+            | Key::Report => Err(Stop::Misfit),
         }
     }
 

@@ -23,6 +23,8 @@ fn kind_of(out: &Out) -> u8
         Out::Code(_) => 6,
         Out::Depex(_) => 7,
         Out::File(_) => 8,
+        Out::Volume(_) => 9,
+        Out::Device(_) => 10,
         Out::Report(_) => 11,
         Out::All(_) => 12,
     }
@@ -62,7 +64,10 @@ impl Shapes for EdkRules {
         match (ask, answer) {
             (Ask::File(_), Answer::Bytes(_) | Answer::Absent | Answer::TooLong) => true,
             (Ask::Field(_), Answer::Field(_)) => true,
-            (Ask::Part(key), Answer::Part(Outcome::Good(out))) => kind_at(key) == kind_of(out),
+            (Ask::Part(key), Answer::Part(Outcome::Good(out))) => {
+                let out = out.value();
+                kind_at(key) == kind_of(out)
+            }
             (Ask::Part(_), Answer::Part(Outcome::Bad(_))) => true,
             _ => false,
         }

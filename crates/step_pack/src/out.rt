@@ -1,6 +1,6 @@
 //! What the steps of a build give.
 use crate::key::Key;
-use build_base::{Path, Rows, Same, Text, WantOfMemory, all_same, copied};
+use build_base::{Image, Path, Rows, Same, Text, WantOfMemory, all_same, copied};
 use doc_types::choice::Choice;
 use doc_types::flash::FlashDoc;
 use doc_types::image::FileImage;
@@ -32,6 +32,8 @@ pub enum Out {
     Code(Option<Texts>),
     Depex(Text),
     File(FileImage),
+    Volume(Image),
+    Device(Image),
     Report(Text),
     All(Rows<Output>),
 }
@@ -58,6 +60,8 @@ impl Same for Out {
             Out::Code(texts) => Ok(Out::Code(texts.copy(alloc)?)),
             Out::Depex(bytes) => Ok(Out::Depex(bytes.copy(alloc)?)),
             Out::File(file) => Ok(Out::File(file.copy(alloc)?)),
+            Out::Volume(image) => Ok(Out::Volume(image.copy(alloc)?)),
+            Out::Device(image) => Ok(Out::Device(image.copy(alloc)?)),
             Out::Report(text) => Ok(Out::Report(text.copy(alloc)?)),
             Out::All(outputs) => Ok(Out::All(outputs.copy(alloc)?)),
         }
@@ -74,6 +78,8 @@ impl Same for Out {
             (Out::Code(ours), Out::Code(others)) => ours.same(others),
             (Out::Depex(ours), Out::Depex(others)) => ours.same(others),
             (Out::File(ours), Out::File(others)) => ours.same(others),
+            (Out::Volume(ours), Out::Volume(others)) => ours.same(others),
+            (Out::Device(ours), Out::Device(others)) => ours.same(others),
             (Out::Report(ours), Out::Report(others)) => ours.same(others),
             (Out::All(ours), Out::All(others)) => ours.same(others),
             _ => false,

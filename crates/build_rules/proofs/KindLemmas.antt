@@ -1,0 +1,149 @@
+-- Each step gives what its kind of key does, so that every answer of a world fits.
+use Rattle.std.specs.Prelude.{◌==◌, ◌&&◌}
+use Rattle.std.proofs.Common.{◌≡◌, ℕ, Bool, true, false, List, [], ◌∷◌, length, map, refl, sym, ap, ◌∙◌, Result, Ok, Err, Option, Some, None, IfOk}
+use Rattle.std.proofs.lemmas.Bool.{eq-eqb}
+use Rattle.build_base.specs.First.{or_else, first_of, or_fault}
+use Rattle.build_base.specs.World.{World, got}
+use Rattle.build_base.specs.declared.fault.Fault.{Fault}
+use Rattle.build_base.specs.declared.lines.Lines.{Lines}
+use Rattle.build_base.specs.declared.lines.Macro.{Macro}
+use Rattle.step_engine.specs.Meaning.{right}
+use Rattle.step_engine.specs.declared.talk.Ask.{Ask}
+use Rattle.step_engine.specs.declared.talk.Ask.TheVariants as ask
+use Rattle.step_engine.specs.declared.talk.Answer.{Answer}
+use Rattle.step_engine.specs.declared.talk.Answer.TheVariants as answer
+use Rattle.step_engine.specs.declared.talk.Outcome.{Outcome}
+use Rattle.build_stages.specs.Stages.{Stages, end, stage, bind, run, first_stop, unless_stopped, stop_of, fault_in, outcome_of, meaning_of, misfit}
+use Rattle.build_stages.specs.StagesLaws.{value_is}
+use Rattle.build_stages.specs.Writing.{attempt, when}
+use Rattle.document_stages.specs.Documents.{lines_of}
+use Rattle.doc_types.specs.declared.flash.DevicePlan.{DevicePlan}
+use Rattle.doc_types.specs.declared.flash.FlashDoc.{FlashDoc}
+use Rattle.doc_types.specs.declared.platform.PlatformDoc.{PlatformDoc}
+use Rattle.doc_types.specs.declared.volume.Item.{Item}
+use Rattle.doc_types.specs.declared.volume.Item.TheVariants as item
+use Rattle.doc_types.specs.declared.volume_head.VolumeHead.{VolumeHead}
+use Rattle.step_pack.specs.Keys.{key_cmp}
+use Rattle.step_pack.specs.declared.key.Key.{Key}
+use Rattle.step_pack.specs.declared.key.Key.TheVariants as key
+use Rattle.step_pack.specs.declared.out.Out.{Out}
+use Rattle.step_pack.specs.declared.out.Out.TheVariants as out
+use Rattle.dec_docs.specs.Package.{package_of}
+use Rattle.inf_docs.specs.Modules.{module_of}
+use Rattle.dsc_platform.specs.Platform.{platform_of}
+use Rattle.flash_document.specs.Flash.{flash_of}
+use Rattle.build_rules.specs.Fits.{fits, kind_of, kind_at}
+use Rattle.image_steps.specs.Asks.{sections_below, regions_below, are_few}
+use Rattle.image_steps.specs.Files.{file_given}
+use Rattle.image_steps.specs.Volumes.{volume_given}
+use Rattle.image_steps.specs.Devices.{device_given}
+use Rattle.build_rules.specs.AllTree.{folder_in}
+use Rattle.build_rules.specs.Outputs.{outputs_of}
+use Rattle.build_rules.specs.Trees.{EdkStages, given_as, document_stages, root_in, macros_in, platform_in, flash_root, flash_from}
+use Rattle.build_rules.specs.ImageTrees.{flash_in, volume_at, item_at, device_at, item_stages}
+use Rattle.build_rules.specs.Rules.{edk, stages_of, value_in}
+use Rattle.build_rules.specs.RulesBounds.{edk_is_bounded}
+use Rattle.build_rules.specs.Values.{answers_in, fault_asked}
+use Rattle.build_rules.proofs.ValueLemmas.{file_fits}
+
+-- each end that is no fault is of this kind
+abbrev pub AreOfKind : ℕ → EdkStages → Type 0
+AreOfKind n (end (Ok given)) = kind_of given ≡ n
+AreOfKind n (end (Err fault)) = Unit {0}
+AreOfKind n (stage asks next) = (given : List (Answer Out)) → AreOfKind n (next given)
+
+bind_kind : {A : Type 0} (n : ℕ) (s : Stages Key Out A) (f : A → EdkStages) → ((x : A) → AreOfKind n (f x)) → AreOfKind n (bind s f)
+bind_kind n (end (Ok x)) f h = h x
+bind_kind n (end (Err fault)) f h = tt
+bind_kind n (stage asks next) f h = λ given. bind_kind n (next given) f h
+
+attempt_kind : {A : Type 0} (n : ℕ) (r : Result A Fault) (next : A → EdkStages) → ((x : A) → AreOfKind n (next x)) → AreOfKind n (attempt r next)
+attempt_kind n (Ok x) next h = h x
+attempt_kind n (Err fault) next h = tt
+
+when_kind : (n : ℕ) (b : Bool) (s : EdkStages) → AreOfKind n s → AreOfKind n (when b s)
+when_kind n true s h = h
+when_kind n false s h = tt
+
+given_kind : {A : Type 0} (n : ℕ) (variant : A → Out) → ((x : A) → kind_of (variant x) ≡ n) → (r : Result A Fault) → AreOfKind n (end (given_as variant r))
+given_kind n variant h (Ok x) = h x
+given_kind n variant h (Err fault) = tt
+
+document_kind : {A : Type 0} (n : ℕ) (variant : A → Out) → ((x : A) → kind_of (variant x) ≡ n) → (read : Lines → Result A Fault) (macros fixed : List Macro) (path : List ℕ)
+    → AreOfKind n (document_stages variant read macros fixed path)
+document_kind n variant h read macros fixed path =
+    bind_kind n (lines_of path macros fixed) (λ lines. end (given_as variant (read lines))) (λ lines. given_kind n variant h (read lines))
+
+flash_kind : (platform : PlatformDoc) (fixed : List Macro) (root : Option (List ℕ)) → AreOfKind 3 (flash_from platform fixed root)
+flash_kind platform fixed None = refl
+flash_kind platform fixed (Some path) = document_kind 3 out.Flash (λ x. refl) flash_of platform.macros fixed path
+
+item_kind : (v : ℕ) (flash : FlashDoc) (head : VolumeHead) (it : Item) → AreOfKind 8 (item_stages v flash head it)
+item_kind v flash head (item.File plan) =
+    when_kind 8 (sections_below v plan.sections) _ (λ given. given_kind 8 out.File (λ x. refl) (file_given flash head plan given))
+item_kind v flash head (item.Apriori at pei members) = tt
+item_kind v flash head (item.Inf line) = tt
+
+of_kind : (k : Key) → AreOfKind (kind_at k) (stages_of k)
+of_kind (key.Dec path) = document_kind 0 out.Dec (λ x. refl) package_of [] [] path
+of_kind (key.Inf path) = document_kind 1 out.Inf (λ x. refl) module_of [] [] path
+of_kind key.Platform =
+    λ given. attempt_kind 2 (root_in given) _ (λ path. attempt_kind 2 (macros_in given) _ (λ fixed. document_kind 2 out.Platform (λ x. refl) platform_of [] fixed path))
+of_kind key.Flash =
+    λ given. attempt_kind 3 (platform_in given 0) _ (λ platform. attempt_kind 3 (macros_in given) _ (λ fixed. attempt_kind 3 (flash_root platform given) _ (λ root. flash_kind platform fixed root)))
+of_kind (key.Choice m) = tt
+of_kind key.PlatformPcds = tt
+of_kind (key.Values m) = tt
+of_kind (key.Code m) = tt
+of_kind (key.Depex m) = tt
+of_kind (key.File v i) =
+    λ given. attempt_kind 8 (flash_in given 0) _ (λ flash. attempt_kind 8 (volume_at flash v) _ (λ plan. attempt_kind 8 (item_at flash plan i) _ (λ it. item_kind v flash plan.head it)))
+of_kind (key.Volume v) =
+    λ given. attempt_kind 9 (flash_in given 0) _ (λ flash. attempt_kind 9 (volume_at flash v) _ (λ plan.
+    when_kind 9 (are_few (length plan.items)) _ (λ files. given_kind 9 out.Volume (λ x. refl) (volume_given plan.head files))))
+of_kind (key.Device d) =
+    λ given. attempt_kind 10 (flash_in given 0) _ (λ flash. attempt_kind 10 (device_at flash d) _ (λ plan.
+    when_kind 10 (regions_below plan.regions) _ (λ parts. given_kind 10 out.Device (λ x. refl) (device_given plan parts))))
+of_kind key.Report = tt
+of_kind key.All =
+    λ given. attempt_kind 12 (platform_in given 0) _ (λ platform. attempt_kind 12 (flash_in given 1) _ (λ flash. attempt_kind 12 (folder_in platform given) _ (λ folder.
+    when_kind 12 (are_few (length flash.volumes) && are_few (length flash.devices)) _ (λ images. given_kind 12 out.All (λ x. refl) (outputs_of folder flash)))))
+
+run_kind : (n : ℕ) (o : Ask Key → Answer Out) (s : EdkStages) → AreOfKind n s → IfOk (run fits o s) (λ given. kind_of given ≡ n)
+run_kind n o (end (Ok given)) h = h
+run_kind n o (end (Err fault)) h = tt
+run_kind n o (stage asks next) h =
+    elim (first_stop fits asks (map o asks)) as (λ q. IfOk (unless_stopped q Err (run fits o (next (map o asks)))) (λ given. kind_of given ≡ n)) [
+      | Some fault ↦ tt
+      | None ↦ run_kind n o (next (map o asks)) (h (map o asks))
+    ]
+
+result_fits : (k : Key) (r : Result Out Fault) → IfOk r (λ given. kind_of given ≡ kind_at k) → fits (ask.Part k) (answer.Part (outcome_of r)) ≡ true
+result_fits k (Ok given) h = eq-eqb (kind_at k) (kind_of given) (sym h)
+result_fits k (Err fault) h = refl
+
+fits_in : (w : World) (a : Ask Key) → fits a (right (meaning_of key_cmp edk) w a) ≡ true
+fits_in w (ask.File path) = file_fits path (got w path)
+fits_in w (ask.Field i) = refl
+fits_in w (ask.Part k) =
+    ap (λ (v : Outcome Out). fits (ask.Part k) (answer.Part v)) (value_is key_cmp edk edk_is_bounded w k)
+    ∙ result_fits k (run fits (right (meaning_of key_cmp edk) w) (stages_of k)) (run_kind (kind_at k) (right (meaning_of key_cmp edk) w) (stages_of k) (of_kind k))
+
+stop_is : (w : World) (asks : List (Ask Key)) → first_stop fits asks (answers_in w asks) ≡ first_of (map fault_in (answers_in w asks))
+stop_is w [] = refl
+stop_is w (a ∷ asks) =
+    let x = right (meaning_of key_cmp edk) w a in
+    ap (λ (b : Bool). or_else (stop_of b x) (first_stop fits asks (answers_in w asks))) (fits_in w a)
+    ∙ ap (λ (r : Option Fault). or_else (fault_in x) r) (stop_is w asks)
+
+stopped_or : {A : Type 0} (q : Option Fault) (r : Result A Fault) → unless_stopped q Err r ≡ or_fault q r
+stopped_or (Some fault) r = refl
+stopped_or None r = refl
+
+-- a stage in a world: the first fault among the steps that are asked, or what comes of the answers
+pub stage_run : (w : World) (asks : List (Ask Key)) (next : List (Answer Out) → EdkStages)
+    → run fits (right (meaning_of key_cmp edk) w) (stage asks next) ≡ or_fault (fault_asked w asks) (run fits (right (meaning_of key_cmp edk) w) (next (answers_in w asks)))
+unfolding fault_asked
+stage_run w asks next =
+    ap (λ (q : Option Fault). unless_stopped q Err (run fits (right (meaning_of key_cmp edk) w) (next (answers_in w asks)))) (stop_is w asks)
+    ∙ stopped_or (first_of (map fault_in (answers_in w asks))) (run fits (right (meaning_of key_cmp edk) w) (next (answers_in w asks)))

@@ -1,0 +1,56 @@
+-- What the whole build asks, stage by stage, and what comes of the answers; the rule is this
+-- project's own. Of modules and of the report nothing is asked yet, since no step makes their texts.
+use Rattle.std.specs.Prelude.{ℕ, ◌+◌, ◌&&◌, ◌==◌, List, [], ◌∷◌, ◌++◌, length, Result, Ok, Err}
+use Rattle.build_base.specs.First.{and_then}
+use Rattle.build_base.specs.declared.fault.Fault.{Fault}
+use Rattle.step_engine.specs.declared.talk.Ask.{Ask}
+use Rattle.step_engine.specs.declared.talk.Ask.TheVariants as ask
+use Rattle.step_engine.specs.declared.talk.Answer.{Answer}
+use Rattle.doc_types.specs.declared.flash.FlashDoc.{FlashDoc}
+use Rattle.doc_types.specs.declared.platform.PlatformDoc.{PlatformDoc}
+use Rattle.build_stages.specs.Stages.{end, stage}
+use Rattle.build_stages.specs.Writing.{attempt, when, field_at}
+use Rattle.step_pack.specs.declared.key.Key.{Key}
+use Rattle.step_pack.specs.declared.key.Key.TheVariants as key
+use Rattle.step_pack.specs.declared.out.Out.{Out}
+use Rattle.step_pack.specs.declared.out.Out.TheVariants as out
+use Rattle.image_steps.specs.Asks.{are_few}
+use Rattle.build_rules.specs.Trees.{EdkStages, given_as, platform_in}
+use Rattle.build_rules.specs.ImageTrees.{flash_in}
+use Rattle.build_rules.specs.Outputs.{output_folder, outputs_of}
+
+-- the platform, the flash description, the architectures, the target, the tag, the file of the flash
+-- description, the images that are wanted, and the report
+abbrev pub all_asks : List (Ask Key)
+all_asks =
+    ask.Part key.Platform ∷ ask.Part key.Flash ∷ ask.Field 1 ∷ ask.Field 2 ∷ ask.Field 3
+    ∷ ask.Field 7 ∷ ask.Field 8 ∷ ask.Field 9 ∷ []
+
+-- steps by number, from one on, one for each of these
+unfoldable pub steps_from : {A : Type 0} → (ℕ → Key) → ℕ → List A → List (Ask Key)
+steps_from step n [] = []
+steps_from step n (x ∷ xs) = ask.Part (step n) ∷ steps_from step (n + 1) xs
+
+-- all volumes by their numbers, and then all devices
+abbrev pub image_asks : FlashDoc → List (Ask Key)
+image_asks flash = steps_from key.Volume 0 flash.volumes ++ steps_from key.Device 0 flash.devices
+
+abbrev pub folder_in : PlatformDoc → List (Answer Out) → Result (List ℕ) Fault
+folder_in platform given =
+    and_then (field_at given 3) (λ target.
+    and_then (field_at given 4) (λ tag. output_folder platform.output target tag))
+
+-- the images of a flash description, and then the files of the build
+abbrev pub images_stages : List ℕ → FlashDoc → EdkStages
+images_stages folder flash =
+    when (are_few (length flash.volumes) && are_few (length flash.devices))
+    (stage (image_asks flash) (λ given. end (given_as out.All (outputs_of folder flash))))
+
+abbrev pub all_given : List (Answer Out) → EdkStages
+all_given given =
+    attempt (platform_in given 0) (λ platform.
+    attempt (flash_in given 1) (λ flash.
+    attempt (folder_in platform given) (λ folder. images_stages folder flash)))
+
+abbrev pub all_stages : EdkStages
+all_stages = stage all_asks all_given

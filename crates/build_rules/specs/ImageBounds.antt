@@ -1,0 +1,193 @@
+-- The bounds of the steps of images: what they ask is of lower rank, and they ask two batches.
+use Rattle.std.specs.Prelude.{◌&&◌, not}
+use Rattle.std.proofs.Common.{◌≡◌, ℕ, ◌+◌, ◌*◌, ◌<◌, ◌≤◌, nat_lt, arith, Bool, true, false, List, [], ◌∷◌, ◌++◌, length, All, refl, cond}
+use Rattle.std.proofs.lemmas.Bool.{ltb-true}
+use Rattle.std.proofs.lemmas.List.Elements.{All-nil, All-cons, All-append}
+use Rattle.step_engine.specs.declared.talk.Ask.{Ask}
+use Rattle.step_engine.specs.declared.talk.Ask.TheVariants as ask
+use Rattle.step_engine.specs.declared.talk.Answer.{Answer}
+use Rattle.build_stages.specs.Stages.{IsLower, AreLower, IsWithin}
+use Rattle.build_stages.specs.Bounds.{all_one, all_two, both_hold, attempt_lower, attempt_within, when_lower, when_within}
+use Rattle.doc_types.specs.declared.flash.DevicePlan.{DevicePlan}
+use Rattle.doc_types.specs.declared.flash.FlashDoc.{FlashDoc}
+use Rattle.doc_types.specs.declared.flash.Region.{Region}
+use Rattle.doc_types.specs.declared.flash.RegionKind.{RegionKind}
+use Rattle.doc_types.specs.declared.flash.RegionKind.TheVariants as kind
+use Rattle.doc_types.specs.declared.volume.FilePlan.{FilePlan}
+use Rattle.doc_types.specs.declared.volume.Item.{Item}
+use Rattle.doc_types.specs.declared.volume.Item.TheVariants as item
+use Rattle.doc_types.specs.declared.volume.SectionPlan.{SectionPlan}
+use Rattle.doc_types.specs.declared.volume.SectionSource.{SectionSource}
+use Rattle.doc_types.specs.declared.volume.SectionSource.TheVariants as source
+use Rattle.doc_types.specs.declared.volume.VolumePlan.{VolumePlan}
+use Rattle.doc_types.specs.declared.volume_head.VolumeHead.{VolumeHead}
+use Rattle.step_pack.specs.declared.key.Key.{Key}
+use Rattle.step_pack.specs.declared.key.Key.TheVariants as key
+use Rattle.std.proofs.Common.{Option, Some, None}
+use Rattle.image_steps.specs.Asks.{source_file, source_volume, section_files, section_volumes, body_asks, source_below, sections_below, is_apriori, files_where, kind_asks, region_asks, kind_below, regions_below, are_few}
+use Rattle.build_rules.specs.Trees.{platform_in}
+use Rattle.build_rules.specs.ImageTrees.{flash_in, volume_at, item_at, device_at, item_stages, file_from, file_stages, plan_stages, volume_from, volume_stages, regions_stages, device_from, device_stages}
+use Rattle.build_rules.specs.AllTree.{steps_from, folder_in, images_stages, all_given, all_stages}
+use Rattle.build_rules.specs.Rules.{rank_of}
+use Rattle.build_rules.specs.Fits.{fits}
+
+source_file_lower : (bound : ℕ) (s : SectionSource) → All (IsLower rank_of bound) (source_file s)
+source_file_lower bound (source.Tree path) = all_one (IsLower rank_of bound) (ask.File path) tt
+source_file_lower bound (source.Template text) = All-nil (IsLower rank_of bound)
+source_file_lower bound (source.Volume n) = All-nil (IsLower rank_of bound)
+source_file_lower bound (source.Words text) = All-nil (IsLower rank_of bound)
+source_file_lower bound (source.Refused text) = All-nil (IsLower rank_of bound)
+
+source_volume_lower : (v : ℕ) (s : SectionSource) → source_below v s ≡ true → All (IsLower rank_of (8 + 2 * v)) (source_volume s)
+source_volume_lower v (source.Tree path) e = All-nil (IsLower rank_of (8 + 2 * v))
+source_volume_lower v (source.Template text) e = All-nil (IsLower rank_of (8 + 2 * v))
+source_volume_lower v (source.Volume n) e =
+    all_one (IsLower rank_of (8 + 2 * v)) (ask.Part (key.Volume n)) (let below : n < v = ltb-true n v e in omega (arith, below))
+source_volume_lower v (source.Words text) e = All-nil (IsLower rank_of (8 + 2 * v))
+source_volume_lower v (source.Refused text) e = All-nil (IsLower rank_of (8 + 2 * v))
+
+files_lower : (bound : ℕ) (sections : List SectionPlan) → All (IsLower rank_of bound) (section_files sections)
+files_lower bound [] = All-nil (IsLower rank_of bound)
+files_lower bound (s ∷ sections) =
+    All-append (IsLower rank_of bound) (source_file s.source) (section_files sections) (source_file_lower bound s.source) (files_lower bound sections)
+
+volumes_lower : (v : ℕ) (sections : List SectionPlan) → sections_below v sections ≡ true → All (IsLower rank_of (8 + 2 * v)) (section_volumes sections)
+volumes_lower v [] e = All-nil (IsLower rank_of (8 + 2 * v))
+volumes_lower v (s ∷ sections) e =
+    let parts = both_hold (source_below v s.source) (sections_below v sections) e in
+    All-append (IsLower rank_of (8 + 2 * v)) (source_volume s.source) (section_volumes sections) (source_volume_lower v s.source parts.0) (volumes_lower v sections parts.1)
+
+body_lower : (v : ℕ) (sections : List SectionPlan) (whole : Option (List ℕ)) → sections_below v sections ≡ true → All (IsLower rank_of (8 + 2 * v)) (body_asks sections whole)
+body_lower v sections (Some path) e = all_one (IsLower rank_of (8 + 2 * v)) (ask.File path) tt
+body_lower v sections None e =
+    All-append (IsLower rank_of (8 + 2 * v)) (section_files sections) (section_volumes sections) (files_lower (8 + 2 * v) sections) (volumes_lower v sections e)
+
+item_lower : (v : ℕ) (flash : FlashDoc) (head : VolumeHead) (i : Item) → AreLower rank_of (8 + 2 * v) (item_stages v flash head i)
+item_lower v flash head (item.File plan) =
+    when_lower rank_of (8 + 2 * v) (sections_below v plan.sections) _ (λ e. (body_lower v plan.sections plan.whole e, λ given. tt))
+item_lower v flash head (item.Apriori at pei members) = tt
+item_lower v flash head (item.Inf line) = tt
+
+pub file_lower : (v i : ℕ) → AreLower rank_of (8 + 2 * v) (file_stages v i)
+file_lower v i = (
+  all_one (IsLower rank_of (8 + 2 * v)) (ask.Part key.Flash) (omega arith),
+  λ given. attempt_lower rank_of (8 + 2 * v) (flash_in given 0) _ (λ flash. attempt_lower rank_of (8 + 2 * v) (volume_at flash v) _ (λ plan.
+      attempt_lower rank_of (8 + 2 * v) (item_at flash plan i) _ (λ it. item_lower v flash plan.head it))),
+)
+
+item_within : (v : ℕ) (flash : FlashDoc) (head : VolumeHead) (i : Item) → IsWithin fits 1 (item_stages v flash head i)
+item_within v flash head (item.File plan) =
+    when_within fits 1 (sections_below v plan.sections) _ (omega arith, λ given fit. tt)
+item_within v flash head (item.Apriori at pei members) = tt
+item_within v flash head (item.Inf line) = tt
+
+pub file_within : (v i : ℕ) → IsWithin fits 2 (file_stages v i)
+file_within v i = (
+  omega arith,
+  λ given fit. attempt_within fits 1 (flash_in given 0) _ (λ flash. attempt_within fits 1 (volume_at flash v) _ (λ plan.
+      attempt_within fits 1 (item_at flash plan i) _ (λ it. item_within v flash plan.head it))),
+)
+
+chosen_lower : (b : Bool) (v n : ℕ) (rest : List (Ask Key)) → All (IsLower rank_of (9 + 2 * v)) rest
+    → All (IsLower rank_of (9 + 2 * v)) (cond b (ask.Part (key.File v n) ∷ rest) rest)
+chosen_lower true v n rest h = All-cons (IsLower rank_of (9 + 2 * v)) (ask.Part (key.File v n)) rest (omega arith) h
+chosen_lower false v n rest h = h
+
+items_lower : (choose : Item → Bool) (v n : ℕ) (items : List Item) → All (IsLower rank_of (9 + 2 * v)) (files_where choose v n items)
+unfolding files_where
+items_lower choose v n [] = All-nil (IsLower rank_of (9 + 2 * v))
+items_lower choose v n (i ∷ items) = chosen_lower (choose i) v n (files_where choose v (n + 1) items) (items_lower choose v (n + 1) items)
+
+plan_lower : (v : ℕ) (plan : VolumePlan) → AreLower rank_of (9 + 2 * v) (plan_stages v plan)
+plan_lower v plan =
+    when_lower rank_of (9 + 2 * v) (are_few (length plan.items)) _ (λ e. (
+      All-append (IsLower rank_of (9 + 2 * v)) (files_where is_apriori v 0 plan.items) (files_where (λ i. not (is_apriori i)) v 0 plan.items)
+          (items_lower is_apriori v 0 plan.items) (items_lower (λ i. not (is_apriori i)) v 0 plan.items),
+      λ given. tt,
+    ))
+
+pub volume_lower : (v : ℕ) → AreLower rank_of (9 + 2 * v) (volume_stages v)
+volume_lower v = (
+  all_one (IsLower rank_of (9 + 2 * v)) (ask.Part key.Flash) (omega arith),
+  λ given. attempt_lower rank_of (9 + 2 * v) (flash_in given 0) _ (λ flash. attempt_lower rank_of (9 + 2 * v) (volume_at flash v) _ (λ plan. plan_lower v plan)),
+)
+
+pub volume_within : (v : ℕ) → IsWithin fits 2 (volume_stages v)
+volume_within v = (
+  omega arith,
+  λ given fit. attempt_within fits 1 (flash_in given 0) _ (λ flash. attempt_within fits 1 (volume_at flash v) _ (λ plan.
+      when_within fits 1 (are_few (length plan.items)) _ (omega arith, λ images fit_too. tt))),
+)
+
+kind_lower : (k : RegionKind) → kind_below k ≡ true → All (IsLower rank_of 0x400000000) (kind_asks k)
+kind_lower kind.Empty e = All-nil (IsLower rank_of 0x400000000)
+kind_lower (kind.Bytes bytes) e = All-nil (IsLower rank_of 0x400000000)
+kind_lower (kind.Tree path) e = all_one (IsLower rank_of 0x400000000) (ask.File path) tt
+kind_lower (kind.Volume n) e =
+    all_one (IsLower rank_of 0x400000000) (ask.Part (key.Volume n)) (let few : n < 65536 = ltb-true n 65536 e in omega (arith, few))
+
+regions_lower : (regions : List Region) → regions_below regions ≡ true → All (IsLower rank_of 0x400000000) (region_asks regions)
+regions_lower [] e = All-nil (IsLower rank_of 0x400000000)
+regions_lower (r ∷ regions) e =
+    let parts = both_hold (kind_below r.kind) (regions_below regions) e in
+    All-append (IsLower rank_of 0x400000000) (kind_asks r.kind) (region_asks regions) (kind_lower r.kind parts.0) (regions_lower regions parts.1)
+
+pub device_lower : (d : ℕ) → AreLower rank_of 0x400000000 (device_stages d)
+device_lower d = (
+  all_one (IsLower rank_of 0x400000000) (ask.Part key.Flash) (omega arith),
+  λ given. attempt_lower rank_of 0x400000000 (flash_in given 0) _ (λ flash. attempt_lower rank_of 0x400000000 (device_at flash d) _ (λ plan.
+      when_lower rank_of 0x400000000 (regions_below plan.regions) _ (λ e. (regions_lower plan.regions e, λ parts. tt)))),
+)
+
+pub device_within : (d : ℕ) → IsWithin fits 2 (device_stages d)
+device_within d = (
+  omega arith,
+  λ given fit. attempt_within fits 1 (flash_in given 0) _ (λ flash. attempt_within fits 1 (device_at flash d) _ (λ plan.
+      when_within fits 1 (regions_below plan.regions) _ (omega arith, λ parts fit_too. tt))),
+)
+
+volumes_asked : (n : ℕ) (plans : List VolumePlan) → n + length plans < 65536 → All (IsLower rank_of 0x400000002) (steps_from key.Volume n plans)
+unfolding steps_from
+volumes_asked n [] h = All-nil (IsLower rank_of 0x400000002)
+volumes_asked n (plan ∷ plans) h =
+    All-cons (IsLower rank_of 0x400000002) (ask.Part (key.Volume n)) (steps_from key.Volume (n + 1) plans) (omega (arith, h)) (volumes_asked (n + 1) plans (omega (arith, h)))
+
+devices_asked : (n : ℕ) (plans : List DevicePlan) → All (IsLower rank_of 0x400000002) (steps_from key.Device n plans)
+unfolding steps_from
+devices_asked n [] = All-nil (IsLower rank_of 0x400000002)
+devices_asked n (plan ∷ plans) =
+    All-cons (IsLower rank_of 0x400000002) (ask.Part (key.Device n)) (steps_from key.Device (n + 1) plans) (omega arith) (devices_asked (n + 1) plans)
+
+images_lower : (folder : List ℕ) (flash : FlashDoc) → AreLower rank_of 0x400000002 (images_stages folder flash)
+images_lower folder flash =
+    when_lower rank_of 0x400000002 (are_few (length flash.volumes) && are_few (length flash.devices)) _ (λ e. (
+      All-append (IsLower rank_of 0x400000002) (steps_from key.Volume 0 flash.volumes) (steps_from key.Device 0 flash.devices)
+          (volumes_asked 0 flash.volumes
+          (let few : length flash.volumes < 65536 = ltb-true (length flash.volumes) 65536 (both_hold (are_few (length flash.volumes)) (are_few (length flash.devices)) e).0 in omega (arith, few)))
+          (devices_asked 0 flash.devices),
+      λ given. tt,
+    ))
+
+fields_lower : (bound : ℕ) → All (IsLower rank_of bound) (ask.Field 1 ∷ ask.Field 2 ∷ ask.Field 3 ∷ ask.Field 7 ∷ ask.Field 8 ∷ ask.Field 9 ∷ [])
+fields_lower bound =
+    All-cons (IsLower rank_of bound) (ask.Field 1) (ask.Field 2 ∷ ask.Field 3 ∷ ask.Field 7 ∷ ask.Field 8 ∷ ask.Field 9 ∷ []) tt
+    (All-cons (IsLower rank_of bound) (ask.Field 2) (ask.Field 3 ∷ ask.Field 7 ∷ ask.Field 8 ∷ ask.Field 9 ∷ []) tt
+    (All-cons (IsLower rank_of bound) (ask.Field 3) (ask.Field 7 ∷ ask.Field 8 ∷ ask.Field 9 ∷ []) tt
+    (All-cons (IsLower rank_of bound) (ask.Field 7) (ask.Field 8 ∷ ask.Field 9 ∷ []) tt
+    (all_two (IsLower rank_of bound) (ask.Field 8) (ask.Field 9) tt tt))))
+
+pub all_lower : AreLower rank_of 0x400000002 all_stages
+all_lower = (
+  All-append (IsLower rank_of 0x400000002) (ask.Part key.Platform ∷ ask.Part key.Flash ∷ []) (ask.Field 1 ∷ ask.Field 2 ∷ ask.Field 3 ∷ ask.Field 7 ∷ ask.Field 8 ∷ ask.Field 9 ∷ [])
+      (all_two (IsLower rank_of 0x400000002) (ask.Part key.Platform) (ask.Part key.Flash) (omega arith) (omega arith)) (fields_lower 0x400000002),
+  λ given. attempt_lower rank_of 0x400000002 (platform_in given 0) _ (λ platform. attempt_lower rank_of 0x400000002 (flash_in given 1) _ (λ flash.
+      attempt_lower rank_of 0x400000002 (folder_in platform given) _ (λ folder. images_lower folder flash))),
+)
+
+pub all_within : IsWithin fits 2 all_stages
+all_within = (
+  omega arith,
+  λ given fit. attempt_within fits 1 (platform_in given 0) _ (λ platform. attempt_within fits 1 (flash_in given 1) _ (λ flash.
+      attempt_within fits 1 (folder_in platform given) _ (λ folder.
+      when_within fits 1 (are_few (length flash.volumes) && are_few (length flash.devices)) _ (omega arith, λ images fit_too. tt)))),
+)

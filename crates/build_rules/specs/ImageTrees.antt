@@ -1,0 +1,89 @@
+-- What the steps of files, volumes and devices ask, stage by stage, and what comes of the answers; the
+-- rule is this project's own.
+use Rattle.std.specs.Prelude.{ℕ, List, [], ◌∷◌, length, Option, Some, None, Result, Ok, Err, slice_get}
+use Rattle.build_base.specs.First.{and_then}
+use Rattle.build_base.specs.FaultText.{fault_of}
+use Rattle.build_base.specs.declared.fault.Fault.{Fault}
+use Rattle.step_engine.specs.declared.talk.Ask.TheVariants as ask
+use Rattle.step_engine.specs.declared.talk.Answer.{Answer}
+use Rattle.doc_types.specs.declared.flash.DevicePlan.{DevicePlan}
+use Rattle.doc_types.specs.declared.flash.FlashDoc.{FlashDoc}
+use Rattle.doc_types.specs.declared.volume.Item.{Item}
+use Rattle.doc_types.specs.declared.volume.Item.TheVariants as item
+use Rattle.doc_types.specs.declared.volume.VolumePlan.{VolumePlan}
+use Rattle.doc_types.specs.declared.volume_head.VolumeHead.{VolumeHead}
+use Rattle.build_stages.specs.Stages.{end, stage, misfit}
+use Rattle.build_stages.specs.Writing.{attempt, when, part_at}
+use Rattle.step_pack.specs.declared.key.Key.TheVariants as key
+use Rattle.step_pack.specs.declared.out.Out.{Out}
+use Rattle.step_pack.specs.declared.out.Out.TheVariants as out
+use Rattle.image_steps.specs.Asks.{file_asks, sections_below, item_asks, region_asks, regions_below, are_few}
+use Rattle.image_steps.specs.Files.{file_given, unbuilt}
+use Rattle.image_steps.specs.Volumes.{volume_given}
+use Rattle.image_steps.specs.Devices.{device_given}
+use Rattle.build_rules.specs.Trees.{EdkStages, given_as}
+
+abbrev pub flash_of_out : Out → Result FlashDoc Fault
+flash_of_out (out.Flash document) = Ok document
+flash_of_out _ = Err misfit
+
+-- the flash description that stands at a place among answers
+abbrev pub flash_in : List (Answer Out) → ℕ → Result FlashDoc Fault
+flash_in given i = and_then (part_at given i) flash_of_out
+
+-- what a number names, or the fault that it names nothing
+abbrev pub numbered : {A : Type 0} → FlashDoc → Option A → Result A Fault
+numbered flash (Some x) = Ok x
+numbered flash None = Err (fault_of 251 flash.at [])
+
+abbrev pub volume_at : FlashDoc → ℕ → Result VolumePlan Fault
+volume_at flash v = numbered flash (slice_get flash.volumes v)
+
+abbrev pub item_at : FlashDoc → VolumePlan → ℕ → Result Item Fault
+item_at flash plan i = numbered flash (slice_get plan.items i)
+
+abbrev pub device_at : FlashDoc → ℕ → Result DevicePlan Fault
+device_at flash d = numbered flash (slice_get flash.devices d)
+
+-- a statement of a volume with this number and head; modules are not made yet
+abbrev pub item_stages : ℕ → FlashDoc → VolumeHead → Item → EdkStages
+item_stages v flash head (item.File plan) =
+    when (sections_below v plan.sections)
+    (stage (file_asks plan) (λ given. end (given_as out.File (file_given flash head plan given))))
+item_stages v flash head (item.Apriori at pei members) = end (Err (unbuilt at))
+item_stages v flash head (item.Inf line) = end (Err (unbuilt line.at))
+
+abbrev pub file_from : ℕ → ℕ → List (Answer Out) → EdkStages
+file_from v i given =
+    attempt (flash_in given 0) (λ flash.
+    attempt (volume_at flash v) (λ plan.
+    attempt (item_at flash plan i) (λ item. item_stages v flash plan.head item)))
+
+abbrev pub file_stages : ℕ → ℕ → EdkStages
+file_stages v i = stage (ask.Part key.Flash ∷ []) (file_from v i)
+
+-- the files of a volume, and then the volume
+abbrev pub plan_stages : ℕ → VolumePlan → EdkStages
+plan_stages v plan =
+    when (are_few (length plan.items))
+    (stage (item_asks v plan.items) (λ given. end (given_as out.Volume (volume_given plan.head given))))
+
+abbrev pub volume_from : ℕ → List (Answer Out) → EdkStages
+volume_from v given =
+    attempt (flash_in given 0) (λ flash. attempt (volume_at flash v) (λ plan. plan_stages v plan))
+
+abbrev pub volume_stages : ℕ → EdkStages
+volume_stages v = stage (ask.Part key.Flash ∷ []) (volume_from v)
+
+-- what the regions of a device hold, and then the device
+abbrev pub regions_stages : DevicePlan → EdkStages
+regions_stages plan =
+    when (regions_below plan.regions)
+    (stage (region_asks plan.regions) (λ given. end (given_as out.Device (device_given plan given))))
+
+abbrev pub device_from : ℕ → List (Answer Out) → EdkStages
+device_from d given =
+    attempt (flash_in given 0) (λ flash. attempt (device_at flash d) (λ plan. regions_stages plan))
+
+abbrev pub device_stages : ℕ → EdkStages
+device_stages d = stage (ask.Part key.Flash ∷ []) (device_from d)

@@ -1,0 +1,114 @@
+//! The step of the whole build.
+ghost use Rattle.std.specs.Prelude.{◌≡◌, ◌++◌, ◌∷◌, [], ◌<◌, length, IfOk, OnOk};
+ghost use Rattle.build_stages.specs.Gives.{GivesIn};
+ghost use Rattle.build_rules.specs.Rules.{Comes};
+ghost use Rattle.build_rules.specs.AllTree.{steps_from, image_asks, folder_in, images_stages, all_stages};
+
+use crate::documents::platform_in;
+use crate::images::flash_in;
+use crate::outputs::{output_folder, outputs_of};
+use crate::shapes::EdkRules;
+use build_base::{Path, Permit, Rows, WantOfMemory};
+use build_stages::{Given, Known, Stop, gather};
+use doc_types::flash::{DevicePlan, FlashDoc};
+use doc_types::platform::PlatformDoc;
+use doc_types::volume::VolumePlan;
+use image_steps::are_few;
+use std::alloc::Global;
+use step_engine::Ask;
+use step_pack::{Key, Out};
+
+// Appends a step for each volume.
+#[tactic(auto, unfolding(crate::specs::AllTree::steps_from))]
+fn push_volumes(asks: &mut Rows<Ask<Key>>, plans: &[VolumePlan]) -> Result<(), WantOfMemory>
+    requires { length plans.now < 65536 }
+    ensures { OnOk result (asks.new ≡ asks.old ++ steps_from Key.Volume 0 plans.now) }
+{
+    let mut number: u32 = 0;
+    let mut left = plans;
+    while let [_plan, rest @ ..] = left {
+        asks.push(Ask::Part(Key::Volume(number)))?;
+        number += 1;
+        left = rest;
+    }
+    Ok(())
+}
+
+// Appends a step for each device.
+#[tactic(auto, unfolding(crate::specs::AllTree::steps_from))]
+fn push_devices(asks: &mut Rows<Ask<Key>>, plans: &[DevicePlan]) -> Result<(), WantOfMemory>
+    requires { length plans.now < 65536 }
+    ensures { OnOk result (asks.new ≡ asks.old ++ steps_from Key.Device 0 plans.now) }
+{
+    let mut number: u32 = 0;
+    let mut left = plans;
+    while let [_plan, rest @ ..] = left {
+        asks.push(Ask::Part(Key::Device(number)))?;
+        number += 1;
+        left = rest;
+    }
+    Ok(())
+}
+
+// All volumes by their numbers, and then all devices.
+fn image_asks(alloc: Global, flash: &FlashDoc) -> Result<Rows<Ask<Key>>, WantOfMemory>
+    requires volumes { length flash.now.volumes < 65536 }
+    requires devices { length flash.now.devices < 65536 }
+    ensures { IfOk result (λ asks. asks ≡ image_asks flash.now) }
+{
+    let mut asks = Rows::new(alloc);
+    push_volumes(&mut asks, flash.volumes.items())?;
+    push_devices(&mut asks, flash.devices.items())?;
+    Ok(asks)
+}
+
+fn folder_in(
+    alloc: Global,
+    platform: &PlatformDoc,
+    given: &Given<'_, Out>,
+) -> Result<Path, Stop<Key>>
+    ensures { GivesIn (λ path. path) result (folder_in platform.now given.now) }
+{
+    let target = given.field(3)?;
+    let tag = given.field(4)?;
+    output_folder(alloc, &platform.output, target.bytes(), tag.bytes())
+}
+
+// The images, and then their files.
+fn images(
+    alloc: Global,
+    known: &Known<'_, Key, Out>,
+    folder: &Path,
+    flash: &FlashDoc,
+    permit: Permit,
+) -> Result<Out, Stop<Key>>
+    ensures { Comes known.now (images_stages folder.now flash.now) result }
+{
+    if are_few(flash.volumes.items().len()) && are_few(flash.devices.items().len()) {
+        let asks = image_asks(alloc, flash)?;
+        let (_given, _permit) = gather(alloc, &EdkRules, known, asks.items(), permit)?;
+        return Ok(Out::All(outputs_of(alloc, folder, flash)?));
+    }
+    Err(Stop::Misfit)
+}
+
+/// The files of the whole build.
+pub fn all(alloc: Global, known: &Known<'_, Key, Out>, permit: Permit) -> Result<Out, Stop<Key>>
+    ensures { Comes known.now all_stages result }
+{
+    let asks = [
+        Ask::Part(Key::Platform),
+        Ask::Part(Key::Flash),
+        Ask::Field(1),
+        Ask::Field(2),
+        Ask::Field(3),
+        Ask::Field(7),
+        Ask::Field(8),
+        Ask::Field(9),
+    ];
+    let (given, permit) = gather(alloc, &EdkRules, known, &asks, permit)?;
+    let platform = platform_in(&given, 0)?;
+    let flash = flash_in(&given, 1)?;
+    let folder = folder_in(alloc, platform, &given)?;
+    images(alloc, known, &folder, flash, permit)
+}

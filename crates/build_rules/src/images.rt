@@ -1,0 +1,208 @@
+//! The steps of files, volumes and devices.
+ghost use Rattle.std.specs.Prelude.{◌≡◌, Err, length, slice_get};
+ghost use Rattle.std.specs.Option.{option_copied};
+ghost use Rattle.build_base.specs.FaultText.{fault_of};
+ghost use Rattle.build_stages.specs.Gives.{GivesIn};
+ghost use Rattle.build_rules.specs.Rules.{Comes};
+ghost use Rattle.build_rules.specs.ImageTrees.{flash_of_out, flash_in, numbered, volume_at, item_at, device_at, item_stages, file_stages, plan_stages, volume_stages, regions_stages, device_stages};
+
+use crate::shapes::EdkRules;
+use build_base::{Permit, Refusal, refuse};
+use build_stages::{Given, Known, Stop, gather};
+use doc_types::flash::{DevicePlan, FlashDoc};
+use doc_types::volume::{FilePlan, Item, VolumePlan};
+use doc_types::volume_head::VolumeHead;
+use image_steps::{
+    are_few, device_given, file_asks, file_given, item_asks, region_asks, regions_below,
+    sections_below, unbuilt, volume_given,
+};
+use std::alloc::Global;
+use step_engine::Ask;
+use step_pack::{Key, Out};
+
+fn flash_of_out(out: &Out) -> Result<&FlashDoc, Stop<Key>>
+    ensures { GivesIn (λ document. document.now) result (flash_of_out out.now) }
+{
+    match out {
+        Out::Flash(document) => Ok(document),
+        _ => Err(Stop::Misfit),
+    }
+}
+
+/// The flash description that stands at a place among answers.
+pub fn flash_in<'a>(given: &Given<'a, Out>, place: usize) -> Result<&'a FlashDoc, Stop<Key>>
+    ensures { GivesIn (λ document. document.now) result (flash_in given.now place) }
+{
+    flash_of_out(given.part(place)?)
+}
+
+// What a number names, or the fault that it names nothing.
+fn numbered<'a, A>(
+    alloc: Global,
+    flash: &FlashDoc,
+    named: Option<&'a A>,
+) -> Result<&'a A, Stop<Key>>
+    ensures { GivesIn (λ x. x.now) result (numbered flash.now (option_copied named.entry)) }
+{
+    match named {
+        Some(named) => Ok(named),
+        None => Err(Stop::from(refuse(alloc, 251, &flash.at, b"".as_slice()))),
+    }
+}
+
+fn volume_at<'a>(
+    alloc: Global,
+    flash: &'a FlashDoc,
+    number: u32,
+) -> Result<&'a VolumePlan, Stop<Key>>
+    ensures { GivesIn (λ plan. plan.now) result (volume_at flash.now number) }
+{
+    numbered(alloc, flash, flash.volumes.items().get(number as usize))
+}
+
+fn item_at<'a>(
+    alloc: Global,
+    flash: &FlashDoc,
+    plan: &'a VolumePlan,
+    number: u32,
+) -> Result<&'a Item, Stop<Key>>
+    ensures { GivesIn (λ item. item.now) result (item_at flash.now plan.now number) }
+{
+    numbered(alloc, flash, plan.items.items().get(number as usize))
+}
+
+fn device_at<'a>(
+    alloc: Global,
+    flash: &'a FlashDoc,
+    number: u32,
+) -> Result<&'a DevicePlan, Stop<Key>>
+    ensures { GivesIn (λ plan. plan.now) result (device_at flash.now number) }
+{
+    numbered(alloc, flash, flash.devices.items().get(number as usize))
+}
+
+// The file of a FILE statement.
+fn statement(
+    alloc: Global,
+    known: &Known<'_, Key, Out>,
+    volume: u32,
+    flash: &FlashDoc,
+    head: &VolumeHead,
+    plan: &FilePlan,
+    permit: Permit,
+) -> Result<Out, Stop<Key>>
+    ensures { Comes known.now (item_stages volume flash.now head.now (Item.File plan.now)) result }
+{
+    if !sections_below(volume, plan.sections.items()) {
+        return Err(Stop::Misfit);
+    }
+    let asks = file_asks(alloc, plan)?;
+    let (given, permit) = gather(alloc, &EdkRules, known, asks.items(), permit)?;
+    Ok(Out::File(file_given(alloc, permit, flash, head, plan, &given)?))
+}
+
+// The file of an item of a volume.
+fn item_file(
+    alloc: Global,
+    known: &Known<'_, Key, Out>,
+    volume: u32,
+    flash: &FlashDoc,
+    head: &VolumeHead,
+    item: &Item,
+    permit: Permit,
+) -> Result<Out, Stop<Key>>
+    ensures { Comes known.now (item_stages volume flash.now head.now item.now) result }
+{
+    match item {
+        Item::File(plan) => statement(alloc, known, volume, flash, head, plan, permit),
+        Item::Apriori { at, .. } => Err(Stop::from(unbuilt(alloc, at))),
+        Item::Inf(line) => Err(Stop::from(unbuilt(alloc, &line.at))),
+    }
+}
+
+/// The file of an item of a volume.
+pub fn file(
+    alloc: Global,
+    known: &Known<'_, Key, Out>,
+    volume: u32,
+    item: u32,
+    permit: Permit,
+) -> Result<Out, Stop<Key>>
+    ensures { Comes known.now (file_stages volume item) result }
+{
+    let asks = [Ask::Part(Key::Flash)];
+    let (given, permit) = gather(alloc, &EdkRules, known, &asks, permit)?;
+    let flash = flash_in(&given, 0)?;
+    let plan = volume_at(alloc, flash, volume)?;
+    let item = item_at(alloc, flash, plan, item)?;
+    item_file(alloc, known, volume, flash, &plan.head, item, permit)
+}
+
+// The volume of a plan.
+fn planned(
+    alloc: Global,
+    known: &Known<'_, Key, Out>,
+    number: u32,
+    plan: &VolumePlan,
+    permit: Permit,
+) -> Result<Out, Stop<Key>>
+    ensures { Comes known.now (plan_stages number plan.now) result }
+{
+    let items = plan.items.items();
+    if !are_few(items.len()) {
+        return Err(Stop::Misfit);
+    }
+    let asks = item_asks(alloc, number, items)?;
+    let (given, permit) = gather(alloc, &EdkRules, known, asks.items(), permit)?;
+    Ok(Out::Volume(volume_given(alloc, permit, &plan.head, &given)?))
+}
+
+/// The volume of a number.
+pub fn volume(
+    alloc: Global,
+    known: &Known<'_, Key, Out>,
+    number: u32,
+    permit: Permit,
+) -> Result<Out, Stop<Key>>
+    ensures { Comes known.now (volume_stages number) result }
+{
+    let asks = [Ask::Part(Key::Flash)];
+    let (given, permit) = gather(alloc, &EdkRules, known, &asks, permit)?;
+    let flash = flash_in(&given, 0)?;
+    let plan = volume_at(alloc, flash, number)?;
+    planned(alloc, known, number, plan, permit)
+}
+
+// The device of a plan.
+fn with_regions(
+    alloc: Global,
+    known: &Known<'_, Key, Out>,
+    plan: &DevicePlan,
+    permit: Permit,
+) -> Result<Out, Stop<Key>>
+    ensures { Comes known.now (regions_stages plan.now) result }
+{
+    let regions = plan.regions.items();
+    if !regions_below(regions) {
+        return Err(Stop::Misfit);
+    }
+    let asks = region_asks(alloc, regions)?;
+    let (given, permit) = gather(alloc, &EdkRules, known, asks.items(), permit)?;
+    Ok(Out::Device(device_given(alloc, permit, plan, &given)?))
+}
+
+/// The device of a number.
+pub fn device(
+    alloc: Global,
+    known: &Known<'_, Key, Out>,
+    number: u32,
+    permit: Permit,
+) -> Result<Out, Stop<Key>>
+    ensures { Comes known.now (device_stages number) result }
+{
+    let asks = [Ask::Part(Key::Flash)];
+    let (given, permit) = gather(alloc, &EdkRules, known, &asks, permit)?;
+    let flash = flash_in(&given, 0)?;
+    let plan = device_at(alloc, flash, number)?;
+    with_regions(alloc, known, plan, permit)
+}

@@ -1,0 +1,157 @@
+-- The sections of a file (UEFI PI specification, volume 1, TE images; volume 3, section 2.2.4; EDK II
+-- FDF specification, FILE statements).
+use Rattle.std.specs.Prelude.{ℕ, ◌+◌, ◌-◌, ◌/◌, ◌%◌, ◌^◌, ◌==◌, List, [], ◌∷◌, ◌++◌, length, drop, max, codes, decimal, Option, Some, None, slice_get, Result, Ok, Err, if◌then◌else◌}
+use Rattle.build_base.specs.declared.fault.Fault.{Fault}
+use Rattle.build_base.specs.declared.guid.Guid.{Guid}
+use Rattle.build_base.specs.FaultText.{fault_of}
+use Rattle.build_base.specs.First.{and_then, with_front}
+use Rattle.doc_types.specs.declared.flash.FlashDoc.{FlashDoc}
+use Rattle.doc_types.specs.declared.image.Part.{Part}
+use Rattle.doc_types.specs.declared.volume.Align.{Align}
+use Rattle.doc_types.specs.declared.volume.Align.TheVariants as align
+use Rattle.doc_types.specs.declared.volume.SectionPlan.{SectionPlan}
+use Rattle.doc_types.specs.declared.volume.SectionSource.{SectionSource}
+use Rattle.doc_types.specs.declared.volume.SectionSource.TheVariants as source
+use Rattle.doc_types.specs.declared.volume.VolumePlan.{VolumePlan}
+use Rattle.te_images.specs.declared.fault.PeFault.{PeFault}
+use Rattle.te_images.specs.declared.fault.PeFault.TheVariants as pe
+use Rattle.te_images.specs.declared.te.TeHead.{TeHead}
+use Rattle.te_images.specs.Pe.{section_alignment_of, file_alignment_of}
+use Rattle.te_images.specs.Te.{te_of, te_bytes}
+use Rattle.step_engine.specs.declared.talk.Answer.{Answer}
+use Rattle.build_stages.specs.Stages.{misfit}
+use Rattle.step_pack.specs.declared.out.Out.{Out}
+use Rattle.image_steps.specs.Contents.{whole_file, section_absent, file_content, volume_content, words_bytes}
+use Rattle.image_steps.specs.declared.parts.Shaped.{Shaped}
+
+-- `FileAlignment != SectionAlignment`
+abbrev pub alignments_text : Result ℕ PeFault → Result ℕ PeFault → List ℕ
+alignments_text (Ok file) (Ok section) = decimal file ++ codes " != " ++ decimal section
+alignments_text _ _ = []
+
+abbrev pub pe_code : PeFault → ℕ
+pe_code pe.NotPe = 601
+pe_code pe.Truncated = 602
+pe_code pe.AlignmentsDiffer = 603
+pe_code pe.TooManySections = 604
+pe_code pe.HeaderTooLong = 605
+pe_code pe.SubsystemTooLarge = 606
+
+-- the alignments where they differ, else the length of the file
+abbrev pub pe_detail : List ℕ → PeFault → List ℕ
+pe_detail file pe.AlignmentsDiffer = alignments_text (file_alignment_of file) (section_alignment_of file)
+pe_detail file _ = decimal (length file)
+
+abbrev pub pe_fault : List ℕ → List ℕ → PeFault → Fault
+pe_fault path file fault = fault_of (pe_code fault) (whole_file path) (pe_detail file fault)
+
+abbrev pub as_is : List ℕ → Shaped
+as_is bytes = record { shift = 0; bytes = bytes }
+
+-- the TE image of a PE file: its places count from where they were in the file
+abbrev pub stripped : List ℕ → TeHead → Shaped
+stripped file head = record { shift = head.stripped - 40; bytes = te_bytes head ++ drop head.stripped file }
+
+abbrev pub te_shaped : List ℕ → List ℕ → Result TeHead PeFault → Result Shaped Fault
+te_shaped path file (Ok head) = Ok (stripped file head)
+te_shaped path file (Err fault) = Err (pe_fault path file fault)
+
+-- a TE section is made of a PE file, each other one is the file as it is
+abbrev pub file_shaped : ℕ → List ℕ → List ℕ → Result Shaped Fault
+file_shaped kind path bytes = if kind == 0x12 then te_shaped path bytes (te_of bytes) else Ok (as_is bytes)
+
+-- what a section holds, where the answer of the next file and that of the next volume stand at these
+-- places; the other forms stand in rules alone
+abbrev pub content_at : List (Answer Out) → ℕ → ℕ → SectionPlan → SectionSource → Result Shaped Fault
+content_at given f v section (source.Tree path) =
+    and_then (file_content given f (section_absent section.at path) path) (file_shaped section.kind path)
+content_at given f v section (source.Template text) = Err misfit
+content_at given f v section (source.Volume n) = and_then (volume_content given v) (λ bytes. Ok (as_is bytes))
+content_at given f v section (source.Words text) = Ok (as_is (words_bytes section.kind section.number text))
+content_at given f v section (source.Refused text) = Err misfit
+
+-- how many files and how many volumes it asks for
+abbrev pub files_of : SectionSource → ℕ
+files_of (source.Tree path) = 1
+files_of (source.Template text) = 0
+files_of (source.Volume n) = 0
+files_of (source.Words text) = 0
+files_of (source.Refused text) = 0
+
+abbrev pub volumes_of : SectionSource → ℕ
+volumes_of (source.Tree path) = 0
+volumes_of (source.Template text) = 0
+volumes_of (source.Volume n) = 1
+volumes_of (source.Words text) = 0
+volumes_of (source.Refused text) = 0
+
+-- the alignment of a volume, whose exponent stands in bits 16 to 20 of its attributes
+abbrev pub volume_align : Option VolumePlan → ℕ
+volume_align None = 8
+volume_align (Some plan) = max 8 (2 ^ (plan.head.attributes / 0x10000 % 0x20))
+
+-- without a stated alignment the section of a volume has the volume's, and at least 8
+abbrev pub unset_align : FlashDoc → SectionSource → ℕ
+unset_align flash (source.Tree path) = 1
+unset_align flash (source.Template text) = 1
+unset_align flash (source.Volume n) = volume_align (slice_get flash.volumes n)
+unset_align flash (source.Words text) = 1
+unset_align flash (source.Refused text) = 1
+
+abbrev pub section_align : FlashDoc → SectionSource → Align → ℕ
+section_align flash from align.Unset = unset_align flash from
+section_align flash from align.Auto = 1
+section_align flash from (align.Bytes n) = n
+
+abbrev pub some_guid : Option Guid → Result (Option Guid) Fault
+some_guid (Some guid) = Ok (Some guid)
+some_guid None = Err misfit
+
+abbrev pub without_guid : Option Guid → Result (Option Guid) Fault
+without_guid (Some guid) = Err misfit
+without_guid None = Ok None
+
+-- the GUID of a section's header, which a SUBTYPE_GUID section has, and no other; in a world it is so
+abbrev pub header_guid : ℕ → Option Guid → Result (Option Guid) Fault
+header_guid kind guid = if kind == 0x18 then some_guid guid else without_guid guid
+
+abbrev pub part_with : FlashDoc → SectionPlan → Shaped → Option Guid → Part
+part_with flash section content guid = record {
+  kind = section.kind;
+  guid = guid;
+  align = section_align flash section.source section.align;
+  shift = content.shift;
+  bytes = content.bytes;
+}
+
+-- a section with its content
+unfoldable pub part_at : FlashDoc → List (Answer Out) → ℕ → ℕ → SectionPlan → Result Part Fault
+part_at flash given f v section =
+    and_then (content_at given f v section section.source) (λ content.
+    and_then (header_guid section.kind section.guid) (λ guid. Ok (part_with flash section content guid)))
+
+-- all sections, or the first fault of one
+unfoldable pub parts_from : FlashDoc → List (Answer Out) → ℕ → ℕ → List SectionPlan → Result (List Part) Fault
+parts_from flash given f v [] = Ok []
+parts_from flash given f v (section ∷ sections) =
+    and_then (part_at flash given f v section) (λ part. with_front (part ∷ []) (parts_from flash given (f + files_of section.source) (v + volumes_of section.source) sections))
+
+-- whether the file of a section is there
+abbrev pub source_checked : List (Answer Out) → ℕ → SectionPlan → SectionSource → Result (Unit {0}) Fault
+source_checked given f section (source.Tree path) =
+    and_then (file_content given f (section_absent section.at path) path) (λ bytes. Ok tt)
+source_checked given f section (source.Template text) = Ok tt
+source_checked given f section (source.Volume n) = Ok tt
+source_checked given f section (source.Words text) = Ok tt
+source_checked given f section (source.Refused text) = Ok tt
+
+-- the first fault of the files of sections
+unfoldable pub files_checked : List (Answer Out) → ℕ → List SectionPlan → Result (Unit {0}) Fault
+files_checked given f [] = Ok tt
+files_checked given f (section ∷ sections) =
+    and_then (source_checked given f section section.source) (λ checked. files_checked given (f + files_of section.source) sections)
+
+-- how many files sections ask for
+unfoldable pub file_count : List SectionPlan → ℕ
+file_count [] = 0
+file_count (section ∷ sections) = files_of section.source + file_count sections

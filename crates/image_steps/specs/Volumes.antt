@@ -1,0 +1,55 @@
+-- A volume by the answers of its step (UEFI PI specification, volume 3, section 3).
+use Rattle.std.specs.Prelude.{ℕ, ◌&&◌, ◌==◌, ◌%◌, Bool, true, nat_le, is_some, List, map, drop, Option, Some, None, Result, Ok, Err, if◌then◌else◌}
+use Rattle.std.specs.List.{list_all, list_any}
+use Rattle.build_base.specs.declared.fault.Fault.{Fault}
+use Rattle.build_base.specs.First.{and_then, all_ok}
+use Rattle.step_engine.specs.declared.talk.Answer.{Answer}
+use Rattle.doc_types.specs.declared.image.FileImage.{FileImage}
+use Rattle.doc_types.specs.declared.volume_head.VolumeHead.{VolumeHead}
+use Rattle.ffs_sections.specs.Alignment.{alignments}
+use Rattle.fv_compose.specs.Volume.{volume_of}
+use Rattle.build_stages.specs.Stages.{misfit}
+use Rattle.build_stages.specs.Writing.{part_of, part_at}
+use Rattle.step_pack.specs.declared.out.Out.{Out}
+use Rattle.step_pack.specs.declared.out.Out.TheVariants as out
+use Rattle.image_steps.specs.Files.{unbuilt}
+
+-- a stated length is a whole number of blocks and at most 256M
+abbrev pub size_fits : ℕ → Option ℕ → Bool
+size_fits block None = true
+size_fits block (Some size) = nat_le size 0x10000000 && size % block == 0
+
+abbrev pub head_fits : VolumeHead → Bool
+head_fits head = size_fits head.block_size head.size
+
+-- an alignment that a file's header can state
+unfoldable pub is_stated : FileImage → Bool
+is_stated file = list_any (λ stated. stated == file.align) alignments
+
+-- the file that the step of an item gives
+abbrev pub file_in : Out → Result FileImage Fault
+file_in (out.File file) = Ok file
+file_in _ = Err misfit
+
+abbrev pub image_at : List (Answer Out) → ℕ → Result FileImage Fault
+image_at given i = and_then (part_at given i) file_in
+
+abbrev pub image_given : Answer Out → Result FileImage Fault
+image_given x = and_then (part_of (Some x)) file_in
+
+-- the files that the answers from a place on give
+unfoldable pub images_from : List (Answer Out) → ℕ → Result (List FileImage) Fault
+images_from given i = all_ok (map image_given (drop i given))
+
+-- what can be made of files of their shape alone
+unfoldable pub composed : VolumeHead → List FileImage → Result (List ℕ) Fault
+composed head files =
+    if head_fits head && list_all is_stated files then volume_of head files else Err misfit
+
+-- modules that are to stand at a base of the volume's own: no step makes that yet
+abbrev pub is_forced : VolumeHead → Bool
+is_forced head = head.force && is_some head.base
+
+-- the volume of a head, whose files the answers are
+unfoldable pub volume_given : VolumeHead → List (Answer Out) → Result (List ℕ) Fault
+volume_given head given = if is_forced head then Err (unbuilt head.at) else and_then (images_from given 0) (composed head)

@@ -1,0 +1,220 @@
+//! What the steps of files, volumes and devices ask, once the flash description is known.
+ghost use Rattle.std.specs.Prelude.{◌≡◌, ◌++◌, ◌∷◌, [], ◌<◌, not, length, IfOk, OnOk};
+ghost use Rattle.image_steps.specs.Asks.{source_file, source_volume, section_files, section_volumes, body_asks, file_asks, source_below, sections_below, is_apriori, files_where, item_asks, are_few, kind_asks, region_asks, kind_below, regions_below};
+
+use build_base::{Path, Rows, Same, WantOfMemory};
+use doc_types::flash::{Region, RegionKind};
+use doc_types::volume::{FilePlan, Item, SectionPlan, SectionSource};
+use std::alloc::Global;
+use step_engine::Ask;
+use step_pack::Key;
+
+fn push_file(alloc: Global, asks: &mut Rows<Ask<Key>>, path: &Path) -> Result<(), WantOfMemory>
+    ensures { OnOk result (asks.new ≡ asks.old ++ Ask.File path.now ∷ []) }
+{
+    asks.push(Ask::File(path.copy(alloc)?))?;
+    Ok(())
+}
+
+fn push_source_file(
+    alloc: Global,
+    asks: &mut Rows<Ask<Key>>,
+    source: &SectionSource,
+) -> Result<(), WantOfMemory>
+    ensures { OnOk result (asks.new ≡ asks.old ++ source_file source.now) }
+{
+    match source {
+        SectionSource::Tree(path) => push_file(alloc, asks, path),
+        SectionSource::Template(_)
+        | SectionSource::Volume(_)
+        | SectionSource::Words(_)
+        | SectionSource::Refused(_) => Ok(()),
+    }
+}
+
+fn push_source_volume(asks: &mut Rows<Ask<Key>>, source: &SectionSource) -> Result<(), WantOfMemory>
+    ensures { OnOk result (asks.new ≡ asks.old ++ source_volume source.now) }
+{
+    match source {
+        SectionSource::Volume(number) => {
+            asks.push(Ask::Part(Key::Volume(*number)))?;
+            Ok(())
+        }
+        SectionSource::Tree(_)
+        | SectionSource::Template(_)
+        | SectionSource::Words(_)
+        | SectionSource::Refused(_) => Ok(()),
+    }
+}
+
+fn push_files(
+    alloc: Global,
+    asks: &mut Rows<Ask<Key>>,
+    sections: &[SectionPlan],
+) -> Result<(), WantOfMemory>
+    ensures { OnOk result (asks.new ≡ asks.old ++ section_files sections.now) }
+{
+    let mut left = sections;
+    while let [section, rest @ ..] = left {
+        push_source_file(alloc, asks, &section.source)?;
+        left = rest;
+    }
+    Ok(())
+}
+
+fn push_volumes(asks: &mut Rows<Ask<Key>>, sections: &[SectionPlan]) -> Result<(), WantOfMemory>
+    ensures { OnOk result (asks.new ≡ asks.old ++ section_volumes sections.now) }
+{
+    let mut left = sections;
+    while let [section, rest @ ..] = left {
+        push_source_volume(asks, &section.source)?;
+        left = rest;
+    }
+    Ok(())
+}
+
+/// What the step of a FILE statement asks: its files, and then the volumes of its sections.
+pub fn file_asks(alloc: Global, plan: &FilePlan) -> Result<Rows<Ask<Key>>, WantOfMemory>
+    ensures { IfOk result (λ asks. asks ≡ file_asks plan.now) }
+{
+    let mut asks = Rows::new(alloc);
+    match &plan.whole {
+        Some(path) => push_file(alloc, &mut asks, path)?,
+        None => {
+            push_files(alloc, &mut asks, plan.sections.items())?;
+            push_volumes(&mut asks, plan.sections.items())?;
+        }
+    }
+    Ok(asks)
+}
+
+fn source_below(volume: u32, source: &SectionSource) -> bool
+    ensures { result ≡ source_below volume source.now }
+{
+    match source {
+        SectionSource::Volume(number) => *number < volume,
+        SectionSource::Tree(_)
+        | SectionSource::Template(_)
+        | SectionSource::Words(_)
+        | SectionSource::Refused(_) => true,
+    }
+}
+
+/// Whether the sections of a file of a volume name volumes below it alone.
+pub fn sections_below(volume: u32, sections: &[SectionPlan]) -> bool
+    ensures { result ≡ sections_below volume sections.now }
+{
+    sections
+        .iter()
+        .all(|section| source_below(volume, &section.source))
+}
+
+fn is_apriori(item: &Item) -> bool
+    ensures { result ≡ is_apriori item.now }
+{
+    match item {
+        Item::Apriori { .. } => true,
+        Item::File(_) | Item::Inf(_) => false,
+    }
+}
+
+/// Whether there are at most 65,535, as many as a volume has items and a flash description volumes or
+/// devices.
+pub fn are_few(count: usize) -> bool
+    ensures { result ≡ are_few count }
+{
+    count < 0x1_0000
+}
+
+// The a priori files of a volume, from an item on.
+#[tactic(auto, unfolding(crate::specs::Asks::files_where))]
+fn push_apriori(asks: &mut Rows<Ask<Key>>, volume: u32, items: &[Item]) -> Result<(), WantOfMemory>
+    requires { length items.now < 65536 }
+    ensures { OnOk result (asks.new ≡ asks.old ++ files_where is_apriori volume 0 items.now) }
+{
+    let mut number: u32 = 0;
+    let mut left = items;
+    while let [item, rest @ ..] = left {
+        if is_apriori(item) {
+            asks.push(Ask::Part(Key::File(volume, number)))?;
+        }
+        number += 1;
+        left = rest;
+    }
+    Ok(())
+}
+
+// Its other files.
+#[tactic(auto, unfolding(crate::specs::Asks::files_where))]
+fn push_others(asks: &mut Rows<Ask<Key>>, volume: u32, items: &[Item]) -> Result<(), WantOfMemory>
+    requires { length items.now < 65536 }
+    ensures { OnOk result (asks.new ≡ asks.old ++ files_where (λ item. not (is_apriori item)) volume 0 items.now) }
+{
+    let mut number: u32 = 0;
+    let mut left = items;
+    while let [item, rest @ ..] = left {
+        if !is_apriori(item) {
+            asks.push(Ask::Part(Key::File(volume, number)))?;
+        }
+        number += 1;
+        left = rest;
+    }
+    Ok(())
+}
+
+/// The files of a volume in the order in which they stand in it: a priori files first.
+pub fn item_asks(alloc: Global, volume: u32, items: &[Item]) -> Result<Rows<Ask<Key>>, WantOfMemory>
+    requires { length items.now < 65536 }
+    ensures { IfOk result (λ asks. asks ≡ item_asks volume items.now) }
+{
+    let mut asks = Rows::new(alloc);
+    push_apriori(&mut asks, volume, items)?;
+    push_others(&mut asks, volume, items)?;
+    Ok(asks)
+}
+
+fn push_kind(
+    alloc: Global,
+    asks: &mut Rows<Ask<Key>>,
+    kind: &RegionKind,
+) -> Result<(), WantOfMemory>
+    ensures { OnOk result (asks.new ≡ asks.old ++ kind_asks kind.now) }
+{
+    match kind {
+        RegionKind::Empty | RegionKind::Bytes(_) => Ok(()),
+        RegionKind::Tree(path) => push_file(alloc, asks, path),
+        RegionKind::Volume(number) => {
+            asks.push(Ask::Part(Key::Volume(*number)))?;
+            Ok(())
+        }
+    }
+}
+
+/// The file or the volume of each region of a device.
+pub fn region_asks(alloc: Global, regions: &[Region]) -> Result<Rows<Ask<Key>>, WantOfMemory>
+    ensures { IfOk result (λ asks. asks ≡ region_asks regions.now) }
+{
+    let mut asks = Rows::new(alloc);
+    let mut left = regions;
+    while let [region, rest @ ..] = left {
+        push_kind(alloc, &mut asks, &region.kind)?;
+        left = rest;
+    }
+    Ok(asks)
+}
+
+fn kind_below(kind: &RegionKind) -> bool
+    ensures { result ≡ kind_below kind.now }
+{
+    match kind {
+        RegionKind::Empty | RegionKind::Bytes(_) | RegionKind::Tree(_) => true,
+        RegionKind::Volume(number) => are_few(*number as usize),
+    }
+}
+
+/// Whether the regions of a device name volumes that there can be.
+pub fn regions_below(regions: &[Region]) -> bool
+    ensures { result ≡ regions_below regions.now }
+{
+    regions.iter().all(|region| kind_below(&region.kind))
+}

@@ -1,0 +1,138 @@
+//! What files, volumes and texts hold, by the answers of a step.
+ghost use Rattle.std.specs.Prelude.{◌≡◌, ◌++◌, ◌∷◌, [], Some, IfOk, OnOk};
+ghost use Rattle.std.specs.List.{flat_map};
+ghost use Rattle.build_base.specs.Answer.{Finds};
+ghost use Rattle.build_base.specs.FaultText.{fault_of};
+ghost use Rattle.build_stages.specs.Gives.{GivesIn};
+ghost use Rattle.image_steps.specs.Contents.{whole_file, file_content, file_absent, section_absent, volume_content, volume_given, wide_text, words_bytes};
+
+use build_base::{Image, Path, Place, Refusal, Same, Text, WantOfMemory, refuse};
+use build_stages::{Given, Stop};
+use std::alloc::Global;
+use step_engine::Answer;
+use step_pack::{Key, Out};
+
+fn whole_file(alloc: Global, path: &Path) -> Result<Place, WantOfMemory>
+    ensures { IfOk result (λ at. at ≡ whole_file path.now) }
+{
+    Ok(Place {
+        path: path.copy(alloc)?,
+        line: 0,
+    })
+}
+
+/// The refusal of a whole file.
+pub fn refuse_file(alloc: Global, code: u16, path: &Path, detail: &[u8]) -> Refusal
+    ensures { Finds result (Some (fault_of code (whole_file path.now) detail.now)) }
+{
+    match whole_file(alloc, path) {
+        Ok(at) => refuse(alloc, code, &at, detail),
+        Err(_) => Refusal::WantOfMemory,
+    }
+}
+
+/// The bytes of the file at a place among the answers, which is a whole body or the content of a
+/// region.
+pub fn whole_content<'a>(
+    alloc: Global,
+    given: &Given<'a, Out>,
+    place: usize,
+    path: &Path,
+) -> Result<&'a Text, Stop<Key>>
+    ensures { GivesIn (λ text. text.now) result (file_content given.now place (file_absent path.now) path.now) }
+{
+    match given.file(place)? {
+        Answer::Bytes(bytes) => Ok(bytes.value()),
+        Answer::Absent => Err(Stop::from(refuse_file(alloc, 103, path, path.bytes()))),
+        Answer::TooLong => Err(Stop::from(refuse_file(alloc, 102, path, path.bytes()))),
+        Answer::Field(_) | Answer::Part(_) => Err(Stop::Misfit),
+    }
+}
+
+/// The bytes of the file at a place among the answers, which is a section's.
+pub fn section_content<'a>(
+    alloc: Global,
+    given: &Given<'a, Out>,
+    place: usize,
+    at: &Place,
+    path: &Path,
+) -> Result<&'a Text, Stop<Key>>
+    ensures { GivesIn (λ text. text.now) result (file_content given.now place (section_absent at.now path.now) path.now) }
+{
+    match given.file(place)? {
+        Answer::Bytes(bytes) => Ok(bytes.value()),
+        Answer::Absent => Err(Stop::from(refuse(alloc, 258, at, path.bytes()))),
+        Answer::TooLong => Err(Stop::from(refuse_file(alloc, 102, path, path.bytes()))),
+        Answer::Field(_) | Answer::Part(_) => Err(Stop::Misfit),
+    }
+}
+
+fn volume_of(out: &Out) -> Result<&Image, Stop<Key>>
+    ensures { GivesIn (λ image. image.now) result (volume_given out.now) }
+{
+    match out {
+        Out::Volume(image) => Ok(image),
+        _ => Err(Stop::Misfit),
+    }
+}
+
+/// The volume at a place among the answers.
+pub fn volume_content<'a>(given: &Given<'a, Out>, place: usize) -> Result<&'a Image, Stop<Key>>
+    ensures { GivesIn (λ image. image.now) result (volume_content given.now place) }
+{
+    volume_of(given.part(place)?)
+}
+
+fn push_unit(out: &mut Vec<u8>, byte: u8) -> Result<(), WantOfMemory>
+    ensures { OnOk result (out.new.items ≡ out.old.items ++ byte ∷ 0 ∷ []) }
+{
+    out.extend_from_slice(&[byte, 0])?;
+    Ok(())
+}
+
+fn push_units(out: &mut Vec<u8>, text: &[u8]) -> Result<(), WantOfMemory>
+    ensures { OnOk result (out.new.items ≡ out.old.items ++ flat_map (λ byte. byte ∷ 0 ∷ []) text.now) }
+{
+    let mut left = text;
+    while let [byte, rest @ ..] = left {
+        push_unit(out, *byte)?;
+        left = rest;
+    }
+    Ok(())
+}
+
+// Appends a text of 16-bit units and a final zero.
+#[tactic(auto, unfolding(crate::specs::Contents::wide_text))]
+fn push_wide(out: &mut Vec<u8>, text: &[u8]) -> Result<(), WantOfMemory>
+    ensures { OnOk result (out.new.items ≡ out.old.items ++ wide_text text.now) }
+{
+    push_units(out, text)?;
+    out.extend_from_slice(&[0, 0])?;
+    Ok(())
+}
+
+/// The content of a section that a text gives; that of a version section begins with the build number.
+pub fn words_bytes(alloc: Global, kind: u8, number: u16, text: &[u8]) -> Result<Text, WantOfMemory>
+    ensures { IfOk result (λ t. t ≡ words_bytes kind number text.now) }
+{
+    let mut out = Vec::new(alloc);
+    if kind == 0x14 {
+        out.extend_from_slice(&number.to_le_bytes())?;
+        push_wide(&mut out, text)?;
+        return Ok(Text::from_vec(out));
+    }
+    push_wide(&mut out, text)?;
+    Ok(Text::from_vec(out))
+}
+
+/// The bytes of an image.
+pub fn image_text(alloc: Global, image: &Image) -> Result<Text, WantOfMemory>
+    ensures { IfOk result (λ t. t ≡ image.now) }
+{
+    let mut out = Vec::new(alloc);
+    let mut pieces = image.pieces();
+    while let Some(piece) = pieces.next() {
+        out.extend_from_slice(piece)?;
+    }
+    Ok(Text::from_vec(out))
+}

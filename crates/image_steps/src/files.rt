@@ -1,0 +1,122 @@
+//! The file of a FILE statement, by the answers of its step.
+ghost use Rattle.std.specs.Prelude.{◌≡◌, IfOk, Some};
+ghost use Rattle.build_base.specs.Answer.{Answers, Finds};
+ghost use Rattle.build_stages.specs.Gives.{GivesIn};
+ghost use Rattle.ffs_sections.specs.Sections.{HaveGuids};
+ghost use Rattle.image_steps.specs.Files.{unbuilt, file_align, body_given, file_name, image_plan, file_given};
+ghost use Rattle.ffs_sections.specs.File.{file_of};
+
+use crate::contents::whole_content;
+use crate::parts::{file_count, files_checked, parts};
+use build_base::{Guid, Permit, Place, Refusal, Same, Text, WantOfMemory, refuse};
+use build_stages::{Given, Stop};
+use doc_types::flash::FlashDoc;
+use doc_types::image::{Body, FileImage, ImagePlan};
+use doc_types::volume::{Align, FilePlan};
+use doc_types::volume_head::VolumeHead;
+use ffs_sections::file_of;
+use std::alloc::Global;
+use step_pack::{Key, Out};
+
+/// The refusal of a form that no step makes yet.
+pub fn unbuilt(alloc: Global, at: &Place) -> Refusal
+    ensures { Finds result (Some (unbuilt at.now)) }
+{
+    refuse(alloc, 199, at, b"".as_slice())
+}
+
+fn file_align(align: Align) -> u32
+    ensures { result ≡ file_align align }
+{
+    match align {
+        Align::Unset | Align::Auto => 1,
+        Align::Bytes(bytes) => bytes,
+    }
+}
+
+fn body_given(
+    alloc: Global,
+    flash: &FlashDoc,
+    plan: &FilePlan,
+    given: &Given<'_, Out>,
+) -> Result<Body, Stop<Key>>
+    ensures value { GivesIn (λ body. body) result (body_given flash.now plan.now plan.now.whole given.now) }
+    ensures guids { IfOk result HaveGuids }
+{
+    let sections = plan.sections.items();
+    match &plan.whole {
+        Some(path) => {
+            let bytes = whole_content(alloc, given, 0, path)?;
+            Ok(Body::Whole(Text::of(alloc, bytes.bytes())?))
+        }
+        None => {
+            files_checked(alloc, given, sections)?;
+            let parts = parts(alloc, flash, given, file_count(sections), sections)?;
+            Ok(Body::Sections(parts))
+        }
+    }
+}
+
+fn file_name(guid: Option<Guid>) -> Result<Guid, Stop<Key>>
+    ensures { GivesIn (λ guid. guid) result (file_name guid) }
+{
+    match guid {
+        Some(guid) => Ok(guid),
+        None => Err(Stop::Misfit),
+    }
+}
+
+fn image_plan(
+    alloc: Global,
+    head: &VolumeHead,
+    plan: &FilePlan,
+    name: Guid,
+    body: Body,
+) -> Result<ImagePlan, WantOfMemory>
+    ensures { IfOk result (λ p. p ≡ image_plan head.now plan.now name body) }
+{
+    Ok(ImagePlan {
+        at: plan.at.copy(alloc)?,
+        file_type: plan.file_type,
+        guid: name,
+        fixed: plan.fixed,
+        checksum: plan.checksum,
+        align: file_align(plan.align),
+        erase: head.erase,
+        ffs3: head.ffs3,
+        body,
+    })
+}
+
+fn image(
+    alloc: Global,
+    permit: Permit,
+    head: &VolumeHead,
+    plan: &FilePlan,
+    name: Guid,
+    body: Body,
+) -> Result<FileImage, Refusal>
+    requires { HaveGuids body }
+    ensures { Answers result (file_of (image_plan head.now plan.now name body)) }
+{
+    let image = image_plan(alloc, head, plan, name, body)?;
+    file_of(alloc, permit, &image)
+}
+
+/// The file of a statement in a volume with this head. The answers of its files stand before those of
+/// its volumes.
+#[tactic(auto, unfolding(crate::specs::Files::file_given))]
+pub fn file_given(
+    alloc: Global,
+    permit: Permit,
+    flash: &FlashDoc,
+    head: &VolumeHead,
+    plan: &FilePlan,
+    given: &Given<'_, Out>,
+) -> Result<FileImage, Stop<Key>>
+    ensures { GivesIn (λ file. file) result (file_given flash.now head.now plan.now given.now) }
+{
+    let body = body_given(alloc, flash, plan, given)?;
+    let name = file_name(plan.guid)?;
+    Ok(image(alloc, permit, head, plan, name, body)?)
+}

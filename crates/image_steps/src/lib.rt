@@ -1,0 +1,14 @@
+//! What the steps of files, volumes and devices ask, and what they give by the answers.
+#![tactic(auto)]
+
+pub mod asks;
+pub mod contents;
+pub mod devices;
+pub mod files;
+pub mod parts;
+pub mod volumes;
+
+pub use asks::{are_few, file_asks, item_asks, region_asks, regions_below, sections_below};
+pub use devices::device_given;
+pub use files::{file_given, unbuilt};
+pub use volumes::volume_given;

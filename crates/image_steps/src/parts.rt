@@ -1,0 +1,393 @@
+//! The sections of a file.
+ghost use Rattle.std.specs.Prelude.{◌≡◌, ◌++◌, ◌==◌, ◌≤◌, ◌^◌, ◌/◌, ◌%◌, true, false, IfOk, OnOk, Some, is_some, All, decimal, length, codes};
+ghost use Rattle.std.specs.Option.{option_copied};
+ghost use Rattle.image_steps.specs.Contents.{words_bytes};
+ghost use Rattle.build_base.specs.Answer.{Answers, Finds};
+ghost use Rattle.build_stages.specs.Gives.{GivesIn};
+ghost use Rattle.te_images.specs.Pe.{file_alignment_of, section_alignment_of};
+ghost use Rattle.te_images.specs.Te.{te_of};
+ghost use Rattle.image_steps.specs.Parts.{alignments_text, pe_code, pe_detail, pe_fault, as_is, stripped, te_shaped, file_shaped, content_at, files_of, volumes_of, volume_align, unset_align, section_align, some_guid, without_guid, header_guid, part_with, part_at, parts_from, source_checked, files_checked, file_count};
+
+use crate::contents::{image_text, refuse_file, section_content, volume_content, words_bytes};
+use build_base::{Guid, Image, Path, Refusal, Rows, Text, WantOfMemory};
+use build_stages::{Given, Stop};
+use doc_types::flash::FlashDoc;
+use doc_types::image::Part;
+use doc_types::volume::{Align, SectionPlan, SectionSource, VolumePlan};
+use itoa::Buffer;
+use std::alloc::Global;
+use step_pack::{Key, Out};
+use te_images::{PeFault, TeHead, file_alignment, section_alignment, strip_at, te_header};
+
+/// The content of a section: what its place is counted less by, and its bytes.
+#[derive(Drop)]
+pub struct Shaped {
+    pub shift: u32,
+    pub bytes: Text,
+}
+
+fn push_number(out: &mut Vec<u8>, number: u64) -> Result<(), WantOfMemory>
+    ensures { OnOk result (out.new.items ≡ out.old.items ++ decimal number) }
+{
+    let mut digits = Buffer::new();
+    out.extend_from_slice(digits.format(number).as_bytes())?;
+    Ok(())
+}
+
+fn compared(alloc: Global, file: u32, section: u32) -> Result<Vec<u8>, WantOfMemory>
+    ensures { IfOk result (λ text. text.items ≡ decimal file ++ codes " != " ++ decimal section) }
+{
+    let mut text = Vec::new(alloc);
+    push_number(&mut text, file as u64)?;
+    text.extend_from_slice(b" != ")?;
+    push_number(&mut text, section as u64)?;
+    Ok(text)
+}
+
+fn alignments_text(alloc: Global, file: &[u8]) -> Result<Vec<u8>, WantOfMemory>
+    ensures { IfOk result (λ text. text.items ≡ alignments_text (file_alignment_of file.now) (section_alignment_of file.now)) }
+{
+    match (file_alignment(file), section_alignment(file)) {
+        (Ok(of_file), Ok(of_section)) => compared(alloc, of_file, of_section),
+        _ => Ok(Vec::new(alloc)),
+    }
+}
+
+fn length_text(alloc: Global, file: &[u8]) -> Result<Vec<u8>, WantOfMemory>
+    ensures { IfOk result (λ text. text.items ≡ decimal (length file.now)) }
+{
+    let mut text = Vec::new(alloc);
+    push_number(&mut text, file.len() as u64)?;
+    Ok(text)
+}
+
+fn pe_detail(alloc: Global, file: &[u8], fault: PeFault) -> Result<Vec<u8>, WantOfMemory>
+    ensures { IfOk result (λ text. text.items ≡ pe_detail file.now fault) }
+{
+    match fault {
+        PeFault::AlignmentsDiffer => alignments_text(alloc, file),
+        PeFault::NotPe
+        | PeFault::Truncated
+        | PeFault::TooManySections
+        | PeFault::HeaderTooLong
+        | PeFault::SubsystemTooLarge => length_text(alloc, file),
+    }
+}
+
+fn pe_code(fault: PeFault) -> u16
+    ensures { result ≡ pe_code fault }
+{
+    match fault {
+        PeFault::NotPe => 601,
+        PeFault::Truncated => 602,
+        PeFault::AlignmentsDiffer => 603,
+        PeFault::TooManySections => 604,
+        PeFault::HeaderTooLong => 605,
+        PeFault::SubsystemTooLarge => 606,
+    }
+}
+
+fn pe_fault(alloc: Global, path: &Path, file: &[u8], fault: PeFault) -> Refusal
+    ensures { Finds result (Some (pe_fault path.now file.now fault)) }
+{
+    match pe_detail(alloc, file, fault) {
+        Ok(detail) => refuse_file(alloc, pe_code(fault), path, detail.as_slice()),
+        Err(_) => Refusal::WantOfMemory,
+    }
+}
+
+fn as_is(alloc: Global, bytes: &[u8]) -> Result<Shaped, WantOfMemory>
+    ensures { IfOk result (λ s. s ≡ as_is bytes.now) }
+{
+    Ok(Shaped {
+        shift: 0,
+        bytes: Text::of(alloc, bytes)?,
+    })
+}
+
+fn as_image(alloc: Global, image: &Image) -> Result<Shaped, WantOfMemory>
+    ensures { IfOk result (λ s. s ≡ as_is image.now) }
+{
+    Ok(Shaped {
+        shift: 0,
+        bytes: image_text(alloc, image)?,
+    })
+}
+
+fn stripped(alloc: Global, file: &[u8], head: &TeHead) -> Result<Shaped, WantOfMemory>
+    requires inside { head.now.stripped ≤ length file.now }
+    requires least { 120 ≤ head.now.stripped }
+    ensures { IfOk result (λ s. s ≡ stripped file.now head.now) }
+{
+    let mut bytes = Vec::from_slice(alloc, head.bytes().as_slice())?;
+    bytes.extend_from_slice(strip_at(file, head))?;
+    Ok(Shaped {
+        shift: head.stripped as u32 - 40,
+        bytes: Text::from_vec(bytes),
+    })
+}
+
+fn te_shaped(alloc: Global, path: &Path, file: &[u8]) -> Result<Shaped, Refusal>
+    ensures { Answers result (te_shaped path.now file.now (te_of file.now)) }
+{
+    match te_header(file) {
+        Ok(head) => Ok(stripped(alloc, file, &head)?),
+        Err(fault) => Err(pe_fault(alloc, path, file, fault)),
+    }
+}
+
+fn file_shaped(alloc: Global, kind: u8, path: &Path, file: &[u8]) -> Result<Shaped, Refusal>
+    ensures { Answers result (file_shaped kind path.now file.now) }
+{
+    if kind == 0x12 {
+        return te_shaped(alloc, path, file);
+    }
+    Ok(as_is(alloc, file)?)
+}
+
+fn file_content(
+    alloc: Global,
+    given: &Given<'_, Out>,
+    place: usize,
+    section: &SectionPlan,
+    path: &Path,
+) -> Result<Shaped, Stop<Key>>
+    ensures { GivesIn (λ s. s) result (content_at given.now place 0 section.now (SectionSource.Tree path.now)) }
+{
+    let bytes = section_content(alloc, given, place, &section.at, path)?;
+    Ok(file_shaped(alloc, section.kind, path, bytes.bytes())?)
+}
+
+fn words_content(alloc: Global, section: &SectionPlan, text: &Text) -> Result<Shaped, WantOfMemory>
+    ensures { IfOk result (λ s. s ≡ as_is (words_bytes section.now.kind section.now.number text.now)) }
+{
+    Ok(Shaped {
+        shift: 0,
+        bytes: words_bytes(alloc, section.kind, section.number, text.bytes())?,
+    })
+}
+
+fn content_at(
+    alloc: Global,
+    given: &Given<'_, Out>,
+    file: usize,
+    volume: usize,
+    section: &SectionPlan,
+) -> Result<Shaped, Stop<Key>>
+    ensures { GivesIn (λ s. s) result (content_at given.now file volume section.now section.now.source) }
+{
+    match &section.source {
+        SectionSource::Tree(path) => file_content(alloc, given, file, section, path),
+        SectionSource::Volume(_) => {
+            let image = volume_content(given, volume)?;
+            Ok(as_image(alloc, image)?)
+        }
+        SectionSource::Words(text) => Ok(words_content(alloc, section, text)?),
+        SectionSource::Template(_) | SectionSource::Refused(_) => Err(Stop::Misfit),
+    }
+}
+
+fn files_of(source: &SectionSource) -> usize
+    ensures { result ≡ files_of source.now }
+{
+    match source {
+        SectionSource::Tree(_) => 1,
+        SectionSource::Template(_)
+        | SectionSource::Volume(_)
+        | SectionSource::Words(_)
+        | SectionSource::Refused(_) => 0,
+    }
+}
+
+fn volumes_of(source: &SectionSource) -> usize
+    ensures { result ≡ volumes_of source.now }
+{
+    match source {
+        SectionSource::Volume(_) => 1,
+        SectionSource::Tree(_)
+        | SectionSource::Template(_)
+        | SectionSource::Words(_)
+        | SectionSource::Refused(_) => 0,
+    }
+}
+
+// 2 to the exponent in bits 16 to 20.
+fn power(attributes: u32) -> u32
+    ensures { result ≡ 2 ^ (attributes / 65536 % 32) }
+{
+    1 << (attributes / 0x1_0000 % 0x20)
+}
+
+fn volume_align(plan: Option<&VolumePlan>) -> u32
+    ensures { result ≡ volume_align (option_copied plan.entry) }
+{
+    match plan {
+        None => 8,
+        Some(plan) => power(plan.head.attributes).max(8),
+    }
+}
+
+fn unset_align(flash: &FlashDoc, source: &SectionSource) -> u32
+    ensures { result ≡ unset_align flash.now source.now }
+{
+    match source {
+        SectionSource::Volume(number) => {
+            volume_align(flash.volumes.items().get(*number as usize))
+        }
+        SectionSource::Tree(_)
+        | SectionSource::Template(_)
+        | SectionSource::Words(_)
+        | SectionSource::Refused(_) => 1,
+    }
+}
+
+fn section_align(flash: &FlashDoc, source: &SectionSource, align: Align) -> u32
+    ensures { result ≡ section_align flash.now source.now align }
+{
+    match align {
+        Align::Unset => unset_align(flash, source),
+        Align::Auto => 1,
+        Align::Bytes(bytes) => bytes,
+    }
+}
+
+fn some_guid(guid: Option<Guid>) -> Result<Option<Guid>, Stop<Key>>
+    ensures value { GivesIn (λ guid. guid) result (some_guid guid) }
+    ensures shape { IfOk result (λ guid. is_some guid ≡ true) }
+{
+    match guid {
+        Some(guid) => Ok(Some(guid)),
+        None => Err(Stop::Misfit),
+    }
+}
+
+fn without_guid(guid: Option<Guid>) -> Result<Option<Guid>, Stop<Key>>
+    ensures value { GivesIn (λ guid. guid) result (without_guid guid) }
+    ensures shape { IfOk result (λ guid. is_some guid ≡ false) }
+{
+    match guid {
+        Some(_) => Err(Stop::Misfit),
+        None => Ok(None),
+    }
+}
+
+fn header_guid(kind: u8, guid: Option<Guid>) -> Result<Option<Guid>, Stop<Key>>
+    ensures value { GivesIn (λ guid. guid) result (header_guid kind guid) }
+    ensures shape { IfOk result (λ guid. is_some guid ≡ (kind == 24)) }
+{
+    if kind == 0x18 {
+        some_guid(guid)
+    } else {
+        without_guid(guid)
+    }
+}
+
+fn part_with(flash: &FlashDoc, section: &SectionPlan, content: Shaped, guid: Option<Guid>) -> Part
+    ensures { result ≡ part_with flash.now section.now content guid }
+{
+    Part {
+        kind: section.kind,
+        guid,
+        align: section_align(flash, &section.source, section.align),
+        shift: content.shift,
+        bytes: content.bytes,
+    }
+}
+
+#[tactic(auto, unfolding(crate::specs::Parts::part_at))]
+fn part_at(
+    alloc: Global,
+    flash: &FlashDoc,
+    given: &Given<'_, Out>,
+    file: usize,
+    volume: usize,
+    section: &SectionPlan,
+) -> Result<Part, Stop<Key>>
+    ensures value { GivesIn (λ part. part) result (part_at flash.now given.now file volume section.now) }
+    ensures guid { IfOk result (λ part. is_some part.guid ≡ (part.kind == 24)) }
+{
+    let content = content_at(alloc, given, file, volume, section)?;
+    let guid = header_guid(section.kind, section.guid)?;
+    Ok(part_with(flash, section, content, guid))
+}
+
+/// All sections, or the first fault of one. The answers of the files begin at 0, those of the volumes
+/// at `volumes`.
+#[tactic(auto, unfolding(crate::specs::Parts::parts_from))]
+pub fn parts(
+    alloc: Global,
+    flash: &FlashDoc,
+    given: &Given<'_, Out>,
+    volumes: usize,
+    sections: &[SectionPlan],
+) -> Result<Rows<Part>, Stop<Key>>
+    requires { volumes ≤ length sections.now }
+    ensures value { GivesIn (λ parts. parts) result (parts_from flash.now given.now 0 volumes sections.now) }
+    ensures guids { IfOk result (All (λ part. is_some part.guid ≡ (part.kind == 24))) }
+{
+    let mut parts = Rows::new(alloc);
+    let mut file = 0;
+    let mut volume = volumes;
+    let mut left = sections;
+    while let [section, rest @ ..] = left {
+        parts.push(part_at(alloc, flash, given, file, volume, section)?)?;
+        file += files_of(&section.source);
+        volume += volumes_of(&section.source);
+        left = rest;
+    }
+    Ok(parts)
+}
+
+fn source_checked(
+    alloc: Global,
+    given: &Given<'_, Out>,
+    file: usize,
+    section: &SectionPlan,
+) -> Result<(), Stop<Key>>
+    ensures { GivesIn (λ _. tt) result (source_checked given.now file section.now section.now.source) }
+{
+    match &section.source {
+        SectionSource::Tree(path) => {
+            section_content(alloc, given, file, &section.at, path)?;
+            Ok(())
+        }
+        SectionSource::Template(_)
+        | SectionSource::Volume(_)
+        | SectionSource::Words(_)
+        | SectionSource::Refused(_) => Ok(()),
+    }
+}
+
+/// Refuses the first file of sections that isn't there or is too long.
+#[tactic(auto, unfolding(crate::specs::Parts::files_checked))]
+pub fn files_checked(
+    alloc: Global,
+    given: &Given<'_, Out>,
+    sections: &[SectionPlan],
+) -> Result<(), Stop<Key>>
+    ensures { GivesIn (λ _. tt) result (files_checked given.now 0 sections.now) }
+{
+    let mut file = 0;
+    let mut left = sections;
+    while let [section, rest @ ..] = left {
+        source_checked(alloc, given, file, section)?;
+        file += files_of(&section.source);
+        left = rest;
+    }
+    Ok(())
+}
+
+/// How many files sections ask for.
+#[tactic(auto, unfolding(crate::specs::Parts::file_count))]
+pub fn file_count(sections: &[SectionPlan]) -> usize
+    ensures count { result ≡ file_count sections.now }
+    ensures most { result ≤ length sections.now }
+{
+    let mut count = 0;
+    let mut left = sections;
+    while let [section, rest @ ..] = left {
+        count += files_of(&section.source);
+        left = rest;
+    }
+    count
+}
