@@ -1,13 +1,4 @@
-pub mod AllOkLemmas
-pub mod ToldLemmas
-pub mod VolumeLemmas
-pub mod WriteLemmas
-pub mod ShapeLemmas
-pub mod AmongLemmas
-pub mod UnitLemmas
-pub mod OutputLemmas
-pub mod ValueLemmas
-pub mod DocumentLemmas
-pub mod NotedLemmas
 pub mod WordLemmas
-pub mod CompleteLemmas
+pub mod BuildLemmas
+pub mod MadeLemmas
+pub mod RunLemmas

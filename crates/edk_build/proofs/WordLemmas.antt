@@ -1,8 +1,14 @@
 -- The texts of the words, word by word.
-use Rattle.std.proofs.Common.{◌≡◌, rules, tests, false, None, refl, sym, ap, ◌∙◌, ℕ, zero, suc, ◌+◌, ◌<◌, ◌==◌, List, [], ◌∷◌, ◌++◌, length, get_or, take, map, append_assoc, arith, if◌then◌else◌}
+use Rattle.std.proofs.Common.{◌≡◌, rules, tests, false, None, refl, sym, ap, ◌∙◌, ℕ, zero, suc, ◌+◌, ◌<◌, ◌==◌, List, [], ◌∷◌, ◌++◌, length, get_or, take, map, append_assoc, arith, if◌then◌else◌, subst}
 use Rattle.std.specs.List.{join_with_byte}
 use Rattle.std.proofs.lemmas.List.{take_more}
-use Rattle.edk_build.specs.Words.{define_texts}
+use Rattle.std.specs.Prelude.{Option, Some, Bool, true, ◌&&◌, nat_le, cond, codes}
+use Rattle.std.specs.Option.{option_map, is_some}
+use Rattle.build_base.specs.Path.{path_field, is_path}
+use Rattle.macro_conditions.specs.Macros.{same_text}
+use Rattle.build_rules.specs.Rules.{is_job}
+use Rattle.edk_build.specs.Words.{define_texts, job_from, job_fields, words_job}
+use Rattle.edk_build.specs.declared.job.Job.{Job}
 
 joined_last : (byte : ℕ) (y : List ℕ) (ys : List (List ℕ)) (x : List ℕ) → join_with_byte byte ((y ∷ ys) ++ x ∷ []) ≡ join_with_byte byte (y ∷ ys) ++ byte ∷ x
 joined_last byte y [] x = refl
@@ -23,3 +29,34 @@ unfolding define_texts
 one_word text_of [] h n = absurd (n refl)
 one_word text_of (option ∷ []) h n = refl
 one_word text_of (option ∷ text ∷ words) h n = absurd (omega arith)
+
+abbrev text_in : Option (List ℕ) → List ℕ
+text_in None = []
+text_in (Some text) = text
+
+-- a path that a field names is named by itself
+field_itself : (p q : List ℕ) → path_field p ≡ Some q → path_field q ≡ Some q
+field_itself p q =
+    let test : Bool = is_path p && nat_le (length p) 512 in
+    elim test as (λ b. test ≡ b → cond b (Some p) None ≡ Some q → path_field q ≡ Some q) [
+      | true ↦ λ t e. subst (λ z. path_field z ≡ Some z) (ap text_in e) (ap (λ b. cond b (Some p) None) t)
+      | false ↦ λ t e. absurd cc
+    ] refl
+
+job_path : (path : Option (List ℕ)) (texts : Option (List (List ℕ))) (job : Job) → job_from path texts ≡ Some job → path ≡ Some job.path
+job_path (Some path) (Some texts) job e = ap (λ z. option_map (λ j. j.path) z) e
+job_path (Some path) None job e = absurd cc
+job_path None texts job e = absurd cc
+
+-- the fields of the job of words are those of a job
+pub is_job_of : (words : List (List ℕ)) (job : Job) → words_job words ≡ Some job → is_job (job_fields job) ≡ true
+unfolding words_job
+is_job_of (command ∷ option ∷ path ∷ pairs) job e =
+    let test : Bool = same_text command (codes "build") && same_text option (codes "-p") in
+    elim test as (λ b. cond b (job_from (path_field path) (define_texts pairs)) None ≡ Some job → is_job (job_fields job) ≡ true) [
+      | true ↦ λ h. ap (λ p. is_some p && (true && (true && true))) (field_itself path job.path (job_path (path_field path) (define_texts pairs) job h))
+      | false ↦ λ h. absurd cc
+    ] e
+is_job_of (command ∷ option ∷ []) job e = absurd cc
+is_job_of (command ∷ []) job e = absurd cc
+is_job_of [] job e = absurd cc

@@ -1,11 +1,11 @@
-pub mod Stops
 pub mod FilePair
-pub mod FileValues
 pub mod Defines
 pub mod Words
-pub mod Values
-pub mod Noted
+pub mod Contents
 pub mod Outcome
+pub mod Emitting
+pub mod Building
+pub mod Made
+pub mod Run
 pub mod Statuses
-pub mod Outputs
-pub mod Learning
+pub mod Stops

@@ -1,56 +1,51 @@
--- What a build comes to, and what it emits.
-use Rattle.std.specs.Prelude.{◌≡◌, ◌⊎◌, IsOk, List, [], ◌∷◌, map, Option, Result, Ok, Err}
+-- What a build comes to in a world: the files that its top step names, each with what its own step
+-- gives. The rule is this project's own.
+use Rattle.std.specs.Prelude.{ℕ, ◌==◌, List, [], map, Option, Some, None, Result, Ok, Err, if◌then◌else◌}
 use Rattle.build_base.specs.declared.fault.Fault.{Fault}
-use Rattle.build_base.specs.declared.outside.Target.TheVariants.{Err as ToErr}
-use Rattle.build_base.specs.FaultText.{fault_text}
-use Rattle.build_base.specs.Outside.{Emission}
-use Rattle.build_base.specs.Spelling.{Output, text, Spelled}
 use Rattle.build_base.specs.World.{World}
-use Rattle.edk_build.specs.FilePair.{FilePair, output_of}
-use Rattle.edk_build.specs.Values.{all_value}
-use Rattle.edk_build.specs.Outputs.{files_in}
-use Rattle.edk_build.specs.declared.status.Status.{Status}
-use Rattle.edk_build.specs.declared.status.Status.TheVariants.{Done, FileFault, WantOfMemory}
-use Rattle.edk_build.specs.declared.made.Made.{Made}
-use Rattle.edk_build.specs.declared.made.Made.TheVariants.{Files, Faulty}
+use Rattle.doc_types.specs.declared.texts.Texts.{Texts}
+use Rattle.step_engine.specs.declared.talk.Outcome.{Outcome}
+use Rattle.step_engine.specs.declared.talk.Outcome.TheVariants.{Good, Bad}
+use Rattle.step_pack.specs.declared.key.Key.{Key}
+use Rattle.step_pack.specs.declared.key.Key.TheVariants as key
+use Rattle.step_pack.specs.declared.out.Out.{Out}
+use Rattle.step_pack.specs.declared.out.Out.TheVariants as out
+use Rattle.step_pack.specs.declared.out.Output.{Output}
+use Rattle.build_rules.specs.Rules.{value_in}
+use Rattle.edk_build.specs.FilePair.{FilePair}
 
--- the files of a build in a world, or the first fault
+-- the second of two texts, the header, is part 1
+abbrev pub texts_part : Option Texts → ℕ → List ℕ
+texts_part None part = []
+texts_part (Some texts) part = if part == 1 then texts.h else texts.c
+
+-- the bytes of what a step gives
+abbrev pub given_bytes : Out → ℕ → List ℕ
+given_bytes (out.Code texts) part = texts_part texts part
+given_bytes (out.Depex bytes) part = bytes
+given_bytes (out.Volume image) part = image
+given_bytes (out.Device image) part = image
+given_bytes (out.Report text) part = text
+given_bytes _ part = []
+
+abbrev pub outcome_bytes : Outcome Out → ℕ → List ℕ
+outcome_bytes (Good given) part = given_bytes given part
+outcome_bytes (Bad fault) part = []
+
+-- the outputs that the top step names
+abbrev pub outputs_in : Out → List Output
+outputs_in (out.All outputs) = outputs
+outputs_in _ = []
+
+-- the file of an output, where each step has this value
+abbrev pub pair_of : (Key → Outcome Out) → Output → FilePair
+pair_of value output = record { path = output.path; bytes = outcome_bytes (value output.from) output.part }
+
+-- all files, or the fault of the top step
+abbrev pub files_by : (Key → Outcome Out) → Outcome Out → Result (List FilePair) Fault
+files_by value (Good given) = Ok (map (pair_of value) (outputs_in given))
+files_by value (Bad fault) = Err fault
+
+-- the files of a build in a world, or its first fault
 abbrev pub outcome : World → Result (List FilePair) Fault
-outcome w = all_value w
-
-abbrev pub status_of : Result (List FilePair) Fault → Status
-status_of (Ok files) = Done
-status_of (Err fault) = FileFault
-
--- what is emitted: each file, or the text of the fault to standard error
-abbrev pub outputs_of : Result (List FilePair) Fault → List Output
-outputs_of (Ok files) = map output_of files
-outputs_of (Err fault) = text ToErr (fault_text fault) ∷ []
-
--- what a build that came to its end has done
-pub record IsBuilt (w : World) (status : Status) (old new : Option (List Emission)) : Type 0 where
-  pub ends : status ≡ status_of (outcome w)
-  pub written : Spelled old new (outputs_of (outcome w))
-
--- the status of what stands ready before the first emission, and what it is to emit
-abbrev pub made_status : Made → Status
-made_status (Files files) = Done
-made_status (Faulty message) = FileFault
-
-abbrev pub made_outputs : Made → List Output
-made_outputs (Files files) = map output_of (files_in files)
-made_outputs (Faulty message) = text ToErr message ∷ []
-
--- where it is all files
-abbrev pub OnFiles : Made → Type 0 → Type 0
-OnFiles (Files files) P = P
-OnFiles (Faulty message) P = Unit {0}
-
--- what stands ready is that of an outcome
-pub record IsMade (made : Made) (outcome : Result (List FilePair) Fault) : Type 0 where
-  pub status : made_status made ≡ status_of outcome
-  pub outputs : made_outputs made ≡ outputs_of outcome
-
--- Where there is no fault and no object failed, the build is done or memory was wanting.
-abbrev pub IsComplete : Result (List FilePair) Fault → Type 0 → Type 0 → Status → Type 0
-IsComplete outcome tree_failed sink_failed status = IsOk outcome → ¬ tree_failed → ¬ sink_failed → (status ≡ Done) ⊎ (status ≡ WantOfMemory)
+outcome w = files_by (value_in w) (value_in w key.All)

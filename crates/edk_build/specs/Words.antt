@@ -18,6 +18,11 @@ abbrev pub job_from : Option (List ℕ) → Option (List (List ℕ)) → Option 
 job_from (Some path) (Some texts) = Some (record { path = path; defines = join_with_byte 10 texts })
 job_from _ _ = None
 
+-- the ten fields of a job: the platform's file, architectures, target, tag, SKU, macros, PCDs, the FDF file, the images wanted, and the
+-- report's file
+abbrev pub job_fields : Job → List (List ℕ)
+job_fields job = job.path ∷ [] ∷ [] ∷ [] ∷ [] ∷ job.defines ∷ [] ∷ [] ∷ [] ∷ [] ∷ []
+
 -- the job of the words `build -p PATH` and pairs `-D TEXT`
 unfoldable pub words_job : List (List ℕ) → Option Job
 words_job (command ∷ option ∷ path ∷ pairs) =

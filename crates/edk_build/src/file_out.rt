@@ -1,21 +1,23 @@
 //! Files that stand ready, and how they are written: it takes no memory.
-ghost use Rattle.std.specs.Prelude.{◌≡◌, ◌≤◌, ◌++◌, IfOk, map, length, List, ℕ};
+ghost use Rattle.std.specs.Prelude.{◌≡◌, ◌≤◌, ◌++◌, ◌∷◌, IfOk, map, length, List, ℕ, codes};
 ghost use Rattle.build_base.specs.Outside.{Cause};
 ghost use Rattle.build_base.specs.Spelling.{WritesFile, Writes};
 ghost use Rattle.edk_build.specs.FilePair.{output_of};
 
-use build_base::{Image, Path, Pieces, Same, Sink, SinkFailed, Target, WantOfMemory};
+use crate::content::{Content, ContentPieces};
+use build_base::{Path, Same, Sink, SinkFailed, Target, WantOfMemory};
 use std::alloc::Global;
 use std::marker::Model;
 
+/// A file and what is to be written to it.
 #[derive(Drop)]
-pub struct FileOut {
+pub struct FileOut<'a> {
     start: Target,
     more: Target,
-    image: Image,
+    content: Content<'a>,
 }
 
-impl Model for FileOut {
+impl<'a> Model for FileOut<'a> {
     ghost use Rattle.std.specs.Prelude.{◌≡◌};
     ghost use Rattle.build_base.specs.SinkState.{path_of};
     ghost use Rattle.build_base.specs.declared.outside.Target.TheVariants.{Start, More};
@@ -23,30 +25,27 @@ impl Model for FileOut {
 
     ghost Value = { FilePair };
 
-    ghost view = { λ f. record { path = path_of f.start; bytes = f.image } };
+    ghost view = { λ f. record { path = path_of f.start; bytes = f.content } };
 
     ghost invariant = { λ f. (f.start ≡ Start (path_of f.start)) × (f.more ≡ More (path_of f.start)) };
 }
 
-impl FileOut {
-    pub fn new(alloc: Global, path: Path, image: Image) -> Result<FileOut, WantOfMemory>
-        ensures { IfOk result (λ f. f ≡ record { path = path; bytes = image }) }
+impl<'a> FileOut<'a> {
+    pub fn new(alloc: Global, path: Path, content: Content<'a>) -> Result<FileOut<'a>, WantOfMemory>
+        ensures { IfOk result (λ f. f ≡ record { path = path; bytes = content.entry }) }
     {
         let more = Target::More(path.copy(alloc)?);
         let start = Target::Start(path);
-        Ok(FileOut { start, more, image })
-    }
-
-    /// Its image.
-    pub fn image(&self) -> &Image
-        ensures { result.now ≡ self.now.bytes }
-    {
-        &self.image
+        Ok(FileOut {
+            start,
+            more,
+            content,
+        })
     }
 }
 
 // The first piece, of no bytes where none is left.
-fn first_piece<'a>(pieces: &mut Pieces<'a>) -> &'a [u8]
+fn first_piece<'a>(pieces: &mut ContentPieces<'a>) -> &'a [u8]
     ensures whole { pieces.old ≡ result.now ++ pieces.new }
     ensures short { length result.now ≤ 65536 }
 {
@@ -60,13 +59,13 @@ fn write_pieces<S: Sink>(
     sink: &mut S,
     start: &Target,
     more: &Target,
-    image: &Image,
+    content: &Content<'_>,
 ) -> Result<(), SinkFailed>
     ensures written { (path : List ℕ) → start.now ≡ Target.Start path → more.now ≡ Target.More path →
-        WritesFile (S.written sink.old) (S.written sink.new) path image.now result }
+        WritesFile (S.written sink.old) (S.written sink.new) path content.now result }
     ensures cause { Cause (S.faults sink.old) (S.faults sink.new) result }
 {
-    let mut pieces = image.pieces();
+    let mut pieces = content.pieces();
     let first = first_piece(&mut pieces);
     if let Err(failed) = sink.emit(start, first) {
         return Err(failed);
@@ -79,15 +78,15 @@ fn write_pieces<S: Sink>(
     Ok(())
 }
 
-pub fn write_file<S: Sink>(sink: &mut S, out: &FileOut) -> Result<(), SinkFailed>
+fn write_file<S: Sink>(sink: &mut S, out: &FileOut<'_>) -> Result<(), SinkFailed>
     ensures written { WritesFile (S.written sink.old) (S.written sink.new) out.now.path out.now.bytes result }
     ensures cause { Cause (S.faults sink.old) (S.faults sink.new) result }
 {
-    write_pieces(sink, &out.start, &out.more, &out.image)
+    write_pieces(sink, &out.start, &out.more, &out.content)
 }
 
 /// Writes all files, in order.
-pub fn write_all<S: Sink>(sink: &mut S, files: &[FileOut]) -> Result<(), SinkFailed>
+pub fn write_all<S: Sink>(sink: &mut S, files: &[FileOut<'_>]) -> Result<(), SinkFailed>
     ensures written { Writes (S.written sink.old) (S.written sink.new) (map output_of files.now) result }
     ensures cause { Cause (S.faults sink.old) (S.faults sink.new) result }
 {

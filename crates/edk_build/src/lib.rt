@@ -1,23 +1,18 @@
 //! The build: from the words of the command line to the bytes of the images.
 #![tactic(auto)]
 
-pub mod building;
+pub mod build;
+pub mod content;
 pub mod defines;
-pub mod device_step;
-pub mod document;
 pub mod file_out;
-pub mod file_step;
 pub mod job;
-pub mod key;
+pub mod label;
 pub mod made;
-pub mod out_files;
-pub mod output_path;
 pub mod status;
-pub mod steps;
 pub mod stop;
-pub mod volume_step;
+pub mod summary;
+pub mod top_call;
 pub mod words;
 
-pub use building::run;
-pub use key::Key;
 pub use status::Status;
+pub use top_call::run;

@@ -1,47 +1,163 @@
 //! What stands ready before the first emission.
-ghost use Rattle.std.specs.Prelude.{◌≡◌, ◌∷◌, [], map};
+ghost use Rattle.std.specs.Prelude.{◌≡◌, ◌++◌, ◌∷◌, [], map, IfOk, IfSome, Contains};
 ghost use Rattle.build_base.specs.Outside.{Cause};
 ghost use Rattle.build_base.specs.Spelling.{Writes, text};
-ghost use Rattle.build_base.specs.declared.outside.Target.TheVariants.{Err as ToErr};
+ghost use Rattle.build_base.specs.declared.outside.Target.{Target};
+ghost use Rattle.build_base.specs.declared.outside.Target.TheVariants.{Out as ToOut};
+ghost use Rattle.edk_build.specs.Building.{Agrees, AgreesOnGood, result_status};
+ghost use Rattle.edk_build.specs.Emitting.{below, labelled, outputs_of, status_of, emitted};
 ghost use Rattle.edk_build.specs.FilePair.{output_of};
-ghost use Rattle.edk_build.specs.Outputs.{files_in};
-ghost use Rattle.edk_build.specs.Outcome.{made_status, made_outputs};
+ghost use Rattle.edk_build.specs.Made.{made_status, made_outputs, ready_outputs, IsMade, IsReady};
+ghost use Rattle.step_engine.specs.declared.talk.Outcome.{Outcome};
+ghost use Rattle.edk_build.specs.Outcome.{pair_of, outputs_in, files_by};
+ghost use Rattle.std.specs.Prelude.{codes, length};
 
-use crate::file_out::write_all;
-use crate::out_files::OutFiles;
+use crate::content::outcome_bytes;
+use crate::file_out::{FileOut, write_all};
+use crate::label::Label;
 use crate::status::Status;
-use build_base::{Sink, SinkFailed, Target, Text};
+use crate::summary::summary;
+use build_base::fault::fault_text;
+use build_base::{Path, Rows, Same, Sink, SinkFailed, Target, Text, WantOfMemory};
+use std::alloc::Global;
+use step_engine::{Cache, Entry, Outcome};
+use step_pack::{Key, Out, Output};
+
+const LONGEST: usize = 2048;
 
 /// All files, or the text of the fault.
 #[derive(Drop)]
-pub enum Made {
-    Files(OutFiles),
+pub enum Made<'a> {
+    Files(Rows<FileOut<'a>>),
     Faulty(Text),
 }
 
-fn write_message<S: Sink>(sink: &mut S, message: &Text) -> Result<(), SinkFailed>
-    ensures written { Writes (S.written sink.old) (S.written sink.new) (text ToErr message.now ∷ []) result }
-    ensures cause { Cause (S.faults sink.old) (S.faults sink.new) result }
-{
-    sink.emit(&Target::Err, message.bytes())
+/// All that a build emits.
+#[derive(Drop)]
+pub struct Ready<'a> {
+    made: Made<'a>,
+    summary: Text,
 }
 
-fn write_files<S: Sink>(sink: &mut S, files: &OutFiles) -> Result<(), SinkFailed>
-    ensures written { Writes (S.written sink.old) (S.written sink.new) (map output_of (files_in files.now)) result }
-    ensures cause { Cause (S.faults sink.old) (S.faults sink.new) result }
+// The path of an output below the folder of the build.
+fn below(alloc: Global, folder: &Option<Path>, path: &Path) -> Result<Path, WantOfMemory>
+    ensures { IfOk result (λ p. p ≡ below folder.now path.now) }
 {
-    if let Err(failed) = write_all(sink, files.volumes.items()) {
-        return Err(failed);
+    match folder {
+        None => path.copy(alloc),
+        Some(folder) => {
+            if folder.bytes().len() + 1 + path.bytes().len() > LONGEST {
+                return Err(WantOfMemory);
+            }
+            folder.join(alloc, path)
+        }
     }
-    if let Err(failed) = write_all(sink, files.devices.items()) {
-        return Err(failed);
-    }
-    Ok(())
 }
 
-impl Made {
+// The entry of a step.
+fn entry_of<'a>(entries: &'a [Entry<Key, Out>], key: &Key) -> Option<&'a Entry<Key, Out>>
+    ensures { IfSome result (λ e. Contains entries.now e.now × (e.now.key ≡ key.now)) }
+{
+    let at = entries.partition_point(|entry| entry.key < *key);
+    let entry = entries.get(at)?;
+    if entry.key.same(key) {
+        Some(entry)
+    } else {
+        None
+    }
+}
+
+// The file of an output, lent by the entry of its step.
+fn file_of<'a>(
+    alloc: Global,
+    label: &Label,
+    cache: &'a Cache<Key, Out>,
+    output: &Output,
+) -> Result<FileOut<'a>, WantOfMemory>
+    ensures { (value : Key → Outcome Out) → Agrees value cache.now →
+        IfOk result (λ f. f ≡ labelled label.now (pair_of value output.now)) }
+{
+    let Some(entry) = entry_of(cache.entries(), &output.from) else {
+        return Err(WantOfMemory);
+    };
+    let path = below(alloc, &label.folder, &output.path)?;
+    FileOut::new(alloc, path, outcome_bytes(&entry.result, output.part))
+}
+
+fn files_of<'a>(
+    alloc: Global,
+    label: &Label,
+    cache: &'a Cache<Key, Out>,
+    outputs: &[Output],
+) -> Result<Rows<FileOut<'a>>, WantOfMemory>
+    ensures { (value : Key → Outcome Out) → Agrees value cache.now →
+        IfOk result (λ fs. fs ≡ map (labelled label.now) (map (pair_of value) outputs.now)) }
+{
+    let mut files = Rows::new(alloc);
+    for output in outputs {
+        files.push(file_of(alloc, label, cache, output)?)?;
+    }
+    Ok(files)
+}
+
+fn outputs_in(given: &Out) -> &[Output]
+    ensures { result.now ≡ outputs_in given.now }
+{
+    match given {
+        Out::All(outputs) => outputs.items(),
+        _ => &[],
+    }
+}
+
+fn make<'a>(
+    alloc: Global,
+    label: &Label,
+    given: &Outcome<Out>,
+    cache: &'a Cache<Key, Out>,
+) -> Result<Made<'a>, WantOfMemory>
+    ensures made { (value : Key → Outcome Out) → AgreesOnGood given.now value cache.now →
+        IfOk result (λ m. IsMade m label.now (files_by value given.now)) }
+    ensures own { IfOk result (λ m. made_status m ≡ result_status given.now) }
+{
+    match given {
+        Outcome::Good(outputs) => Ok(Made::Files(files_of(
+            alloc,
+            label,
+            cache,
+            outputs_in(outputs.value()),
+        )?)),
+        Outcome::Bad(fault) => Ok(Made::Faulty(fault_text(alloc, fault.value())?)),
+    }
+}
+
+/// What a build of this outcome emits, lent by the entries that it left.
+pub fn make_ready<'a>(
+    alloc: Global,
+    label: &Label,
+    given: &Outcome<Out>,
+    cache: &'a Cache<Key, Out>,
+    steps: u64,
+    reused: u64,
+) -> Result<Ready<'a>, WantOfMemory>
+    ensures ready { (value : Key → Outcome Out) → AgreesOnGood given.now value cache.now →
+        IfOk result (λ r. IsReady r label.now (files_by value given.now) steps reused) }
+    ensures own { IfOk result (λ r. made_status r.made ≡ result_status given.now) }
+{
+    let made = make(alloc, label, given, cache)?;
+    let summary = summary(alloc, label, made.status(), steps, reused)?;
+    Ok(Ready { made, summary })
+}
+
+fn write_text<S: Sink>(sink: &mut S, target: &Target, bytes: &Text) -> Result<(), SinkFailed>
+    ensures written { Writes (S.written sink.old) (S.written sink.new) (text target.now bytes.now ∷ []) result }
+    ensures cause { Cause (S.faults sink.old) (S.faults sink.new) result }
+{
+    sink.emit(target, bytes.bytes())
+}
+
+impl Made<'_> {
     /// The status of a build that writes it.
-    pub fn status(&self) -> Status
+    fn status(&self) -> Status
         ensures { result ≡ made_status self.now }
     {
         match self {
@@ -50,14 +166,37 @@ impl Made {
         }
     }
 
-    /// Writes it, without taking memory.
-    pub fn write<S: Sink>(&self, sink: &mut S) -> Result<(), SinkFailed>
+    // Writes it, without taking memory.
+    fn write<S: Sink>(&self, sink: &mut S) -> Result<(), SinkFailed>
         ensures written { Writes (S.written sink.old) (S.written sink.new) (made_outputs self.now) result }
         ensures cause { Cause (S.faults sink.old) (S.faults sink.new) result }
     {
         match self {
-            Made::Files(files) => write_files(sink, files),
-            Made::Faulty(message) => write_message(sink, message),
+            Made::Files(files) => write_all(sink, files.items()),
+            Made::Faulty(message) => write_text(sink, &Target::Err, message),
         }
+    }
+}
+
+impl Ready<'_> {
+    /// The status of a build that writes it.
+    pub fn status(&self) -> Status
+        ensures { result ≡ made_status self.now.made }
+    {
+        self.made.status()
+    }
+
+    /// Writes it, without taking memory.
+    pub fn write<S: Sink>(&self, sink: &mut S) -> Result<(), SinkFailed>
+        ensures written { Writes (S.written sink.old) (S.written sink.new) (ready_outputs self.now) result }
+        ensures cause { Cause (S.faults sink.old) (S.faults sink.new) result }
+    {
+        if let Err(failed) = self.made.write(sink) {
+            return Err(failed);
+        }
+        if let Err(failed) = write_text(sink, &Target::Out, &self.summary) {
+            return Err(failed);
+        }
+        Ok(())
     }
 }

@@ -1,53 +1,26 @@
-//! Why a step gave no value.
-use build_base::{Fault, Refusal, TreeFailed, WantOfMemory};
-use thiserror::Error;
+//! Why a build didn't come to its end.
+ghost use Rattle.std.specs.Prelude.{◌≡◌};
+ghost use Rattle.edk_build.specs.Stops.{stop_status};
 
-/// A fault of the inputs, a fault of the tree, or want of memory.
-#[derive(Debug, Drop, Error)]
+use crate::status::Status;
+
+/// A read or an emission failed, or memory was wanting.
+#[derive(Clone, Copy, Debug, PartialEq, Eq)]
 pub enum Stop {
-    #[error("error {}", .0.code)]
-    Bad(Fault),
-    #[error("read fault")]
     ReadFault,
-    #[error("want of memory")]
+    WriteFault,
     WantOfMemory,
 }
 
-impl From<WantOfMemory> for Stop {
-    ghost use Rattle.std.specs.Prelude.{◌≡◌};
-    ghost use Rattle.edk_build.specs.declared.stop.Stop.TheVariants.{WantOfMemory as Wanting};
-
-    ghost from_gives = { λ _ e. e ≡ Wanting };
-
-    fn from(_: WantOfMemory) -> Stop {
-        Stop::WantOfMemory
-    }
-}
-
-impl From<Refusal> for Stop {
-    ghost use Rattle.std.specs.Prelude.{◌≡◌};
-    ghost use Rattle.edk_build.specs.Stops.{stop_of};
-
-    ghost from_gives = { λ refusal stop. stop ≡ stop_of refusal };
-
-    fn from(refusal: Refusal) -> Stop {
-        match refusal {
-            Refusal::Bad(fault) => Stop::Bad(fault),
-            Refusal::WantOfMemory => Stop::WantOfMemory,
-        }
-    }
-}
-
-impl From<TreeFailed> for Stop {
-    ghost use Rattle.std.specs.Prelude.{◌≡◌};
-    ghost use Rattle.edk_build.specs.Stops.{stop_of_tree};
-
-    ghost from_gives = { λ failed stop. stop ≡ stop_of_tree failed };
-
-    fn from(failed: TreeFailed) -> Stop {
-        match failed {
-            TreeFailed::Failed => Stop::ReadFault,
-            TreeFailed::WantOfMemory => Stop::WantOfMemory,
+impl Stop {
+    /// The status of a run that it ends.
+    pub fn status(self) -> Status
+        ensures { result ≡ stop_status self }
+    {
+        match self {
+            Stop::ReadFault => Status::ReadFault,
+            Stop::WriteFault => Status::WriteFault,
+            Stop::WantOfMemory => Status::WantOfMemory,
         }
     }
 }
