@@ -13,12 +13,13 @@ use doc_types::package::{DecDoc, DecPcd};
 use doc_types::pcd::PcdName;
 use inf_docs::read_inf;
 use macro_conditions::{Known, Turned, Value, evaluate, expand};
-use meta_lexer::number;
 use meta_lexer::parts::field_texts;
+use meta_lexer::{LexRefusal, Token, TokenKind, number, tokens};
 use std::alloc::Global;
 use uuid::Uuid;
 
-fn tell_refusal(alloc: Global, told: &mut Told, refusal: &Refusal) -> Result<(), Wrong> {
+/// A fault's text and the status 1.
+pub fn tell_refusal(alloc: Global, told: &mut Told, refusal: &Refusal) -> Result<(), Wrong> {
     match refusal {
         Refusal::Bad(fault) => {
             let text = fault_text(alloc, fault)?;
@@ -30,44 +31,44 @@ fn tell_refusal(alloc: Global, told: &mut Told, refusal: &Refusal) -> Result<(),
     }
 }
 
-// A word behind a blank.
-fn add(out: &mut Vec<u8>, word: &[u8]) -> Result<(), Wrong> {
+/// A word behind a blank.
+pub fn add(out: &mut Vec<u8>, word: &[u8]) -> Result<(), Wrong> {
     out.push(b' ')?;
     out.extend_from_slice(word)?;
     Ok(())
 }
 
-fn add_number(alloc: Global, out: &mut Vec<u8>, number: u64) -> Result<(), Wrong> {
+pub fn add_number(alloc: Global, out: &mut Vec<u8>, number: u64) -> Result<(), Wrong> {
     let text = format!(in alloc; "{number}")?;
     add(out, text.as_bytes())
 }
 
-fn add_guid(out: &mut Vec<u8>, guid: &Guid) -> Result<(), Wrong> {
+pub fn add_guid(out: &mut Vec<u8>, guid: &Guid) -> Result<(), Wrong> {
     let mut buffer = [0; 36];
     let id = Uuid::from_bytes_le(guid.0);
     let text = id.hyphenated().encode_lower(&mut buffer);
     add(out, text.as_bytes())
 }
 
-fn add_arch(alloc: Global, out: &mut Vec<u8>, arch: Arch) -> Result<(), Wrong> {
+pub fn add_arch(alloc: Global, out: &mut Vec<u8>, arch: Arch) -> Result<(), Wrong> {
     let text = format!(in alloc; "{arch:?}")?;
     add(out, text.as_bytes())
 }
 
-fn add_type(alloc: Global, out: &mut Vec<u8>, found: ModuleType) -> Result<(), Wrong> {
+pub fn add_type(alloc: Global, out: &mut Vec<u8>, found: ModuleType) -> Result<(), Wrong> {
     let text = format!(in alloc; "{found:?}")?;
     add(out, text.as_bytes())
 }
 
-fn add_pcd(out: &mut Vec<u8>, pcd: &PcdName) -> Result<(), Wrong> {
+pub fn add_pcd(out: &mut Vec<u8>, pcd: &PcdName) -> Result<(), Wrong> {
     add(out, pcd.space.bytes())?;
     out.push(b'.')?;
     out.extend_from_slice(pcd.name.bytes())?;
     Ok(())
 }
 
-// A row's first words: what it is, its line and its architecture.
-fn begin_row(
+/// A row's first words: what it is, its line and its architecture.
+pub fn begin_row(
     alloc: Global,
     out: &mut Vec<u8>,
     name: &[u8],
@@ -79,7 +80,7 @@ fn begin_row(
     add_arch(alloc, out, arch)
 }
 
-fn tell_text(out: &mut Vec<u8>, name: &[u8], text: &Text) -> Result<(), Wrong> {
+pub fn tell_text(out: &mut Vec<u8>, name: &[u8], text: &Text) -> Result<(), Wrong> {
     out.extend_from_slice(name)?;
     add(out, text.bytes())?;
     out.push(b'\n')?;
@@ -222,8 +223,8 @@ fn answer(
     Ok(())
 }
 
-// The lines that a document comes to, or none where its fault is told.
-fn lines_of(
+/// The lines that a document comes to, or none where its fault is told.
+pub fn lines_of(
     alloc: Global,
     told: &mut Told,
     files: &[Output],
@@ -243,6 +244,14 @@ fn lines_of(
     Err(Wrong::Line("the document wants too many files"))
 }
 
+fn tell_paths(out: &mut Vec<u8>, paths: &[Path]) -> Result<(), Wrong> {
+    for path in paths {
+        out.extend_from_slice(path.bytes())?;
+        out.push(b'\n')?;
+    }
+    Ok(())
+}
+
 /// The lines of a document, each behind its place.
 pub fn call_expand(alloc: Global, files: &[Output], root: &str) -> Result<Told, Wrong> {
     let mut told = Told::new(alloc);
@@ -254,6 +263,39 @@ pub fn call_expand(alloc: Global, files: &[Output], root: &str) -> Result<Told, 
             add(&mut told.out, line.text.bytes())?;
             told.out.push(b'\n')?;
         }
+    }
+    Ok(told)
+}
+
+fn known_files(alloc: Global, files: &[Output]) -> Result<Rows<Known>, Wrong> {
+    let mut known = Rows::new(alloc);
+    for file in files {
+        known.push(Known {
+            path: Path::new(alloc, file.path.as_slice())?,
+            got: Got::File(Text::of(alloc, file.bytes.as_slice())?),
+        })?;
+    }
+    Ok(known)
+}
+
+fn tell_wanted(told: &mut Told, turned: &Turned) -> Result<(), Wrong> {
+    match turned {
+        Turned::Whole(_lines) => {
+            told.out.extend_from_slice(b"none\n")?;
+            Ok(())
+        }
+        Turned::Need(paths) => tell_paths(&mut told.out, paths.items()),
+    }
+}
+
+/// The paths that a document's lines want where the files of the case alone are known.
+pub fn call_wanted(alloc: Global, files: &[Output], root: &str) -> Result<Told, Wrong> {
+    let mut told = Told::new(alloc);
+    let root = Path::new(alloc, root.as_bytes())?;
+    let known = known_files(alloc, files)?;
+    match expand(alloc, &root, &Rows::new(alloc), &Rows::new(alloc), &known) {
+        Ok(turned) => tell_wanted(&mut told, &turned)?,
+        Err(refusal) => tell_refusal(alloc, &mut told, &refusal)?,
     }
     Ok(told)
 }
@@ -403,6 +445,39 @@ pub fn call_fields(alloc: Global, text: &[u8]) -> Result<Told, Wrong> {
         told.out.extend_from_slice(b"field")?;
         add(&mut told.out, field.bytes())?;
         told.out.push(b'\n')?;
+    }
+    Ok(told)
+}
+
+fn tell_token(alloc: Global, out: &mut Vec<u8>, token: &Token) -> Result<(), Wrong> {
+    let name: &[u8] = match token.kind {
+        TokenKind::Word => b"word",
+        TokenKind::Number => b"number",
+        TokenKind::Quoted => b"quoted",
+        TokenKind::Mark => b"mark",
+    };
+    out.extend_from_slice(name)?;
+    add_number(alloc, out, token.start)?;
+    add_number(alloc, out, token.end)?;
+    out.push(b'\n')?;
+    Ok(())
+}
+
+/// The tokens of a file's one line, each with its span; or the code of its fault and where that begins.
+pub fn call_tokens(alloc: Global, text: &[u8]) -> Result<Told, Wrong> {
+    let mut told = Told::new(alloc);
+    match tokens(alloc, text.trim_ascii()) {
+        Ok(found) => {
+            for token in &found {
+                tell_token(alloc, &mut told.out, token)?;
+            }
+        }
+        Err(LexRefusal::Bad { code, start, .. }) => {
+            told.status = 1;
+            let text = format!(in alloc; "{code} {start}\n")?;
+            told.err.extend_from_slice(text.as_bytes())?;
+        }
+        Err(LexRefusal::WantOfMemory) => return Err(Wrong::WantOfMemory),
     }
     Ok(told)
 }

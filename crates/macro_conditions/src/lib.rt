@@ -16,6 +16,3 @@ mod work;
 pub use expansion::{Turned, expand};
 pub use expression::{Value, evaluate};
 pub use known::Known;
-
-#[cfg(test)]
-mod tests;

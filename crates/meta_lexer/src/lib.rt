@@ -20,6 +20,3 @@ pub use numbers::number;
 pub use refusal::LexRefusal;
 pub use token::{Token, TokenKind, quoted, tokens};
 pub use word_table::lookup;
-
-#[cfg(test)]
-mod tests;
