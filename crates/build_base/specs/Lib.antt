@@ -15,3 +15,4 @@ pub mod Least
 pub mod World
 pub mod GivesPiece
 pub mod Runs
+pub mod Stores

@@ -26,6 +26,7 @@ pub mod run_writer;
 pub mod same;
 mod same_guid;
 mod same_image;
+mod store;
 pub mod sure_keeper;
 pub mod text;
 

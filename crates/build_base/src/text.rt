@@ -6,6 +6,7 @@ ghost use Rattle.std.specs.Cmp.Rules.{comparing};
 ghost use Rattle.std.specs.Cmp.Lexicographic.{pointwise};
 
 use crate::same::Same;
+use crate::store::Store;
 use std::alloc::{AllocError, Global};
 use std::marker::Model;
 
@@ -19,47 +20,60 @@ impl From<AllocError> for WantOfMemory {
     }
 }
 
-/// A text of any bytes.
+/// A text of any bytes. The copies of one that is shared hold the same bytes and take no memory for them.
 #[derive(Debug, Drop)]
 pub struct Text {
-    store: Vec<u8>,
+    store: Store,
 }
 
 impl Model for Text {
     ghost use Rattle.std.specs.Prelude.{List, ℕ};
+    ghost use Rattle.build_base.specs.Stores.{store_bytes};
 
     ghost Value = { List ℕ };
 
-    ghost view = { λ t. t.store.items };
+    ghost view = { λ t. store_bytes t.store };
 }
 
 impl Text {
     /// The text of a vector, without a copy.
-    pub fn from_vec(store: Vec<u8>) -> Text
-        ensures { result ≡ store.items }
+    pub fn from_vec(bytes: Vec<u8>) -> Text
+        ensures { result ≡ bytes.items }
     {
-        Text { store }
+        Text {
+            store: Store::Own(bytes),
+        }
+    }
+
+    /// The text of a vector, without a copy, of which all copies share the bytes.
+    pub fn shared(alloc: Global, bytes: Vec<u8>) -> Result<Text, WantOfMemory>
+        ensures { IfOk result (λ t. t ≡ bytes.items) }
+    {
+        Ok(Text {
+            store: Store::shared(alloc, bytes)?,
+        })
     }
 
     /// The text of these bytes.
     pub fn of(alloc: Global, bytes: &[u8]) -> Result<Text, WantOfMemory>
         ensures { IfOk result (λ t. t ≡ bytes.now) }
     {
-        let store = Vec::from_slice(alloc, bytes)?;
-        Ok(Text { store })
+        Ok(Text::from_vec(Vec::from_slice(alloc, bytes)?))
     }
 
     /// Its bytes.
     pub fn bytes(&self) -> &[u8]
         ensures { result.now ≡ self.now }
     {
-        self.store.as_slice()
+        self.store.bytes()
     }
 }
 
 impl Same for Text {
-    fn copy(&self, alloc: Global) -> Result<Text, WantOfMemory> {
-        Text::of(alloc, self.bytes())
+    fn copy(&self, _alloc: Global) -> Result<Text, WantOfMemory> {
+        Ok(Text {
+            store: self.store.copy()?,
+        })
     }
 
     fn same(&self, other: &Text) -> bool {
@@ -71,8 +85,9 @@ impl Clone for Text {
     ghost is_clone = { λ a b. b ≡ a };
 
     fn clone(&self) -> Result<Text, AllocError> {
-        let store = self.store.clone()?;
-        Ok(Text { store })
+        Ok(Text {
+            store: self.store.copy()?,
+        })
     }
 }
 

@@ -13,6 +13,7 @@ pub mod package;
 pub mod parts;
 pub mod pcd;
 pub mod platform;
+pub mod standard;
 pub mod texts;
 pub mod values;
 pub mod volume;

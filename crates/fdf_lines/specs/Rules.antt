@@ -10,6 +10,7 @@ use Rattle.macro_conditions.specs.Sources.{without_workspace}
 use Rattle.meta_lexer.specs.Lookup.{lookup}
 use Rattle.meta_lexer.specs.Numbers.{number_of}
 use Rattle.meta_lexer.specs.Words.{same_word}
+use Rattle.doc_types.specs.Standard.{EFI_SECTION_DXE_DEPEX, EFI_SECTION_FIRMWARE_VOLUME_IMAGE, EFI_SECTION_MM_DEPEX, EFI_SECTION_PE32, EFI_SECTION_PEI_DEPEX, EFI_SECTION_RAW, EFI_SECTION_TE, EFI_SECTION_USER_INTERFACE, EFI_SECTION_VERSION}
 use Rattle.doc_types.specs.declared.volume.Align.{Align}
 use Rattle.doc_types.specs.declared.volume.Align.TheVariants.{Unset, Auto, Bytes}
 use Rattle.doc_types.specs.declared.volume.SectionSource.{SectionSource}
@@ -120,9 +121,9 @@ rule_parts text = and_rule (and_rule (and_rule (next_rule no_rule_options text))
 -- the kinds of sections of a rule; the compressed and the GUIDed ones are refused
 abbrev pub rule_kinds : List (List ℕ × RuleKind)
 rule_kinds =
-    (codes "PE32", kind_.Plain 0x10) ∷ (codes "TE", kind_.Plain 0x12) ∷ (codes "DXE_DEPEX", kind_.Plain 0x13) ∷ (codes "VERSION", kind_.Worded 0x14)
-    ∷ (codes "UI", kind_.Worded 0x15) ∷ (codes "FV_IMAGE", kind_.Plain 0x17) ∷ (codes "RAW", kind_.Plain 0x19) ∷ (codes "PEI_DEPEX", kind_.Plain 0x1B)
-    ∷ (codes "SMM_DEPEX", kind_.Plain 0x1C) ∷ (codes "COMPRESS", kind_.Compressed) ∷ (codes "GUIDED", kind_.Compressed) ∷ []
+    (codes "PE32", kind_.Plain EFI_SECTION_PE32) ∷ (codes "TE", kind_.Plain EFI_SECTION_TE) ∷ (codes "DXE_DEPEX", kind_.Plain EFI_SECTION_DXE_DEPEX) ∷ (codes "VERSION", kind_.Worded EFI_SECTION_VERSION)
+    ∷ (codes "UI", kind_.Worded EFI_SECTION_USER_INTERFACE) ∷ (codes "FV_IMAGE", kind_.Plain EFI_SECTION_FIRMWARE_VOLUME_IMAGE) ∷ (codes "RAW", kind_.Plain EFI_SECTION_RAW) ∷ (codes "PEI_DEPEX", kind_.Plain EFI_SECTION_PEI_DEPEX)
+    ∷ (codes "SMM_DEPEX", kind_.Plain EFI_SECTION_MM_DEPEX) ∷ (codes "COMPRESS", kind_.Compressed) ∷ (codes "GUIDED", kind_.Compressed) ∷ []
 
 unfoldable pub rule_kind : List ℕ → Option RuleKind
 rule_kind word = lookup rule_kinds word

@@ -14,6 +14,11 @@ ghost use Rattle.fdf_lines.specs.Rules.{begins_name, is_other, holds_other, rule
 use crate::rule_options::{RuleOptions, rule_parts};
 use build_base::{Refusal, Same, Taken, Text, WantOfMemory, refuse};
 use doc_reading::least_check::least_refusal;
+use doc_types::standard::{
+    EFI_SECTION_DXE_DEPEX, EFI_SECTION_FIRMWARE_VOLUME_IMAGE, EFI_SECTION_MM_DEPEX,
+    EFI_SECTION_PE32, EFI_SECTION_PEI_DEPEX, EFI_SECTION_RAW, EFI_SECTION_TE,
+    EFI_SECTION_USER_INTERFACE, EFI_SECTION_VERSION,
+};
 use doc_types::volume::{SectionPlan, SectionSource};
 use fdf_volumes::inf_line::quoted_front;
 use fdf_volumes::statement::{file_parts, head_with};
@@ -36,15 +41,18 @@ pub enum RuleKind {
 }
 
 const RULE_KINDS: [(&[u8], RuleKind); 11] = [
-    (b"PE32", RuleKind::Plain(0x10)),
-    (b"TE", RuleKind::Plain(0x12)),
-    (b"DXE_DEPEX", RuleKind::Plain(0x13)),
-    (b"VERSION", RuleKind::Worded(0x14)),
-    (b"UI", RuleKind::Worded(0x15)),
-    (b"FV_IMAGE", RuleKind::Plain(0x17)),
-    (b"RAW", RuleKind::Plain(0x19)),
-    (b"PEI_DEPEX", RuleKind::Plain(0x1B)),
-    (b"SMM_DEPEX", RuleKind::Plain(0x1C)),
+    (b"PE32", RuleKind::Plain(EFI_SECTION_PE32)),
+    (b"TE", RuleKind::Plain(EFI_SECTION_TE)),
+    (b"DXE_DEPEX", RuleKind::Plain(EFI_SECTION_DXE_DEPEX)),
+    (b"VERSION", RuleKind::Worded(EFI_SECTION_VERSION)),
+    (b"UI", RuleKind::Worded(EFI_SECTION_USER_INTERFACE)),
+    (
+        b"FV_IMAGE",
+        RuleKind::Plain(EFI_SECTION_FIRMWARE_VOLUME_IMAGE),
+    ),
+    (b"RAW", RuleKind::Plain(EFI_SECTION_RAW)),
+    (b"PEI_DEPEX", RuleKind::Plain(EFI_SECTION_PEI_DEPEX)),
+    (b"SMM_DEPEX", RuleKind::Plain(EFI_SECTION_MM_DEPEX)),
     (b"COMPRESS", RuleKind::Compressed),
     (b"GUIDED", RuleKind::Compressed),
 ];

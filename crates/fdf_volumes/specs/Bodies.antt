@@ -15,6 +15,7 @@ use Rattle.meta_lexer.specs.Lookup.{lookup}
 use Rattle.meta_lexer.specs.Words.{same_word}
 use Rattle.doc_reading.specs.ValueFields.{undefined_macro}
 use Rattle.doc_reading.specs.Values.{wanted}
+use Rattle.doc_types.specs.Standard.{EFI_SECTION_DXE_DEPEX, EFI_SECTION_FIRMWARE_VOLUME_IMAGE, EFI_SECTION_FREEFORM_SUBTYPE_GUID, EFI_SECTION_MM_DEPEX, EFI_SECTION_PE32, EFI_SECTION_PEI_DEPEX, EFI_SECTION_RAW, EFI_SECTION_TE, EFI_SECTION_USER_INTERFACE, EFI_SECTION_VERSION}
 use Rattle.doc_types.specs.declared.volume.Align.{Align}
 use Rattle.doc_types.specs.declared.volume.Align.TheVariants.{Unset, Bytes}
 use Rattle.fdf_volumes.specs.declared.body.SectionWord.{SectionWord}
@@ -29,8 +30,8 @@ use Rattle.fdf_words.specs.Words.{word_of, after_word, after_equals, stated_alig
 -- what stands behind a section's kind; the compressed and the GUIDed ones are refused
 abbrev pub section_words : List (List ℕ × SectionWord)
 section_words =
-    (codes "PE32", Plain 0x10) ∷ (codes "TE", Plain 0x12) ∷ (codes "DXE_DEPEX", Plain 0x13) ∷ (codes "VERSION", Worded 0x14) ∷ (codes "UI", Worded 0x15)
-    ∷ (codes "FV_IMAGE", Nested) ∷ (codes "SUBTYPE_GUID", Named) ∷ (codes "RAW", Plain 0x19) ∷ (codes "PEI_DEPEX", Plain 0x1B) ∷ (codes "SMM_DEPEX", Plain 0x1C)
+    (codes "PE32", Plain EFI_SECTION_PE32) ∷ (codes "TE", Plain EFI_SECTION_TE) ∷ (codes "DXE_DEPEX", Plain EFI_SECTION_DXE_DEPEX) ∷ (codes "VERSION", Worded EFI_SECTION_VERSION) ∷ (codes "UI", Worded EFI_SECTION_USER_INTERFACE)
+    ∷ (codes "FV_IMAGE", Nested) ∷ (codes "SUBTYPE_GUID", Named) ∷ (codes "RAW", Plain EFI_SECTION_RAW) ∷ (codes "PEI_DEPEX", Plain EFI_SECTION_PEI_DEPEX) ∷ (codes "SMM_DEPEX", Plain EFI_SECTION_MM_DEPEX)
     ∷ (codes "COMPRESS", Refused) ∷ (codes "GUIDED", Refused) ∷ []
 
 unfoldable pub section_word : List ℕ → Option SectionWord
@@ -71,7 +72,7 @@ guid_faults line word value =
     macro_before line value ∷ wanted (path_field (without_workspace value)) (fault_of 101 line.at value) ∷ wanted (guid_of word) (fault_of 262 line.at word) ∷ []
 
 abbrev pub guid_row : Taken → Align → Option Guid → Option (List ℕ) → Option Row
-guid_row line align (Some guid) (Some path) = Some (made_section line 0x18 align (Some guid) (body.Tree path))
+guid_row line align (Some guid) (Some path) = Some (made_section line EFI_SECTION_FREEFORM_SUBTYPE_GUID align (Some guid) (body.Tree path))
 guid_row line align (Some guid) None = None
 guid_row line align None path = None
 
@@ -93,7 +94,7 @@ value_faults line Refused value = no_form_faults 246 line
 abbrev pub value_row : Taken → Align → SectionWord → List ℕ → Option Row
 value_row line align (Plain kind) value = path_row line kind align (path_field (without_workspace value))
 value_row line align (Worded kind) value = words_row line kind align value (words_in_quotes value)
-value_row line align Nested value = Some (made_section line 0x17 align None (body.Volume value))
+value_row line align Nested value = Some (made_section line EFI_SECTION_FIRMWARE_VOLUME_IMAGE align None (body.Volume value))
 value_row line align Named value = None
 value_row line align Refused value = None
 

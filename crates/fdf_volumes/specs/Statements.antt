@@ -11,6 +11,7 @@ use Rattle.meta_lexer.specs.Lookup.{lookup}
 use Rattle.meta_lexer.specs.Words.{holds_macro}
 use Rattle.doc_reading.specs.ValueFields.{undefined_macro}
 use Rattle.doc_reading.specs.Values.{wanted}
+use Rattle.doc_types.specs.Standard.{EFI_FV_FILETYPE_APPLICATION, EFI_FV_FILETYPE_DRIVER, EFI_FV_FILETYPE_DXE_CORE, EFI_FV_FILETYPE_FIRMWARE_VOLUME_IMAGE, EFI_FV_FILETYPE_FREEFORM, EFI_FV_FILETYPE_MM, EFI_FV_FILETYPE_MM_CORE, EFI_FV_FILETYPE_PEIM, EFI_FV_FILETYPE_PEI_CORE, EFI_FV_FILETYPE_RAW, EFI_FV_FILETYPE_SECURITY_CORE}
 use Rattle.doc_types.specs.declared.volume.Member.TheVariants as member
 use Rattle.fdf_words.specs.declared.rows.FileHead.{FileHead}
 use Rattle.fdf_words.specs.declared.rows.Row.{Row}
@@ -33,8 +34,10 @@ full_fault line full = if full then Some (fault_of 263 line.at (codes "65536")) 
 
 abbrev pub file_types : List (List ℕ × ℕ)
 file_types =
-    (codes "RAW", 0x01) ∷ (codes "FREEFORM", 0x02) ∷ (codes "SEC", 0x03) ∷ (codes "PEI_CORE", 0x04) ∷ (codes "DXE_CORE", 0x05) ∷ (codes "PEIM", 0x06)
-    ∷ (codes "DRIVER", 0x07) ∷ (codes "APPLICATION", 0x09) ∷ (codes "SMM", 0x0A) ∷ (codes "FV_IMAGE", 0x0B) ∷ (codes "SMM_CORE", 0x0D) ∷ []
+    (codes "RAW", EFI_FV_FILETYPE_RAW) ∷ (codes "FREEFORM", EFI_FV_FILETYPE_FREEFORM) ∷ (codes "SEC", EFI_FV_FILETYPE_SECURITY_CORE)
+    ∷ (codes "PEI_CORE", EFI_FV_FILETYPE_PEI_CORE) ∷ (codes "DXE_CORE", EFI_FV_FILETYPE_DXE_CORE) ∷ (codes "PEIM", EFI_FV_FILETYPE_PEIM)
+    ∷ (codes "DRIVER", EFI_FV_FILETYPE_DRIVER) ∷ (codes "APPLICATION", EFI_FV_FILETYPE_APPLICATION) ∷ (codes "SMM", EFI_FV_FILETYPE_MM)
+    ∷ (codes "FV_IMAGE", EFI_FV_FILETYPE_FIRMWARE_VOLUME_IMAGE) ∷ (codes "SMM_CORE", EFI_FV_FILETYPE_MM_CORE) ∷ []
 
 unfoldable pub file_type : List ℕ → Option ℕ
 file_type word = lookup file_types word

@@ -9,6 +9,7 @@ use Rattle.build_base.specs.declared.lines.Taken.{Taken}
 use Rattle.meta_lexer.specs.Lookup.{lookup}
 use Rattle.doc_reading.specs.ValueFields.{undefined_macro}
 use Rattle.doc_reading.specs.Values.{wanted}
+use Rattle.doc_types.specs.Standard.{EFI_FIRMWARE_FILE_SYSTEM2_GUID, EFI_FIRMWARE_FILE_SYSTEM3_GUID}
 use Rattle.fdf_words.specs.declared.keys.VolumeWord.{VolumeWord}
 use Rattle.fdf_words.specs.declared.keys.VolumeWord.TheVariants as word
 use Rattle.fdf_words.specs.declared.number.NumberForm.{NumberForm}
@@ -28,17 +29,9 @@ truths = (codes "TRUE", true) ∷ (codes "FALSE", false) ∷ []
 unfoldable pub truth_named : List ℕ → Option Bool
 truth_named word = lookup truths word
 
--- EFI_FIRMWARE_FILE_SYSTEM2_GUID, 8C8CE578-8A3D-4F1C-9935-896185C32DD3
-abbrev pub ffs2_name : List ℕ
-ffs2_name = 0x78 ∷ 0xE5 ∷ 0x8C ∷ 0x8C ∷ 0x3D ∷ 0x8A ∷ 0x1C ∷ 0x4F ∷ 0x99 ∷ 0x35 ∷ 0x89 ∷ 0x61 ∷ 0x85 ∷ 0xC3 ∷ 0x2D ∷ 0xD3 ∷ []
-
--- EFI_FIRMWARE_FILE_SYSTEM3_GUID, 5473C07A-3DCB-4DCA-BD6F-1E9689E7349A
-abbrev pub ffs3_name : List ℕ
-ffs3_name = 0x7A ∷ 0xC0 ∷ 0x73 ∷ 0x54 ∷ 0xCB ∷ 0x3D ∷ 0xCA ∷ 0x4D ∷ 0xBD ∷ 0x6F ∷ 0x1E ∷ 0x96 ∷ 0x89 ∷ 0xE7 ∷ 0x34 ∷ 0x9A ∷ []
-
 -- whether a file system is FFS3 and not FFS2
 unfoldable pub is_ffs3 : Guid → Option Bool
-is_ffs3 guid = if bytes_eq guid.0 ffs2_name then Some false else if bytes_eq guid.0 ffs3_name then Some true else None
+is_ffs3 guid = if bytes_eq guid.0 EFI_FIRMWARE_FILE_SYSTEM2_GUID then Some false else if bytes_eq guid.0 EFI_FIRMWARE_FILE_SYSTEM3_GUID then Some true else None
 
 abbrev pub volume_form : VolumeKey → NumberForm
 volume_form key.ErasePolarity = form.Polarity

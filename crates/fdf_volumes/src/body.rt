@@ -20,6 +20,11 @@ use build_base::{Guid, Path, Refusal, Same, Taken, Text, WantOfMemory, refuse};
 use doc_reading::least_check::{least_of_three, least_of_two, least_refusal};
 use doc_reading::value_fields::undefined_macro;
 use doc_reading::values::wanted;
+use doc_types::standard::{
+    EFI_SECTION_DXE_DEPEX, EFI_SECTION_FIRMWARE_VOLUME_IMAGE, EFI_SECTION_FREEFORM_SUBTYPE_GUID,
+    EFI_SECTION_MM_DEPEX, EFI_SECTION_PE32, EFI_SECTION_PEI_DEPEX, EFI_SECTION_RAW, EFI_SECTION_TE,
+    EFI_SECTION_USER_INTERFACE, EFI_SECTION_VERSION,
+};
 use doc_types::volume::Align;
 use fdf_words::number::no_form;
 use fdf_words::rows::{Row, SectionBody, SectionLine};
@@ -42,25 +47,19 @@ pub enum SectionWord {
 }
 
 const SECTION_WORDS: [(&[u8], SectionWord); 12] = [
-    (b"PE32", SectionWord::Plain(0x10)),
-    (b"TE", SectionWord::Plain(0x12)),
-    (b"DXE_DEPEX", SectionWord::Plain(0x13)),
-    (b"VERSION", SectionWord::Worded(0x14)),
-    (b"UI", SectionWord::Worded(0x15)),
+    (b"PE32", SectionWord::Plain(EFI_SECTION_PE32)),
+    (b"TE", SectionWord::Plain(EFI_SECTION_TE)),
+    (b"DXE_DEPEX", SectionWord::Plain(EFI_SECTION_DXE_DEPEX)),
+    (b"VERSION", SectionWord::Worded(EFI_SECTION_VERSION)),
+    (b"UI", SectionWord::Worded(EFI_SECTION_USER_INTERFACE)),
     (b"FV_IMAGE", SectionWord::Nested),
     (b"SUBTYPE_GUID", SectionWord::Named),
-    (b"RAW", SectionWord::Plain(0x19)),
-    (b"PEI_DEPEX", SectionWord::Plain(0x1B)),
-    (b"SMM_DEPEX", SectionWord::Plain(0x1C)),
+    (b"RAW", SectionWord::Plain(EFI_SECTION_RAW)),
+    (b"PEI_DEPEX", SectionWord::Plain(EFI_SECTION_PEI_DEPEX)),
+    (b"SMM_DEPEX", SectionWord::Plain(EFI_SECTION_MM_DEPEX)),
     (b"COMPRESS", SectionWord::Refused),
     (b"GUIDED", SectionWord::Refused),
 ];
-
-/// EFI_SECTION_FIRMWARE_VOLUME_IMAGE.
-const VOLUME_IMAGE: u8 = 0x17;
-
-/// EFI_SECTION_FREEFORM_SUBTYPE_GUID.
-const SUBTYPE_GUID: u8 = 0x18;
 
 /// What stands behind the kind of a section.
 #[tactic(auto, unfolding(crate::specs::Bodies::section_word))]
@@ -204,7 +203,14 @@ fn nested_section(
 {
     undefined_macro(alloc, &line.at, line.text.bytes())?;
     let body = SectionBody::Volume(Text::of(alloc, name)?);
-    let row = made_section(alloc, line, VOLUME_IMAGE, align, None, body)?;
+    let row = made_section(
+        alloc,
+        line,
+        EFI_SECTION_FIRMWARE_VOLUME_IMAGE,
+        align,
+        None,
+        body,
+    )?;
     Ok(Some(row))
 }
 
@@ -221,7 +227,7 @@ fn guid_row(
         (Some(guid), Some(path)) => Ok(Some(made_section(
             alloc,
             line,
-            SUBTYPE_GUID,
+            EFI_SECTION_FREEFORM_SUBTYPE_GUID,
             align,
             Some(guid),
             SectionBody::Tree(path),

@@ -16,6 +16,12 @@ use doc_reading::least_check::{
 };
 use doc_reading::value_fields::undefined_macro;
 use doc_reading::values::wanted;
+use doc_types::standard::{
+    EFI_FV_FILETYPE_APPLICATION, EFI_FV_FILETYPE_DRIVER, EFI_FV_FILETYPE_DXE_CORE,
+    EFI_FV_FILETYPE_FIRMWARE_VOLUME_IMAGE, EFI_FV_FILETYPE_FREEFORM, EFI_FV_FILETYPE_MM,
+    EFI_FV_FILETYPE_MM_CORE, EFI_FV_FILETYPE_PEI_CORE, EFI_FV_FILETYPE_PEIM, EFI_FV_FILETYPE_RAW,
+    EFI_FV_FILETYPE_SECURITY_CORE,
+};
 use doc_types::volume::Member;
 use fdf_words::number::{bad_line, no_form};
 use fdf_words::rows::{AprioriHead, FileHead, Row};
@@ -25,17 +31,17 @@ use meta_lexer::words::holds_macro;
 use std::alloc::Global;
 
 const FILE_TYPES: [(&[u8], u8); 11] = [
-    (b"RAW", 0x01),
-    (b"FREEFORM", 0x02),
-    (b"SEC", 0x03),
-    (b"PEI_CORE", 0x04),
-    (b"DXE_CORE", 0x05),
-    (b"PEIM", 0x06),
-    (b"DRIVER", 0x07),
-    (b"APPLICATION", 0x09),
-    (b"SMM", 0x0A),
-    (b"FV_IMAGE", 0x0B),
-    (b"SMM_CORE", 0x0D),
+    (b"RAW", EFI_FV_FILETYPE_RAW),
+    (b"FREEFORM", EFI_FV_FILETYPE_FREEFORM),
+    (b"SEC", EFI_FV_FILETYPE_SECURITY_CORE),
+    (b"PEI_CORE", EFI_FV_FILETYPE_PEI_CORE),
+    (b"DXE_CORE", EFI_FV_FILETYPE_DXE_CORE),
+    (b"PEIM", EFI_FV_FILETYPE_PEIM),
+    (b"DRIVER", EFI_FV_FILETYPE_DRIVER),
+    (b"APPLICATION", EFI_FV_FILETYPE_APPLICATION),
+    (b"SMM", EFI_FV_FILETYPE_MM),
+    (b"FV_IMAGE", EFI_FV_FILETYPE_FIRMWARE_VOLUME_IMAGE),
+    (b"SMM_CORE", EFI_FV_FILETYPE_MM_CORE),
 ];
 
 const APRIORI_NAMES: [(&[u8], bool); 2] = [(b"PEI", true), (b"DXE", false)];

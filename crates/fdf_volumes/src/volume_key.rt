@@ -12,22 +12,13 @@ use build_base::{Guid, Refusal, Taken, refuse};
 use doc_reading::least_check::least_of_two;
 use doc_reading::value_fields::undefined_macro;
 use doc_reading::values::wanted;
+use doc_types::standard::{EFI_FIRMWARE_FILE_SYSTEM2_GUID, EFI_FIRMWARE_FILE_SYSTEM3_GUID};
 use fdf_words::keys::{VolumeWord, volume_word};
 use fdf_words::number::{NumberForm, Numbered, no_key, number_field};
 use fdf_words::rows::{Row, VolumeKey, VolumeSetting};
 use fdf_words::words::volume_alignment;
 use meta_lexer::lookup;
 use std::alloc::Global;
-
-/// EFI_FIRMWARE_FILE_SYSTEM2_GUID.
-static FFS2: [u8; 16] = [
-    0x78, 0xE5, 0x8C, 0x8C, 0x3D, 0x8A, 0x1C, 0x4F, 0x99, 0x35, 0x89, 0x61, 0x85, 0xC3, 0x2D, 0xD3,
-];
-
-/// EFI_FIRMWARE_FILE_SYSTEM3_GUID.
-static FFS3: [u8; 16] = [
-    0x7A, 0xC0, 0x73, 0x54, 0xCB, 0x3D, 0xCA, 0x4D, 0xBD, 0x6F, 0x1E, 0x96, 0x89, 0xE7, 0x34, 0x9A,
-];
 
 const TRUTHS: [(&[u8], bool); 2] = [(b"TRUE", true), (b"FALSE", false)];
 
@@ -42,10 +33,10 @@ fn truth_named(word: &[u8]) -> Option<bool>
 fn is_ffs3(guid: Guid) -> Option<bool>
     ensures { result ≡ is_ffs3 guid }
 {
-    if guid.0 == FFS2 {
+    if guid.0 == EFI_FIRMWARE_FILE_SYSTEM2_GUID {
         return Some(false);
     }
-    if guid.0 == FFS3 {
+    if guid.0 == EFI_FIRMWARE_FILE_SYSTEM3_GUID {
         return Some(true);
     }
     None

@@ -8,6 +8,7 @@ use Rattle.meta_lexer.specs.Parts.{first_text, field_texts}
 use Rattle.doc_reading.specs.Least.{fault_in}
 use Rattle.doc_reading.specs.ValueFields.{number_value, undefined_macro}
 use Rattle.doc_types.specs.Pcds.{pcd_name_of}
+use Rattle.doc_types.specs.Volumes.{size_limit}
 use Rattle.doc_types.specs.declared.pcd.PcdName.{PcdName}
 use Rattle.fdf_words.specs.declared.number.NumberForm.{NumberForm}
 use Rattle.fdf_words.specs.declared.number.NumberForm.TheVariants.{Plain, Polarity, Address, Size}
@@ -41,7 +42,7 @@ form_fault line value fields pcd = Some (bad_value line value)
 -- a polarity is 1 or 0, a device has at most 0x10000000 bytes
 abbrev pub limit_fault : Taken → NumberForm → List ℕ → ℕ → Option Fault
 limit_fault line Polarity value number = if nat_le number 1 then None else Some (bad_value line value)
-limit_fault line Size value number = if nat_le number 0x1000_0000 then None else Some (fault_of 249 line.at (decimal number))
+limit_fault line Size value number = if nat_le number size_limit then None else Some (fault_of 249 line.at (decimal number))
 limit_fault line Plain value number = None
 limit_fault line Address value number = None
 

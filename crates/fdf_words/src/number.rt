@@ -11,12 +11,10 @@ use build_base::{Refusal, Taken, Text, WantOfMemory, refuse};
 use doc_reading::least_check::{least_of_four, least_of_three, least_refusal, with_check};
 use doc_reading::value_fields::{number_value, undefined_macro, undefined_macros};
 use doc_types::pcd::{PcdName, pcd_name_of};
+use doc_types::volume_head::SIZE_LIMIT;
 use itoa::Buffer;
 use meta_lexer::parts::{field_texts, first_text};
 use std::alloc::Global;
-
-/// The greatest size of a device.
-const SIZE_LIMIT: u64 = 0x1000_0000;
 
 /// How a key's number is written: any number, a polarity, or one with a PCD, of which a size has a limit.
 #[derive(Clone, Copy, Debug, PartialEq, Eq)]

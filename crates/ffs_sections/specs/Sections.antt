@@ -9,7 +9,8 @@ use Rattle.doc_types.specs.declared.image.Part.{Part}
 use Rattle.doc_types.specs.declared.image.Body.{Body}
 use Rattle.doc_types.specs.declared.image.Body.TheVariants.{Whole, Sections}
 use Rattle.ffs_sections.specs.Alignment.{is_align, pad_of}
-use Rattle.ffs_sections.specs.Standard.{EFI_SECTION_FREEFORM_SUBTYPE_GUID, EFI_SECTION_RAW, EXTENDED_SIZE, SECTION_LIMIT, FFS3_LIMIT}
+use Rattle.doc_types.specs.Standard.{EFI_SECTION_FREEFORM_SUBTYPE_GUID, EFI_SECTION_RAW}
+use Rattle.ffs_sections.specs.Standard.{EXTENDED_SIZE, SECTION_LIMIT, FFS3_LIMIT}
 
 abbrev pub guid_bytes : Option Guid → List ℕ
 guid_bytes None = []

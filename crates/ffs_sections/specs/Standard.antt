@@ -1,20 +1,10 @@
 -- Names of the standard (UEFI PI specification, volume 3, sections 2.1 and 3.2).
 use Rattle.std.specs.Prelude.{ℕ}
-
--- kinds of sections
-abbrev pub EFI_SECTION_FREEFORM_SUBTYPE_GUID : ℕ
-EFI_SECTION_FREEFORM_SUBTYPE_GUID = 0x18
-
-abbrev pub EFI_SECTION_RAW : ℕ
-EFI_SECTION_RAW = 0x19
+use Rattle.doc_types.specs.Volumes.{size_limit}
 
 -- the size of a section that stands in the 32 bits behind its kind
 abbrev pub EXTENDED_SIZE : ℕ
 EXTENDED_SIZE = 0xFFFFFF
-
--- the type of a pad file
-abbrev pub EFI_FV_FILETYPE_FFS_PAD : ℕ
-EFI_FV_FILETYPE_FFS_PAD = 0xF0
 
 -- attributes of a file
 abbrev pub FFS_ATTRIB_LARGE_FILE : ℕ
@@ -34,7 +24,7 @@ FFS_FIXED_CHECKSUM = 0xAA
 abbrev pub FILE_STATE : ℕ
 FILE_STATE = 0x07
 
--- the greatest sizes, headers counted: of a section in an FFS2 volume, of a file in one, of either in an FFS3 volume
+-- the greatest sizes, headers counted: of a section in an FFS2 volume, of a file in one, of either in an FFS3 volume, that of a volume
 abbrev pub SECTION_LIMIT : ℕ
 SECTION_LIMIT = 0xFFFFFE
 
@@ -42,4 +32,4 @@ abbrev pub FILE_LIMIT : ℕ
 FILE_LIMIT = 0xFFFFFF
 
 abbrev pub FFS3_LIMIT : ℕ
-FFS3_LIMIT = 0x10000000
+FFS3_LIMIT = size_limit

@@ -120,7 +120,7 @@ fn bytes(
     let mut out = Vec::new(alloc);
     append_head(alloc, &mut out, large, name, &head)?;
     out.extend_from_slice(body)?;
-    Ok(Text::from_vec(out))
+    Text::shared(alloc, out)
 }
 
 // The same, with a header of the length that it states.

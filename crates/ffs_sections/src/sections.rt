@@ -2,17 +2,16 @@
 ghost use Rattle.std.specs.Prelude.{◌≡◌, ◌≤◌, ◌<◌, ◌+◌, ◌^◌, ◌++◌, length, vec_len, OnOk, IfOk, Some, ◌%◌, ◌==◌, ◌↔◌, IsTrue, All, is_some};
 ghost use Rattle.build_base.specs.First.{unless};
 ghost use Rattle.build_base.specs.Answer.{Grows, Checks};
-ghost use Rattle.ffs_sections.specs.Standard.{EFI_SECTION_FREEFORM_SUBTYPE_GUID};
+ghost use Rattle.doc_types.specs.Standard.{EFI_SECTION_FREEFORM_SUBTYPE_GUID};
 ghost use Rattle.ffs_sections.specs.Sections.{guid_bytes, is_large, content_at, section_limit, section_size, section_head, section_bytes, part_pad, pad_section, with_part, part_fault, with_parts, HaveGuids};
 
 use crate::alignment::{is_align, pad};
 use crate::faults::sized;
-use crate::standard::{
-    EFI_SECTION_FREEFORM_SUBTYPE_GUID, EFI_SECTION_RAW, FFS3_LIMIT, SECTION_LIMIT,
-};
+use crate::standard::{FFS3_LIMIT, SECTION_LIMIT};
 use build_base::bytes::fill;
 use build_base::{Guid, Place, Refusal, WantOfMemory};
 use doc_types::image::{Body, Part};
+use doc_types::standard::{EFI_SECTION_FREEFORM_SUBTYPE_GUID, EFI_SECTION_RAW};
 use std::alloc::Global;
 
 fn guid_len(guid: &Option<Guid>) -> u64

@@ -1,13 +1,5 @@
-//! Names of the standard (UEFI PI specification, volume 3, sections 2.1 and 3.2).
-
-/// The kind of a section with a GUID behind its header.
-pub const EFI_SECTION_FREEFORM_SUBTYPE_GUID: u8 = 0x18;
-
-/// The kind of a section of raw data, with which pads are made.
-pub const EFI_SECTION_RAW: u8 = 0x19;
-
-/// The type of a pad file.
-pub const EFI_FV_FILETYPE_FFS_PAD: u8 = 0xF0;
+//! Names of the standard (UEFI PI specification, volume 3, section 3.2).
+use doc_types::volume_head::SIZE_LIMIT;
 
 /// The attributes of a file.
 pub const FFS_ATTRIB_LARGE_FILE: u8 = 0x01;
@@ -28,5 +20,5 @@ pub const SECTION_LIMIT: u64 = 0xFF_FFFE;
 /// The greatest size of a file in an FFS2 volume, header and all.
 pub const FILE_LIMIT: u64 = 0xFF_FFFF;
 
-/// The greatest size of a section and of a file in an FFS3 volume, header and all.
-pub const FFS3_LIMIT: u64 = 0x1000_0000;
+/// The greatest size of a section and of a file in an FFS3 volume, header and all: that of a volume.
+pub const FFS3_LIMIT: u64 = SIZE_LIMIT;

@@ -21,6 +21,7 @@ use Rattle.doc_reading.specs.Least.{least_of}
 use Rattle.doc_reading.specs.declared.form.LineForm.{LineForm}
 use Rattle.doc_reading.specs.declared.form.LineForm.TheVariants as form
 use Rattle.doc_reading.specs.Forms.{form_of}
+use Rattle.doc_types.specs.Standard.{EFI_SECTION_FREEFORM_SUBTYPE_GUID}
 use Rattle.doc_types.specs.declared.pcd.PcdName.{PcdName}
 use Rattle.doc_types.specs.declared.volume.Align.{Align}
 use Rattle.doc_types.specs.declared.volume.InfLine.{InfLine}
@@ -73,7 +74,7 @@ use Rattle.flash_document.proofs.CarryLemmas.{LineHas}
 
 -- a section has a GUID where it is to have one, and a rule's names no volume
 abbrev pub RowFits : Row → Type 0
-RowFits (row.Section s) = is_some s.guid ≡ (s.kind == 24)
+RowFits (row.Section s) = is_some s.guid ≡ (s.kind == EFI_SECTION_FREEFORM_SUBTYPE_GUID)
 RowFits (row.RuleSection s) = GuidFits s s.source × SourceFits 0 s.source
 RowFits row.Passed = Unit {0}
 RowFits (row.Set x) = Unit {0}
@@ -109,21 +110,21 @@ looked_up test (entry ∷ entries) word all =
     ]
 
 abbrev unnamed : SectionWord → Bool
-unnamed (section.Plain kind) = not (kind == 24)
-unnamed (section.Worded kind) = not (kind == 24)
+unnamed (section.Plain kind) = not (kind == EFI_SECTION_FREEFORM_SUBTYPE_GUID)
+unnamed (section.Worded kind) = not (kind == EFI_SECTION_FREEFORM_SUBTYPE_GUID)
 unnamed section.Nested = true
 unnamed section.Named = true
 unnamed section.Refused = true
 
-no_guid : (kind : ℕ) → not (kind == 24) ≡ true → false ≡ (kind == 24)
-no_guid kind h = sym (not-true (kind == 24) h)
+no_guid : (kind : ℕ) → not (kind == EFI_SECTION_FREEFORM_SUBTYPE_GUID) ≡ true → false ≡ (kind == EFI_SECTION_FREEFORM_SUBTYPE_GUID)
+no_guid kind h = sym (not-true (kind == EFI_SECTION_FREEFORM_SUBTYPE_GUID) h)
 
 -- sections
-path_fits : (line : Taken) (kind : ℕ) (align : Align) (path : Option (List ℕ)) → not (kind == 24) ≡ true → IfSome (path_row line kind align path) RowFits
+path_fits : (line : Taken) (kind : ℕ) (align : Align) (path : Option (List ℕ)) → not (kind == EFI_SECTION_FREEFORM_SUBTYPE_GUID) ≡ true → IfSome (path_row line kind align path) RowFits
 path_fits line kind align (Some path) h = no_guid kind h
 path_fits line kind align None h = tt
 
-words_fit : (line : Taken) (kind : ℕ) (align : Align) (value : List ℕ) (words : Option (List ℕ)) → not (kind == 24) ≡ true → IfSome (words_row line kind align value words) RowFits
+words_fit : (line : Taken) (kind : ℕ) (align : Align) (value : List ℕ) (words : Option (List ℕ)) → not (kind == EFI_SECTION_FREEFORM_SUBTYPE_GUID) ≡ true → IfSome (words_row line kind align value words) RowFits
 words_fit line kind align value (Some words) h = no_guid kind h
 words_fit line kind align value None h = path_fits line kind align (path_field (without_workspace value)) h
 
@@ -353,11 +354,11 @@ device_fits line = device_pair_fits line (key_pair line.text)
 
 -- the lines of a rule
 abbrev rule_unnamed : RuleKind → Bool
-rule_unnamed (rule_kind_.Plain kind) = not (kind == 24)
-rule_unnamed (rule_kind_.Worded kind) = not (kind == 24)
+rule_unnamed (rule_kind_.Plain kind) = not (kind == EFI_SECTION_FREEFORM_SUBTYPE_GUID)
+rule_unnamed (rule_kind_.Worded kind) = not (kind == EFI_SECTION_FREEFORM_SUBTYPE_GUID)
 rule_unnamed rule_kind_.Compressed = true
 
-rule_path_fits : (line : Taken) (kind : ℕ) (o : Option (RuleOptions × List ℕ)) → not (kind == 24) ≡ true → IfSome (rule.path_row line kind o) RowFits
+rule_path_fits : (line : Taken) (kind : ℕ) (o : Option (RuleOptions × List ℕ)) → not (kind == EFI_SECTION_FREEFORM_SUBTYPE_GUID) ≡ true → IfSome (rule.path_row line kind o) RowFits
 rule_path_fits line kind (Some p) h =
     elim (rule.is_extension p.1) as (λ b. RowFits (rule.made_plan line kind p.0 (if b then Refused line.text else Template (without_workspace p.1)))) [
       | true ↦ (tt, tt)
@@ -365,15 +366,15 @@ rule_path_fits line kind (Some p) h =
     ]
 rule_path_fits line kind None h = tt
 
-rule_text_fits : (line : Taken) (kind : ℕ) (words : List ℕ) (o : Option (RuleOptions × List ℕ)) → not (kind == 24) ≡ true → IfSome (rule.text_row line kind words o) RowFits
+rule_text_fits : (line : Taken) (kind : ℕ) (words : List ℕ) (o : Option (RuleOptions × List ℕ)) → not (kind == EFI_SECTION_FREEFORM_SUBTYPE_GUID) ≡ true → IfSome (rule.text_row line kind words o) RowFits
 rule_text_fits line kind words (Some p) h = (no_guid kind h, tt)
 rule_text_fits line kind words None h = tt
 
-quoted_fits : (line : Taken) (kind : ℕ) (o : Option (List ℕ × List ℕ)) → not (kind == 24) ≡ true → IfSome (rule.quoted_row line kind o) RowFits
+quoted_fits : (line : Taken) (kind : ℕ) (o : Option (List ℕ × List ℕ)) → not (kind == EFI_SECTION_FREEFORM_SUBTYPE_GUID) ≡ true → IfSome (rule.quoted_row line kind o) RowFits
 quoted_fits line kind (Some p) h = rule_text_fits line kind p.0 (rule.rule_parts p.1) h
 quoted_fits line kind None h = tt
 
-worded_fits : (line : Taken) (kind : ℕ) (text : List ℕ) → not (kind == 24) ≡ true → IfSome (rule.worded_row line kind text) RowFits
+worded_fits : (line : Taken) (kind : ℕ) (text : List ℕ) → not (kind == EFI_SECTION_FREEFORM_SUBTYPE_GUID) ≡ true → IfSome (rule.worded_row line kind text) RowFits
 worded_fits line kind text h =
     elim (rule.is_string (word_of text)) as (λ b. IfSome (if b then rule.quoted_row line kind (rule.stated_words (after_word text)) else rule.plain_row line kind text) RowFits) [
       | true ↦ quoted_fits line kind (rule.stated_words (after_word text)) h

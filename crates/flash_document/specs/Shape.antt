@@ -1,6 +1,7 @@
 -- What the makers of images may take for granted of a flash description.
 use Rattle.std.specs.Prelude.{◌≡◌, ℕ, ◌+◌, ◌<◌, ◌≤◌, ◌==◌, if◌then◌else◌, List, [], ◌∷◌, length, is_some, bit_and, IsTrue}
 use Rattle.std.specs.List.{All}
+use Rattle.doc_types.specs.Standard.{EFI_SECTION_FREEFORM_SUBTYPE_GUID}
 use Rattle.doc_types.specs.declared.flash.FlashDoc.{FlashDoc}
 use Rattle.doc_types.specs.declared.flash.DevicePlan.{DevicePlan}
 use Rattle.doc_types.specs.declared.flash.Region.{Region}
@@ -46,10 +47,10 @@ SourceFits v (source.Refused text) = Unit {0}
 -- a section has a GUID exactly where it is a SUBTYPE_GUID section, unless its line may not be used
 abbrev pub GuidFits : SectionPlan → SectionSource → Type 0
 GuidFits section (source.Refused text) = Unit {0}
-GuidFits section (source.Volume n) = is_some section.guid ≡ (section.kind == 24)
-GuidFits section (source.Tree path) = is_some section.guid ≡ (section.kind == 24)
-GuidFits section (source.Template text) = is_some section.guid ≡ (section.kind == 24)
-GuidFits section (source.Words text) = is_some section.guid ≡ (section.kind == 24)
+GuidFits section (source.Volume n) = is_some section.guid ≡ (section.kind == EFI_SECTION_FREEFORM_SUBTYPE_GUID)
+GuidFits section (source.Tree path) = is_some section.guid ≡ (section.kind == EFI_SECTION_FREEFORM_SUBTYPE_GUID)
+GuidFits section (source.Template text) = is_some section.guid ≡ (section.kind == EFI_SECTION_FREEFORM_SUBTYPE_GUID)
+GuidFits section (source.Words text) = is_some section.guid ≡ (section.kind == EFI_SECTION_FREEFORM_SUBTYPE_GUID)
 
 pub record SectionFits (v : ℕ) (section : SectionPlan) : Type 0 where
   pub nested : SourceFits v section.source

@@ -64,7 +64,8 @@ systems setting = []
 -- READ_ENABLED_CAP, READ_STATUS, WRITE_DISABLED_CAP, WRITE_ENABLED_CAP, WRITE_STATUS, LOCK_CAP, LOCK_STATUS, STICKY_WRITE,
 -- MEMORY_MAPPED, READ_LOCK_CAP, READ_LOCK_STATUS, WRITE_LOCK_CAP, WRITE_LOCK_STATUS, WEAK_ALIGNMENT.
 abbrev pub attributes : List ℕ
-attributes = 1 ∷ 2 ∷ 4 ∷ 8 ∷ 16 ∷ 32 ∷ 64 ∷ 128 ∷ 512 ∷ 1024 ∷ 4096 ∷ 8192 ∷ 16384 ∷ 32768 ∷ 2147483648 ∷ []
+attributes =
+    0x1 ∷ 0x2 ∷ 0x4 ∷ 0x8 ∷ 0x10 ∷ 0x20 ∷ 0x40 ∷ 0x80 ∷ 0x200 ∷ 0x400 ∷ 0x1000 ∷ 0x2000 ∷ 0x4000 ∷ 0x8000 ∷ 0x80000000 ∷ []
 
 abbrev pub is_on : ℕ → List LineRead → ℕ → Bool
 is_on k lines bits = unwrap_or (last_setting (switches bits) k lines) false

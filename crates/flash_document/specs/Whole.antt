@@ -8,6 +8,7 @@ use Rattle.build_base.specs.FaultText.{fault_of}
 use Rattle.build_base.specs.declared.fault.Fault.{Fault}
 use Rattle.build_base.specs.declared.fault.Place.{Place}
 use Rattle.meta_lexer.specs.Faults.{first_fault}
+use Rattle.doc_types.specs.Volumes.{size_limit}
 use Rattle.fdf_words.specs.declared.rows.LineRead.{LineRead}
 use Rattle.fdf_words.specs.declared.rows.LineRead.TheVariants.{Heads, Body}
 use Rattle.fdf_words.specs.declared.rows.Row.{Row}
@@ -122,7 +123,7 @@ part_unstated stated = None
 
 -- a volume has at most 0x10000000 bytes
 abbrev pub size_fault : Place → Option ℕ → Option Fault
-size_fault at (Some size) = if nat_le size 268435456 then None else Some (fault_of 249 at (decimal size))
+size_fault at (Some size) = if nat_le size size_limit then None else Some (fault_of 249 at (decimal size))
 size_fault at None = None
 
 abbrev pub part_too_large : List HeldRegion → Stated → Option Fault

@@ -13,12 +13,11 @@ use crate::held::{HeldSizes, held_in};
 use crate::names::{add_name, place_in};
 use crate::stated::{Stated, StatedVolume};
 use build_base::{Place, Refusal, Rows, Text, WantOfMemory, refuse};
+use doc_types::volume_head::SIZE_LIMIT;
 use fdf_words::rows::{Content, LineRead, Row, SectionBody};
 use indexmap::IndexMap;
 use itoa::Buffer;
 use std::alloc::Global;
-
-const SIZE_LIMIT: u64 = 0x1000_0000;
 
 /// The size of the first region that holds a volume.
 pub fn first_size(held: Option<HeldSizes>) -> Option<u64>

@@ -58,6 +58,7 @@ fn is_on(k: usize, lines: &[LineRead], bits: u32) -> bool
     found.unwrap_or(false)
 }
 
+/// The attributes that may be stated (EFI_FVB_ATTRIBUTES_2), EFI_FVB2_READ_DISABLED_CAP to EFI_FVB2_WEAK_ALIGNMENT.
 const ATTRIBUTES: [u32; 15] = [
     0x1,
     0x2,

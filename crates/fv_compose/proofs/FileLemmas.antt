@@ -158,7 +158,7 @@ pub record Filed (whole : List ℕ) (last erase : ℕ) (out : List ℕ) (rest : 
   pub items : whole ≡ put_pieces (free_byte erase) out (files_pieces erase (length out) rest)
   pub last_is : last ≡ end_of (length out) rest
 
-length_own : (free erase : ℕ) (out : List ℕ) (file : FileImage) → IsAlignment file.align → length (put_pieces free out (own_pieces erase (length out) file)) ≡ next_end (length out) file
+pub length_own : (free erase : ℕ) (out : List ℕ) (file : FileImage) → IsAlignment file.align → length (put_pieces free out (own_pieces erase (length out) file)) ≡ next_end (length out) file
 unfolding put_pieces
 length_own free erase out file a =
     elim (is_top file) as (λ b. length (put_pieces free out (if b then [] else placed_pieces erase (length out) (file_start (length out) file) file.bytes)) ≡ (if b then length out else file_end (length out) file)) [

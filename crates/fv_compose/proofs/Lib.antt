@@ -3,6 +3,7 @@ pub mod WordLemmas
 pub mod HeaderLemmas
 pub mod LengthLemmas
 pub mod FileLemmas
+pub mod LayoutLemmas
 pub mod TopLemmas
 pub mod ImageLemmas
 mod PadLemmas

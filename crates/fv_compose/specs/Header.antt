@@ -3,6 +3,7 @@ use Rattle.std.specs.Prelude.{ℕ, ◌+◌, ◌-◌, ◌*◌, ◌/◌, ◌%◌, 
 use Rattle.byteorder.specs.Endian.{little_bytes}
 use Rattle.build_base.specs.Pieces.{Piece}
 use Rattle.build_base.specs.declared.guid.Guid.{Guid}
+use Rattle.doc_types.specs.Standard.{EFI_FIRMWARE_FILE_SYSTEM2_GUID, EFI_FIRMWARE_FILE_SYSTEM3_GUID}
 use Rattle.doc_types.specs.declared.volume_head.VolumeHead.{VolumeHead}
 use Rattle.fv_compose.specs.Pads.{pad_header}
 
@@ -16,18 +17,8 @@ words_sum (low ∷ high ∷ bytes) = low + 256 * high + words_sum bytes
 unfoldable pub zero_word : List ℕ → ℕ
 zero_word bytes = (65536 - words_sum bytes % 65536) % 65536
 
--- EFI_FIRMWARE_FILE_SYSTEM2_GUID, 8c8ce578-8a3d-4f1c-9935-896185c32dd3
-abbrev pub ffs2 : List ℕ
-ffs2 =
-    0x78 ∷ 0xE5 ∷ 0x8C ∷ 0x8C ∷ 0x3D ∷ 0x8A ∷ 0x1C ∷ 0x4F ∷ 0x99 ∷ 0x35 ∷ 0x89 ∷ 0x61 ∷ 0x85 ∷ 0xC3 ∷ 0x2D ∷ 0xD3 ∷ []
-
--- EFI_FIRMWARE_FILE_SYSTEM3_GUID, 5473c07a-3dcb-4dca-bd6f-1e9689e7349a
-abbrev pub ffs3 : List ℕ
-ffs3 =
-    0x7A ∷ 0xC0 ∷ 0x73 ∷ 0x54 ∷ 0xCB ∷ 0x3D ∷ 0xCA ∷ 0x4D ∷ 0xBD ∷ 0x6F ∷ 0x1E ∷ 0x96 ∷ 0x89 ∷ 0xE7 ∷ 0x34 ∷ 0x9A ∷ []
-
 abbrev pub file_system : Bool → List ℕ
-file_system third = if third then ffs3 else ffs2
+file_system third = if third then EFI_FIRMWARE_FILE_SYSTEM3_GUID else EFI_FIRMWARE_FILE_SYSTEM2_GUID
 
 -- the zero vector, the file system and the volume's length
 unfoldable pub head_start : Bool → ℕ → List ℕ

@@ -2,7 +2,8 @@
 use Rattle.std.specs.Prelude.{ℕ, ◌-◌, Bool, nat_lt, List, ◌++◌, replicate}
 use Rattle.build_base.specs.Runs.{free_byte}
 use Rattle.ffs_sections.specs.File.{file_head, head_len, state_of}
-use Rattle.ffs_sections.specs.Standard.{EFI_FV_FILETYPE_FFS_PAD, FFS_FIXED_CHECKSUM, FILE_LIMIT}
+use Rattle.doc_types.specs.Standard.{EFI_FV_FILETYPE_FFS_PAD}
+use Rattle.ffs_sections.specs.Standard.{FFS_FIXED_CHECKSUM, FILE_LIMIT}
 
 -- a pad file of more than 0xFFFFFF bytes, header and all, is a large file
 abbrev pub is_large_pad : ℕ → Bool

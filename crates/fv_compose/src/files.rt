@@ -7,15 +7,15 @@ ghost use Rattle.ffs_sections.specs.Alignment.{IsAlignment};
 ghost use Rattle.ffs_sections.specs.Standard.{FILE_LIMIT};
 ghost use Rattle.fv_compose.specs.Place.{up};
 ghost use Rattle.fv_compose.specs.Files.{is_top, top_of, plain_files, bytes_in, top_bytes, placed_pieces, file_end, files_pieces, end_of, top_pieces, pad_fault, pads_fault, top_pad_fault, AreAligned};
-ghost use Rattle.fv_compose.specs.Turns.{pointed, next_end, own_pad_fault, own_pieces, own_bytes};
+ghost use Rattle.fv_compose.specs.Turns.{pointed, own_start, own_starts, own_pad_fault, own_pieces, own_bytes};
 ghost use Rattle.fv_compose.specs.Volume.{taken_by, holds};
 
+use crate::layout::next_end;
 use crate::pad::put_pad;
-use crate::place::{place_of, start, up};
+use crate::place::up;
 use build_base::{Refusal, RunWriter, Same, Text, WantOfMemory};
 use doc_types::image::FileImage;
 use ffs_sections::faults::sized;
-use ffs_sections::header::head_at;
 use ffs_sections::standard::FILE_LIMIT;
 use std::alloc::Global;
 
@@ -44,35 +44,6 @@ pub(crate) fn top_of(files: &[FileImage]) -> Option<&FileImage>
     None
 }
 
-// The end after a file that comes after an end.
-fn next_end(at: u128, file: &FileImage) -> u128
-    requires near { at ≤ 2 ^ 126 }
-    requires aligned { IsAlignment file.now.align }
-    ensures value { result ≡ next_end at file.now }
-    ensures near { result ≤ at + 9223372036888330240 }
-{
-    if is_top(file) {
-        return at;
-    }
-    let bytes = file.bytes.bytes();
-    start(at, file.align, head_at(bytes)) + bytes.len() as u128
-}
-
-/// The end of the files but the top file, in a volume whose header ends at `first`.
-pub(crate) fn end_of(first: u128, files: &[FileImage]) -> u128
-    requires first { first ≤ 116 }
-    requires aligned { AreAligned files.now }
-    ensures value { result ≡ end_of first (plain_files files.now) }
-    ensures small { result < 2 ^ 126 }
-    ensures after { first ≤ result }
-{
-    let mut end = first;
-    for file in files {
-        end = next_end(end, file);
-    }
-    end
-}
-
 // Whether a pad file of this size is too long for its file system.
 fn is_long(ffs3: bool, pad: u64) -> bool
     ensures { result ≡ (not ffs3 && nat_lt FILE_LIMIT pad) }
@@ -85,15 +56,15 @@ fn is_long(ffs3: bool, pad: u64) -> bool
 fn check_pad(
     alloc: Global,
     ffs3: bool,
-    at: u64,
-    start: u64,
+    at: u128,
+    start: u128,
     file: &FileImage,
 ) -> Result<(), Refusal>
-    requires near { at ≤ 2 ^ 32 }
     requires after { up 8 at ≤ start }
+    requires near { start ≤ 2 ^ 28 }
     ensures { Checks result (pad_fault ffs3 at start file.now) }
 {
-    let pad = start - up(8, at as u128) as u64;
+    let pad = (start - up(8, at)) as u64;
     if is_long(ffs3, pad) {
         return Err(Refusal::Bad(sized(alloc, 704, &file.at, pad)?));
     }
@@ -101,35 +72,44 @@ fn check_pad(
 }
 
 // The same before a file, which isn't the top file.
-fn check_own_pad(alloc: Global, ffs3: bool, at: u64, file: &FileImage) -> Result<(), Refusal>
-    requires near { at ≤ 2 ^ 32 }
+fn check_own_pad(
+    alloc: Global,
+    ffs3: bool,
+    at: u128,
+    start: u128,
+    file: &FileImage,
+) -> Result<(), Refusal>
+    requires start { start ≡ own_start at file.now }
+    requires near { start ≤ 2 ^ 28 }
     requires aligned { IsAlignment file.now.align }
     ensures { Checks result (own_pad_fault ffs3 at file.now) }
 {
     if is_top(file) {
         return Ok(());
     }
-    let head = head_at(file.bytes.bytes());
-    check_pad(alloc, ffs3, at, place_of(at, file.align, head).file, file)
+    check_pad(alloc, ffs3, at, start, file)
 }
 
 /// The first pad between files, the top file apart, that is too long.
 pub(crate) fn check_pads(
     alloc: Global,
     ffs3: bool,
-    first: u64,
+    first: u128,
     files: &[FileImage],
+    starts: &[u128],
 ) -> Result<(), Refusal>
     requires aligned { AreAligned files.now }
+    requires starts { starts.now ≡ own_starts first files.now }
     requires short { end_of first (plain_files files.now) ≤ 2 ^ 28 }
     ensures { Checks result (pads_fault ffs3 first (plain_files files.now)) }
 {
     let mut at = first;
-    for file in files {
-        if let Err(refusal) = check_own_pad(alloc, ffs3, at, file) {
+    for (i, file) in files.iter().enumerate() {
+        let start = starts[i];
+        if let Err(refusal) = check_own_pad(alloc, ffs3, at, start, file) {
             return Err(refusal);
         }
-        at = next_end(at as u128, file) as u64;
+        at = next_end(start, file);
     }
     Ok(())
 }
@@ -138,7 +118,7 @@ pub(crate) fn check_pads(
 pub(crate) fn check_top_pad(
     alloc: Global,
     ffs3: bool,
-    at: u64,
+    at: u128,
     top: Option<&FileImage>,
     size: u64,
 ) -> Result<(), Refusal>
@@ -148,13 +128,10 @@ pub(crate) fn check_top_pad(
 {
     match top {
         None => Ok(()),
-        Some(file) => check_pad(
-            alloc,
-            ffs3,
-            at,
-            size - file.bytes.bytes().len() as u64,
-            file,
-        ),
+        Some(file) => {
+            let start = size - file.bytes.bytes().len() as u64;
+            check_pad(alloc, ffs3, at, start as u128, file)
+        }
     }
 }
 
@@ -201,13 +178,15 @@ fn put_placed(
     Ok(())
 }
 
-// Writes a file in its place, unless it is the top file.
+// Writes a file at its start, unless it is the top file.
 fn put_file(
     alloc: Global,
     out: &mut RunWriter,
     file: &FileImage,
+    start: u64,
     erase: u8,
 ) -> Result<(), WantOfMemory>
+    requires start { start ≡ own_start (length out.old.bytes) file.now }
     requires near { length out.old.bytes ≤ 2 ^ 28 }
     requires aligned { IsAlignment file.now.align }
     requires free { out.old.free ≡ free_byte erase }
@@ -218,9 +197,7 @@ fn put_file(
     if is_top(file) {
         return Ok(());
     }
-    let head = head_at(file.bytes.bytes());
-    let placed = place_of(out.length(), file.align, head);
-    put_placed(alloc, out, placed.file, &file.bytes, erase)?;
+    put_placed(alloc, out, start, &file.bytes, erase)?;
     Ok(())
 }
 
@@ -229,9 +206,11 @@ pub(crate) fn put_files(
     alloc: Global,
     out: &mut RunWriter,
     files: &[FileImage],
+    starts: &[u128],
     erase: u8,
 ) -> Result<(), WantOfMemory>
     requires aligned { AreAligned files.now }
+    requires starts { starts.now ≡ own_starts (length out.old.bytes) files.now }
     requires short { end_of (length out.old.bytes) (plain_files files.now) ≤ 2 ^ 28 }
     requires free { out.old.free ≡ free_byte erase }
     ensures bytes { OnOk result (out.new.bytes ≡ put_pieces (free_byte erase) out.old.bytes (files_pieces erase (length out.old.bytes) (plain_files files.now))) }
@@ -239,8 +218,9 @@ pub(crate) fn put_files(
     ensures kept { OnOk result (out.new.kept ≤ out.old.kept + bytes_in (plain_files files.now) + 32 * length files.now) }
     ensures free { OnOk result (out.new.free ≡ out.old.free) }
 {
-    for image in files {
-        put_file(alloc, out, image, erase)?;
+    for (i, image) in files.iter().enumerate() {
+        let start = starts[i] as u64;
+        put_file(alloc, out, image, start, erase)?;
     }
     Ok(())
 }

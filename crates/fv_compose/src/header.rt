@@ -8,18 +8,9 @@ ghost use Rattle.fv_compose.specs.Header.{words_sum, zero_word, file_system, hea
 use crate::pad::pad_head;
 use build_base::bytes::fill;
 use build_base::{Guid, WantOfMemory};
+use doc_types::standard::{EFI_FIRMWARE_FILE_SYSTEM2_GUID, EFI_FIRMWARE_FILE_SYSTEM3_GUID};
 use doc_types::volume_head::VolumeHead;
 use std::alloc::Global;
-
-/// EFI_FIRMWARE_FILE_SYSTEM2_GUID, 8c8ce578-8a3d-4f1c-9935-896185c32dd3.
-static FFS2: [u8; 16] = [
-    0x78, 0xE5, 0x8C, 0x8C, 0x3D, 0x8A, 0x1C, 0x4F, 0x99, 0x35, 0x89, 0x61, 0x85, 0xC3, 0x2D, 0xD3,
-];
-
-/// EFI_FIRMWARE_FILE_SYSTEM3_GUID, 5473c07a-3dcb-4dca-bd6f-1e9689e7349a.
-static FFS3: [u8; 16] = [
-    0x7A, 0xC0, 0x73, 0x54, 0xCB, 0x3D, 0xCA, 0x4D, 0xBD, 0x6F, 0x1E, 0x96, 0x89, 0xE7, 0x34, 0x9A,
-];
 
 /// The length of a volume's header.
 const LENGTH: u16 = 0x48;
@@ -39,9 +30,9 @@ fn file_system(ffs3: bool) -> &'static [u8]
     ensures { result.now ≡ file_system ffs3 }
 {
     if ffs3 {
-        FFS3.as_slice()
+        EFI_FIRMWARE_FILE_SYSTEM3_GUID.as_slice()
     } else {
-        FFS2.as_slice()
+        EFI_FIRMWARE_FILE_SYSTEM2_GUID.as_slice()
     }
 }
 

@@ -5,13 +5,12 @@ ghost use Rattle.build_base.specs.Runs.{runs_bytes};
 ghost use Rattle.ffs_sections.specs.Alignment.{IsAlignment};
 ghost use Rattle.fv_compose.specs.Header.{first_end};
 ghost use Rattle.fv_compose.specs.Files.{plain_files, top_of, AreAligned, AreRunsOf};
-ghost use Rattle.fv_compose.specs.Turns.{pointed};
+ghost use Rattle.fv_compose.specs.Turns.{pointed, own_starts, IsLaid};
 ghost use Rattle.fv_compose.specs.Volume.{last_end, taken_by, holds, named, twice_fault, start_fault, top_fault, place_fault, volume_image, with_length, length_of, volume_of, HasShape, IsLength};
 
-use crate::files::{
-    check_pads, check_top_pad, end_of, is_top, put_files, put_top, taken_by, top_of,
-};
+use crate::files::{check_pads, check_top_pad, is_top, put_files, put_top, taken_by, top_of};
 use crate::header::{first_end, start_bytes};
+use crate::layout::{Layout, lay_out};
 use crate::length::{full, length_for};
 use build_base::{Fault, Permit, Place, Refusal, Rows, Run, RunWriter, Same, Text, WantOfMemory};
 use doc_types::image::FileImage;
@@ -108,7 +107,7 @@ fn check_top(
     alloc: Global,
     plan: &VolumeHead,
     top: Option<&FileImage>,
-    end: u64,
+    end: u128,
     size: u64,
 ) -> Result<(), Refusal>
     requires near { size ≤ 2 ^ 28 }
@@ -128,18 +127,19 @@ fn check_places(
     plan: &VolumeHead,
     files: &[FileImage],
     top: Option<&FileImage>,
-    end: u64,
+    layout: &Layout,
     size: u64,
 ) -> Result<(), Refusal>
     requires aligned { AreAligned files.now }
     requires top { pointed top ≡ top_of files.now }
-    requires end { end ≡ last_end plan.now files.now }
-    requires length { IsLength plan.now.block_size (is_some (pointed top)) (taken_by end (pointed top)) size }
+    requires laid { IsLaid (first_end plan.now.name_guid) files.now layout.now }
+    requires length { IsLength plan.now.block_size (is_some (pointed top)) (taken_by layout.now.end (pointed top)) size }
     ensures { Checks result (place_fault plan.now files.now size) }
 {
-    check_top(alloc, plan, top, end, size)?;
-    check_pads(alloc, plan.ffs3, first_end(&plan.name_guid), files)?;
-    check_top_pad(alloc, plan.ffs3, end, top, size)?;
+    let first = first_end(&plan.name_guid) as u128;
+    check_top(alloc, plan, top, layout.end, size)?;
+    check_pads(alloc, plan.ffs3, first, files, layout.starts.items())?;
+    check_top_pad(alloc, plan.ffs3, layout.end, top, size)?;
     Ok(())
 }
 
@@ -149,10 +149,12 @@ fn image(
     plan: &VolumeHead,
     files: &[FileImage],
     top: Option<&FileImage>,
+    starts: &[u128],
     size: u64,
 ) -> Result<Rows<Run>, WantOfMemory>
     requires aligned { AreAligned files.now }
     requires top { pointed top ≡ top_of files.now }
+    requires starts { starts.now ≡ own_starts (first_end plan.now.name_guid) files.now }
     requires length { IsLength plan.now.block_size (is_some (pointed top)) (taken_by (last_end plan.now files.now) (pointed top)) size }
     ensures value { IfOk result (λ runs. runs_bytes runs ≡ volume_image plan.now files.now size) }
     ensures runs { IfOk result (AreRunsOf files.now) }
@@ -160,7 +162,7 @@ fn image(
     let head = start_bytes(alloc, plan, size)?;
     let mut out = RunWriter::new(alloc, plan.erase);
     out.put(Text::from_vec(head))?;
-    put_files(alloc, &mut out, files, plan.erase)?;
+    put_files(alloc, &mut out, files, starts, plan.erase)?;
     put_top(alloc, &mut out, top, size, plan.erase)?;
     let len = out.length();
     out.fill(size - len)?;
@@ -172,20 +174,20 @@ fn composed(
     plan: &VolumeHead,
     files: &[FileImage],
     top: Option<&FileImage>,
-    end: u64,
+    layout: &Layout,
     size: u64,
 ) -> Result<Rows<Run>, Refusal>
     requires aligned { AreAligned files.now }
     requires top { pointed top ≡ top_of files.now }
-    requires end { end ≡ last_end plan.now files.now }
-    requires length { IsLength plan.now.block_size (is_some (pointed top)) (taken_by end (pointed top)) size }
+    requires laid { IsLaid (first_end plan.now.name_guid) files.now layout.now }
+    requires length { IsLength plan.now.block_size (is_some (pointed top)) (taken_by layout.now.end (pointed top)) size }
     ensures value { AnswersAs runs_bytes result (with_length plan.now files.now (Some size)) }
     ensures runs { IfOk result (AreRunsOf files.now) }
 {
-    if let Err(refusal) = check_places(alloc, plan, files, top, end, size) {
+    if let Err(refusal) = check_places(alloc, plan, files, top, layout, size) {
         return Err(refusal);
     }
-    match image(alloc, plan, files, top, size) {
+    match image(alloc, plan, files, top, layout.starts.items(), size) {
         Ok(runs) => Ok(runs),
         Err(_) => Err(Refusal::WantOfMemory),
     }
@@ -199,10 +201,10 @@ fn volume(alloc: Global, plan: &VolumeHead, files: &[FileImage]) -> Result<Rows<
     ensures runs { IfOk result (AreRunsOf files.now) }
 {
     let top = top_of(files);
-    let end = end_of(first_end(&plan.name_guid) as u128, files);
-    let taken = taken_by(end, top);
+    let layout = lay_out(alloc, first_end(&plan.name_guid) as u128, files)?;
+    let taken = taken_by(layout.end, top);
     match length_for(plan.block_size, plan.size, top.is_some(), taken) {
-        Some(size) => composed(alloc, plan, files, top, end as u64, size),
+        Some(size) => composed(alloc, plan, files, top, &layout, size),
         None => Err(Refusal::Bad(full(alloc, plan, top.is_some(), taken)?)),
     }
 }

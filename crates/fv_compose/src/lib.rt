@@ -4,6 +4,7 @@
 pub mod files;
 pub mod header;
 pub mod image;
+pub mod layout;
 pub mod length;
 mod pad;
 pub mod place;

@@ -5,8 +5,9 @@ ghost use Rattle.ffs_sections.specs.File.{head_len};
 ghost use Rattle.fv_compose.specs.Pads.{is_large_pad, pad_header, pad_bytes};
 
 use build_base::{RunWriter, Text, WantOfMemory};
+use doc_types::standard::EFI_FV_FILETYPE_FFS_PAD;
 use ffs_sections::header::{Head, append_head, state_of};
-use ffs_sections::standard::{EFI_FV_FILETYPE_FFS_PAD, FFS_FIXED_CHECKSUM, FILE_LIMIT};
+use ffs_sections::standard::{FFS_FIXED_CHECKSUM, FILE_LIMIT};
 use std::alloc::Global;
 
 /// The name of a pad file.

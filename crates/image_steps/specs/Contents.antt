@@ -7,6 +7,7 @@ use Rattle.build_base.specs.declared.fault.Fault.{Fault}
 use Rattle.build_base.specs.declared.fault.Place.{Place}
 use Rattle.build_base.specs.FaultText.{fault_of}
 use Rattle.build_base.specs.First.{and_then}
+use Rattle.doc_types.specs.Standard.{EFI_SECTION_VERSION}
 use Rattle.step_engine.specs.declared.talk.Answer.{Answer}
 use Rattle.step_engine.specs.declared.talk.Answer.TheVariants as answer
 use Rattle.build_stages.specs.Stages.{misfit}
@@ -50,4 +51,4 @@ wide_text text = flat_map (λ byte. byte ∷ 0 ∷ []) text ++ 0 ∷ 0 ∷ []
 
 -- a version section begins with its build number
 abbrev pub words_bytes : ℕ → ℕ → List ℕ → List ℕ
-words_bytes kind number text = if kind == 0x14 then little_bytes 2 number ++ wide_text text else wide_text text
+words_bytes kind number text = if kind == EFI_SECTION_VERSION then little_bytes 2 number ++ wide_text text else wide_text text

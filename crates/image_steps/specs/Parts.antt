@@ -5,6 +5,7 @@ use Rattle.build_base.specs.declared.fault.Fault.{Fault}
 use Rattle.build_base.specs.declared.guid.Guid.{Guid}
 use Rattle.build_base.specs.FaultText.{fault_of}
 use Rattle.build_base.specs.First.{and_then, with_front}
+use Rattle.doc_types.specs.Standard.{EFI_SECTION_TE, EFI_SECTION_FREEFORM_SUBTYPE_GUID}
 use Rattle.doc_types.specs.declared.flash.FlashDoc.{FlashDoc}
 use Rattle.doc_types.specs.declared.image.Part.{Part}
 use Rattle.doc_types.specs.declared.volume.Align.{Align}
@@ -58,7 +59,7 @@ te_shaped path file (Err fault) = Err (pe_fault path file fault)
 
 -- a TE section is made of a PE file, each other one is the file as it is
 abbrev pub file_shaped : ℕ → List ℕ → List ℕ → Result Shaped Fault
-file_shaped kind path bytes = if kind == 0x12 then te_shaped path bytes (te_of bytes) else Ok (as_is bytes)
+file_shaped kind path bytes = if kind == EFI_SECTION_TE then te_shaped path bytes (te_of bytes) else Ok (as_is bytes)
 
 -- what a section holds, where the answer of the next file and that of the next volume stand at these
 -- places; the other forms stand in rules alone
@@ -113,7 +114,7 @@ without_guid None = Ok None
 
 -- the GUID of a section's header, which a SUBTYPE_GUID section has, and no other; in a world it is so
 abbrev pub header_guid : ℕ → Option Guid → Result (Option Guid) Fault
-header_guid kind guid = if kind == 0x18 then some_guid guid else without_guid guid
+header_guid kind guid = if kind == EFI_SECTION_FREEFORM_SUBTYPE_GUID then some_guid guid else without_guid guid
 
 abbrev pub part_with : FlashDoc → SectionPlan → Shaped → Option Guid → Part
 part_with flash section content guid = record {

@@ -4,6 +4,7 @@ use Rattle.std.specs.List.{list_all, list_any}
 use Rattle.build_base.specs.declared.fault.Fault.{Fault}
 use Rattle.build_base.specs.First.{and_then, all_ok}
 use Rattle.step_engine.specs.declared.talk.Answer.{Answer}
+use Rattle.doc_types.specs.Volumes.{size_limit}
 use Rattle.doc_types.specs.declared.image.FileImage.{FileImage}
 use Rattle.doc_types.specs.declared.volume_head.VolumeHead.{VolumeHead}
 use Rattle.ffs_sections.specs.Alignment.{alignments}
@@ -17,7 +18,7 @@ use Rattle.image_steps.specs.Files.{unbuilt}
 -- a stated length is a whole number of blocks and at most 256M
 abbrev pub size_fits : ℕ → Option ℕ → Bool
 size_fits block None = true
-size_fits block (Some size) = nat_le size 0x10000000 && size % block == 0
+size_fits block (Some size) = nat_le size size_limit && size % block == 0
 
 abbrev pub head_fits : VolumeHead → Bool
 head_fits head = size_fits head.block_size head.size

@@ -8,6 +8,7 @@ ghost use Rattle.image_steps.specs.Contents.{whole_file, file_content, file_abse
 
 use build_base::{Image, Path, Place, Refusal, Same, Text, WantOfMemory, refuse};
 use build_stages::{Given, Stop};
+use doc_types::standard::EFI_SECTION_VERSION;
 use std::alloc::Global;
 use step_engine::Answer;
 use step_pack::{Key, Out};
@@ -116,7 +117,7 @@ pub fn words_bytes(alloc: Global, kind: u8, number: u16, text: &[u8]) -> Result<
     ensures { IfOk result (λ t. t ≡ words_bytes kind number text.now) }
 {
     let mut out = Vec::new(alloc);
-    if kind == 0x14 {
+    if kind == EFI_SECTION_VERSION {
         out.extend_from_slice(&number.to_le_bytes())?;
         push_wide(&mut out, text)?;
         return Ok(Text::from_vec(out));

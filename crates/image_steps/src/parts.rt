@@ -3,6 +3,7 @@ ghost use Rattle.std.specs.Prelude.{◌≡◌, ◌++◌, ◌==◌, ◌≤◌, �
 ghost use Rattle.std.specs.Option.{option_copied};
 ghost use Rattle.image_steps.specs.Contents.{words_bytes};
 ghost use Rattle.build_base.specs.Answer.{Answers, Finds};
+ghost use Rattle.doc_types.specs.Standard.{EFI_SECTION_FREEFORM_SUBTYPE_GUID};
 ghost use Rattle.build_stages.specs.Gives.{GivesIn};
 ghost use Rattle.te_images.specs.Pe.{file_alignment_of, section_alignment_of};
 ghost use Rattle.te_images.specs.Te.{te_of};
@@ -13,6 +14,7 @@ use build_base::{Guid, Image, Path, Refusal, Rows, Text, WantOfMemory};
 use build_stages::{Given, Stop};
 use doc_types::flash::FlashDoc;
 use doc_types::image::Part;
+use doc_types::standard::{EFI_SECTION_FREEFORM_SUBTYPE_GUID, EFI_SECTION_TE};
 use doc_types::volume::{Align, SectionPlan, SectionSource, VolumePlan};
 use itoa::Buffer;
 use std::alloc::Global;
@@ -139,7 +141,7 @@ fn te_shaped(alloc: Global, path: &Path, file: &[u8]) -> Result<Shaped, Refusal>
 fn file_shaped(alloc: Global, kind: u8, path: &Path, file: &[u8]) -> Result<Shaped, Refusal>
     ensures { Answers result (file_shaped kind path.now file.now) }
 {
-    if kind == 0x12 {
+    if kind == EFI_SECTION_TE {
         return te_shaped(alloc, path, file);
     }
     Ok(as_is(alloc, file)?)
@@ -273,9 +275,9 @@ fn without_guid(guid: Option<Guid>) -> Result<Option<Guid>, Stop<Key>>
 
 fn header_guid(kind: u8, guid: Option<Guid>) -> Result<Option<Guid>, Stop<Key>>
     ensures value { GivesIn (λ guid. guid) result (header_guid kind guid) }
-    ensures shape { IfOk result (λ guid. is_some guid ≡ (kind == 24)) }
+    ensures shape { IfOk result (λ guid. is_some guid ≡ (kind == EFI_SECTION_FREEFORM_SUBTYPE_GUID)) }
 {
-    if kind == 0x18 {
+    if kind == EFI_SECTION_FREEFORM_SUBTYPE_GUID {
         some_guid(guid)
     } else {
         without_guid(guid)
@@ -304,7 +306,7 @@ fn part_at(
     section: &SectionPlan,
 ) -> Result<Part, Stop<Key>>
     ensures value { GivesIn (λ part. part) result (part_at flash.now given.now file volume section.now) }
-    ensures guid { IfOk result (λ part. is_some part.guid ≡ (part.kind == 24)) }
+    ensures guid { IfOk result (λ part. is_some part.guid ≡ (part.kind == EFI_SECTION_FREEFORM_SUBTYPE_GUID)) }
 {
     let content = content_at(alloc, given, file, volume, section)?;
     let guid = header_guid(section.kind, section.guid)?;
@@ -323,7 +325,7 @@ pub fn parts(
 ) -> Result<Rows<Part>, Stop<Key>>
     requires { volumes ≤ length sections.now }
     ensures value { GivesIn (λ parts. parts) result (parts_from flash.now given.now 0 volumes sections.now) }
-    ensures guids { IfOk result (All (λ part. is_some part.guid ≡ (part.kind == 24))) }
+    ensures guids { IfOk result (All (λ part. is_some part.guid ≡ (part.kind == EFI_SECTION_FREEFORM_SUBTYPE_GUID))) }
 {
     let mut parts = Rows::new(alloc);
     let mut file = 0;

@@ -11,7 +11,7 @@ use crate::files::unbuilt;
 use build_base::{Image, Permit, Refusal, Rows, Same};
 use build_stages::{Given, Stop};
 use doc_types::image::FileImage;
-use doc_types::volume_head::VolumeHead;
+use doc_types::volume_head::{SIZE_LIMIT, VolumeHead};
 use fv_compose::compose;
 use std::alloc::Global;
 use step_pack::{Key, Out};
@@ -36,7 +36,7 @@ fn head_fits(head: &VolumeHead) -> bool
 {
     match head.size {
         None => true,
-        Some(size) => size <= 0x1000_0000 && is_multiple(size, head.block_size),
+        Some(size) => size <= SIZE_LIMIT && is_multiple(size, head.block_size),
     }
 }
 

@@ -26,10 +26,11 @@ pcd_fault line fields =
     then wanted (pcd_name_of (first_text fields)) (fault_of 215 line.at (first_text fields))
     else Some (fault_of 215 line.at (first_text fields))
 
+abbrev pub asked_faults : Taken → List (List ℕ) → List (Option Fault)
+asked_faults line fields = first_fault (undefined_macro line.at) fields ∷ pcd_fault line fields ∷ []
+
 unfoldable pub pcd_faults : Taken → List (Option Fault)
-pcd_faults line =
-    of_read_line line
-    (first_fault (undefined_macro line.at) (field_texts line.text) ∷ pcd_fault line (field_texts line.text) ∷ [])
+pcd_faults line = of_read_line line (asked_faults line (field_texts line.text))
 
 -- the default as written
 abbrev pub default_of : List (List ℕ) → Option (List ℕ)
@@ -40,6 +41,8 @@ abbrev pub used_as : Taken → Arch → Asked → List (List ℕ) → PcdName �
 used_as line arch asked fields pcd =
     record { at = line.at; arch = arch; asked = asked; pcd = pcd; default = default_of fields }
 
+abbrev pub asked_pcd : Taken → Arch → Asked → List (List ℕ) → Option UsedPcd
+asked_pcd line arch asked fields = option_map (used_as line arch asked fields) (pcd_name_of (first_text fields))
+
 unfoldable pub pcd_used : Taken → Arch → Asked → Option UsedPcd
-pcd_used line arch asked =
-    option_map (used_as line arch asked (field_texts line.text)) (pcd_name_of (first_text (field_texts line.text)))
+pcd_used line arch asked = asked_pcd line arch asked (field_texts line.text)

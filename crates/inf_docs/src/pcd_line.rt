@@ -4,7 +4,7 @@ ghost use Rattle.build_base.specs.Answer.{Answers, Checks};
 ghost use Rattle.doc_types.specs.Pcds.{pcd_name_of};
 ghost use Rattle.doc_reading.specs.Gathering.{judged};
 ghost use Rattle.meta_lexer.specs.Parts.{first_text};
-ghost use Rattle.inf_docs.specs.Pcds.{is_pcd_form, pcd_fault, pcd_faults, default_of, used_as, pcd_used};
+ghost use Rattle.inf_docs.specs.Pcds.{is_pcd_form, pcd_fault, asked_faults, pcd_faults, default_of, used_as, asked_pcd, pcd_used};
 ghost use Rattle.doc_reading.specs.Values.{wanted};
 ghost use Rattle.build_base.specs.FaultText.{fault_of};
 
@@ -75,6 +75,24 @@ fn used_as(
     }
 }
 
+fn asked_pcd(
+    alloc: Global,
+    line: &Taken,
+    arch: Arch,
+    asked: Asked,
+    fields: &[Text],
+) -> Result<Option<UsedPcd>, Refusal>
+    ensures { Answers result (judged (asked_faults line.now fields.now) (asked_pcd line.now arch asked fields.now)) }
+{
+    let pcd = pcd_name_of(alloc, first_text(fields))?;
+    least_of_two(
+        undefined_macros(alloc, &line.at, fields),
+        check_pcd(alloc, line, fields, &pcd),
+    )?;
+    let used = used_as(alloc, line, arch, asked, fields, pcd)?;
+    Ok(used)
+}
+
 /// The PCD that a line asks for.
 #[tactic(auto, unfolding(crate::specs::Pcds::pcd_faults, crate::specs::Pcds::pcd_used))]
 pub fn pcd_line(
@@ -87,11 +105,5 @@ pub fn pcd_line(
 {
     open_quote(alloc, &line.at, line.text.bytes())?;
     let fields = field_texts(alloc, line.text.bytes())?;
-    let pcd = pcd_name_of(alloc, first_text(fields.items()))?;
-    least_of_two(
-        undefined_macros(alloc, &line.at, fields.items()),
-        check_pcd(alloc, line, fields.items(), &pcd),
-    )?;
-    let used = used_as(alloc, line, arch, asked, fields.items(), pcd)?;
-    Ok(used)
+    asked_pcd(alloc, line, arch, asked, fields.items())
 }

@@ -184,12 +184,22 @@ included_by enter known line field = at_path enter known line field (path_field 
 abbrev pub is_open : List ℕ → Env → Bool
 is_open path e = list_any (same_text path) e.open_files
 
+-- what a file comes to that an include of this path finds: too many are open, or what `file` says of its lines
+abbrev pub entered_by : Option (List Line → Env → Result Env Stop) → Line → List ℕ → List ℕ → List ℕ → Env → Result Env Stop
+entered_by None line path p bytes e = Err (bad (fault_at 122 line path))
+entered_by (Some file) line path p bytes e = if is_open p e then Err (bad (fault_at 123 line path)) else opened file p bytes e
+
 -- what an include comes to, where so many files more may be open
 unfoldable pub included : Source → List Macro → ℕ → Line → Env → Result Env Stop
-included known fixed zero line e = included_by (λ path p bytes. Err (bad (fault_at 122 line path))) known line (include_field fixed line e)
+included known fixed zero line e = included_by (λ path p bytes. entered_by None line path p bytes e) known line (include_field fixed line e)
 included known fixed (suc n) line e =
-    included_by (λ path p bytes. if is_open p e then Err (bad (fault_at 123 line path)) else opened (λ lines x. file_of (acts fixed (included known fixed n)) lines x) p bytes e)
+    included_by (λ path p bytes. entered_by (Some (λ lines x. file_of (acts fixed (included known fixed n)) lines x)) line path p bytes e)
     known line (include_field fixed line e)
+
+-- and what the file comes to that it finds
+unfoldable pub entered : Source → List Macro → ℕ → Line → List ℕ → List ℕ → List ℕ → Env → Result Env Stop
+entered known fixed zero line path p bytes e = entered_by None line path p bytes e
+entered known fixed (suc n) line path p bytes e = entered_by (Some (λ lines x. file_of (acts fixed (included known fixed n)) lines x)) line path p bytes e
 
 abbrev pub begun : List Macro → Env
 begun macros = record { rows = []; macros = table_of macros; open_files = [] }

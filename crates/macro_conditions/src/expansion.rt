@@ -8,7 +8,7 @@ ghost use Rattle.macro_conditions.specs.Macros.{same_text};
 ghost use Rattle.macro_conditions.specs.LineMeaning.{file_of};
 ghost use Rattle.macro_conditions.specs.LineStack.{step};
 ghost use Rattle.macro_conditions.specs.Sources.{answer, without_workspace};
-ghost use Rattle.macro_conditions.specs.Expansion.{bad, settled, hex_digit, spot_detail, lines_read, line_at, place_of, acts, included, include_field, opened, is_open, too_long, inside, rooted, begun, document, expansion, Stop};
+ghost use Rattle.macro_conditions.specs.Expansion.{bad, settled, hex_digit, spot_detail, lines_read, line_at, place_of, acts, included, entered, include_field, opened, is_open, too_long, inside, rooted, begun, document, expansion, Stop};
 ghost use Rattle.build_base.specs.declared.outside.Got.{Got as Gotten};
 ghost use Rattle.macro_conditions.specs.Worlds.{told, AgreesWith, HoldsIn};
 ghost use Rattle.macro_conditions.specs.Work.{source_view, located_view, env_of, left_last, state_of, Halts, stop_in, Agrees, Expands};
@@ -231,7 +231,7 @@ fn leave(work: &mut Work)
 
 // An include, where so many files more may be open.
 #[cycle(files)]
-#[tactic(auto, unfolding(crate::specs::Expansion::included))]
+#[tactic(auto, unfolding(crate::specs::Expansion::included, crate::specs::Expansion::entered))]
 fn include(
     alloc: Global,
     given: Given<'_>,
@@ -256,15 +256,34 @@ fn include(
         Located::Missing => Err(bad(alloc, 121, line, path.bytes())),
         Located::OverLimit(place) => Err(too_long(alloc, &place)),
         Located::There(place, bytes) => {
-            if levels == 0 {
-                return Err(bad(alloc, 122, line, path.bytes()));
-            }
-            if is_open(&place, work) {
-                return Err(bad(alloc, 123, line, path.bytes()));
-            }
-            open_file(alloc, given, work, levels - 1, &place, bytes)
+            open_included(alloc, given, work, levels, line, &path, &place, bytes)
         }
     }
+}
+
+// The file that an include of this path finds, where so many files more may be open.
+#[cycle(files)]
+#[tactic(auto, unfolding(crate::specs::Expansion::entered))]
+fn open_included(
+    alloc: Global,
+    given: Given<'_>,
+    work: &mut Work,
+    levels: u32,
+    line: SourceLine<'_>,
+    path: &Path,
+    place: &Path,
+    bytes: &[u8],
+) -> Result<(), Stopped>
+    ensures whole { Agrees (λ u. env_of work.new) result (entered (answer given.entry.known.now) given.entry.fixed.now levels (source_view line.entry) path.now place.now bytes.now (env_of work.old)) }
+    ensures open_files { OnOk result (work.new.open_files.items ≡ work.old.open_files.items) }
+{
+    if levels == 0 {
+        return Err(bad(alloc, 122, line, path.bytes()));
+    }
+    if is_open(place, work) {
+        return Err(bad(alloc, 123, line, path.bytes()));
+    }
+    open_file(alloc, given, work, levels - 1, place, bytes)
 }
 
 // The root of a document.
@@ -330,7 +349,6 @@ fn carry_out(
 /// The lines that a document comes to, from what is known of its files: its conditionals and includes are
 /// carried out, and its macros replaced. `macros` are those that it starts with, and `fixed` hold above
 /// every definition of a file.
-#[tactic(auto, using(crate::proofs::MoreAnswersLaw::in_world))]
 pub fn expand(
     alloc: Global,
     root: &Path,

@@ -128,9 +128,9 @@ fn put_each_once<'a>(paths: &mut Vec<&'a [u8]>, more: &[&'a [u8]]) -> Result<(),
     Ok(())
 }
 
-// The packages that some INFs name for an architecture, each at its first place.
+/// The packages that some INFs name for an architecture, each at its first place.
 #[tactic(auto, unfolding(crate::specs::Listing::packages_in))]
-fn packages_in<'a>(
+pub fn packages_in<'a>(
     alloc: Global,
     arch: Arch,
     infs: &'a [InfDoc],

@@ -11,7 +11,7 @@ use doc_types::platform::{PlatformDoc, Sku};
 use meta_lexer::words::same_word;
 use std::alloc::Global;
 
-pub(crate) fn is_all(names: &[Text]) -> bool
+pub fn is_all(names: &[Text]) -> bool
     ensures { result ≡ is_all names.now }
 {
     match names {

@@ -32,7 +32,7 @@ fn stated_parent<'a>(skus: &'a [Sku], name: &[u8]) -> Option<&'a [u8]>
 }
 
 #[tactic(auto, unfolding(doc_types::specs::SkuWalks::parent))]
-fn parent<'a>(skus: &'a [Sku], name: &[u8]) -> Option<&'a [u8]>
+pub fn parent<'a>(skus: &'a [Sku], name: &[u8]) -> Option<&'a [u8]>
     ensures { option_copied result ≡ parent skus.now name.now }
 {
     if name == b"DEFAULT".as_slice() {

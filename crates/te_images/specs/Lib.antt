@@ -1,3 +1,4 @@
+pub mod Standard
 pub mod Pe
 pub mod Headers
 pub mod Te

@@ -3,6 +3,7 @@ use Rattle.std.specs.Prelude.{ℕ, ◌==◌, Bool, not, nat_lt, List, [], ◌∷
 use Rattle.byteorder.specs.Endian.{little_bytes}
 use Rattle.build_base.specs.First.{first_holding, unless}
 use Rattle.te_images.specs.Pe.{machine, number_of_sections, subsystem, address_of_entry_point, base_of_code, image_base, section_alignment, file_alignment, data_directory, section_table, section_table_end, pe_checks}
+use Rattle.te_images.specs.Standard.{IMAGE_DIRECTORY_ENTRY_BASERELOC, IMAGE_DIRECTORY_ENTRY_DEBUG}
 use Rattle.te_images.specs.declared.fault.PeFault.{PeFault}
 use Rattle.te_images.specs.declared.fault.PeFault.TheVariants.{Truncated, AlignmentsDiffer, TooManySections, HeaderTooLong, SubsystemTooLarge}
 use Rattle.te_images.specs.declared.te.TeHead.{TeHead}
@@ -10,9 +11,9 @@ use Rattle.te_images.specs.declared.te.TeHead.{TeHead}
 -- What a PE module can have that a TE image can't, in the order of the checks.
 unfoldable pub te_limits : List ℕ → List (Bool × PeFault)
 te_limits file =
-    (nat_lt 65535 (section_table file), HeaderTooLong)
-    ∷ (nat_lt 255 (number_of_sections file), TooManySections)
-    ∷ (nat_lt 255 (subsystem file), SubsystemTooLarge)
+    (nat_lt 0xFFFF (section_table file), HeaderTooLong)
+    ∷ (nat_lt 0xFF (number_of_sections file), TooManySections)
+    ∷ (nat_lt 0xFF (subsystem file), SubsystemTooLarge)
     ∷ (nat_lt (length file) (section_table_end file), Truncated)
     ∷ (not (file_alignment file == section_alignment file), AlignmentsDiffer)
     ∷ []
@@ -30,8 +31,8 @@ te_head_of file = record {
   entry = address_of_entry_point file;
   code = base_of_code file;
   base = image_base file;
-  relocation = data_directory file 5;
-  debug = data_directory file 6;
+  relocation = data_directory file IMAGE_DIRECTORY_ENTRY_BASERELOC;
+  debug = data_directory file IMAGE_DIRECTORY_ENTRY_DEBUG;
 }
 
 -- The header of the TE image, or the first check that fails.

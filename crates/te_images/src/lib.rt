@@ -4,6 +4,7 @@
 mod fault;
 mod number;
 mod pe;
+mod standard;
 mod te;
 
 pub use fault::PeFault;

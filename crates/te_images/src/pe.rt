@@ -3,18 +3,16 @@ ghost use Rattle.std.specs.Prelude.{◌≡◌, ◌+◌, ◌==◌, ◌⊎◌, IfO
 ghost use Rattle.build_base.specs.First.{first_holding, unless};
 ghost use Rattle.te_images.specs.declared.fault.PeFault.TheVariants.{NotPe, Truncated};
 ghost use Rattle.te_images.specs.Headers.{AreHeaders};
+ghost use Rattle.te_images.specs.Standard.{IMAGE_DOS_SIGNATURE, IMAGE_SIZEOF_FILE_HEADER, IMAGE_SIZEOF_OPTIONAL32_HEADER, IMAGE_SIZEOF_OPTIONAL64_HEADER};
 ghost use Rattle.te_images.specs.Pe.{e_magic, machine, number_of_sections, address_of_entry_point, base_of_code, image_base, section_alignment, file_alignment, subsystem, number_of_rva_and_sizes, data_directory, section_table, section_alignment_of, file_alignment_of, pe_checks};
 
 use crate::fault::PeFault;
 use crate::number::{u16_at, u32_at, u64_at};
-
-const DOS_SIGNATURE: u16 = 0x5A4D;
-
-const PE_SIGNATURE: u32 = 0x4550;
-
-const PE32: u16 = 0x10B;
-
-const PE32_PLUS: u16 = 0x20B;
+use crate::standard::{
+    E_LFANEW, IMAGE_DOS_SIGNATURE, IMAGE_NT_OPTIONAL_HDR32_MAGIC, IMAGE_NT_OPTIONAL_HDR64_MAGIC,
+    IMAGE_NT_SIGNATURE, IMAGE_SIZEOF_DOS_HEADER, IMAGE_SIZEOF_FILE_HEADER,
+    IMAGE_SIZEOF_OPTIONAL32_HEADER, IMAGE_SIZEOF_OPTIONAL64_HEADER,
+};
 
 /// Where the headers of a PE file stand: the signature's place, and SizeOfOptionalHeader.
 #[derive(Clone, Copy)]
@@ -50,9 +48,9 @@ pub fn file_alignment(file: &[u8]) -> Result<u32, PeFault>
 
 #[tactic(auto, unfolding(crate::specs::Pe::number_at))]
 fn is_dos(file: &[u8]) -> bool
-    ensures { result ≡ (e_magic file.now == 0x5A4D) }
+    ensures { result ≡ (e_magic file.now == IMAGE_DOS_SIGNATURE) }
 {
-    file.len() >= 2 && u16_at(file, 0) == DOS_SIGNATURE
+    file.len() >= 2 && u16_at(file, 0) == IMAGE_DOS_SIGNATURE
 }
 
 impl PeHeaders {
@@ -67,27 +65,29 @@ impl PeHeaders {
         if !is_dos(file) {
             return Err(PeFault::NotPe);
         }
-        if length < 64 {
+        if length < IMAGE_SIZEOF_DOS_HEADER {
             return Err(PeFault::Truncated);
         }
-        let signature = u32_at(file, 0x3C);
-        let optional = signature as u64 + 24;
+        let signature = u32_at(file, E_LFANEW);
+        let optional = signature as u64 + IMAGE_SIZEOF_FILE_HEADER;
         if length < optional {
             return Err(PeFault::Truncated);
         }
-        if u32_at(file, signature as u64) != PE_SIGNATURE {
+        if u32_at(file, signature as u64) != IMAGE_NT_SIGNATURE {
             return Err(PeFault::NotPe);
         }
-        let optional_size = u16_at(file, signature as u64 + 20);
-        if optional_size < 96 {
+        let optional_size = u16_at(file, signature as u64 + 0x14);
+        if optional_size < IMAGE_SIZEOF_OPTIONAL32_HEADER {
             return Err(PeFault::NotPe);
         }
         if length < optional + optional_size as u64 {
             return Err(PeFault::Truncated);
         }
         let magic = u16_at(file, optional);
-        let is_pe32_plus = magic == PE32_PLUS;
-        if !(magic == PE32 || (is_pe32_plus && 112 <= optional_size)) {
+        let is_pe32_plus = magic == IMAGE_NT_OPTIONAL_HDR64_MAGIC;
+        if !(magic == IMAGE_NT_OPTIONAL_HDR32_MAGIC
+            || (is_pe32_plus && IMAGE_SIZEOF_OPTIONAL64_HEADER <= optional_size))
+        {
             return Err(PeFault::NotPe);
         }
         Ok(PeHeaders {
@@ -99,14 +99,14 @@ impl PeHeaders {
 
     // The place of the optional header.
     fn optional(self) -> u64
-        ensures { result ≡ self.signature + 24 }
+        ensures { result ≡ self.signature + IMAGE_SIZEOF_FILE_HEADER }
     {
-        self.signature as u64 + 24
+        self.signature as u64 + IMAGE_SIZEOF_FILE_HEADER
     }
 
     // The place of the section table, behind the optional header.
     pub fn section_table(self) -> u64
-        ensures { result ≡ self.signature + 24 + self.optional_size }
+        ensures { result ≡ self.signature + IMAGE_SIZEOF_FILE_HEADER + self.optional_size }
     {
         self.optional() + self.optional_size as u64
     }
@@ -115,28 +115,28 @@ impl PeHeaders {
         requires { AreHeaders file.now self }
         ensures { result ≡ machine file.now }
     {
-        u16_at(file, self.signature as u64 + 4)
+        u16_at(file, self.signature as u64 + 0x04)
     }
 
     pub fn number_of_sections(self, file: &[u8]) -> u16
         requires { AreHeaders file.now self }
         ensures { result ≡ number_of_sections file.now }
     {
-        u16_at(file, self.signature as u64 + 6)
+        u16_at(file, self.signature as u64 + 0x06)
     }
 
     pub fn entry_point(self, file: &[u8]) -> u32
         requires { AreHeaders file.now self }
         ensures { result ≡ address_of_entry_point file.now }
     {
-        u32_at(file, self.optional() + 16)
+        u32_at(file, self.optional() + 0x10)
     }
 
     pub fn base_of_code(self, file: &[u8]) -> u32
         requires { AreHeaders file.now self }
         ensures { result ≡ base_of_code file.now }
     {
-        u32_at(file, self.optional() + 20)
+        u32_at(file, self.optional() + 0x14)
     }
 
     pub fn image_base(self, file: &[u8]) -> u64
@@ -144,9 +144,9 @@ impl PeHeaders {
         ensures { result ≡ image_base file.now }
     {
         if self.is_pe32_plus {
-            u64_at(file, self.optional() + 24)
+            u64_at(file, self.optional() + 0x18)
         } else {
-            u32_at(file, self.optional() + 28) as u64
+            u32_at(file, self.optional() + 0x1C) as u64
         }
     }
 
@@ -154,21 +154,21 @@ impl PeHeaders {
         requires { AreHeaders file.now self }
         ensures { result ≡ section_alignment file.now }
     {
-        u32_at(file, self.optional() + 32)
+        u32_at(file, self.optional() + 0x20)
     }
 
     pub fn file_alignment(self, file: &[u8]) -> u32
         requires { AreHeaders file.now self }
         ensures { result ≡ file_alignment file.now }
     {
-        u32_at(file, self.optional() + 36)
+        u32_at(file, self.optional() + 0x24)
     }
 
     pub fn subsystem(self, file: &[u8]) -> u16
         requires { AreHeaders file.now self }
         ensures { result ≡ subsystem file.now }
     {
-        u16_at(file, self.optional() + 68)
+        u16_at(file, self.optional() + 0x44)
     }
 
     // NumberOfRvaAndSizes: how many data directories there are.
@@ -176,15 +176,19 @@ impl PeHeaders {
         requires { AreHeaders file.now self }
         ensures { result ≡ number_of_rva_and_sizes file.now }
     {
-        let offset = if self.is_pe32_plus { 108 } else { 92 };
+        let offset = if self.is_pe32_plus { 0x6C } else { 0x5C };
         u32_at(file, self.optional() + offset)
     }
 
     // Where in the optional header the data directories start.
     fn directories(self) -> u64
-        ensures { result ≡ (if self.is_pe32_plus then 112 else 96) }
+        ensures { result ≡ (if self.is_pe32_plus then IMAGE_SIZEOF_OPTIONAL64_HEADER else IMAGE_SIZEOF_OPTIONAL32_HEADER) }
     {
-        if self.is_pe32_plus { 112 } else { 96 }
+        if self.is_pe32_plus {
+            IMAGE_SIZEOF_OPTIONAL64_HEADER as u64
+        } else {
+            IMAGE_SIZEOF_OPTIONAL32_HEADER as u64
+        }
     }
 
     // The address and the size in a data directory; zeros where there is none of this number.

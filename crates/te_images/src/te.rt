@@ -7,12 +7,10 @@ ghost use Rattle.build_base.specs.First.{first_holding, unless};
 
 use crate::fault::PeFault;
 use crate::pe::PeHeaders;
+use crate::standard::{
+    IMAGE_DIRECTORY_ENTRY_BASERELOC, IMAGE_DIRECTORY_ENTRY_DEBUG, IMAGE_SIZEOF_SECTION_HEADER,
+};
 use byteorder::{ByteOrder, LittleEndian};
-
-// Numbers of data directories.
-const RELOCATION: u32 = 5;
-
-const DEBUG: u32 = 6;
 
 /// The header of a TE image (UEFI PI specification, volume 1).
 #[derive(Clone, Copy, Debug, PartialEq, Eq)]
@@ -65,17 +63,17 @@ fn te_head(file: &[u8], headers: PeHeaders) -> Result<TeHead, PeFault>
     ensures least { IfOk result (λ head. 120 ≤ head.stripped) }
 {
     let table = headers.section_table();
-    if table > 65_535 {
+    if table > 0xFFFF {
         return Err(PeFault::HeaderTooLong);
     }
     let sections = headers.number_of_sections(file);
-    if sections > 255 {
+    if sections > 0xFF {
         return Err(PeFault::TooManySections);
     }
-    if headers.subsystem(file) > 255 {
+    if headers.subsystem(file) > 0xFF {
         return Err(PeFault::SubsystemTooLarge);
     }
-    if (file.len() as u64) < table + 40 * sections as u64 {
+    if (file.len() as u64) < table + IMAGE_SIZEOF_SECTION_HEADER * sections as u64 {
         return Err(PeFault::Truncated);
     }
     if headers.file_alignment(file) != headers.section_alignment(file) {
@@ -87,9 +85,9 @@ fn te_head(file: &[u8], headers: PeHeaders) -> Result<TeHead, PeFault>
 #[tactic(auto, unfolding(crate::specs::Te::te_head_of))]
 fn head_of(file: &[u8], headers: PeHeaders) -> TeHead
     requires headers { AreHeaders file.now headers }
-    requires sections { number_of_sections file.now ≤ 255 }
-    requires subsystem { subsystem file.now ≤ 255 }
-    requires table { section_table file.now ≤ 65535 }
+    requires sections { number_of_sections file.now ≤ 0xFF }
+    requires subsystem { subsystem file.now ≤ 0xFF }
+    requires table { section_table file.now ≤ 0xFFFF }
     ensures value { result ≡ te_head_of file.now }
     ensures stripped { result.stripped ≡ section_table file.now }
 {
@@ -101,8 +99,8 @@ fn head_of(file: &[u8], headers: PeHeaders) -> TeHead
         entry: headers.entry_point(file),
         code: headers.base_of_code(file),
         base: headers.image_base(file),
-        relocation: headers.data_directory(file, RELOCATION),
-        debug: headers.data_directory(file, DEBUG),
+        relocation: headers.data_directory(file, IMAGE_DIRECTORY_ENTRY_BASERELOC),
+        debug: headers.data_directory(file, IMAGE_DIRECTORY_ENTRY_DEBUG),
     }
 }
 

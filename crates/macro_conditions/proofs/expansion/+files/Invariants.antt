@@ -8,16 +8,19 @@ use Rattle.macro_conditions.specs.Work.{state_of, env_of}
 use Rattle.macro_conditions.proofs.expansion.+files.Given as goal
 
 abbrev pub decreases-include : goal.decreases-include
-decreases-include l = 4 * l.levels
+decreases-include l = 5 * l.levels + 1
+
+abbrev pub decreases-open_included : goal.decreases-open_included
+decreases-open_included l = 5 * l.levels
 
 abbrev pub decreases-one_line : goal.decreases-one_line
-decreases-one_line l = 4 * l.levels + 1
+decreases-one_line l = 5 * l.levels + 2
 
 abbrev pub decreases-all_lines : goal.decreases-all_lines
-decreases-all_lines l = 4 * l.levels + 2
+decreases-all_lines l = 5 * l.levels + 3
 
 abbrev pub decreases-open_file : goal.decreases-open_file
-decreases-open_file l = 4 * l.levels + 3
+decreases-open_file l = 5 * l.levels + 4
 
 abbrev pub invariant-all_lines-loop-line : goal.invariant-all_lines-loop-line
 invariant-all_lines-loop-line l = record {
