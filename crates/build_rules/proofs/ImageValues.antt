@@ -1,29 +1,25 @@
 -- The values of the flash description, of images and of the whole build in a world.
 use Rattle.std.specs.Prelude.{◌==◌, ◌&&◌, if◌then◌else◌}
 use Rattle.std.specs.Option.{is_some}
-use Rattle.std.proofs.Common.{◌≡◌, ℕ, Bool, true, false, List, [], ◌∷◌, length, refl, sym, ap, ◌∙◌, Result, Ok, Err, Option, Some, None}
+use Rattle.std.proofs.Common.{◌≡◌, ℕ, Bool, true, false, List, [], ◌∷◌, length, refl, ap, ◌∙◌, Result, Ok, Err, Option, Some, None}
 use Rattle.build_base.specs.First.{and_then, or_else, or_fault}
-use Rattle.build_base.specs.Path.{path_field, is_path}
+use Rattle.build_base.specs.Path.{path_field}
 use Rattle.build_base.specs.World.{World, field}
 use Rattle.build_base.specs.declared.fault.Fault.{Fault}
-use Rattle.build_base.specs.declared.lines.Macro.{Macro}
 use Rattle.step_engine.specs.Meaning.{right, IsWorld}
 use Rattle.step_engine.specs.declared.talk.Ask.{Ask}
 use Rattle.step_engine.specs.declared.talk.Ask.TheVariants as ask
 use Rattle.step_engine.specs.declared.talk.Answer.{Answer}
 use Rattle.step_engine.specs.declared.talk.Answer.TheVariants as answer
 use Rattle.step_engine.specs.declared.talk.Outcome.{Outcome}
-use Rattle.step_engine.specs.declared.talk.Outcome.TheVariants.{Good, Bad}
 use Rattle.build_stages.specs.Bounds.{both_hold}
-use Rattle.build_stages.specs.Stages.{Stages, end, stage, run, fault_in, outcome_of, meaning_of, misfit}
+use Rattle.build_stages.specs.Stages.{end, stage, run, fault_in, outcome_of, meaning_of}
 use Rattle.build_stages.specs.StagesLaws.{value_is}
-use Rattle.build_stages.specs.Writing.{attempt, when, part_of}
-use Rattle.doc_types.specs.declared.flash.DevicePlan.{DevicePlan}
+use Rattle.build_stages.specs.Writing.{attempt, when}
 use Rattle.doc_types.specs.declared.flash.FlashDoc.{FlashDoc}
 use Rattle.doc_types.specs.declared.platform.PlatformDoc.{PlatformDoc}
 use Rattle.doc_types.specs.declared.volume.Item.{Item}
 use Rattle.doc_types.specs.declared.volume.Item.TheVariants as item
-use Rattle.doc_types.specs.declared.volume.VolumePlan.{VolumePlan}
 use Rattle.doc_types.specs.declared.volume_head.VolumeHead.{VolumeHead}
 use Rattle.flash_document.specs.Flash.{flash_of}
 use Rattle.step_pack.specs.Keys.{key_cmp}
@@ -37,11 +33,11 @@ use Rattle.image_steps.specs.Volumes.{volume_given}
 use Rattle.image_steps.specs.Devices.{device_given}
 use Rattle.build_rules.specs.AllTree.{all_asks, image_asks, all_given, all_stages, images_stages}
 use Rattle.build_rules.specs.Fits.{fits}
-use Rattle.build_rules.specs.ImageTrees.{flash_in, flash_of_out, volume_at, item_at, device_at, item_stages, file_stages, plan_stages, volume_stages, regions_stages, device_stages}
+use Rattle.build_rules.specs.ImageTrees.{flash_in, volume_at, item_at, device_at, item_stages, file_stages, volume_stages, device_stages}
 use Rattle.build_rules.specs.Outputs.{output_folder, outputs_of}
-use Rattle.build_rules.specs.Rules.{edk, is_empty, is_path_or_empty, stages_of, value_in}
+use Rattle.build_rules.specs.Rules.{edk, is_empty, is_path_or_empty, value_in}
 use Rattle.build_rules.specs.RulesBounds.{edk_is_bounded}
-use Rattle.build_rules.specs.Trees.{EdkStages, given_as, some_path, path_named, flash_named, flash_asks, flash_from, flash_given, flash_stages, platform_of_out}
+use Rattle.build_rules.specs.Trees.{EdkStages, given_as, some_path, path_named, flash_named, flash_asks, flash_from, flash_given, flash_stages}
 use Rattle.build_rules.specs.Values.{job_macros, platform_value, flash_file, flash_of_file, flash_value, answers_in, fault_asked, by_answers, if_shaped, item_value, file_value, planned_value, volume_value, regions_value, device_value, images_value, all_value}
 use Rattle.build_rules.proofs.KindLemmas.{stage_run}
 use Rattle.build_rules.proofs.ValueLemmas.{document_run, path_some, platform_is}

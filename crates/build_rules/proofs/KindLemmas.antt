@@ -1,5 +1,5 @@
 -- Each step gives what its kind of key does, so that every answer of a world fits.
-use Rattle.std.specs.Prelude.{◌==◌, ◌&&◌}
+use Rattle.std.specs.Prelude.{◌&&◌}
 use Rattle.std.proofs.Common.{◌≡◌, ℕ, Bool, true, false, List, [], ◌∷◌, length, map, refl, sym, ap, ◌∙◌, Result, Ok, Err, Option, Some, None, IfOk}
 use Rattle.std.proofs.lemmas.Bool.{eq-eqb}
 use Rattle.build_base.specs.First.{or_else, first_of, or_fault}
@@ -13,11 +13,10 @@ use Rattle.step_engine.specs.declared.talk.Ask.TheVariants as ask
 use Rattle.step_engine.specs.declared.talk.Answer.{Answer}
 use Rattle.step_engine.specs.declared.talk.Answer.TheVariants as answer
 use Rattle.step_engine.specs.declared.talk.Outcome.{Outcome}
-use Rattle.build_stages.specs.Stages.{Stages, end, stage, bind, run, first_stop, unless_stopped, stop_of, fault_in, outcome_of, meaning_of, misfit}
+use Rattle.build_stages.specs.Stages.{Stages, end, stage, bind, run, first_stop, unless_stopped, stop_of, fault_in, outcome_of, meaning_of}
 use Rattle.build_stages.specs.StagesLaws.{value_is}
 use Rattle.build_stages.specs.Writing.{attempt, when}
 use Rattle.document_stages.specs.Documents.{lines_of}
-use Rattle.doc_types.specs.declared.flash.DevicePlan.{DevicePlan}
 use Rattle.doc_types.specs.declared.flash.FlashDoc.{FlashDoc}
 use Rattle.doc_types.specs.declared.platform.PlatformDoc.{PlatformDoc}
 use Rattle.doc_types.specs.declared.volume.Item.{Item}
@@ -41,7 +40,7 @@ use Rattle.build_rules.specs.AllTree.{folder_in}
 use Rattle.build_rules.specs.Outputs.{outputs_of}
 use Rattle.build_rules.specs.Trees.{EdkStages, given_as, document_stages, root_in, macros_in, platform_in, flash_root, flash_from}
 use Rattle.build_rules.specs.ImageTrees.{flash_in, volume_at, item_at, device_at, item_stages}
-use Rattle.build_rules.specs.Rules.{edk, stages_of, value_in}
+use Rattle.build_rules.specs.Rules.{edk, stages_of}
 use Rattle.build_rules.specs.RulesBounds.{edk_is_bounded}
 use Rattle.build_rules.specs.Values.{answers_in, fault_asked}
 use Rattle.build_rules.proofs.ValueLemmas.{file_fits}

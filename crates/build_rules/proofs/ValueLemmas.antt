@@ -1,5 +1,5 @@
 -- The values of documents in a world.
-use Rattle.std.proofs.Common.{◌≡◌, ℕ, Bool, true, false, List, [], length, nat_le, refl, sym, ap, ◌∙◌, Result, Ok, Err, Option, Some, None, cond}
+use Rattle.std.proofs.Common.{◌≡◌, ℕ, Bool, true, false, List, [], length, nat_le, refl, ap, ◌∙◌, Result, Ok, Err, Option, Some, None, cond}
 use Rattle.std.proofs.lemmas.Bool.{leb-true}
 use Rattle.build_base.specs.First.{and_then}
 use Rattle.build_base.specs.Outside.{IsWithin, got_of}
@@ -33,7 +33,7 @@ use Rattle.dec_docs.specs.Package.{package_of}
 use Rattle.inf_docs.specs.Modules.{module_of}
 use Rattle.build_rules.specs.Fits.{fits}
 use Rattle.build_rules.specs.Trees.{given_as, document_stages, path_named, platform_stages}
-use Rattle.build_rules.specs.Rules.{edk, stages_of, value_in}
+use Rattle.build_rules.specs.Rules.{edk, value_in}
 use Rattle.build_rules.specs.RulesBounds.{edk_is_bounded}
 use Rattle.build_rules.specs.Values.{lines_in, dec_value, inf_value, job_macros, platform_value}
 

@@ -1,6 +1,6 @@
 -- What the whole build asks, stage by stage, and what comes of the answers; the rule is this
 -- project's own. Of modules and of the report nothing is asked yet, since no step makes their texts.
-use Rattle.std.specs.Prelude.{ℕ, ◌+◌, ◌&&◌, ◌==◌, List, [], ◌∷◌, ◌++◌, length, Result, Ok, Err}
+use Rattle.std.specs.Prelude.{ℕ, ◌+◌, ◌&&◌, List, [], ◌∷◌, ◌++◌, length, Result}
 use Rattle.build_base.specs.First.{and_then}
 use Rattle.build_base.specs.declared.fault.Fault.{Fault}
 use Rattle.step_engine.specs.declared.talk.Ask.{Ask}

@@ -1,11 +1,10 @@
 -- The bounds of the steps of images: what they ask is of lower rank, and they ask two batches.
 use Rattle.std.specs.Prelude.{◌&&◌, not}
-use Rattle.std.proofs.Common.{◌≡◌, ℕ, ◌+◌, ◌*◌, ◌<◌, ◌≤◌, nat_lt, arith, Bool, true, false, List, [], ◌∷◌, ◌++◌, length, All, refl, cond}
+use Rattle.std.proofs.Common.{◌≡◌, ℕ, ◌+◌, ◌*◌, ◌<◌, arith, Bool, true, false, List, [], ◌∷◌, length, All, cond}
 use Rattle.std.proofs.lemmas.Bool.{ltb-true}
 use Rattle.std.proofs.lemmas.List.Elements.{All-nil, All-cons, All-append}
 use Rattle.step_engine.specs.declared.talk.Ask.{Ask}
 use Rattle.step_engine.specs.declared.talk.Ask.TheVariants as ask
-use Rattle.step_engine.specs.declared.talk.Answer.{Answer}
 use Rattle.build_stages.specs.Stages.{IsLower, AreLower, IsWithin}
 use Rattle.build_stages.specs.Bounds.{all_one, all_two, both_hold, attempt_lower, attempt_within, when_lower, when_within}
 use Rattle.doc_types.specs.declared.flash.DevicePlan.{DevicePlan}
@@ -13,7 +12,6 @@ use Rattle.doc_types.specs.declared.flash.FlashDoc.{FlashDoc}
 use Rattle.doc_types.specs.declared.flash.Region.{Region}
 use Rattle.doc_types.specs.declared.flash.RegionKind.{RegionKind}
 use Rattle.doc_types.specs.declared.flash.RegionKind.TheVariants as kind
-use Rattle.doc_types.specs.declared.volume.FilePlan.{FilePlan}
 use Rattle.doc_types.specs.declared.volume.Item.{Item}
 use Rattle.doc_types.specs.declared.volume.Item.TheVariants as item
 use Rattle.doc_types.specs.declared.volume.SectionPlan.{SectionPlan}
@@ -26,8 +24,8 @@ use Rattle.step_pack.specs.declared.key.Key.TheVariants as key
 use Rattle.std.proofs.Common.{Option, Some, None}
 use Rattle.image_steps.specs.Asks.{source_file, source_volume, section_files, section_volumes, body_asks, source_below, sections_below, is_apriori, files_where, kind_asks, region_asks, kind_below, regions_below, are_few}
 use Rattle.build_rules.specs.Trees.{platform_in}
-use Rattle.build_rules.specs.ImageTrees.{flash_in, volume_at, item_at, device_at, item_stages, file_from, file_stages, plan_stages, volume_from, volume_stages, regions_stages, device_from, device_stages}
-use Rattle.build_rules.specs.AllTree.{steps_from, folder_in, images_stages, all_given, all_stages}
+use Rattle.build_rules.specs.ImageTrees.{flash_in, volume_at, item_at, device_at, item_stages, file_stages, plan_stages, volume_stages, device_stages}
+use Rattle.build_rules.specs.AllTree.{steps_from, folder_in, images_stages, all_stages}
 use Rattle.build_rules.specs.Rules.{rank_of}
 use Rattle.build_rules.specs.Fits.{fits}
 

@@ -1,6 +1,6 @@
 -- The bounds of the steps of a build: what they ask is of lower rank, and how many batches they
 -- ask.
-use Rattle.std.proofs.Common.{◌≡◌, ℕ, ◌+◌, ◌-◌, ◌≤◌, arith, List, [], ◌∷◌, Option, Some, None, Result, subst}
+use Rattle.std.proofs.Common.{◌≡◌, ℕ, ◌+◌, ◌-◌, arith, List, [], ◌∷◌, Option, Some, None, Result, subst}
 use Rattle.std.proofs.lemmas.List.Elements.{All-cons}
 use Rattle.build_base.specs.declared.lines.Macro.{Macro}
 use Rattle.step_engine.specs.declared.talk.Ask.TheVariants as ask

@@ -1,5 +1,5 @@
 -- Answers, and asks whose parts aren't done.
-use Rattle.std.proofs.Common.{ℕ, [], ◌∷◌, Option, subst}
+use Rattle.std.proofs.Common.{ℕ, Option, subst}
 use Rattle.build_base.specs.Outside.{Files}
 use Rattle.step_engine.specs.Build.{Setting}
 use Rattle.step_engine.specs.Engine.{State, AreKept}

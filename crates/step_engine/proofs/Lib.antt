@@ -18,3 +18,4 @@ pub mod WantingLemmas
 pub mod PoolLemmas
 pub mod Ending
 pub mod ScanLemmas
+pub mod EditLemmas

@@ -1,5 +1,5 @@
 -- The steps of a build, over plain variables.
-use Rattle.std.proofs.Common.{◌≡◌, ℕ, suc, ◌++◌, ◌<◌, ◌≤◌, ◌+◌, List, [], ◌∷◌, Option, Some, Bool, true, false, refl, sym, ap, ◌∙◌, subst, append-nil, All, Contains, arith, inl, inr, take, drop, get_or, length, slice_index_or, IsTrue, ◌↔◌}
+use Rattle.std.proofs.Common.{◌≡◌, ℕ, suc, ◌++◌, ◌<◌, ◌≤◌, ◌+◌, List, [], ◌∷◌, Option, Some, Bool, true, false, refl, sym, ap, ◌∙◌, subst, All, Contains, arith, inl, inr, take, drop, get_or, length, slice_index_or, IsTrue, ◌↔◌}
 use Rattle.std.proofs.lemmas.List.{take_more, take_all}
 use Rattle.std.proofs.lemmas.List.Elements.{Contains-push_cases, All-push, All-more, All-get_or, All-contains, All-nil, All-cons, All-head, All-tail, All-contains_itself}
 use Rattle.std.proofs.Math.Seq.{split_at}
@@ -7,7 +7,7 @@ use Rattle.build_base.specs.Outside.{Files}
 use Rattle.build_base.specs.World.{World}
 use Rattle.step_engine.specs.Caches.{HasKey}
 use Rattle.step_engine.specs.Reading.{IsRead, IsReadOk}
-use Rattle.step_engine.specs.Meaning.{Meaning, asks_of, right, AreRight, IsRight, Follows, IsSmall, ArePairsSmall}
+use Rattle.step_engine.specs.Meaning.{Meaning, asks_of, right, AreRight, Follows, IsSmall, ArePairsSmall}
 use Rattle.step_engine.specs.Entries.{IsSound, IsValid}
 use Rattle.step_engine.specs.Needed.{IsNeededBy}
 use Rattle.step_engine.specs.Needed.IsNeededBy.{asked}

@@ -3,12 +3,14 @@ ghost use Rattle.std.specs.Prelude.{MatchOption, ◌≡◌, ◌<◌, ◌≤◌, 
 ghost use Rattle.build_base.specs.World.{World};
 ghost use Rattle.step_engine.specs.Meaning.{asks_of};
 ghost use Rattle.step_engine.specs.Build.{setting, IsHere, Counts};
+ghost use Rattle.step_engine.specs.Edits.{over};
 ghost use Rattle.step_engine.specs.Engine.{state, AreKept, Adds, IsNext, AreLower, IsAnswered, AreAnswered, IsCheckedBatch};
 ghost use Rattle.step_engine.specs.Reading.{read_at};
 ghost use Rattle.step_engine.specs.Table.{place_at, Finds};
 ghost use Rattle.step_engine.specs.Items.{IsStill};
 
 use crate::cache::Cache;
+use crate::edits::Edits;
 use crate::files::FilesRead;
 use crate::places::Places;
 use crate::read::read_once;
@@ -75,20 +77,21 @@ fn answer<R: Rules, T: Tree>(
     fresh: &Vec<Entry<R::Key, R::Out>>,
     places: &Places<R::Key>,
     tree: &mut T,
+    edits: &Edits,
     files: &mut FilesRead,
 ) -> Result<Option<Answer<R::Out>>, EngineRefusal>
-    requires kept { AreKept (setting R.means (T.held tree.old) job.now old.now) (state fresh.now.items (read_at files.old) [] (T.reads tree.old)) }
+    requires kept { AreKept (setting R.means (over edits.now (T.held tree.old)) job.now old.now) (state fresh.now.items (read_at files.old) [] (T.reads tree.old)) }
     requires finds { Finds (place_at R.Key.cmp places.now) fresh.now.items }
     requires lower { (part : R.Key) → ask.now ≡ Ask.Part part → R.means.rank part < R.means.rank key.now }
-    requires next { (w : World) → IsHere (setting R.means (T.held tree.old) job.now old.now) w → (asks : List (Ask R.Key)) × Contains asks ask.now × IsNext R.means w key.now asks }
+    requires next { (w : World) → IsHere (setting R.means (over edits.now (T.held tree.old)) job.now old.now) w → (asks : List (Ask R.Key)) × Contains asks ask.now × IsNext R.means w key.now asks }
     ensures held { T.held tree.new ≡ T.held tree.old }
     ensures count { Counts (T.faults tree.old) (T.faults tree.new) result }
-    ensures adds { Adds (setting R.means (T.held tree.old) job.now old.now) key.now (state fresh.now.items (read_at files.old) [] (T.reads tree.old)) (state fresh.now.items (read_at files.new) [] (T.reads tree.new)) }
-    ensures ok { IfOk result (λ r. MatchOption r (IsStill (setting R.means (T.held tree.old) job.now old.now) key.now (state fresh.now.items (read_at files.old) [] (T.reads tree.old)) (state fresh.now.items (read_at files.new) [] (T.reads tree.new))) (IsAnswered (setting R.means (T.held tree.old) job.now old.now) key.now ask.now (state fresh.now.items (read_at files.old) [] (T.reads tree.old)) (state fresh.now.items (read_at files.new) [] (T.reads tree.new)))) }
+    ensures adds { Adds (setting R.means (over edits.now (T.held tree.old)) job.now old.now) key.now (state fresh.now.items (read_at files.old) [] (T.reads tree.old)) (state fresh.now.items (read_at files.new) [] (T.reads tree.new)) }
+    ensures ok { IfOk result (λ r. MatchOption r (IsStill (setting R.means (over edits.now (T.held tree.old)) job.now old.now) key.now (state fresh.now.items (read_at files.old) [] (T.reads tree.old)) (state fresh.now.items (read_at files.new) [] (T.reads tree.new))) (IsAnswered (setting R.means (over edits.now (T.held tree.old)) job.now old.now) key.now ask.now (state fresh.now.items (read_at files.old) [] (T.reads tree.old)) (state fresh.now.items (read_at files.new) [] (T.reads tree.new)))) }
 {
     match ask {
         Ask::File(path) => {
-            let answer = read_once(alloc, tree, files, path)?;
+            let answer = read_once(alloc, tree, edits, files, path)?;
             Ok(Some(answer))
         }
         Ask::Field(number) => Ok(Some(Answer::Field(field(alloc, job, *number)?))),
@@ -110,20 +113,23 @@ pub fn answers<R: Rules, T: Tree>(
     fresh: &Vec<Entry<R::Key, R::Out>>,
     places: &Places<R::Key>,
     tree: &mut T,
+    edits: &Edits,
     files: &mut FilesRead,
 ) -> Result<Option<Rows<Pair<R::Key, R::Out>>>, EngineRefusal>
-    requires kept { AreKept (setting R.means (T.held tree.old) job.now old.now) (state fresh.now.items (read_at files.old) [] (T.reads tree.old)) }
+    requires kept { AreKept (setting R.means (over edits.now (T.held tree.old)) job.now old.now) (state fresh.now.items (read_at files.old) [] (T.reads tree.old)) }
     requires finds { Finds (place_at R.Key.cmp places.now) fresh.now.items }
-    requires lower { AreLower (setting R.means (T.held tree.old) job.now old.now) key.now asks.now }
-    requires next { (w : World) → IsHere (setting R.means (T.held tree.old) job.now old.now) w → IsNext R.means w key.now asks.now }
+    requires lower { AreLower (setting R.means (over edits.now (T.held tree.old)) job.now old.now) key.now asks.now }
+    requires next { (w : World) → IsHere (setting R.means (over edits.now (T.held tree.old)) job.now old.now) w → IsNext R.means w key.now asks.now }
     ensures held { T.held tree.new ≡ T.held tree.old }
     ensures count { Counts (T.faults tree.old) (T.faults tree.new) result }
-    ensures adds { Adds (setting R.means (T.held tree.old) job.now old.now) key.now (state fresh.now.items (read_at files.old) [] (T.reads tree.old)) (state fresh.now.items (read_at files.new) [] (T.reads tree.new)) }
-    ensures ok { IfOk result (λ r. MatchOption r (IsStill (setting R.means (T.held tree.old) job.now old.now) key.now (state fresh.now.items (read_at files.old) [] (T.reads tree.old)) (state fresh.now.items (read_at files.new) [] (T.reads tree.new))) (AreAnswered (setting R.means (T.held tree.old) job.now old.now) key.now asks.now (state fresh.now.items (read_at files.old) [] (T.reads tree.old)) (state fresh.now.items (read_at files.new) [] (T.reads tree.new)))) }
+    ensures adds { Adds (setting R.means (over edits.now (T.held tree.old)) job.now old.now) key.now (state fresh.now.items (read_at files.old) [] (T.reads tree.old)) (state fresh.now.items (read_at files.new) [] (T.reads tree.new)) }
+    ensures ok { IfOk result (λ r. MatchOption r (IsStill (setting R.means (over edits.now (T.held tree.old)) job.now old.now) key.now (state fresh.now.items (read_at files.old) [] (T.reads tree.old)) (state fresh.now.items (read_at files.new) [] (T.reads tree.new))) (AreAnswered (setting R.means (over edits.now (T.held tree.old)) job.now old.now) key.now asks.now (state fresh.now.items (read_at files.old) [] (T.reads tree.old)) (state fresh.now.items (read_at files.new) [] (T.reads tree.new)))) }
 {
     let mut pairs = Rows::new(alloc);
     for ask in asks.items() {
-        let found = answer(alloc, rules, job, old, key, ask, fresh, places, tree, files)?;
+        let found = answer(
+            alloc, rules, job, old, key, ask, fresh, places, tree, edits, files,
+        )?;
         let Some(answer) = found else {
             return Ok(None);
         };
@@ -144,15 +150,16 @@ pub fn check_batch<R: Rules, T: Tree>(
     fresh: &Vec<Entry<R::Key, R::Out>>,
     places: &Places<R::Key>,
     tree: &mut T,
+    edits: &Edits,
     files: &mut FilesRead,
 ) -> Result<Option<bool>, EngineRefusal>
-    requires kept { AreKept (setting R.means (T.held tree.old) job.now old.now) (state fresh.now.items (read_at files.old) [] (T.reads tree.old)) }
+    requires kept { AreKept (setting R.means (over edits.now (T.held tree.old)) job.now old.now) (state fresh.now.items (read_at files.old) [] (T.reads tree.old)) }
     requires finds { Finds (place_at R.Key.cmp places.now) fresh.now.items }
-    requires next { (w : World) → IsHere (setting R.means (T.held tree.old) job.now old.now) w → IsNext R.means w key.now (asks_of pairs.now) }
+    requires next { (w : World) → IsHere (setting R.means (over edits.now (T.held tree.old)) job.now old.now) w → IsNext R.means w key.now (asks_of pairs.now) }
     ensures held { T.held tree.new ≡ T.held tree.old }
     ensures count { Counts (T.faults tree.old) (T.faults tree.new) result }
-    ensures adds { Adds (setting R.means (T.held tree.old) job.now old.now) key.now (state fresh.now.items (read_at files.old) [] (T.reads tree.old)) (state fresh.now.items (read_at files.new) [] (T.reads tree.new)) }
-    ensures ok { IfOk result (λ r. MatchOption r (IsStill (setting R.means (T.held tree.old) job.now old.now) key.now (state fresh.now.items (read_at files.old) [] (T.reads tree.old)) (state fresh.now.items (read_at files.new) [] (T.reads tree.new))) (IsCheckedBatch (setting R.means (T.held tree.old) job.now old.now) key.now pairs.now (state fresh.now.items (read_at files.old) [] (T.reads tree.old)) (state fresh.now.items (read_at files.new) [] (T.reads tree.new)))) }
+    ensures adds { Adds (setting R.means (over edits.now (T.held tree.old)) job.now old.now) key.now (state fresh.now.items (read_at files.old) [] (T.reads tree.old)) (state fresh.now.items (read_at files.new) [] (T.reads tree.new)) }
+    ensures ok { IfOk result (λ r. MatchOption r (IsStill (setting R.means (over edits.now (T.held tree.old)) job.now old.now) key.now (state fresh.now.items (read_at files.old) [] (T.reads tree.old)) (state fresh.now.items (read_at files.new) [] (T.reads tree.new))) (IsCheckedBatch (setting R.means (over edits.now (T.held tree.old)) job.now old.now) key.now pairs.now (state fresh.now.items (read_at files.old) [] (T.reads tree.old)) (state fresh.now.items (read_at files.new) [] (T.reads tree.new)))) }
 {
     let mut right = true;
     for pair in pairs.items() {
@@ -160,7 +167,7 @@ pub fn check_batch<R: Rules, T: Tree>(
             return Ok(Some(false));
         }
         let found = answer(
-            alloc, rules, job, old, key, &pair.ask, fresh, places, tree, files,
+            alloc, rules, job, old, key, &pair.ask, fresh, places, tree, edits, files,
         )?;
         let Some(answer) = found else {
             return Ok(None);

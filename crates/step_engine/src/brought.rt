@@ -1,11 +1,13 @@
 //! A build: the outcome of a key, and the entries that serve the next build.
 ghost use Rattle.std.specs.Prelude.{◌≡◌, ◌≤◌, true, IfOk, OnOk, IsTrue, ◌↔◌};
+ghost use Rattle.step_engine.specs.Edits.{over};
 ghost use Rattle.step_engine.specs.Entries.{AreSound};
 ghost use Rattle.step_engine.specs.Needed.{IsBad};
 ghost use Rattle.step_engine.specs.Caches.{AreInOrder, AddsMissing, AreOthers, IsJoined};
 ghost use Rattle.step_engine.specs.Build.{setting, Counts, IsEntryOf, Ran, RanAll, HasRead, Built};
 
 use crate::cache::Cache;
+use crate::edits::Edits;
 use crate::files::FilesRead;
 use crate::in_order::in_order;
 use crate::places::Places;
@@ -128,6 +130,48 @@ pub fn bring<H: Threads + Sync, R: Rules, T: Tree, G: Gate>(
     // Where the tree tells what it holds and the cache is sound.
     ensures built { IfOk result (λ b. Built R.Key.cmp (setting R.means (T.held tree.old) job.now cache) top b.result b.cache b.needed) }
 {
+    let edits = Edits::new(alloc);
+    bring_over(
+        rt, alloc, rules, top, job, cache, tree, &edits, book, workers, gate,
+    )
+}
+
+/// The outcome of a key over edits of the tree's files, from the entries that an earlier build left.
+///
+/// A path that has an edit isn't read from the tree. All else is as in `bring`.
+pub fn bring_over<H: Threads + Sync, R: Rules, T: Tree, G: Gate>(
+    rt: &H,
+    alloc: Global,
+    rules: &R,
+    top: R::Key,
+    job: &Rows<Text>,
+    cache: Cache<R::Key, R::Out>,
+    tree: &mut T,
+    edits: &Edits,
+    book: &mut Book<R::Key>,
+    workers: u32,
+    gate: &G,
+) -> Result<Brought<R::Key, R::Out>, EngineRefusal>
+    requires job { R.means.is_job job.now ≡ true }
+    requires some { 1 ≤ workers }
+    requires most { workers ≤ 64 }
+
+    // The tree tells the same, and a read fault comes only where its count rose.
+    ensures held { T.held tree.new ≡ T.held tree.old }
+    ensures count { Counts (T.faults tree.old) (T.faults tree.new) result }
+
+    // For any tree.
+    ensures sound { AreSound R.means cache → IfOk result (λ b. AreSound R.means b.cache) }
+    ensures own { IfOk result (λ b. IsEntryOf top b.result b.cache) }
+
+    // Each step once, and only where wanted.
+    ensures ran { Ran (setting R.means (over edits.now (T.held tree.old)) job.now cache) top book.old book.new }
+    ensures all { OnOk result (RanAll (setting R.means (over edits.now (T.held tree.old)) job.now cache) top book.old book.new) }
+    ensures read { HasRead (setting R.means (over edits.now (T.held tree.old)) job.now cache) top (T.reads tree.old) (T.reads tree.new) }
+
+    // Where the tree tells what it holds and the cache is sound.
+    ensures built { IfOk result (λ b. Built R.Key.cmp (setting R.means (over edits.now (T.held tree.old)) job.now cache) top b.result b.cache b.needed) }
+{
     let mut fresh = Vec::new(alloc);
     let mut places = Places::new(alloc);
     let mut files = FilesRead::new(alloc);
@@ -141,6 +185,7 @@ pub fn bring<H: Threads + Sync, R: Rules, T: Tree, G: Gate>(
         &mut fresh,
         &mut places,
         tree,
+        edits,
         book,
         &mut files,
         workers,

@@ -5,6 +5,7 @@ mod advance;
 mod answers;
 pub mod brought;
 pub mod cache;
+pub mod edits;
 mod files;
 mod in_order;
 mod items;
@@ -25,8 +26,9 @@ pub mod talk;
 mod turns;
 mod wanted;
 
-pub use brought::{Brought, bring};
+pub use brought::{Brought, bring, bring_over};
 pub use cache::Cache;
+pub use edits::{Edit, Edits};
 pub use refusal::EngineRefusal;
 pub use rules::{Rules, StepKey, Turn};
 pub use talk::{Answer, Ask, Batch, Entry, Outcome, Pair, Talk};

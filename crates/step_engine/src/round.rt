@@ -1,6 +1,7 @@
 //! One round of a list of keys.
 ghost use Rattle.std.specs.Prelude.{◌≡◌, ◌≤◌, IfOk, []};
 ghost use Rattle.step_engine.specs.Build.{setting, Counts};
+ghost use Rattle.step_engine.specs.Edits.{over};
 ghost use Rattle.step_engine.specs.Engine.{state};
 ghost use Rattle.step_engine.specs.Reading.{read_at};
 ghost use Rattle.step_engine.specs.Table.{place_at};
@@ -9,6 +10,7 @@ ghost use Rattle.step_engine.specs.Taking.{IsList, ListNotes};
 
 use crate::advance::{advance_all, count_act};
 use crate::cache::Cache;
+use crate::edits::Edits;
 use crate::files::FilesRead;
 use crate::items::Item;
 use crate::places::Places;
@@ -35,6 +37,7 @@ pub fn round<H: Threads + Sync, R: Rules, T: Tree, G: Gate>(
     fresh: &mut Vec<Entry<R::Key, R::Out>>,
     places: &mut Places<R::Key>,
     tree: &mut T,
+    edits: &Edits,
     book: &mut Book<R::Key>,
     files: &mut FilesRead,
     workers: u32,
@@ -44,16 +47,16 @@ pub fn round<H: Threads + Sync, R: Rules, T: Tree, G: Gate>(
 ) -> Result<Vec<Item<R::Key, R::Out>>, EngineRefusal>
     requires some { 1 ≤ workers }
     requires most { workers ≤ 64 }
-    requires ready { IsReady (setting R.means (T.held tree.old) job.now old.now) (state fresh.old.items (read_at files.old) book.old (T.reads tree.old)) (place_at R.Key.cmp places.old) }
-    requires items { AreItems (setting R.means (T.held tree.old) job.now old.now) (state fresh.old.items (read_at files.old) book.old (T.reads tree.old)) items.items }
+    requires ready { IsReady (setting R.means (over edits.now (T.held tree.old)) job.now old.now) (state fresh.old.items (read_at files.old) book.old (T.reads tree.old)) (place_at R.Key.cmp places.old) }
+    requires items { AreItems (setting R.means (over edits.now (T.held tree.old)) job.now old.now) (state fresh.old.items (read_at files.old) book.old (T.reads tree.old)) items.items }
     ensures held { T.held tree.new ≡ T.held tree.old }
     ensures count { Counts (T.faults tree.old) (T.faults tree.new) result }
-    ensures notes { ListNotes (setting R.means (T.held tree.old) job.now old.now) (state fresh.old.items (read_at files.old) book.old (T.reads tree.old)) (state fresh.new.items (read_at files.new) book.new (T.reads tree.new)) (place_at R.Key.cmp places.old) (λ top. AreItemsWanted (setting R.means (T.held tree.old) job.now old.now) top items.items) }
-    ensures ok { IfOk result (λ left. IsList (setting R.means (T.held tree.old) job.now old.now) (state fresh.old.items (read_at files.old) book.old (T.reads tree.old)) (state fresh.new.items (read_at files.new) book.new (T.reads tree.new)) (place_at R.Key.cmp places.old) (place_at R.Key.cmp places.new) (λ top. AreItemsWanted (setting R.means (T.held tree.old) job.now old.now) top items.items) [] left.items) }
+    ensures notes { ListNotes (setting R.means (over edits.now (T.held tree.old)) job.now old.now) (state fresh.old.items (read_at files.old) book.old (T.reads tree.old)) (state fresh.new.items (read_at files.new) book.new (T.reads tree.new)) (place_at R.Key.cmp places.old) (λ top. AreItemsWanted (setting R.means (over edits.now (T.held tree.old)) job.now old.now) top items.items) }
+    ensures ok { IfOk result (λ left. IsList (setting R.means (over edits.now (T.held tree.old)) job.now old.now) (state fresh.old.items (read_at files.old) book.old (T.reads tree.old)) (state fresh.new.items (read_at files.new) book.new (T.reads tree.new)) (place_at R.Key.cmp places.old) (place_at R.Key.cmp places.new) (λ top. AreItemsWanted (setting R.means (over edits.now (T.held tree.old)) job.now old.now) top items.items) [] left.items) }
 {
     let mut left = Vec::new(alloc);
     let runs = advance_all(
-        alloc, rules, job, old, items, fresh, places, tree, book, files, acts, &mut left,
+        alloc, rules, job, old, items, fresh, places, tree, edits, book, files, acts, &mut left,
     )?;
     count_act(acts, !runs.is_empty());
     let done = turns(rt, alloc, rules, runs, workers, gate, waves)?;

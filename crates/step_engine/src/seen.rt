@@ -1,8 +1,11 @@
 //! What was got of a file, with its bytes shared.
 ghost use Rattle.std.specs.Prelude.{◌≡◌, IfOk};
+ghost use Rattle.build_base.specs.Outside.{got_of};
+ghost use Rattle.build_base.specs.World.{file_limit};
 ghost use Rattle.step_engine.specs.Meaning.{answer_of};
 
 use crate::talk::Answer;
+use build_base::file_limit::FILE_LIMIT;
 use build_base::outside::Got;
 use build_base::same::Same;
 use build_base::text::{Text, WantOfMemory};
@@ -42,6 +45,23 @@ impl Seen {
             Got::File(text) => SeenFile::Bytes(Shared::new(alloc, text)?),
             Got::Absent => SeenFile::Absent,
             Got::TooLong => SeenFile::TooLong,
+        };
+        Ok(Seen { file })
+    }
+
+    /// What stands at a path that has an edit.
+    pub fn of_edit(alloc: Global, bytes: &Option<Shared<Text>>) -> Result<Seen, WantOfMemory>
+        ensures { IfOk result (λ seen. seen ≡ got_of file_limit bytes.now) }
+    {
+        let file = match bytes {
+            None => SeenFile::Absent,
+            Some(bytes) => {
+                if bytes.value().bytes().len() as u64 <= FILE_LIMIT {
+                    SeenFile::Bytes(bytes.copy(alloc)?)
+                } else {
+                    SeenFile::TooLong
+                }
+            }
         };
         Ok(Seen { file })
     }

@@ -1,6 +1,7 @@
 //! A build from visit to visit, until its key is done.
 ghost use Rattle.std.specs.Prelude.{◌≡◌, ◌≤◌, IfOk, [], ◌∷◌};
 ghost use Rattle.step_engine.specs.Build.{setting, Counts};
+ghost use Rattle.step_engine.specs.Edits.{over};
 ghost use Rattle.step_engine.specs.Engine.{state};
 ghost use Rattle.step_engine.specs.Reading.{read_at};
 ghost use Rattle.step_engine.specs.Table.{place_at};
@@ -12,6 +13,7 @@ ghost use Rattle.step_engine.specs.Opening.{OpensNoted};
 
 use crate::advance::count_act;
 use crate::cache::Cache;
+use crate::edits::Edits;
 use crate::files::FilesRead;
 use crate::open::open_all;
 use crate::places::Places;
@@ -41,6 +43,7 @@ fn visit<H: Threads + Sync, R: Rules, T: Tree, G: Gate>(
     fresh: &mut Vec<Entry<R::Key, R::Out>>,
     places: &mut Places<R::Key>,
     tree: &mut T,
+    edits: &Edits,
     book: &mut Book<R::Key>,
     files: &mut FilesRead,
     workers: u32,
@@ -51,19 +54,19 @@ fn visit<H: Threads + Sync, R: Rules, T: Tree, G: Gate>(
 ) -> Result<(), EngineRefusal>
     requires some { 1 ≤ workers }
     requires most { workers ≤ 64 }
-    requires ready { IsReady (setting R.means (T.held tree.old) job.now old.now) (state fresh.old.items (read_at files.old) book.old (T.reads tree.old)) (place_at R.Key.cmp places.old) }
-    requires items { AreUnderWay R.Key.cmp (setting R.means (T.held tree.old) job.now old.now) (state fresh.old.items (read_at files.old) book.old (T.reads tree.old)) pool.old }
+    requires ready { IsReady (setting R.means (over edits.now (T.held tree.old)) job.now old.now) (state fresh.old.items (read_at files.old) book.old (T.reads tree.old)) (place_at R.Key.cmp places.old) }
+    requires items { AreUnderWay R.Key.cmp (setting R.means (over edits.now (T.held tree.old)) job.now old.now) (state fresh.old.items (read_at files.old) book.old (T.reads tree.old)) pool.old }
     ensures held { T.held tree.new ≡ T.held tree.old }
     ensures count { Counts (T.faults tree.old) (T.faults tree.new) result }
-    ensures notes { ListNotes (setting R.means (T.held tree.old) job.now old.now) (state fresh.old.items (read_at files.old) book.old (T.reads tree.old)) (state fresh.new.items (read_at files.new) book.new (T.reads tree.new)) (place_at R.Key.cmp places.old) (λ top. AreAllWanted R.Key.cmp (setting R.means (T.held tree.old) job.now old.now) top pool.old) }
-    ensures ok { IfOk result (λ _. IsVisited R.Key.cmp (setting R.means (T.held tree.old) job.now old.now) (state fresh.old.items (read_at files.old) book.old (T.reads tree.old)) (state fresh.new.items (read_at files.new) book.new (T.reads tree.new)) (place_at R.Key.cmp places.old) (place_at R.Key.cmp places.new) pool.old pool.new) }
+    ensures notes { ListNotes (setting R.means (over edits.now (T.held tree.old)) job.now old.now) (state fresh.old.items (read_at files.old) book.old (T.reads tree.old)) (state fresh.new.items (read_at files.new) book.new (T.reads tree.new)) (place_at R.Key.cmp places.old) (λ top. AreAllWanted R.Key.cmp (setting R.means (over edits.now (T.held tree.old)) job.now old.now) top pool.old) }
+    ensures ok { IfOk result (λ _. IsVisited R.Key.cmp (setting R.means (over edits.now (T.held tree.old)) job.now old.now) (state fresh.old.items (read_at files.old) book.old (T.reads tree.old)) (state fresh.new.items (read_at files.new) book.new (T.reads tree.new)) (place_at R.Key.cmp places.old) (place_at R.Key.cmp places.new) pool.old pool.new) }
 {
     let able = take_able(alloc, rules, old, pool, places, book)?;
     count_act(acts, !pool.news.is_empty());
     let first = fresh.len();
     let left = round(
-        rt, alloc, rules, job, old, able, fresh, places, tree, book, files, workers, gate, waves,
-        acts,
+        rt, alloc, rules, job, old, able, fresh, places, tree, edits, book, files, workers, gate,
+        waves, acts,
     )?;
     put_back(alloc, left, fresh, first, pool)?;
     Ok(())
@@ -109,6 +112,7 @@ pub fn settle<H: Threads + Sync, R: Rules, T: Tree, G: Gate>(
     fresh: &mut Vec<Entry<R::Key, R::Out>>,
     places: &mut Places<R::Key>,
     tree: &mut T,
+    edits: &Edits,
     book: &mut Book<R::Key>,
     files: &mut FilesRead,
     workers: u32,
@@ -116,11 +120,11 @@ pub fn settle<H: Threads + Sync, R: Rules, T: Tree, G: Gate>(
 ) -> Result<Outcome<R::Out>, EngineRefusal>
     requires some { 1 ≤ workers }
     requires most { workers ≤ 64 }
-    requires ready { IsReady (setting R.means (T.held tree.old) job.now old.now) (state fresh.old.items (read_at files.old) book.old (T.reads tree.old)) (place_at R.Key.cmp places.old) }
+    requires ready { IsReady (setting R.means (over edits.now (T.held tree.old)) job.now old.now) (state fresh.old.items (read_at files.old) book.old (T.reads tree.old)) (place_at R.Key.cmp places.old) }
     ensures held { T.held tree.new ≡ T.held tree.old }
     ensures count { Counts (T.faults tree.old) (T.faults tree.new) result }
-    ensures notes { TopNotes (setting R.means (T.held tree.old) job.now old.now) top.now (state fresh.old.items (read_at files.old) book.old (T.reads tree.old)) (state fresh.new.items (read_at files.new) book.new (T.reads tree.new)) (place_at R.Key.cmp places.old) }
-    ensures ok { IfOk result (λ r. IsBroughtTo (setting R.means (T.held tree.old) job.now old.now) top.now (state fresh.old.items (read_at files.old) book.old (T.reads tree.old)) (state fresh.new.items (read_at files.new) book.new (T.reads tree.new)) (place_at R.Key.cmp places.old) (place_at R.Key.cmp places.new) r) }
+    ensures notes { TopNotes (setting R.means (over edits.now (T.held tree.old)) job.now old.now) top.now (state fresh.old.items (read_at files.old) book.old (T.reads tree.old)) (state fresh.new.items (read_at files.new) book.new (T.reads tree.new)) (place_at R.Key.cmp places.old) }
+    ensures ok { IfOk result (λ r. IsBroughtTo (setting R.means (over edits.now (T.held tree.old)) job.now old.now) top.now (state fresh.old.items (read_at files.old) book.old (T.reads tree.old)) (state fresh.new.items (read_at files.new) book.new (T.reads tree.new)) (place_at R.Key.cmp places.old) (place_at R.Key.cmp places.new) r) }
 {
     let mut pool = begin(alloc, old, top, places, book)?;
     let mut waves = 0;
@@ -131,7 +135,7 @@ pub fn settle<H: Threads + Sync, R: Rules, T: Tree, G: Gate>(
         }
         let before = acts;
         visit(
-            rt, alloc, rules, job, old, fresh, places, tree, book, files, workers, gate,
+            rt, alloc, rules, job, old, fresh, places, tree, edits, book, files, workers, gate,
             &mut waves, &mut acts, &mut pool,
         )?;
         if acts <= before {

@@ -1,10 +1,12 @@
 -- One more answer.
+use Rattle.std.proofs.Common.{refl, ap, ◌∙◌}
+use Rattle.step_engine.specs.Edits.{over}
 use Rattle.step_engine.proofs.Steps.{way_none, way_more, way_adds, here_on, answering_none, answering_more, answering_all}
 use Rattle.step_engine.proofs.Asking.{still_then}
 use Rattle.step_engine.proofs.answers.answers.Goals as goal
 
 pub loop-ask-init : goal.loop-ask-init
-loop-ask-init g c = record { way = way_none _ _ _ _ c.requires.kept; here = rw c.new-pairs.ensures (answering_none _ _ _) }
+loop-ask-init g c = record { held = refl; way = way_none _ _ _ _ c.requires.kept; here = rw c.new-pairs.ensures (answering_none _ _ _) }
 
 pub returns-in_err-found-clause-adds : goal.returns-in_err-found-clause-adds
 returns-in_err-found-clause-adds g c = way_adds _ _ _ _ _ _ _ _ c.loop-ask.invariant.way c.answer.ensures.adds
@@ -25,7 +27,8 @@ pub loop-ask-preserved : goal.loop-ask-preserved
 loop-ask-preserved g c =
     let d = rw c.in-Some.is at c.in_ok-found.ensures.ok in
     let way = c.loop-ask.invariant.way in record {
-      way = way_more _ _ _ _ _ _ _ _ way _ _ d.moves d.kept c.answer.ensures.held c.in_ok-found.ensures.count;
+      held = c.answer.ensures.held ∙ c.loop-ask.invariant.held;
+      way = way_more _ _ _ _ _ _ _ _ way _ _ d.moves d.kept (ap (over c.args.edits.now) c.answer.ensures.held) c.in_ok-found.ensures.count;
       here = rw (c.in_ok-add_pair.ensures, c.in_ok-ask.ensures) (answering_more _ _ _ _ _ _ _ _ c.loop-ask.invariant.here c.loop-ask-test.true c.ask-item.is d.moves.grows (λ w i. d.right w (here_on _ _ _ _ _ _ _ way w i)) d.small d.parts);
     }
 

@@ -1,6 +1,7 @@
 -- One more pair is checked.
-use Rattle.std.proofs.Common.{refl, []}
+use Rattle.std.proofs.Common.{refl, ap, ◌∙◌, []}
 use Rattle.step_engine.specs.Meaning.{asks_of}
+use Rattle.step_engine.specs.Edits.{over}
 use Rattle.step_engine.specs.Engine.{state}
 use Rattle.step_engine.specs.Reading.{read_at}
 use Rattle.step_engine.proofs.Steps.{item_in, way_none, way_more, way_adds, here_back, here_on, checking_batch_none, checking_batch_step, checking_batch_all, checking_batch_high, asks_have}
@@ -8,7 +9,7 @@ use Rattle.step_engine.proofs.Asking.{still_then}
 use Rattle.step_engine.proofs.answers.check_batch.Goals as goal
 
 pub loop-pair-init : goal.loop-pair-init
-loop-pair-init g c = record { way = way_none _ _ _ _ c.requires.kept; here = checking_batch_none _ _ _ }
+loop-pair-init g c = record { held = refl; way = way_none _ _ _ _ c.requires.kept; here = checking_batch_none _ _ _ }
 
 pub returns-then-not-is_lower-clause-ok : goal.returns-then-not-is_lower-clause-ok
 returns-then-not-is_lower-clause-ok g c =
@@ -35,7 +36,8 @@ pub loop-pair-preserved : goal.loop-pair-preserved
 loop-pair-preserved g c =
     let d = rw c.in-Some.is at c.in_ok-found.ensures.ok in
     let way = c.loop-pair.invariant.way in record {
-      way = way_more _ _ _ _ _ _ _ _ way _ _ d.moves d.kept c.answer.ensures.held c.in_ok-found.ensures.count;
+      held = c.answer.ensures.held ∙ c.loop-pair.invariant.held;
+      way = way_more _ _ _ _ _ _ _ _ way _ _ d.moves d.kept (ap (over c.args.edits.now) c.answer.ensures.held) c.in_ok-found.ensures.count;
       here = checking_batch_step _ c.args.key.now _ _ (state c.args.fresh.now.items (read_at c.args.files.now) [] (g.T.Tree.reads c.args.tree.now)) _ _ _ _ _ _ _ c.loop-pair.invariant.here c.loop-pair-test.true c.pair-item.is d.moves.grows (λ w i. d.right w (here_on _ _ _ _ _ _ _ way w i)) d.parts c.same.ensures c.both-right.ensures.yes c.both-right.ensures.no;
     }
 

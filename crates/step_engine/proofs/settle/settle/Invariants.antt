@@ -1,6 +1,7 @@
 -- What the loop keeps.
 use Rattle.std.proofs.Common.{◌≡◌, ◌-◌}
 use Rattle.step_engine.specs.Build.{setting}
+use Rattle.step_engine.specs.Edits.{over}
 use Rattle.step_engine.specs.Engine.{state}
 use Rattle.step_engine.specs.Reading.{read_at}
 use Rattle.step_engine.specs.Table.{place_at}
@@ -9,7 +10,7 @@ use Rattle.step_engine.proofs.settle.settle.Given as goal
 
 abbrev pub invariant-loop-acts : goal.invariant-loop-acts
 invariant-loop-acts g l =
-    let s = setting g.R.Rules.means (g.T.Tree.held l.fn.tree) l.fn.job l.fn.old in
+    let s = setting g.R.Rules.means (over l.fn.edits (g.T.Tree.held l.fn.tree)) l.fn.job l.fn.old in
     let y = state l.fn.fresh.items (read_at l.fn.files) l.fn.book (g.T.Tree.reads l.fn.tree) in
     let z = state l.fresh.items (read_at l.files) l.book (g.T.Tree.reads l.tree) in record {
       held : g.T.Tree.held l.tree ≡ g.T.Tree.held l.fn.tree;
