@@ -1,11 +1,10 @@
 -- From what the engine promises to what a build has done.
-use Rattle.std.proofs.Common.{◌≡◌, ◌↔◌, ◌⊎◌, inl, inr, refl, sym, ap, ◌∙◌, ℕ, ◌+◌, ◌-◌, List, ◌++◌, length, length-append, Contains, arith, Option, Some, subst, Result, Ok, Err}
+use Rattle.std.proofs.Common.{◌≡◌, ◌⊎◌, inl, inr, sym, ap, ◌∙◌, ℕ, ◌-◌, List, length, length-append, arith, Option, subst, Result, Ok, Err}
 use Rattle.std.specs.Result.{IsErrAnd}
 use Rattle.std.proofs.lemmas.List.{append_cancel_left}
 use Rattle.build_base.specs.World.{World}
 use Rattle.step_engine.specs.Build.{Setting, IsHere, Ran, RanAll}
 use Rattle.step_engine.specs.Build.{IsBuilt as IsBrought}
-use Rattle.step_engine.specs.Entries.{IsEntry}
 use Rattle.step_engine.specs.Needed.{IsLeft, IsNeededCount, IsNeededEntry, IsOtherEntry, IsStep}
 use Rattle.step_engine.specs.declared.talk.Entry.{Entry}
 use Rattle.step_engine.specs.declared.talk.Outcome.{Outcome}
@@ -17,9 +16,9 @@ use Rattle.build_rules.specs.Rules.{value_in}
 use Rattle.build_base.specs.Outside.{Emission}
 use Rattle.build_base.specs.Spelling.{Spelled, SpelledCut}
 use Rattle.step_pack.specs.Keys.{key_cmp}
-use Rattle.edk_build.specs.Building.{means, AgreesOnGood, IsStepCount, IsCounted, IsBuilt, IsCutShort, Leaves}
+use Rattle.edk_build.specs.Building.{means, AgreesOnGood, IsCounted, IsBuilt, IsCutShort, Leaves}
 use Rattle.edk_build.specs.Emitting.{emitted, status_of}
-use Rattle.edk_build.specs.Outcome.{files_by, outcome}
+use Rattle.edk_build.specs.Outcome.{files_by}
 use Rattle.edk_build.specs.declared.label.Label.{Label}
 use Rattle.edk_build.specs.declared.status.Status.{Status}
 use Rattle.edk_build.specs.declared.stop.Stop.{Stop}

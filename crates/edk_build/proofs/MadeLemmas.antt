@@ -15,7 +15,6 @@ use Rattle.edk_build.specs.Emitting.{below, labelled, summary, outputs_of}
 use Rattle.edk_build.specs.Made.{IsMade, IsReady, made_status}
 use Rattle.edk_build.specs.declared.label.Label.{Label}
 use Rattle.edk_build.specs.declared.made.Made.{Made}
-use Rattle.edk_build.specs.declared.made.Ready.{Ready}
 
 -- the file of an output, where the entry of its step gives this
 pub file_agrees : (value : Key → Outcome Out) (label : Label) (output : Output) (k : Key) (r : Outcome Out) → k ≡ output.from → value k ≡ r

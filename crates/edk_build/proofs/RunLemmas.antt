@@ -5,7 +5,10 @@ use Rattle.build_base.specs.Outside.{Files, Emission}
 use Rattle.build_rules.specs.Rules.{is_job}
 use Rattle.build_base.specs.World.{World}
 use Rattle.step_engine.specs.Build.{setting, IsHere, Ran, RanAll, HasRead}
+use Rattle.step_engine.proofs.EditLemmas.{over_none}
+use Rattle.step_engine.specs.Edits.{over}
 use Rattle.step_engine.specs.Entries.{AreSound}
+use Rattle.step_engine.specs.declared.edits.Edit.{Edit}
 use Rattle.step_engine.specs.declared.talk.Entry.{Entry}
 use Rattle.step_pack.specs.declared.key.Key.{Key}
 use Rattle.step_pack.specs.declared.key.Key.TheVariants as key
@@ -58,3 +61,25 @@ pub told_built : (held : Option Files) (job : Job) (f : List (List ℕ)) (o : Li
 told_built None job f o label status a b j e d x = tt
 told_built (Some files) job f o label status a b j e d x =
     subst (λ z. IsBuilt (world_of files job) z label status a b) d (x (world_of files job) (here files job f o j e d))
+
+-- where there are no edits
+told_over : (held : Option Files) (es : List Edit) → es ≡ [] → over es held ≡ held
+told_over held es e = ap (λ z. over z held) e ∙ over_none held
+
+pub over_ran : (held : Option Files) (es : List Edit) (f f' : List (List ℕ)) (o o' : List (Entry Key Out)) (a b : List Key) → es ≡ [] → f ≡ f' → o ≡ o'
+    → Ran (setting means (over es held) f o) key.All a b → Ran (setting means held f' o') key.All a b
+over_ran held es f f' o o' a b n e d r = same_ran held f f' o o' a b e d (subst (λ h. Ran (setting means h f o) key.All a b) (told_over held es n) r)
+
+pub over_all : (held : Option Files) (es : List Edit) (f f' : List (List ℕ)) (o o' : List (Entry Key Out)) (a b : List Key) → es ≡ [] → f ≡ f' → o ≡ o'
+    → RanAll (setting means (over es held) f o) key.All a b → RanAll (setting means held f' o') key.All a b
+over_all held es f f' o o' a b n e d r = same_all held f f' o o' a b e d (subst (λ h. RanAll (setting means h f o) key.All a b) (told_over held es n) r)
+
+pub over_read : (held : Option Files) (es : List Edit) (f f' : List (List ℕ)) (o o' : List (Entry Key Out)) (a b : Option (List (List ℕ))) → es ≡ [] → f ≡ f' → o ≡ o'
+    → HasRead (setting means (over es held) f o) key.All a b → HasRead (setting means held f' o') key.All a b
+over_read held es f f' o o' a b n e d r = same_read held f f' o o' a b e d (subst (λ h. HasRead (setting means h f o) key.All a b) (told_over held es n) r)
+
+pub over_built : (held : Option Files) (es : List Edit) (job : Job) (f : List (List ℕ)) (o : List (Entry Key Out)) (label : Label) (status : Status) (a b : Option (List Emission))
+    → is_job (job_fields job) ≡ true → es ≡ [] → f ≡ job_fields job → o ≡ []
+    → ((w : World) → IsHere (setting means (over es held) f o) w → IsBuilt w o label status a b) → IfSome held (λ files. IsBuilt (world_of files job) [] label status a b)
+over_built held es job f o label status a b j n e d x =
+    told_built held job f o label status a b j e d (subst (λ h. (w : World) → IsHere (setting means h f o) w → IsBuilt w o label status a b) (told_over held es n) x)

@@ -8,6 +8,8 @@ use Rattle.build_base.specs.Path.{path_field, is_path}
 use Rattle.macro_conditions.specs.Macros.{same_text}
 use Rattle.build_rules.specs.Rules.{is_job}
 use Rattle.edk_build.specs.Words.{define_texts, job_from, job_fields, words_job}
+use Rattle.edk_build.specs.Commands.{build_from, replay_from, command_of}
+use Rattle.edk_build.specs.declared.command.Command.TheVariants as command
 use Rattle.edk_build.specs.declared.job.Job.{Job}
 
 joined_last : (byte : ℕ) (y : List ℕ) (ys : List (List ℕ)) (x : List ℕ) → join_with_byte byte ((y ∷ ys) ++ x ∷ []) ≡ join_with_byte byte (y ∷ ys) ++ byte ∷ x
@@ -60,3 +62,25 @@ is_job_of (command ∷ option ∷ path ∷ pairs) job e =
 is_job_of (command ∷ option ∷ []) job e = absurd cc
 is_job_of (command ∷ []) job e = absurd cc
 is_job_of [] job e = absurd cc
+
+build_job_of : (words : List (List ℕ)) (z : Option Job) (job : Job) → words_job words ≡ z → option_map command.Build z ≡ Some (command.Build job) → is_job (job_fields job) ≡ true
+build_job_of words None job e h = absurd cc
+build_job_of words (Some other) job e h =
+    let same : other ≡ job = cc h in
+    subst (λ j. is_job (job_fields j) ≡ true) same (is_job_of words other e)
+
+no_replay : (path : Option (List ℕ)) (job : Job) → replay_from path ≡ Some (command.Build job) → ⊥
+no_replay None job h = absurd cc
+no_replay (Some path) job h = absurd cc
+
+-- the fields of the job of a build's words are those of a job
+pub is_command_job : (words : List (List ℕ)) (job : Job) → command_of words ≡ Some (command.Build job) → is_job (job_fields job) ≡ true
+unfolding command_of
+is_command_job [] job e = build_job_of [] (words_job []) job refl e
+is_command_job (name ∷ []) job e = build_job_of (name ∷ []) (words_job (name ∷ [])) job refl e
+is_command_job (name ∷ path ∷ []) job e =
+    elim (same_text name (codes "replay")) as (λ b. cond b (replay_from (path_field path)) (build_from (name ∷ path ∷ [])) ≡ Some (command.Build job) → is_job (job_fields job) ≡ true) [
+      | true ↦ λ h. absurd (no_replay (path_field path) job h)
+      | false ↦ λ h. build_job_of (name ∷ path ∷ []) (words_job (name ∷ path ∷ [])) job refl h
+    ] e
+is_command_job (name ∷ path ∷ word ∷ words) job e = build_job_of (name ∷ path ∷ word ∷ words) (words_job (name ∷ path ∷ word ∷ words)) job refl e

@@ -1,6 +1,5 @@
 -- What a build does.
-use Rattle.std.specs.Prelude.{◌≡◌, ◌↔◌, ◌-◌, ℕ, List, length, Contains, Option, Some, Result, Ok, Err, IsOk}
-use Rattle.build_base.specs.declared.fault.Fault.{Fault}
+use Rattle.std.specs.Prelude.{◌≡◌, ◌↔◌, ◌-◌, ℕ, List, length, Contains, Option}
 use Rattle.build_base.specs.Outside.{Emission}
 use Rattle.build_base.specs.Spelling.{Spelled, SpelledCut}
 use Rattle.build_base.specs.World.{World}
@@ -17,7 +16,6 @@ use Rattle.step_pack.specs.declared.key.Key.{Key}
 use Rattle.step_pack.specs.declared.key.Key.TheVariants as key
 use Rattle.step_pack.specs.declared.out.Out.{Out}
 use Rattle.build_rules.specs.Rules.{edk}
-use Rattle.edk_build.specs.FilePair.{FilePair}
 use Rattle.edk_build.specs.Outcome.{outcome}
 use Rattle.edk_build.specs.Emitting.{emitted, status_of}
 use Rattle.edk_build.specs.declared.label.Label.{Label}

@@ -1,6 +1,8 @@
 pub mod FilePair
 pub mod Defines
 pub mod Words
+pub mod Commands
+pub mod Script
 pub mod Contents
 pub mod Outcome
 pub mod Emitting
@@ -9,3 +11,4 @@ pub mod Made
 pub mod Run
 pub mod Statuses
 pub mod Stops
+pub mod History

@@ -1,5 +1,5 @@
 -- What a run of the words `build ..` does: it starts with no cache.
-use Rattle.std.specs.Prelude.{◌≡◌, ◌⊎◌, List, [], None, false, IsOk}
+use Rattle.std.specs.Prelude.{◌≡◌, ◌⊎◌, None, false, IsOk}
 use Rattle.build_base.specs.Outside.{Files}
 use Rattle.build_base.specs.World.{World}
 use Rattle.edk_build.specs.Outcome.{outcome}

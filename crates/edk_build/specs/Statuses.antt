@@ -40,6 +40,12 @@ OnBuild Usage P = Unit {0}
 OnBuild WantOfMemory P = Unit {0}
 OnBuild _ P = P
 
+-- what a status says of the counts of faults of the tree and of the sink
+pub record Causes (status : Status) (tree tree' sink sink' : ℕ) : Type 0 where
+  pub ended : OnEnd status ((tree' ≡ tree) × (sink' ≡ sink))
+  pub read_fault : OnReadFault status (Rose tree tree')
+  pub write_fault : OnWriteFault status (Rose sink sink')
+
 abbrev pub usage : List ℕ
 usage = codes "usage\n"
 

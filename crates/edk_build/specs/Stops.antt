@@ -1,5 +1,5 @@
 -- Facts for some of the answers of a build.
-use Rattle.std.specs.Prelude.{Result, Ok, Err}
+use Rattle.std.specs.Prelude.{Result, Err}
 use Rattle.edk_build.specs.declared.status.Status.{Status}
 use Rattle.edk_build.specs.declared.status.Status.TheVariants as status
 use Rattle.edk_build.specs.declared.stop.Stop.{Stop}

@@ -4,6 +4,7 @@ ghost use Rattle.build_base.specs.Outside.{Rose};
 ghost use Rattle.build_base.specs.Spelling.{Spelled, SpelledCut};
 ghost use Rattle.build_base.specs.World.{World};
 ghost use Rattle.step_engine.specs.Build.{setting, IsHere, Ran, RanAll, HasRead};
+ghost use Rattle.step_engine.specs.Edits.{over};
 ghost use Rattle.step_engine.specs.Entries.{AreSound};
 ghost use Rattle.step_engine.specs.declared.talk.Outcome.{Outcome};
 ghost use Rattle.step_pack.specs.declared.key.Key.TheVariants.{All};
@@ -21,7 +22,7 @@ use build_base::{Book, Gate, Rows, Sink, Text, Tree};
 use build_rules::EdkRules;
 use std::alloc::Global;
 use std::thread::Threads;
-use step_engine::{Cache, EngineRefusal, Outcome, bring};
+use step_engine::{Cache, Edits, EngineRefusal, Outcome, bring_over};
 use step_pack::{Key, Out};
 
 /// How a build ended that wrote what it came to, and the cache that it leaves.
@@ -62,8 +63,8 @@ fn emit<S: Sink>(
     }
 }
 
-/// Builds what these fields of a job ask for, from the cache that the last build left, which is
-/// dropped where the build stops.
+/// Builds what these fields of a job ask for, over edits of the tree's files, from the cache that the
+/// last build left, which is dropped where the build stops.
 ///
 /// All is read, and all memory is taken, before the first emission.
 pub fn build<H: Threads + Sync, T: Tree, S: Sink, G: Gate>(
@@ -74,6 +75,7 @@ pub fn build<H: Threads + Sync, T: Tree, S: Sink, G: Gate>(
     workers: u32,
     cache: Cache<Key, Out>,
     tree: &mut T,
+    edits: &Edits,
     sink: &mut S,
     gate: &G,
     book: &mut Book<Key>,
@@ -83,10 +85,10 @@ pub fn build<H: Threads + Sync, T: Tree, S: Sink, G: Gate>(
     requires most { workers ≤ 64 }
 
     // Where the tree tells what it holds and the cache is sound.
-    ensures built { IfOk result (λ b. (w : World) → IsHere (setting means (T.held tree.old) fields.now cache) w →
+    ensures built { IfOk result (λ b. (w : World) → IsHere (setting means (over edits.now (T.held tree.old)) fields.now cache) w →
         IsBuilt w cache label.now b.status (S.written sink.old) (S.written sink.new)) }
-    ensures left { IfOk result (λ b. (w : World) → IsHere (setting means (T.held tree.old) fields.now cache) w → Leaves w cache b.cache) }
-    ensures cut { IfWriteFault result ((w : World) → IsHere (setting means (T.held tree.old) fields.now cache) w →
+    ensures left { IfOk result (λ b. (w : World) → IsHere (setting means (over edits.now (T.held tree.old)) fields.now cache) w → Leaves w cache b.cache) }
+    ensures cut { IfWriteFault result ((w : World) → IsHere (setting means (over edits.now (T.held tree.old)) fields.now cache) w →
         IsCutShort w cache label.now (S.written sink.old) (S.written sink.new)) }
 
     // For any tree.
@@ -100,12 +102,12 @@ pub fn build<H: Threads + Sync, T: Tree, S: Sink, G: Gate>(
     ensures unwritten { IfUnwritten result (S.written sink.new ≡ S.written sink.old) }
 
     // Each step once, and only where wanted.
-    ensures ran { Ran (setting means (T.held tree.old) fields.now cache) All book.old book.new }
-    ensures all { OnOk result (RanAll (setting means (T.held tree.old) fields.now cache) All book.old book.new) }
-    ensures read { HasRead (setting means (T.held tree.old) fields.now cache) All (T.reads tree.old) (T.reads tree.new) }
+    ensures ran { Ran (setting means (over edits.now (T.held tree.old)) fields.now cache) All book.old book.new }
+    ensures all { OnOk result (RanAll (setting means (over edits.now (T.held tree.old)) fields.now cache) All book.old book.new) }
+    ensures read { HasRead (setting means (over edits.now (T.held tree.old)) fields.now cache) All (T.reads tree.old) (T.reads tree.new) }
 {
     let before = book.ran().len() as u64;
-    let brought = match bring(
+    let brought = match bring_over(
         rt,
         alloc,
         &EdkRules,
@@ -113,6 +115,7 @@ pub fn build<H: Threads + Sync, T: Tree, S: Sink, G: Gate>(
         fields,
         cache,
         tree,
+        edits,
         book,
         workers,
         gate,

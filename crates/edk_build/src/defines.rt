@@ -8,7 +8,8 @@ use build_rules::defines::halves;
 use meta_lexer::line::is_plain;
 use meta_lexer::words::is_identifier;
 
-fn has_plain_bytes_alone(text: &[u8]) -> bool
+/// Whether all bytes of a text may stand in a file outside comments.
+pub fn has_plain_bytes_alone(text: &[u8]) -> bool
     ensures { result ≡ list_all is_plain text.now }
 {
     text.iter().all(|byte| is_plain(*byte))

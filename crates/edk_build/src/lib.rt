@@ -2,16 +2,21 @@
 #![tactic(auto)]
 
 pub mod build;
+pub mod command;
 pub mod content;
 pub mod defines;
 pub mod file_out;
 pub mod job;
 pub mod label;
 pub mod made;
+pub mod replay;
+pub mod script;
+pub mod stand;
 pub mod status;
 pub mod stop;
 pub mod summary;
 pub mod top_call;
+pub mod usage;
 pub mod words;
 
 pub use status::Status;

@@ -148,7 +148,8 @@ pub fn make_ready<'a>(
     Ok(Ready { made, summary })
 }
 
-fn write_text<S: Sink>(sink: &mut S, target: &Target, bytes: &Text) -> Result<(), SinkFailed>
+/// Writes a text.
+pub fn write_text<S: Sink>(sink: &mut S, target: &Target, bytes: &Text) -> Result<(), SinkFailed>
     ensures written { Writes (S.written sink.old) (S.written sink.new) (text target.now bytes.now ∷ []) result }
     ensures cause { Cause (S.faults sink.old) (S.faults sink.new) result }
 {

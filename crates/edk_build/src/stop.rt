@@ -24,3 +24,14 @@ impl Stop {
         }
     }
 }
+
+impl From<Stop> for Status {
+    ghost use Rattle.std.specs.Prelude.{◌≡◌};
+    ghost use Rattle.edk_build.specs.Stops.{stop_status};
+
+    ghost from_gives = { λ stop status. status ≡ stop_status stop };
+
+    fn from(stop: Stop) -> Status {
+        stop.status()
+    }
+}

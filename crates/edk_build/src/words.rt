@@ -2,8 +2,10 @@
 ghost use Rattle.std.specs.Prelude.{◌≡◌, ◌++◌, ◌∷◌, if◌then◌else◌, IfOk, OnOk, map, string_bytes};
 ghost use Rattle.std.specs.List.{join_with_byte};
 ghost use Rattle.edk_build.specs.Words.{define_texts, job_from, words_job};
+ghost use Rattle.edk_build.specs.Commands.{build_from, replay_from, command_of};
 ghost use Rattle.build_base.specs.Path.{path_field};
 
+use crate::command::Command;
 use crate::defines::is_define;
 use crate::job::Job;
 use build_base::path::path_field;
@@ -79,5 +81,39 @@ pub fn words_job(alloc: Global, words: &[String]) -> Result<Option<Job>, WantOfM
             job_from(alloc, path.as_bytes(), pairs)
         }
         _ => Ok(None),
+    }
+}
+
+fn build_from(alloc: Global, words: &[String]) -> Result<Option<Command>, WantOfMemory>
+    ensures { IfOk result (λ command. command ≡ build_from (map string_bytes words.now)) }
+{
+    match words_job(alloc, words)? {
+        Some(job) => Ok(Some(Command::Build(job))),
+        None => Ok(None),
+    }
+}
+
+fn replay_from(alloc: Global, path: &[u8]) -> Result<Option<Command>, WantOfMemory>
+    ensures { IfOk result (λ command. command ≡ replay_from (path_field path.now)) }
+{
+    match path_field(alloc, path)? {
+        Some(path) => Ok(Some(Command::Replay(path))),
+        None => Ok(None),
+    }
+}
+
+/// What the words of the command line are, or nothing where they aren't in the grammar.
+#[tactic(auto, unfolding(crate::specs::Commands::command_of))]
+pub fn command_of(alloc: Global, words: &[String]) -> Result<Option<Command>, WantOfMemory>
+    ensures { IfOk result (λ command. command ≡ command_of (map string_bytes words.now)) }
+{
+    match words {
+        [command, path] => {
+            if command.as_str() == "replay" {
+                return replay_from(alloc, path.as_bytes());
+            }
+            build_from(alloc, words)
+        }
+        _ => build_from(alloc, words),
     }
 }

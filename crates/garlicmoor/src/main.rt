@@ -3,7 +3,8 @@
 
 ghost use Rattle.std.specs.Prelude.{◌≡◌, ◌⊎◌, None, map, string_bytes, IsSome};
 ghost use Rattle.edk_build.specs.Statuses.{OnUsage, OnBuild};
-ghost use Rattle.edk_build.specs.Words.{words_job};
+ghost use Rattle.edk_build.specs.Commands.{command_of};
+ghost use Rattle.edk_build.specs.History.{IsUsage};
 
 use build_base::Book;
 use build_base::disk_sink::DiskSink;
@@ -35,10 +36,10 @@ fn words_of<H: Runtime + AllocGlobal>(rt: &H) -> io::Result<Vec<String>> {
     Ok(words)
 }
 
-// The status of a build over the disk.
+// The status of a run over the disk.
 fn status_of<H: Runtime + AllocGlobal + Threads + Sync + Copy>(rt: &H, words: &[String]) -> Status
-    ensures usage { OnUsage result (words_job (map string_bytes words.now) ≡ None) }
-    ensures grammar { OnBuild result (IsSome (words_job (map string_bytes words.now))) }
+    ensures usage { OnUsage result (IsUsage None (command_of (map string_bytes words.now))) }
+    ensures grammar { OnBuild result (IsSome (command_of (map string_bytes words.now))) }
 {
     let alloc = rt.alloc();
     let mut keeper = match SureKeeper::new(alloc, None, 0) {

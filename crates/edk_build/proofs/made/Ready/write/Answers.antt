@@ -1,5 +1,5 @@
 use Rattle.std.proofs.Common.{[], ◌∷◌, ◌++◌}
-use Rattle.build_base.specs.Spelling.{Output, text}
+use Rattle.build_base.specs.Spelling.{text}
 use Rattle.build_base.specs.declared.outside.Target.TheVariants.{Out as ToOut}
 use Rattle.build_base.proofs.SpellingLemmas.{Grew-then, Spelled-then, SpellsCut-append, SpellsCut-more}
 use Rattle.edk_build.specs.Made.{made_outputs}

@@ -1,0 +1,14 @@
+use Rattle.std.proofs.Common.{◌≡◌, length}
+use Rattle.edk_build.proofs.ReplayLemmas.{SoFar}
+use Rattle.edk_build.proofs.replay.replay_lines.Given as goal
+
+abbrev pub invariant-loop-left : goal.invariant-loop-left
+invariant-loop-left g l = record {
+  so_far : SoFar (g.T.Tree.held l.fn.tree) l.lines l.left l.stand l.fn.book l.book (g.S.Sink.written l.fn.sink) (g.S.Sink.written l.sink);
+  held : g.T.Tree.held l.tree ≡ g.T.Tree.held l.fn.tree;
+  tree_count : g.T.Tree.faults l.tree ≡ g.T.Tree.faults l.fn.tree;
+  sink_count : g.S.Sink.faults l.sink ≡ g.S.Sink.faults l.fn.sink;
+}
+
+abbrev pub decreases-loop-left : goal.decreases-loop-left
+decreases-loop-left g l = length l.left

@@ -1,0 +1,297 @@
+//! A replay: the edits and builds of a script, one after the other.
+ghost use Rattle.std.specs.Prelude.{◌≡◌, ◌⊎◌, None, Some, true, ℕ, List, IfOk, IfErr, OnOk};
+ghost use Rattle.build_base.specs.Outside.{Rose};
+ghost use Rattle.build_base.specs.FaultText.{fault_of, fault_text};
+ghost use Rattle.step_engine.specs.Entries.{AreSound};
+ghost use Rattle.build_rules.specs.Rules.{is_job};
+ghost use Rattle.edk_build.specs.Building.{means};
+ghost use Rattle.edk_build.specs.History.{after_edit, WasDone, HasStopped, IsTold, Follows, IsReplayed, IsUntouched};
+ghost use Rattle.edk_build.specs.Script.{HasJob, HaveJobs, script_line, script_of};
+ghost use Rattle.edk_build.specs.Statuses.{OnEnd, OnWriteFault, OnUsage, IsUsageTold, Causes};
+ghost use Rattle.edk_build.specs.Words.{job_fields};
+ghost use Rattle.edk_build.specs.declared.script.Order.TheVariants as order;
+ghost use Rattle.step_pack.specs.declared.key.Key.{Key};
+
+use crate::build::build;
+use crate::job::{Job, job_fields};
+use crate::made::write_text;
+use crate::script::{Order, ScriptLine, read_script};
+use crate::stand::{Stand, label_of};
+use crate::status::Status;
+use crate::usage::tell_usage;
+use build_base::fault::fault_text;
+use build_base::{
+    Book, FILE_LIMIT, Fault, Gate, Got, Path, Place, Same, Sink, Target, Text, Tree, TreeFailed,
+    WantOfMemory,
+};
+use shared_value::Shared;
+use std::alloc::Global;
+use std::thread::Threads;
+use step_pack::Key;
+
+fn message_of(
+    alloc: Global,
+    code: u16,
+    path: &Path,
+    line: u64,
+    detail: &Path,
+) -> Result<Text, WantOfMemory>
+    ensures { IfOk result (λ message. message ≡ fault_text (fault_of code (record { path = path.now; line = line }) detail.now)) }
+{
+    let place = Place {
+        path: path.copy(alloc)?,
+        line,
+    };
+    let detail = Text::of(alloc, detail.bytes())?;
+    let fault = Fault {
+        code,
+        place,
+        detail,
+    };
+    fault_text(alloc, &fault)
+}
+
+// Ends a run with a fault, whose text goes to standard error.
+fn tell_fault<S: Sink>(
+    alloc: Global,
+    code: u16,
+    path: &Path,
+    line: u64,
+    detail: &Path,
+    sink: &mut S,
+) -> Status
+    ensures told { IsTold (fault_of code (record { path = path.now; line = line }) detail.now) result (S.written sink.old) (S.written sink.new) }
+    ensures count { OnEnd result (S.faults sink.new ≡ S.faults sink.old) }
+    ensures write_fault { OnWriteFault result (Rose (S.faults sink.old) (S.faults sink.new)) }
+{
+    let Ok(message) = message_of(alloc, code, path, line, detail) else {
+        return Status::WantOfMemory;
+    };
+    match write_text(sink, &Target::Err, &message) {
+        Ok(()) => Status::FileFault,
+        Err(_) => Status::WriteFault,
+    }
+}
+
+// The bytes become the file of a path.
+fn put_bytes(alloc: Global, path: &Path, bytes: Text, stand: Stand) -> Result<Stand, WantOfMemory>
+    ensures { IfOk result (λ next. next ≡ after_edit stand path.now (Some bytes)) }
+{
+    let path = path.copy(alloc)?;
+    let bytes = Shared::new(alloc, bytes)?;
+    let Stand {
+        mut edits,
+        cache,
+        builds,
+    } = stand;
+    edits.put(path, bytes)?;
+    Ok(Stand {
+        edits,
+        cache,
+        builds,
+    })
+}
+
+// From now on there is no file at a path.
+fn drop_file(alloc: Global, path: &Path, stand: Stand) -> Result<Stand, WantOfMemory>
+    ensures { IfOk result (λ next. next ≡ after_edit stand path.now None) }
+{
+    let path = path.copy(alloc)?;
+    let Stand {
+        mut edits,
+        cache,
+        builds,
+    } = stand;
+    edits.drop_file(path)?;
+    Ok(Stand {
+        edits,
+        cache,
+        builds,
+    })
+}
+
+// The bytes that a file of the tree has become the file of a path.
+fn put<T: Tree, S: Sink>(
+    alloc: Global,
+    script: &Path,
+    number: u64,
+    path: &Path,
+    from: &Path,
+    stand: Stand,
+    tree: &mut T,
+    sink: &mut S,
+) -> Result<Stand, Status>
+    ensures done { (a : List Key) → IfOk result (λ next. WasDone (T.held tree.old) (order.Put path.now from.now) stand a next a (S.written sink.old) (S.written sink.new)) }
+    ensures cache { IfOk result (λ next. next.cache ≡ stand.cache) }
+    ensures stopped { (a : List Key) → IfErr result (λ status.
+        HasStopped (T.held tree.old) script.now (script_line number (order.Put path.now from.now)) status stand a a (S.written sink.old) (S.written sink.new)) }
+    ensures held { T.held tree.new ≡ T.held tree.old }
+    ensures counts { OnOk result (Causes Status.Done (T.faults tree.old) (T.faults tree.new) (S.faults sink.old) (S.faults sink.new)) }
+    ensures causes { IfErr result (λ status. Causes status (T.faults tree.old) (T.faults tree.new) (S.faults sink.old) (S.faults sink.new)) }
+{
+    match tree.read(from, FILE_LIMIT) {
+        Ok(Got::File(bytes)) => Ok(put_bytes(alloc, path, bytes, stand)?),
+        Ok(Got::Absent) => Err(tell_fault(alloc, 132, script, number, from, sink)),
+        Ok(Got::TooLong) => Err(tell_fault(alloc, 102, from, 0, from, sink)),
+        Err(TreeFailed::Failed) => Err(Status::ReadFault),
+        Err(TreeFailed::WantOfMemory) => Err(Status::WantOfMemory),
+    }
+}
+
+// Builds over the edits, from the cache that the last build left.
+fn build_next<H: Threads + Sync, T: Tree, S: Sink, G: Gate>(
+    rt: &H,
+    alloc: Global,
+    job: &Job,
+    stand: Stand,
+    tree: &mut T,
+    sink: &mut S,
+    gate: &G,
+    book: &mut Book<Key>,
+) -> Result<Stand, Status>
+    requires job { is_job (job_fields job.now) ≡ true }
+    requires sound { AreSound means stand.cache }
+    ensures done { IfOk result (λ next. WasDone (T.held tree.old) (order.Build job.now) stand book.old next book.new (S.written sink.old) (S.written sink.new)) }
+    ensures stopped { (at : List ℕ) (number : ℕ) → IfErr result (λ status.
+        HasStopped (T.held tree.old) at (script_line number (order.Build job.now)) status stand book.old book.new (S.written sink.old) (S.written sink.new)) }
+    ensures held { T.held tree.new ≡ T.held tree.old }
+    ensures counts { OnOk result (Causes Status.Done (T.faults tree.old) (T.faults tree.new) (S.faults sink.old) (S.faults sink.new)) }
+    ensures causes { IfErr result (λ status. Causes status (T.faults tree.old) (T.faults tree.new) (S.faults sink.old) (S.faults sink.new)) }
+{
+    let Stand {
+        edits,
+        cache,
+        builds,
+    } = stand;
+    let Some(number) = builds.checked_add(1) else {
+        return Err(Status::WantOfMemory);
+    };
+    let label = label_of(alloc, number)?;
+    let fields = job_fields(alloc, job)?;
+    let built = build(
+        rt, alloc, &fields, &label, 1, cache, tree, &edits, sink, gate, book,
+    )?;
+    Ok(Stand {
+        edits,
+        cache: built.cache,
+        builds: number,
+    })
+}
+
+// Carries out the order of a line.
+fn carry_out<H: Threads + Sync, T: Tree, S: Sink, G: Gate>(
+    rt: &H,
+    alloc: Global,
+    script: &Path,
+    line: &ScriptLine,
+    stand: Stand,
+    tree: &mut T,
+    sink: &mut S,
+    gate: &G,
+    book: &mut Book<Key>,
+) -> Result<Stand, Status>
+    requires job { HasJob line.now.order }
+    requires sound { AreSound means stand.cache }
+    ensures done { IfOk result (λ next. WasDone (T.held tree.old) line.now.order stand book.old next book.new (S.written sink.old) (S.written sink.new)) }
+    ensures sound { IfOk result (λ next. AreSound means next.cache) }
+    ensures stopped { IfErr result (λ status.
+        HasStopped (T.held tree.old) script.now line.now status stand book.old book.new (S.written sink.old) (S.written sink.new)) }
+    ensures held { T.held tree.new ≡ T.held tree.old }
+    ensures counts { OnOk result (Causes Status.Done (T.faults tree.old) (T.faults tree.new) (S.faults sink.old) (S.faults sink.new)) }
+    ensures causes { IfErr result (λ status. Causes status (T.faults tree.old) (T.faults tree.new) (S.faults sink.old) (S.faults sink.new)) }
+{
+    match &line.order {
+        Order::Put { path, from } => {
+            put(alloc, script, line.number, path, from, stand, tree, sink)
+        }
+        Order::Drop(path) => Ok(drop_file(alloc, path, stand)?),
+        Order::Build(job) => build_next(rt, alloc, job, stand, tree, sink, gate, book),
+    }
+}
+
+// Carries out the lines of a script, up to one where the replay stops.
+fn replay_lines<H: Threads + Sync, T: Tree, S: Sink, G: Gate>(
+    rt: &H,
+    alloc: Global,
+    script: &Path,
+    lines: &[ScriptLine],
+    tree: &mut T,
+    sink: &mut S,
+    gate: &G,
+    book: &mut Book<Key>,
+) -> Status
+    requires jobs { HaveJobs lines.now }
+    ensures follows { Follows (T.held tree.old) script.now (Some lines.now) result book.old book.new (S.written sink.old) (S.written sink.new) }
+    ensures no_usage { OnUsage result ⊥ }
+    ensures held { T.held tree.new ≡ T.held tree.old }
+    ensures causes { Causes result (T.faults tree.old) (T.faults tree.new) (S.faults sink.old) (S.faults sink.new) }
+{
+    let mut stand = Stand::new(alloc);
+    let mut left = lines;
+    while let [line, rest @ ..] = left {
+        match carry_out(rt, alloc, script, line, stand, tree, sink, gate, book) {
+            Ok(next) => {
+                stand = next;
+                left = rest;
+            }
+            Err(status) => return status,
+        }
+    }
+    Status::Done
+}
+
+// Replays a script that was read.
+fn replay_text<H: Threads + Sync, T: Tree, S: Sink, G: Gate>(
+    rt: &H,
+    alloc: Global,
+    script: &Path,
+    bytes: &[u8],
+    tree: &mut T,
+    sink: &mut S,
+    gate: &G,
+    book: &mut Book<Key>,
+) -> Status
+    ensures follows { IsUntouched result book.old book.new (S.written sink.old) (S.written sink.new)
+        ⊎ Follows (T.held tree.old) script.now (script_of bytes.now) result book.old book.new (S.written sink.old) (S.written sink.new) }
+    ensures usage_told { OnUsage result (IsUsageTold (S.faults sink.old) (S.faults sink.new) (S.written sink.old) (S.written sink.new)) }
+    ensures held { T.held tree.new ≡ T.held tree.old }
+    ensures causes { Causes result (T.faults tree.old) (T.faults tree.new) (S.faults sink.old) (S.faults sink.new) }
+{
+    match read_script(alloc, bytes) {
+        Ok(Some(lines)) => {
+            replay_lines(rt, alloc, script, lines.items(), tree, sink, gate, book)
+        }
+        Ok(None) => {
+            tell_usage(sink);
+            Status::Usage
+        }
+        Err(_) => Status::WantOfMemory,
+    }
+}
+
+/// Replays a script of the tree: its edits stand above the tree's files, and its builds pass the cache
+/// on, from none. All lines are checked before the first is carried out.
+pub fn replay<H: Threads + Sync, T: Tree, S: Sink, G: Gate>(
+    rt: &H,
+    alloc: Global,
+    script: &Path,
+    tree: &mut T,
+    sink: &mut S,
+    gate: &G,
+    book: &mut Book<Key>,
+) -> Status
+    ensures replayed { IsReplayed (T.held tree.old) script.now result book.old book.new (S.written sink.old) (S.written sink.new) }
+    ensures usage_told { OnUsage result (IsUsageTold (S.faults sink.old) (S.faults sink.new) (S.written sink.old) (S.written sink.new)) }
+    ensures held { T.held tree.new ≡ T.held tree.old }
+    ensures causes { Causes result (T.faults tree.old) (T.faults tree.new) (S.faults sink.old) (S.faults sink.new) }
+{
+    match tree.read(script, FILE_LIMIT) {
+        Ok(Got::File(bytes)) => {
+            replay_text(rt, alloc, script, bytes.bytes(), tree, sink, gate, book)
+        }
+        Ok(Got::Absent) => tell_fault(alloc, 131, script, 0, script, sink),
+        Ok(Got::TooLong) => tell_fault(alloc, 102, script, 0, script, sink),
+        Err(TreeFailed::Failed) => Status::ReadFault,
+        Err(TreeFailed::WantOfMemory) => Status::WantOfMemory,
+    }
+}
