@@ -1,0 +1,21 @@
+//! Calls of what makes headers, files and volumes.
+#![tactic(auto)]
+
+mod files;
+mod headers;
+mod volumes;
+mod words;
+
+use case_player::{Output, Page, Stop};
+
+/// Makes the call of this name, and says whether there is one here.
+pub fn call(page: &mut Page, files: &[Output], name: &str, path: &str) -> Result<bool, Stop> {
+    match name {
+        "te_header" => headers::call_te_header(page, files, path)?,
+        "section_alignment" => headers::call_section_alignment(page, files, path)?,
+        "file_of" => files::call_file_of(page, files, path)?,
+        "compose" => volumes::call_compose(page, files, path)?,
+        _ => return Ok(false),
+    }
+    Ok(true)
+}

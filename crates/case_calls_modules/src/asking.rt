@@ -1,0 +1,58 @@
+//! What is asked for the values of a platform.
+
+ghost use Rattle.std.specs.Prelude.{◌≡◌, IfOk};
+ghost use Rattle.pcd_resolve.specs.Platform.{SkusEnd};
+
+use crate::plans::{Plan, plan_of};
+use build_base::{Place, Rows, Same, WantOfMemory};
+use case_calls_documents::platform_of;
+use case_calls_texts::copied;
+use case_player::{Output, Stop, Wrong};
+use doc_types::asks::PlatformAsk;
+use doc_types::flash::FlashDoc;
+use doc_types::pcd::PcdSet;
+use doc_types::platform::PlatformDoc;
+use std::alloc::Global;
+
+fn flash_of(alloc: Global, at: Place, sets: Rows<PcdSet>) -> FlashDoc {
+    FlashDoc {
+        at,
+        sets,
+        devices: Rows::new(alloc),
+        volumes: Rows::new(alloc),
+        rule_list: Rows::new(alloc),
+    }
+}
+
+fn asked(alloc: Global, plan: Plan, platform: PlatformDoc) -> Result<PlatformAsk, WantOfMemory>
+    ensures { IfOk result (λ ask. ask.platform ≡ platform) }
+{
+    let at = platform.at.copy(alloc)?;
+    Ok(PlatformAsk {
+        platform,
+        flash: flash_of(alloc, at, plan.sets),
+        commands: plan.commands,
+        skus: plan.skus,
+        arches: plan.arches,
+        modules: plan.modules,
+    })
+}
+
+fn platform_named(alloc: Global, files: &[Output], plan: &Plan) -> Result<PlatformDoc, Stop>
+    ensures { IfOk result (λ platform. SkusEnd platform.skus) }
+{
+    match &plan.platform {
+        Some(path) => platform_of(alloc, files, path),
+        None => Err(Stop::Wrong(Wrong::Line("no platform"))),
+    }
+}
+
+/// What the file of this path asks.
+pub fn ask_of(alloc: Global, files: &[Output], path: &str) -> Result<PlatformAsk, Stop>
+    ensures { IfOk result (λ ask. SkusEnd ask.platform.skus) }
+{
+    let plan = plan_of(alloc, files, path)?;
+    let platform = platform_named(alloc, files, &plan)?;
+    let ask = asked(alloc, plan, platform)?;
+    copied(alloc, &ask)
+}

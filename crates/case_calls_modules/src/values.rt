@@ -1,0 +1,117 @@
+//! The rows of a platform's dynamic PCDs, and of each module.
+
+ghost use Rattle.pcd_resolve.specs.Platform.{SkusEnd};
+
+use crate::asking::ask_of;
+use crate::parsing::value;
+use build_base::{Book, Refusal, Rows};
+use case_calls_documents::rows::pcd;
+use case_calls_texts::copied;
+use case_player::{Output, Page, Stop, Wrong};
+use doc_types::asks::{ModuleAsk, PlatformAsk};
+use doc_types::parts::ModuleParts;
+use doc_types::values::{PcdRow, Values};
+use pcd_resolve::{resolve_module, resolve_platform};
+use std::alloc::Global;
+
+fn tell_row(page: &mut Page, row: &PcdRow) -> Result<(), Stop> {
+    page.put(b"pcd");
+    pcd(page, &row.pcd);
+    page.name(&row.kind);
+    page.name(&row.datum);
+    page.number(u64::from(row.token));
+    page.number(u64::from(row.max));
+    page.number(u64::from(row.rank));
+    page.word(row.sku.bytes());
+    value(page, row.datum, row.value.bytes())?;
+    page.end();
+    Ok(())
+}
+
+fn tell_values(page: &mut Page, values: &Values) -> Result<(), Stop> {
+    for row in values.rows.items() {
+        tell_row(page, row)?;
+    }
+    Ok(())
+}
+
+/// The rows of a platform's dynamic PCDs, or the first fault.
+pub fn call_resolve_platform(page: &mut Page, files: &[Output], path: &str) -> Result<(), Stop> {
+    let alloc = page.alloc();
+    let ask = ask_of(alloc, files, path)?;
+    let mut book = Book::new(alloc);
+    let values = resolve_platform(alloc, book.grant(())?, &ask)?;
+    tell_values(page, &copied(alloc, &values)?)
+}
+
+// The rows of the dynamic PCDs; none where one is at fault.
+fn dynamic_of(alloc: Global, ask: &PlatformAsk) -> Result<Values, Stop>
+    requires { SkusEnd ask.now.platform.skus }
+{
+    let mut book = Book::new(alloc);
+    match resolve_platform(alloc, book.grant(())?, ask) {
+        Ok(values) => Ok(values),
+        Err(Refusal::Bad(_fault)) => Ok(Values {
+            rows: Rows::new(alloc),
+        }),
+        Err(Refusal::WantOfMemory) => Err(Stop::Wrong(Wrong::WantOfMemory)),
+    }
+}
+
+// What is asked of one of the platform's modules.
+fn module_ask(
+    alloc: Global,
+    ask: &PlatformAsk,
+    parts: &ModuleParts,
+    dynamic: &Values,
+) -> Result<ModuleAsk, Stop> {
+    let platform = copied(alloc, &ask.platform)?;
+    let flash = copied(alloc, &ask.flash)?;
+    let commands = copied(alloc, &ask.commands)?;
+    let parts = copied(alloc, parts)?;
+    let dynamic = copied(alloc, dynamic)?;
+    Ok(ModuleAsk {
+        platform,
+        flash,
+        commands,
+        parts,
+        dynamic,
+    })
+}
+
+fn tell_values_of(page: &mut Page, ask: &ModuleAsk) -> Result<(), Stop> {
+    let alloc = page.alloc();
+    let mut book = Book::new(alloc);
+    match resolve_module(alloc, book.grant(())?, ask) {
+        Ok(values) => tell_values(page, &values),
+        Err(Refusal::Bad(fault)) => {
+            page.fault(&fault);
+            Ok(())
+        }
+        Err(Refusal::WantOfMemory) => Err(Stop::Wrong(Wrong::WantOfMemory)),
+    }
+}
+
+fn tell_module(page: &mut Page, ask: &ModuleAsk) -> Result<(), Stop> {
+    let ask = copied(page.alloc(), ask)?;
+    page.put(b"module");
+    page.word(ask.parts.module.inf.bytes());
+    page.end();
+    tell_values_of(page, &ask)
+}
+
+fn tell_modules(page: &mut Page, ask: &PlatformAsk, dynamic: &Values) -> Result<(), Stop> {
+    let alloc = page.alloc();
+    for parts in ask.modules.items() {
+        tell_module(page, &module_ask(alloc, ask, parts, dynamic)?)?;
+    }
+    Ok(())
+}
+
+/// The rows of each module, or its first fault.
+pub fn call_resolve_module(page: &mut Page, files: &[Output], path: &str) -> Result<(), Stop> {
+    let alloc = page.alloc();
+    let ask = ask_of(alloc, files, path)?;
+    let dynamic = dynamic_of(alloc, &ask)?;
+    tell_modules(page, &ask, &dynamic)
+}
