@@ -22,6 +22,8 @@ use Rattle.doc_types.specs.declared.volume.Item.{Item}
 use Rattle.doc_types.specs.declared.volume.Item.TheVariants as item
 use Rattle.doc_types.specs.declared.volume_head.VolumeHead.{VolumeHead}
 use Rattle.flash_document.specs.Flash.{flash_of}
+use Rattle.doc_types.specs.declared.choice.Module.{Module}
+use Rattle.module_steps.specs.Settings.{built_modules}
 use Rattle.step_pack.specs.Keys.{key_cmp}
 use Rattle.step_pack.specs.declared.key.Key.{Key}
 use Rattle.step_pack.specs.declared.key.Key.TheVariants as key
@@ -31,7 +33,7 @@ use Rattle.image_steps.specs.Asks.{file_asks, sections_below, item_asks, region_
 use Rattle.image_steps.specs.Files.{file_given}
 use Rattle.image_steps.specs.Volumes.{volume_given}
 use Rattle.image_steps.specs.Devices.{device_given}
-use Rattle.build_rules.specs.AllTree.{all_asks, image_asks, all_given, all_stages, images_stages}
+use Rattle.build_rules.specs.AllTree.{all_asks, build_asks, all_given, all_stages, images_stages}
 use Rattle.build_rules.specs.Fits.{fits}
 use Rattle.build_rules.specs.ImageTrees.{flash_in, volume_at, item_at, device_at, item_stages, file_stages, volume_stages, device_stages}
 use Rattle.build_rules.specs.Outputs.{output_folder, outputs_of}
@@ -43,10 +45,10 @@ use Rattle.build_rules.proofs.KindLemmas.{stage_run}
 use Rattle.build_rules.proofs.ValueLemmas.{document_run, path_some, platform_is}
 
 -- what stages give in a world
-abbrev gives : World → EdkStages → Result Out Fault
+abbrev pub gives : World → EdkStages → Result Out Fault
 gives w s = run fits (right (meaning_of key_cmp edk) w) s
 
-then_same : {A B : Type 0} (r : Result A Fault) (f g : A → Result B Fault) → ((x : A) → f x ≡ g x) → and_then r f ≡ and_then r g
+pub then_same : {A B : Type 0} (r : Result A Fault) (f g : A → Result B Fault) → ((x : A) → f x ≡ g x) → and_then r f ≡ and_then r g
 then_same (Ok x) f g h = h x
 then_same (Err fault) f g h = refl
 
@@ -54,7 +56,7 @@ attempt_run : {A : Type 0} (w : World) (r : Result A Fault) (next : A → EdkSta
 attempt_run w (Ok x) next = refl
 attempt_run w (Err fault) next = refl
 
-given_then : {A B : Type 0} (variant : B → Out) (r : Result A Fault) (f : A → Result B Fault) → and_then r (λ x. given_as variant (f x)) ≡ given_as variant (and_then r f)
+pub given_then : {A B : Type 0} (variant : B → Out) (r : Result A Fault) (f : A → Result B Fault) → and_then r (λ x. given_as variant (f x)) ≡ given_as variant (and_then r f)
 given_then variant (Ok x) f = refl
 given_then variant (Err fault) f = refl
 
@@ -62,7 +64,7 @@ given_or : {A : Type 0} (variant : A → Out) (q : Option Fault) (r : Result A F
 given_or variant (Some fault) r = refl
 given_or variant None r = refl
 
-when_run : {A : Type 0} (w : World) (variant : A → Out) (b : Bool) (s : EdkStages) (r : Result A Fault) → gives w s ≡ given_as variant r → gives w (when b s) ≡ given_as variant (if_shaped b r)
+pub when_run : {A : Type 0} (w : World) (variant : A → Out) (b : Bool) (s : EdkStages) (r : Result A Fault) → gives w s ≡ given_as variant r → gives w (when b s) ≡ given_as variant (if_shaped b r)
 when_run w variant true s r h = h
 when_run w variant false s r h = refl
 
@@ -73,7 +75,7 @@ last_run w variant asks f =
     stage_run w asks (λ given. end (given_as variant (f given))) ∙ given_or variant (fault_asked w asks) (f (answers_in w asks))
 
 -- two steps that are tried one after the other, and so on
-step_run : {A B : Type 0} (w : World) (variant : B → Out) (r : Result A Fault) (next : A → EdkStages) (f : A → Result B Fault)
+pub step_run : {A B : Type 0} (w : World) (variant : B → Out) (r : Result A Fault) (next : A → EdkStages) (f : A → Result B Fault)
     → ((x : A) → gives w (next x) ≡ given_as variant (f x)) → gives w (attempt r next) ≡ given_as variant (and_then r f)
 step_run w variant r next f h =
     attempt_run w r next ∙ then_same r (λ x. gives w (next x)) (λ x. given_as variant (f x)) h ∙ given_then variant r f
@@ -182,10 +184,10 @@ device_is w d e = value_is key_cmp edk edk_is_bounded w (key.Device d) ∙ ap ou
 
 -- the whole build
 
-images_run : (w : World) (folder : List ℕ) (flash : FlashDoc) → gives w (images_stages folder flash) ≡ given_as out.All (images_value w folder flash)
-images_run w folder flash =
-    when_run w out.All (are_few (length flash.volumes) && are_few (length flash.devices)) _ (by_answers w (image_asks flash) (λ given. outputs_of folder flash))
-    (last_run w out.All (image_asks flash) (λ given. outputs_of folder flash))
+images_run : (w : World) (folder : List ℕ) (modules : List Module) (flash : FlashDoc) → gives w (images_stages folder modules flash) ≡ given_as out.All (images_value w folder modules flash)
+images_run w folder modules flash =
+    when_run w out.All (are_few (length flash.volumes) && are_few (length flash.devices)) _ (by_answers w (build_asks modules flash) (λ given. outputs_of folder flash))
+    (last_run w out.All (build_asks modules flash) (λ given. outputs_of folder flash))
 
 abbrev by_both : World → Outcome Out → Outcome Out → Result Out Fault
 by_both w p v =
@@ -194,7 +196,8 @@ by_both w p v =
     ∷ answer.Field (field w 7) ∷ answer.Field (field w 8) ∷ answer.Field (field w 9) ∷ [])))
 
 by_both_is : (w : World) (p : Result PlatformDoc Fault) (r : Result FlashDoc Fault) → by_both w (outcome_of (given_as out.Platform p)) (outcome_of (given_as out.Flash r))
-    ≡ and_then p (λ platform. and_then r (λ flash. gives w (attempt (output_folder platform.output (field w 2) (field w 3)) (λ folder. images_stages folder flash))))
+    ≡ and_then p (λ platform. and_then r (λ flash. gives w (attempt (output_folder platform.output (field w 2) (field w 3)) (λ folder.
+    attempt (built_modules platform (field w 1)) (λ modules. images_stages folder modules flash)))))
 by_both_is w (Ok platform) (Ok flash) = refl
 by_both_is w (Ok platform) (Err fault) = refl
 by_both_is w (Err fault) (Ok flash) = refl
@@ -214,8 +217,10 @@ all_run w e =
     ∙ ap (λ (p : Outcome Out). by_both w p (value_in w key.Flash)) (platform_is w e)
     ∙ ap (by_both w (outcome_of (given_as out.Platform (platform_value w)))) (flash_is w e)
     ∙ by_both_is w (platform_value w) (flash_value w)
-    ∙ both_same w out.All (platform_value w) (flash_value w) _ (λ platform flash. and_then (output_folder platform.output (field w 2) (field w 3)) (λ folder. images_value w folder flash)) (λ platform flash.
-    step_run w out.All (output_folder platform.output (field w 2) (field w 3)) _ (λ folder. images_value w folder flash) (λ folder. images_run w folder flash))
+    ∙ both_same w out.All (platform_value w) (flash_value w) _ (λ platform flash. and_then (output_folder platform.output (field w 2) (field w 3)) (λ folder.
+    and_then (built_modules platform (field w 1)) (λ modules. images_value w folder modules flash))) (λ platform flash.
+    step_run w out.All (output_folder platform.output (field w 2) (field w 3)) _ (λ folder. and_then (built_modules platform (field w 1)) (λ modules. images_value w folder modules flash)) (λ folder.
+    step_run w out.All (built_modules platform (field w 1)) _ (λ modules. images_value w folder modules flash) (λ modules. images_run w folder modules flash)))
 
 pub all_is : (w : World) → IsWorld (meaning_of key_cmp edk) w → value_in w key.All ≡ outcome_of (given_as out.All (all_value w))
 all_is w e = value_is key_cmp edk edk_is_bounded w key.All ∙ ap outcome_of (all_run w e)

@@ -1,6 +1,6 @@
 -- Each step gives what its kind of key does, so that every answer of a world fits.
 use Rattle.std.specs.Prelude.{◌&&◌}
-use Rattle.std.proofs.Common.{◌≡◌, ℕ, Bool, true, false, List, [], ◌∷◌, length, map, refl, sym, ap, ◌∙◌, Result, Ok, Err, Option, Some, None, IfOk}
+use Rattle.std.proofs.Common.{◌≡◌, ℕ, zero, suc, Bool, true, false, List, [], ◌∷◌, length, map, refl, sym, ap, ◌∙◌, Result, Ok, Err, Option, Some, None, IfOk}
 use Rattle.std.proofs.lemmas.Bool.{eq-eqb}
 use Rattle.build_base.specs.First.{or_else, first_of, or_fault}
 use Rattle.build_base.specs.World.{World, got}
@@ -32,11 +32,20 @@ use Rattle.inf_docs.specs.Modules.{module_of}
 use Rattle.dsc_platform.specs.Platform.{platform_of}
 use Rattle.flash_document.specs.Flash.{flash_of}
 use Rattle.build_rules.specs.Fits.{fits, kind_of, kind_at}
+use Rattle.doc_types.specs.declared.choice.Module.{Module}
+use Rattle.doc_types.specs.declared.module.InfDoc.{InfDoc}
+use Rattle.library_choice.specs.Choices.{choice}
+use Rattle.library_choice.specs.Closure.{wanted}
+use Rattle.module_steps.specs.Choices.{own_inf}
+use Rattle.module_steps.specs.Parts.{choice_at}
+use Rattle.module_steps.specs.Pcds.{pcds_given, values_given}
+use Rattle.module_steps.specs.Skus.{skus_end}
 use Rattle.image_steps.specs.Asks.{sections_below, regions_below, are_few}
 use Rattle.image_steps.specs.Files.{file_given}
 use Rattle.image_steps.specs.Volumes.{volume_given}
 use Rattle.image_steps.specs.Devices.{device_given}
-use Rattle.build_rules.specs.AllTree.{folder_in}
+use Rattle.build_rules.specs.AllTree.{folder_in, modules_in}
+use Rattle.build_rules.specs.ModuleTrees.{round_stages, choice_round, choice_after, most_rounds, modules_parts, setting_in, values_in, module_parts, commands_in}
 use Rattle.build_rules.specs.Outputs.{outputs_of}
 use Rattle.build_rules.specs.Trees.{EdkStages, given_as, document_stages, root_in, macros_in, platform_in, flash_root, flash_from}
 use Rattle.build_rules.specs.ImageTrees.{flash_in, volume_at, item_at, device_at, item_stages}
@@ -83,6 +92,16 @@ item_kind v flash head (item.File plan) =
 item_kind v flash head (item.Apriori at pei members) = tt
 item_kind v flash head (item.Inf line) = tt
 
+round_kind : (m : Module) (platform : PlatformDoc) (infs : List InfDoc) (w : List (List ℕ)) (next : List InfDoc → EdkStages) → ((more : List InfDoc) → AreOfKind 4 (next more)) → AreOfKind 4 (choice_round m platform infs w next)
+round_kind m platform infs [] next h = given_kind 4 out.Choice (λ x. refl) (choice m platform infs)
+round_kind m platform infs (path ∷ paths) next h = bind_kind 4 (round_stages infs (path ∷ paths)) next h
+
+after_kind : (n : ℕ) (m : Module) (platform : PlatformDoc) (infs : List InfDoc) → AreOfKind 4 (choice_after n m platform infs)
+unfolding choice_after
+after_kind zero m platform infs = tt
+after_kind (suc n) m platform infs =
+    round_kind m platform infs (wanted m platform infs) (choice_after n m platform) (λ more. after_kind n m platform more)
+
 of_kind : (k : Key) → AreOfKind (kind_at k) (stages_of k)
 of_kind (key.Dec path) = document_kind 0 out.Dec (λ x. refl) package_of [] [] path
 of_kind (key.Inf path) = document_kind 1 out.Inf (λ x. refl) module_of [] [] path
@@ -90,9 +109,16 @@ of_kind key.Platform =
     λ given. attempt_kind 2 (root_in given) _ (λ path. attempt_kind 2 (macros_in given) _ (λ fixed. document_kind 2 out.Platform (λ x. refl) platform_of [] fixed path))
 of_kind key.Flash =
     λ given. attempt_kind 3 (platform_in given 0) _ (λ platform. attempt_kind 3 (macros_in given) _ (λ fixed. attempt_kind 3 (flash_root platform given) _ (λ root. flash_kind platform fixed root)))
-of_kind (key.Choice m) = tt
-of_kind key.PlatformPcds = tt
-of_kind (key.Values m) = tt
+of_kind (key.Choice m) =
+    λ given. attempt_kind 4 (platform_in given 0) _ (λ platform. attempt_kind 4 (own_inf given 1 m.inf) _ (λ infs. after_kind most_rounds m platform infs))
+of_kind key.PlatformPcds =
+    λ given. attempt_kind 5 (platform_in given 0) _ (λ platform. when_kind 5 (skus_end platform.skus) _ (attempt_kind 5 (flash_in given 1) _ (λ flash.
+    attempt_kind 5 (setting_in platform given) _ (λ setting. bind_kind 5 (modules_parts setting.modules) _ (λ modules.
+    given_kind 5 out.Values (λ x. refl) (pcds_given platform flash setting modules))))))
+of_kind (key.Values m) =
+    λ given. attempt_kind 5 (platform_in given 0) _ (λ platform. attempt_kind 5 (flash_in given 1) _ (λ flash. attempt_kind 5 (values_in given 2) _ (λ dynamic.
+    attempt_kind 5 (choice_at given 3) _ (λ choice. attempt_kind 5 (commands_in platform given 4) _ (λ commands. bind_kind 5 (module_parts m choice) _ (λ parts.
+    given_kind 5 out.Values (λ x. refl) (values_given platform flash commands dynamic parts)))))))
 of_kind (key.Code m) = tt
 of_kind (key.Depex m) = tt
 of_kind (key.File v i) =
@@ -106,7 +132,7 @@ of_kind (key.Device d) =
 of_kind key.Report = tt
 of_kind key.All =
     λ given. attempt_kind 12 (platform_in given 0) _ (λ platform. attempt_kind 12 (flash_in given 1) _ (λ flash. attempt_kind 12 (folder_in platform given) _ (λ folder.
-    when_kind 12 (are_few (length flash.volumes) && are_few (length flash.devices)) _ (λ images. given_kind 12 out.All (λ x. refl) (outputs_of folder flash)))))
+    attempt_kind 12 (modules_in platform given) _ (λ modules. when_kind 12 (are_few (length flash.volumes) && are_few (length flash.devices)) _ (λ images. given_kind 12 out.All (λ x. refl) (outputs_of folder flash))))))
 
 run_kind : (n : ℕ) (o : Ask Key → Answer Out) (s : EdkStages) → AreOfKind n s → IfOk (run fits o s) (λ given. kind_of given ≡ n)
 run_kind n o (end (Ok given)) h = h
@@ -140,7 +166,7 @@ stopped_or (Some fault) r = refl
 stopped_or None r = refl
 
 -- a stage in a world: the first fault among the steps that are asked, or what comes of the answers
-pub stage_run : (w : World) (asks : List (Ask Key)) (next : List (Answer Out) → EdkStages)
+pub stage_run : {A : Type 0} (w : World) (asks : List (Ask Key)) (next : List (Answer Out) → Stages Key Out A)
     → run fits (right (meaning_of key_cmp edk) w) (stage asks next) ≡ or_fault (fault_asked w asks) (run fits (right (meaning_of key_cmp edk) w) (next (answers_in w asks)))
 unfolding fault_asked
 stage_run w asks next =

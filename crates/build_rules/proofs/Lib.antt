@@ -1,3 +1,8 @@
 pub mod ValueLemmas
+pub mod ChoiceLemmas
 mod KindLemmas
 mod ImageValues
+mod DescriptionLemmas
+mod ToldLemmas
+mod ChoiceValues
+mod PcdValues

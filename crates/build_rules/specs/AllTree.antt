@@ -1,11 +1,12 @@
 -- What the whole build asks, stage by stage, and what comes of the answers; the rule is this
--- project's own. Of modules and of the report nothing is asked yet, since no step makes their texts.
+-- project's own. Of the report nothing is asked yet, and no step makes texts of modules.
 use Rattle.std.specs.Prelude.{ℕ, ◌+◌, ◌&&◌, List, [], ◌∷◌, ◌++◌, length, Result}
 use Rattle.build_base.specs.First.{and_then}
 use Rattle.build_base.specs.declared.fault.Fault.{Fault}
 use Rattle.step_engine.specs.declared.talk.Ask.{Ask}
 use Rattle.step_engine.specs.declared.talk.Ask.TheVariants as ask
 use Rattle.step_engine.specs.declared.talk.Answer.{Answer}
+use Rattle.doc_types.specs.declared.choice.Module.{Module}
 use Rattle.doc_types.specs.declared.flash.FlashDoc.{FlashDoc}
 use Rattle.doc_types.specs.declared.platform.PlatformDoc.{PlatformDoc}
 use Rattle.build_stages.specs.Stages.{end, stage}
@@ -15,6 +16,8 @@ use Rattle.step_pack.specs.declared.key.Key.TheVariants as key
 use Rattle.step_pack.specs.declared.out.Out.{Out}
 use Rattle.step_pack.specs.declared.out.Out.TheVariants as out
 use Rattle.image_steps.specs.Asks.{are_few}
+use Rattle.module_steps.specs.Asks.{module_asks}
+use Rattle.module_steps.specs.Settings.{built_modules}
 use Rattle.build_rules.specs.Trees.{EdkStages, given_as, platform_in}
 use Rattle.build_rules.specs.ImageTrees.{flash_in}
 use Rattle.build_rules.specs.Outputs.{output_folder, outputs_of}
@@ -40,17 +43,27 @@ folder_in platform given =
     and_then (field_at given 3) (λ target.
     and_then (field_at given 4) (λ tag. output_folder platform.output target tag))
 
--- the images of a flash description, and then the files of the build
-abbrev pub images_stages : List ℕ → FlashDoc → EdkStages
-images_stages folder flash =
+-- the modules by the words' architectures
+abbrev pub modules_in : PlatformDoc → List (Answer Out) → Result (List Module) Fault
+modules_in platform given = and_then (field_at given 2) (built_modules platform)
+
+-- the rows of dynamic PCDs, each module, and all images
+abbrev pub build_asks : List Module → FlashDoc → List (Ask Key)
+build_asks modules flash =
+    ask.Part key.PlatformPcds ∷ module_asks modules ++ image_asks flash
+
+-- modules and the images of a flash description, and then the files of the build
+abbrev pub images_stages : List ℕ → List Module → FlashDoc → EdkStages
+images_stages folder modules flash =
     when (are_few (length flash.volumes) && are_few (length flash.devices))
-    (stage (image_asks flash) (λ given. end (given_as out.All (outputs_of folder flash))))
+    (stage (build_asks modules flash) (λ given. end (given_as out.All (outputs_of folder flash))))
 
 abbrev pub all_given : List (Answer Out) → EdkStages
 all_given given =
     attempt (platform_in given 0) (λ platform.
     attempt (flash_in given 1) (λ flash.
-    attempt (folder_in platform given) (λ folder. images_stages folder flash)))
+    attempt (folder_in platform given) (λ folder.
+    attempt (modules_in platform given) (λ modules. images_stages folder modules flash))))
 
 abbrev pub all_stages : EdkStages
 all_stages = stage all_asks all_given

@@ -1,12 +1,13 @@
 -- The bounds of the steps of images: what they ask is of lower rank, and they ask two batches.
 use Rattle.std.specs.Prelude.{◌&&◌, not}
-use Rattle.std.proofs.Common.{◌≡◌, ℕ, ◌+◌, ◌*◌, ◌<◌, arith, Bool, true, false, List, [], ◌∷◌, length, All, cond}
+use Rattle.std.proofs.Common.{◌≡◌, ℕ, ◌+◌, ◌*◌, ◌<◌, arith, Bool, true, false, List, [], ◌∷◌, ◌++◌, length, All, cond}
 use Rattle.std.proofs.lemmas.Bool.{ltb-true}
 use Rattle.std.proofs.lemmas.List.Elements.{All-nil, All-cons, All-append}
 use Rattle.step_engine.specs.declared.talk.Ask.{Ask}
 use Rattle.step_engine.specs.declared.talk.Ask.TheVariants as ask
 use Rattle.build_stages.specs.Stages.{IsLower, AreLower, IsWithin}
 use Rattle.build_stages.specs.Bounds.{all_one, all_two, both_hold, attempt_lower, attempt_within, when_lower, when_within}
+use Rattle.doc_types.specs.declared.choice.Module.{Module}
 use Rattle.doc_types.specs.declared.flash.DevicePlan.{DevicePlan}
 use Rattle.doc_types.specs.declared.flash.FlashDoc.{FlashDoc}
 use Rattle.doc_types.specs.declared.flash.Region.{Region}
@@ -23,9 +24,10 @@ use Rattle.step_pack.specs.declared.key.Key.{Key}
 use Rattle.step_pack.specs.declared.key.Key.TheVariants as key
 use Rattle.std.proofs.Common.{Option, Some, None}
 use Rattle.image_steps.specs.Asks.{source_file, source_volume, section_files, section_volumes, body_asks, source_below, sections_below, is_apriori, files_where, kind_asks, region_asks, kind_below, regions_below, are_few}
+use Rattle.module_steps.specs.Asks.{one_module, module_asks}
 use Rattle.build_rules.specs.Trees.{platform_in}
 use Rattle.build_rules.specs.ImageTrees.{flash_in, volume_at, item_at, device_at, item_stages, file_stages, plan_stages, volume_stages, device_stages}
-use Rattle.build_rules.specs.AllTree.{steps_from, folder_in, images_stages, all_stages}
+use Rattle.build_rules.specs.AllTree.{steps_from, folder_in, modules_in, image_asks, images_stages, all_stages}
 use Rattle.build_rules.specs.Rules.{rank_of}
 use Rattle.build_rules.specs.Fits.{fits}
 
@@ -156,13 +158,25 @@ devices_asked n [] = All-nil (IsLower rank_of 0x400000002)
 devices_asked n (plan ∷ plans) =
     All-cons (IsLower rank_of 0x400000002) (ask.Part (key.Device n)) (steps_from key.Device (n + 1) plans) (omega arith) (devices_asked (n + 1) plans)
 
-images_lower : (folder : List ℕ) (flash : FlashDoc) → AreLower rank_of 0x400000002 (images_stages folder flash)
-images_lower folder flash =
+modules_asked : (modules : List Module) → All (IsLower rank_of 0x400000002) (module_asks modules)
+modules_asked [] = All-nil (IsLower rank_of 0x400000002)
+modules_asked (m ∷ modules) =
+    All-append (IsLower rank_of 0x400000002) (one_module m) (module_asks modules)
+    (all_two (IsLower rank_of 0x400000002) (ask.Part (key.Inf m.inf)) (ask.Part (key.Values m)) (omega arith) (omega arith))
+    (modules_asked modules)
+
+images_asked : (flash : FlashDoc) → (are_few (length flash.volumes) && are_few (length flash.devices)) ≡ true → All (IsLower rank_of 0x400000002) (image_asks flash)
+images_asked flash e =
+    All-append (IsLower rank_of 0x400000002) (steps_from key.Volume 0 flash.volumes) (steps_from key.Device 0 flash.devices)
+    (volumes_asked 0 flash.volumes
+    (let few : length flash.volumes < 65536 = ltb-true (length flash.volumes) 65536 (both_hold (are_few (length flash.volumes)) (are_few (length flash.devices)) e).0 in omega (arith, few)))
+    (devices_asked 0 flash.devices)
+
+images_lower : (folder : List ℕ) (modules : List Module) (flash : FlashDoc) → AreLower rank_of 0x400000002 (images_stages folder modules flash)
+images_lower folder modules flash =
     when_lower rank_of 0x400000002 (are_few (length flash.volumes) && are_few (length flash.devices)) _ (λ e. (
-      All-append (IsLower rank_of 0x400000002) (steps_from key.Volume 0 flash.volumes) (steps_from key.Device 0 flash.devices)
-          (volumes_asked 0 flash.volumes
-          (let few : length flash.volumes < 65536 = ltb-true (length flash.volumes) 65536 (both_hold (are_few (length flash.volumes)) (are_few (length flash.devices)) e).0 in omega (arith, few)))
-          (devices_asked 0 flash.devices),
+      All-cons (IsLower rank_of 0x400000002) (ask.Part key.PlatformPcds) (module_asks modules ++ image_asks flash) (omega arith)
+          (All-append (IsLower rank_of 0x400000002) (module_asks modules) (image_asks flash) (modules_asked modules) (images_asked flash e)),
       λ given. tt,
     ))
 
@@ -179,13 +193,14 @@ all_lower = (
   All-append (IsLower rank_of 0x400000002) (ask.Part key.Platform ∷ ask.Part key.Flash ∷ []) (ask.Field 1 ∷ ask.Field 2 ∷ ask.Field 3 ∷ ask.Field 7 ∷ ask.Field 8 ∷ ask.Field 9 ∷ [])
       (all_two (IsLower rank_of 0x400000002) (ask.Part key.Platform) (ask.Part key.Flash) (omega arith) (omega arith)) (fields_lower 0x400000002),
   λ given. attempt_lower rank_of 0x400000002 (platform_in given 0) _ (λ platform. attempt_lower rank_of 0x400000002 (flash_in given 1) _ (λ flash.
-      attempt_lower rank_of 0x400000002 (folder_in platform given) _ (λ folder. images_lower folder flash))),
+      attempt_lower rank_of 0x400000002 (folder_in platform given) _ (λ folder. attempt_lower rank_of 0x400000002 (modules_in platform given) _ (λ modules.
+      images_lower folder modules flash)))),
 )
 
 pub all_within : IsWithin fits 2 all_stages
 all_within = (
   omega arith,
   λ given fit. attempt_within fits 1 (platform_in given 0) _ (λ platform. attempt_within fits 1 (flash_in given 1) _ (λ flash.
-      attempt_within fits 1 (folder_in platform given) _ (λ folder.
-      when_within fits 1 (are_few (length flash.volumes) && are_few (length flash.devices)) _ (omega arith, λ images fit_too. tt)))),
+      attempt_within fits 1 (folder_in platform given) _ (λ folder. attempt_within fits 1 (modules_in platform given) _ (λ modules.
+      when_within fits 1 (are_few (length flash.volumes) && are_few (length flash.devices)) _ (omega arith, λ images fit_too. tt))))),
 )

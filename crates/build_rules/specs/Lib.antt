@@ -2,9 +2,12 @@ pub mod Defines
 pub mod Fits
 pub mod Trees
 pub mod ImageTrees
+pub mod ModuleTrees
 pub mod Outputs
 pub mod AllTree
 pub mod Rules
 pub mod ImageBounds
+pub mod ModuleBounds
 pub mod RulesBounds
 pub mod Values
+pub mod ModuleValues

@@ -17,6 +17,7 @@ use Rattle.step_pack.specs.declared.out.Out.{Out}
 use Rattle.build_rules.specs.Fits.{fits}
 use Rattle.build_rules.specs.AllTree.{all_stages}
 use Rattle.build_rules.specs.ImageTrees.{file_stages, volume_stages, device_stages}
+use Rattle.build_rules.specs.ModuleTrees.{most_rounds, choice_stages, pcds_stages, values_stages}
 use Rattle.build_rules.specs.Trees.{EdkStages, dec_stages, inf_stages, platform_stages, flash_stages, unbuilt}
 
 abbrev pub stages_of : Key → EdkStages
@@ -24,9 +25,9 @@ stages_of (key.Dec path) = dec_stages path
 stages_of (key.Inf path) = inf_stages path
 stages_of key.Platform = platform_stages
 stages_of key.Flash = flash_stages
-stages_of (key.Choice m) = unbuilt
-stages_of key.PlatformPcds = unbuilt
-stages_of (key.Values m) = unbuilt
+stages_of (key.Choice m) = choice_stages m
+stages_of key.PlatformPcds = pcds_stages
+stages_of (key.Values m) = values_stages m
 stages_of (key.Code m) = unbuilt
 stages_of (key.Depex m) = unbuilt
 stages_of (key.File v i) = file_stages v i
@@ -58,9 +59,9 @@ most_of (key.Dec path) = most_files
 most_of (key.Inf path) = most_files
 most_of key.Platform = 1 + most_files
 most_of key.Flash = 1 + most_files
-most_of (key.Choice m) = 0
-most_of key.PlatformPcds = 0
-most_of (key.Values m) = 0
+most_of (key.Choice m) = 1 + most_rounds
+most_of key.PlatformPcds = 4
+most_of (key.Values m) = 3
 most_of (key.Code m) = 0
 most_of (key.Depex m) = 0
 most_of (key.File v i) = 2

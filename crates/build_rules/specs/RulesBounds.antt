@@ -21,6 +21,7 @@ use Rattle.build_rules.specs.Fits.{fits}
 use Rattle.doc_types.specs.declared.platform.PlatformDoc.{PlatformDoc}
 use Rattle.flash_document.specs.Flash.{flash_of}
 use Rattle.build_rules.specs.ImageBounds.{file_lower, volume_lower, device_lower, all_lower, file_within, volume_within, device_within, all_within}
+use Rattle.build_rules.specs.ModuleBounds.{choice_lower, pcds_lower, values_lower, choice_within, pcds_within, values_within}
 use Rattle.build_rules.specs.Trees.{given_as, document_stages, root_in, macros_in, platform_given, platform_in, flash_root, flash_from, flash_given}
 use Rattle.build_rules.specs.Rules.{stages_of, rank_of, most_of, edk}
 
@@ -67,9 +68,9 @@ lower key.Flash = (
   λ given. attempt_lower rank_of 3 (platform_in given 0) _ (λ platform. attempt_lower rank_of 3 (macros_in given) _ (λ fixed.
       attempt_lower rank_of 3 (flash_root platform given) _ (λ root. flash_lower platform fixed root))),
 )
-lower (key.Choice m) = tt
-lower key.PlatformPcds = tt
-lower (key.Values m) = tt
+lower (key.Choice m) = choice_lower m
+lower key.PlatformPcds = pcds_lower
+lower (key.Values m) = values_lower m
 lower (key.Code m) = tt
 lower (key.Depex m) = tt
 lower (key.File v i) = file_lower v i
@@ -93,9 +94,9 @@ within key.Flash = (
       (attempt_within fits most_files (platform_in given 0) _ (λ platform. attempt_within fits most_files (macros_in given) _ (λ fixed.
       attempt_within fits most_files (flash_root platform given) _ (λ root. flash_within platform fixed root)))),
 )
-within (key.Choice m) = tt
-within key.PlatformPcds = tt
-within (key.Values m) = tt
+within (key.Choice m) = choice_within m
+within key.PlatformPcds = pcds_within
+within (key.Values m) = values_within m
 within (key.Code m) = tt
 within (key.Depex m) = tt
 within (key.File v i) = file_within v i

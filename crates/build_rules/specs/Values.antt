@@ -16,6 +16,8 @@ use Rattle.doc_types.specs.declared.package.DecDoc.{DecDoc}
 use Rattle.doc_types.specs.declared.module.InfDoc.{InfDoc}
 use Rattle.doc_types.specs.declared.platform.PlatformDoc.{PlatformDoc}
 use Rattle.dsc_platform.specs.Platform.{platform_of}
+use Rattle.doc_types.specs.declared.choice.Module.{Module}
+use Rattle.module_steps.specs.Settings.{built_modules}
 use Rattle.step_engine.specs.Meaning.{right}
 use Rattle.step_engine.specs.declared.talk.Ask.{Ask}
 use Rattle.step_engine.specs.declared.talk.Answer.{Answer}
@@ -36,7 +38,7 @@ use Rattle.image_steps.specs.Asks.{file_asks, sections_below, item_asks, region_
 use Rattle.image_steps.specs.Files.{file_given, unbuilt}
 use Rattle.image_steps.specs.Volumes.{volume_given}
 use Rattle.image_steps.specs.Devices.{device_given}
-use Rattle.build_rules.specs.AllTree.{image_asks}
+use Rattle.build_rules.specs.AllTree.{build_asks}
 use Rattle.build_rules.specs.ImageTrees.{volume_at, item_at, device_at}
 use Rattle.build_rules.specs.Outputs.{output_folder, outputs_of}
 use Rattle.step_pack.specs.declared.key.Key.TheVariants as key
@@ -121,17 +123,19 @@ regions_value w plan =
 unfoldable pub device_value : World → ℕ → Result (List ℕ) Fault
 device_value w d = and_then (flash_value w) (λ flash. and_then (device_at flash d) (regions_value w))
 
-abbrev pub images_value : World → List ℕ → FlashDoc → Result (List Output) Fault
-images_value w folder flash =
+abbrev pub images_value : World → List ℕ → List Module → FlashDoc → Result (List Output) Fault
+images_value w folder modules flash =
     if_shaped (are_few (length flash.volumes) && are_few (length flash.devices))
-    (by_answers w (image_asks flash) (λ given. outputs_of folder flash))
+    (by_answers w (build_asks modules flash) (λ given. outputs_of folder flash))
 
--- the files of the build: each volume's in order, and then each device's
+-- The files of the build: each volume's in order, and then each device's. The first fault is one of the
+-- rows of dynamic PCDs, of a module's description or values, of a volume or of a device.
 unfoldable pub all_value : World → Result (List Output) Fault
 all_value w =
     and_then (platform_value w) (λ platform.
     and_then (flash_value w) (λ flash.
-    and_then (output_folder platform.output (field w 2) (field w 3)) (λ folder. images_value w folder flash)))
+    and_then (output_folder platform.output (field w 2) (field w 3)) (λ folder.
+    and_then (built_modules platform (field w 1)) (λ modules. images_value w folder modules flash))))
 
 -- the step of a document gives its value
 abbrev pub GivesPackage : World → List ℕ → Type 0

@@ -2,7 +2,7 @@
 ghost use Rattle.std.specs.Prelude.{◌≡◌, ◌++◌, ◌∷◌, [], ◌<◌, length, IfOk, OnOk};
 ghost use Rattle.build_stages.specs.Gives.{GivesIn};
 ghost use Rattle.build_rules.specs.Rules.{Comes};
-ghost use Rattle.build_rules.specs.AllTree.{steps_from, image_asks, folder_in, images_stages, all_stages};
+ghost use Rattle.build_rules.specs.AllTree.{steps_from, build_asks, folder_in, modules_in, images_stages, all_stages};
 
 use crate::documents::platform_in;
 use crate::images::flash_in;
@@ -10,10 +10,12 @@ use crate::outputs::{output_folder, outputs_of};
 use crate::shapes::EdkRules;
 use build_base::{Path, Permit, Rows, WantOfMemory};
 use build_stages::{Given, Known, Stop, gather};
+use doc_types::choice::Module;
 use doc_types::flash::{DevicePlan, FlashDoc};
 use doc_types::platform::PlatformDoc;
 use doc_types::volume::VolumePlan;
 use image_steps::are_few;
+use module_steps::{built_modules, push_modules};
 use std::alloc::Global;
 use step_engine::Ask;
 use step_pack::{Key, Out};
@@ -50,13 +52,19 @@ fn push_devices(asks: &mut Rows<Ask<Key>>, plans: &[DevicePlan]) -> Result<(), W
     Ok(())
 }
 
-// All volumes by their numbers, and then all devices.
-fn image_asks(alloc: Global, flash: &FlashDoc) -> Result<Rows<Ask<Key>>, WantOfMemory>
+// The rows of dynamic PCDs, each module, all volumes by their numbers, and then all devices.
+fn build_asks(
+    alloc: Global,
+    modules: &[Module],
+    flash: &FlashDoc,
+) -> Result<Rows<Ask<Key>>, WantOfMemory>
     requires volumes { length flash.now.volumes < 65536 }
     requires devices { length flash.now.devices < 65536 }
-    ensures { IfOk result (λ asks. asks ≡ image_asks flash.now) }
+    ensures { IfOk result (λ asks. asks ≡ build_asks modules.now flash.now) }
 {
     let mut asks = Rows::new(alloc);
+    asks.push(Ask::Part(Key::PlatformPcds))?;
+    push_modules(alloc, &mut asks, modules)?;
     push_volumes(&mut asks, flash.volumes.items())?;
     push_devices(&mut asks, flash.devices.items())?;
     Ok(asks)
@@ -74,18 +82,30 @@ fn folder_in(
     output_folder(alloc, &platform.output, target.bytes(), tag.bytes())
 }
 
-// The images, and then their files.
+fn modules_in(
+    alloc: Global,
+    platform: &PlatformDoc,
+    given: &Given<'_, Out>,
+) -> Result<Rows<Module>, Stop<Key>>
+    ensures { GivesIn (λ modules. modules) result (modules_in platform.now given.now) }
+{
+    let arches = given.field(2)?;
+    built_modules(alloc, platform, arches.bytes())
+}
+
+// Modules and images, and then the files of the images.
 fn images(
     alloc: Global,
     known: &Known<'_, Key, Out>,
     folder: &Path,
+    modules: &[Module],
     flash: &FlashDoc,
     permit: Permit,
 ) -> Result<Out, Stop<Key>>
-    ensures { Comes known.now (images_stages folder.now flash.now) result }
+    ensures { Comes known.now (images_stages folder.now modules.now flash.now) result }
 {
     if are_few(flash.volumes.items().len()) && are_few(flash.devices.items().len()) {
-        let asks = image_asks(alloc, flash)?;
+        let asks = build_asks(alloc, modules, flash)?;
         let (_given, _permit) = gather(alloc, &EdkRules, known, asks.items(), permit)?;
         return Ok(Out::All(outputs_of(alloc, folder, flash)?));
     }
@@ -110,5 +130,6 @@ pub fn all(alloc: Global, known: &Known<'_, Key, Out>, permit: Permit) -> Result
     let platform = platform_in(&given, 0)?;
     let flash = flash_in(&given, 1)?;
     let folder = folder_in(alloc, platform, &given)?;
-    images(alloc, known, &folder, flash, permit)
+    let modules = modules_in(alloc, platform, &given)?;
+    images(alloc, known, &folder, modules.items(), flash, permit)
 }

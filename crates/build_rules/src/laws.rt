@@ -1,10 +1,12 @@
 //! What the values of the steps are in a world.
 ghost use Rattle.std.specs.Prelude.{ℕ, List};
 ghost use Rattle.build_base.specs.World.{World};
+ghost use Rattle.doc_types.specs.declared.choice.Module.{Module};
 ghost use Rattle.step_engine.specs.Meaning.{IsWorld};
 ghost use Rattle.build_stages.specs.Stages.{meaning_of};
 ghost use Rattle.step_pack.specs.Keys.{key_cmp};
 ghost use Rattle.build_rules.specs.Rules.{edk};
+ghost use Rattle.build_rules.specs.ModuleValues.{GivesChoice, GivesPcds, GivesValues};
 ghost use Rattle.build_rules.specs.Values.{GivesPackage, GivesModule, GivesPlatform, GivesFlash, GivesFile, GivesVolume, GivesDevice, GivesAll};
 
 /// A package's step gives what its lines come to.
@@ -28,6 +30,23 @@ pub fn flash_descriptions_are_read()
     ensures { (w : World) → IsWorld (meaning_of key_cmp edk) w → GivesFlash w }
 {}
 
+/// The step of a module's libraries gives what is chosen, or the first fault of the platform, of a
+/// description or of the choice.
+pub fn libraries_are_chosen()
+    ensures { (w : World) (m : Module) → IsWorld (meaning_of key_cmp edk) w → GivesChoice w m }
+{}
+
+/// The step of dynamic PCDs gives their rows, or the first fault: of the platform, the flash description,
+/// the words' SKU, the words' architectures, libraries, descriptions, packages, and then of the values.
+pub fn dynamic_values_are_resolved()
+    ensures { (w : World) → IsWorld (meaning_of key_cmp edk) w → GivesPcds w }
+{}
+
+/// The step of a module's values gives them, or the first fault.
+pub fn values_are_resolved()
+    ensures { (w : World) (m : Module) → IsWorld (meaning_of key_cmp edk) w → GivesValues w m }
+{}
+
 /// The step of an item gives its file, or the first fault: of a volume that it holds, then of a file that
 /// it asks for, then of the file itself.
 pub fn files_are_made()
@@ -45,7 +64,7 @@ pub fn devices_are_made()
     ensures { (w : World) (d : ℕ) → IsWorld (meaning_of key_cmp edk) w → GivesDevice w d }
 {}
 
-/// The whole build gives its files, or the first fault of a volume or a device.
+/// The whole build gives its files, or the first fault of a module, a volume or a device.
 pub fn builds_give_their_files()
     ensures { (w : World) → IsWorld (meaning_of key_cmp edk) w → GivesAll w }
 {}

@@ -7,6 +7,7 @@ pub mod documents;
 pub mod images;
 pub mod job;
 pub mod laws;
+pub mod modules;
 pub mod outputs;
 pub mod rules;
 pub mod shapes;

@@ -2,6 +2,7 @@
 use crate::all::all;
 use crate::documents::{dec, flash, inf, platform};
 use crate::images::{device, file, volume};
+use crate::modules::{choice, pcds, values};
 pub use crate::shapes::EdkRules;
 use build_base::{Permit, WantOfMemory};
 use build_stages::{Known, StagedRules, Stop, turn_by};
@@ -41,16 +42,14 @@ impl StagedRules for EdkRules {
             Key::Inf(path) => inf(alloc, known, path, permit),
             Key::Platform => platform(alloc, known, permit),
             Key::Flash => flash(alloc, known, permit),
+            Key::Choice(module) => choice(alloc, known, module, permit),
+            Key::PlatformPcds => pcds(alloc, known, permit),
+            Key::Values(module) => values(alloc, known, module, permit),
             Key::File(volume, item) => file(alloc, known, *volume, *item, permit),
             Key::Volume(number) => volume(alloc, known, *number, permit),
             Key::Device(number) => device(alloc, known, *number, permit),
             Key::All => all(alloc, known, permit),
-            Key::Choice(_)
-            | Key::PlatformPcds
-            | Key::Values(_)
-            | Key::Code(_)
-            | Key::Depex(_)
-            | Key::Report => Err(Stop::Misfit),
+            Key::Code(_) | Key::Depex(_) | Key::Report => Err(Stop::Misfit),
         }
     }
 

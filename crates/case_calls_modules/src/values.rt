@@ -4,12 +4,13 @@ ghost use Rattle.pcd_resolve.specs.Platform.{SkusEnd};
 
 use crate::asking::ask_of;
 use crate::parsing::value;
-use build_base::{Book, Refusal, Rows};
+use build_base::{Book, Refusal, Rows, Same, WantOfMemory};
 use case_calls_documents::rows::pcd;
 use case_calls_texts::copied;
 use case_player::{Output, Page, Stop, Wrong};
 use doc_types::asks::{ModuleAsk, PlatformAsk};
 use doc_types::parts::ModuleParts;
+use doc_types::together::three;
 use doc_types::values::{PcdRow, Values};
 use pcd_resolve::{resolve_module, resolve_platform};
 use std::alloc::Global;
@@ -58,18 +59,15 @@ fn dynamic_of(alloc: Global, ask: &PlatformAsk) -> Result<Values, Stop>
     }
 }
 
-// What is asked of one of the platform's modules.
-fn module_ask(
+fn asked_of(
     alloc: Global,
     ask: &PlatformAsk,
     parts: &ModuleParts,
     dynamic: &Values,
-) -> Result<ModuleAsk, Stop> {
-    let platform = copied(alloc, &ask.platform)?;
-    let flash = copied(alloc, &ask.flash)?;
-    let commands = copied(alloc, &ask.commands)?;
-    let parts = copied(alloc, parts)?;
-    let dynamic = copied(alloc, dynamic)?;
+) -> Result<ModuleAsk, WantOfMemory> {
+    let (platform, flash, commands) = three(&ask.platform, &ask.flash, &ask.commands, alloc)?;
+    let parts = parts.copy(alloc)?;
+    let dynamic = dynamic.copy(alloc)?;
     Ok(ModuleAsk {
         platform,
         flash,
@@ -77,6 +75,16 @@ fn module_ask(
         parts,
         dynamic,
     })
+}
+
+// What is asked of one of the platform's modules.
+fn module_ask(
+    alloc: Global,
+    ask: &PlatformAsk,
+    parts: &ModuleParts,
+    dynamic: &Values,
+) -> Result<ModuleAsk, Stop> {
+    Ok(asked_of(alloc, ask, parts, dynamic)?)
 }
 
 fn tell_values_of(page: &mut Page, ask: &ModuleAsk) -> Result<(), Stop> {

@@ -4,6 +4,7 @@ use crate::flash::FlashDoc;
 use crate::parts::ModuleParts;
 use crate::pcd::PcdSet;
 use crate::platform::PlatformDoc;
+use crate::together::three;
 use crate::values::Values;
 use build_base::{Rows, Same, Text, WantOfMemory, all_same, copied};
 use std::alloc::Global;
@@ -33,7 +34,21 @@ pub struct ModuleAsk {
 
 impl Same for PlatformAsk {
     fn copy(&self, alloc: Global) -> Result<PlatformAsk, WantOfMemory> {
-        copied!(PlatformAsk, self, alloc; platform, flash, commands, skus, arches, modules)
+        let (platform, flash, commands) = three(
+            &self.platform,
+            &self.flash,
+            &self.commands,
+            alloc,
+        )?;
+        let (skus, arches, modules) = three(&self.skus, &self.arches, &self.modules, alloc)?;
+        Ok(PlatformAsk {
+            platform,
+            flash,
+            commands,
+            skus,
+            arches,
+            modules,
+        })
     }
 
     fn same(&self, other: &PlatformAsk) -> bool {
@@ -43,7 +58,21 @@ impl Same for PlatformAsk {
 
 impl Same for ModuleAsk {
     fn copy(&self, alloc: Global) -> Result<ModuleAsk, WantOfMemory> {
-        copied!(ModuleAsk, self, alloc; platform, flash, commands, parts, dynamic)
+        let (platform, flash, commands) = three(
+            &self.platform,
+            &self.flash,
+            &self.commands,
+            alloc,
+        )?;
+        let parts = self.parts.copy(alloc)?;
+        let dynamic = self.dynamic.copy(alloc)?;
+        Ok(ModuleAsk {
+            platform,
+            flash,
+            commands,
+            parts,
+            dynamic,
+        })
     }
 
     fn same(&self, other: &ModuleAsk) -> bool {

@@ -2,6 +2,7 @@
 use crate::arch::Arch;
 use crate::module_type::ModuleType;
 use crate::pcd::{Datum, Kind, PcdName};
+use crate::together::three;
 use build_base::{Guid, Macro, Path, Place, Rows, Same, Text, WantOfMemory, all_same, copied};
 use std::alloc::Global;
 
@@ -182,7 +183,29 @@ impl Same for Component {
 
 impl Same for PlatformDoc {
     fn copy(&self, alloc: Global) -> Result<PlatformDoc, WantOfMemory> {
-        copied!(PlatformDoc, self, alloc; at, name, guid, output, arches, sku_choice, flash, skus, libraries, components, pcds, macros)
+        let (at, name, guid) = three(&self.at, &self.name, &self.guid, alloc)?;
+        let (output, arches, sku_choice) = three(
+            &self.output,
+            &self.arches,
+            &self.sku_choice,
+            alloc,
+        )?;
+        let (flash, skus, libraries) = three(&self.flash, &self.skus, &self.libraries, alloc)?;
+        let (components, pcds, macros) = three(&self.components, &self.pcds, &self.macros, alloc)?;
+        Ok(PlatformDoc {
+            at,
+            name,
+            guid,
+            output,
+            arches,
+            sku_choice,
+            flash,
+            skus,
+            libraries,
+            components,
+            pcds,
+            macros,
+        })
     }
 
     fn same(&self, other: &PlatformDoc) -> bool {

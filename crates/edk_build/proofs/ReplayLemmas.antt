@@ -26,9 +26,9 @@ use Rattle.edk_build.specs.History.{start, label_of, after_edit, after_build, wo
 use Rattle.edk_build.specs.Outcome.{outcome}
 use Rattle.edk_build.specs.Script.{HaveJobs, HasJob, script_line}
 use Rattle.edk_build.specs.Stops.{IfWriteFault, IfUnwritten, stop_status}
-use Rattle.edk_build.specs.Words.{job_fields}
+use Rattle.build_words.specs.Fields.{job_fields}
 use Rattle.edk_build.specs.declared.build.Built.{Built}
-use Rattle.edk_build.specs.declared.job.Job.{Job}
+use Rattle.build_words.specs.declared.job.Job.{Job}
 use Rattle.edk_build.specs.declared.label.Label.{Label}
 use Rattle.edk_build.specs.declared.script.Order.{Order}
 use Rattle.edk_build.specs.declared.script.Order.TheVariants as order

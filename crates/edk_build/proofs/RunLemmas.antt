@@ -16,8 +16,8 @@ use Rattle.step_pack.specs.declared.out.Out.{Out}
 use Rattle.edk_build.specs.Building.{means, IsBuilt}
 use Rattle.edk_build.specs.Run.{world_of}
 use Rattle.edk_build.specs.Statuses.{OnEnd}
-use Rattle.edk_build.specs.Words.{job_fields}
-use Rattle.edk_build.specs.declared.job.Job.{Job}
+use Rattle.build_words.specs.Fields.{job_fields}
+use Rattle.build_words.specs.declared.job.Job.{Job}
 use Rattle.edk_build.specs.declared.label.Label.{Label}
 use Rattle.edk_build.specs.declared.status.Status.{Status}
 use Rattle.edk_build.specs.declared.status.Status.TheVariants.{Done, FileFault, Usage, ReadFault, WriteFault, WantOfMemory}

@@ -22,10 +22,10 @@ use Rattle.edk_build.specs.Emitting.{emitted}
 use Rattle.edk_build.specs.Outcome.{outcome}
 use Rattle.edk_build.specs.Run.{world_of}
 use Rattle.edk_build.specs.Script.{script_of}
-use Rattle.edk_build.specs.Words.{job_fields}
+use Rattle.build_words.specs.Fields.{job_fields}
 use Rattle.edk_build.specs.declared.command.Command.{Command}
 use Rattle.edk_build.specs.declared.command.Command.TheVariants as command
-use Rattle.edk_build.specs.declared.job.Job.{Job}
+use Rattle.build_words.specs.declared.job.Job.{Job}
 use Rattle.edk_build.specs.declared.label.Label.{Label}
 use Rattle.edk_build.specs.declared.script.Order.{Order}
 use Rattle.edk_build.specs.declared.script.Order.TheVariants.{Put, Drop, Build}

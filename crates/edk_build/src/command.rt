@@ -1,6 +1,6 @@
 //! What the words of the command line are.
-use crate::job::Job;
 use build_base::Path;
+use build_words::Job;
 
 /// A build, or a replay of a script.
 #[derive(Debug, Drop)]

@@ -4,9 +4,7 @@
 pub mod build;
 pub mod command;
 pub mod content;
-pub mod defines;
 pub mod file_out;
-pub mod job;
 pub mod label;
 pub mod made;
 pub mod replay;

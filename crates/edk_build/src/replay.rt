@@ -8,12 +8,11 @@ ghost use Rattle.edk_build.specs.Building.{means};
 ghost use Rattle.edk_build.specs.History.{after_edit, WasDone, HasStopped, IsTold, Follows, IsReplayed, IsUntouched};
 ghost use Rattle.edk_build.specs.Script.{HasJob, HaveJobs, script_line, script_of};
 ghost use Rattle.edk_build.specs.Statuses.{OnEnd, OnWriteFault, OnUsage, IsUsageTold, Causes};
-ghost use Rattle.edk_build.specs.Words.{job_fields};
+ghost use Rattle.build_words.specs.Fields.{job_fields};
 ghost use Rattle.edk_build.specs.declared.script.Order.TheVariants as order;
 ghost use Rattle.step_pack.specs.declared.key.Key.{Key};
 
 use crate::build::build;
-use crate::job::{Job, job_fields};
 use crate::made::write_text;
 use crate::script::{Order, ScriptLine, read_script};
 use crate::stand::{Stand, label_of};
@@ -24,6 +23,7 @@ use build_base::{
     Book, FILE_LIMIT, Fault, Gate, Got, Path, Place, Same, Sink, Target, Text, Tree, TreeFailed,
     WantOfMemory,
 };
+use build_words::{Job, job_fields};
 use shared_value::Shared;
 use std::alloc::Global;
 use std::thread::Threads;
@@ -168,8 +168,9 @@ fn build_next<H: Threads + Sync, T: Tree, S: Sink, G: Gate>(
     };
     let label = label_of(alloc, number)?;
     let fields = job_fields(alloc, job)?;
+    let workers = job.workers.number();
     let built = build(
-        rt, alloc, &fields, &label, 1, cache, tree, &edits, sink, gate, book,
+        rt, alloc, &fields, &label, workers, cache, tree, &edits, sink, gate, book,
     )?;
     Ok(Stand {
         edits,

@@ -9,17 +9,17 @@ ghost use Rattle.edk_build.specs.Commands.{command_of, IfBuild, IfReplay, IfNoRe
 ghost use Rattle.edk_build.specs.History.{IsReplayed, IsReplayComplete, IsUsage};
 ghost use Rattle.edk_build.specs.Run.{world_of, plain, IsComplete};
 ghost use Rattle.edk_build.specs.Statuses.{OnEnd, OnUnwritten, OnUsage, OnReadFault, OnWriteFault, OnBuild, IsUsageTold};
-ghost use Rattle.edk_build.specs.Words.{job_fields};
+ghost use Rattle.build_words.specs.Fields.{job_fields};
 
 use crate::build::build;
 use crate::command::Command;
-use crate::job::{Job, job_fields};
 use crate::label::Label;
 use crate::replay::replay;
 use crate::status::Status;
 use crate::usage::tell_usage;
 use crate::words::command_of;
 use build_base::{Book, Gate, Keeper, Sink, Tree};
+use build_words::{Job, job_fields};
 use std::alloc::Global;
 use std::thread::Threads;
 use step_engine::{Cache, Edits};
@@ -58,8 +58,9 @@ fn build_job<H: Threads + Sync, T: Tree, S: Sink, G: Gate>(
     };
     let cache = Cache::new(alloc);
     let edits = Edits::new(alloc);
+    let workers = job.workers.number();
     match build(
-        rt, alloc, &fields, &label, 1, cache, tree, &edits, sink, gate, book,
+        rt, alloc, &fields, &label, workers, cache, tree, &edits, sink, gate, book,
     ) {
         Ok(built) => built.status,
         Err(stop) => stop.status(),

@@ -99,7 +99,7 @@ fn build<H: Threads + Sync + Abort>(
         &OpenGate,
     )?;
     assert_eq!(rt; count(&brought.result), 2);
-    assert_eq!(rt; brought.needed, 6);
+    assert_eq!(rt; brought.needed, 7);
     assert_eq!(rt; book.ran().len(), steps);
     assert_eq!(rt; body_byte(alloc, &brought.cache)?, bytes.first().copied());
     Ok(brought.cache)
@@ -108,7 +108,7 @@ fn build<H: Threads + Sync + Abort>(
 #[test]
 fn an_edit_of_a_file_runs_its_images(rt: HostRuntime) -> Result<(), Fail> {
     let alloc = rt.alloc();
-    let cache = build(&rt, alloc, Cache::new(alloc), b"A", 6)?;
+    let cache = build(&rt, alloc, Cache::new(alloc), b"A", 7)?;
     let cache = build(&rt, alloc, cache, b"A", 0)?;
     let _cache = build(&rt, alloc, cache, b"B", 4)?;
     Ok(())

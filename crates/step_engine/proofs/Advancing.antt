@@ -1,14 +1,15 @@
 -- What is left of a key under way after one step forward.
-use Rattle.std.proofs.Common.{◌≡◌, ℕ, ◌<◌, ◌≤◌, ◌+◌, ◌++◌, List, [], ◌∷◌, true, false, refl, subst, get_or, length}
+use Rattle.std.proofs.Common.{◌≡◌, ℕ, ◌<◌, ◌≤◌, ◌+◌, ◌++◌, List, [], ◌∷◌, true, false, refl, subst, get_or, length, take}
 use Rattle.std.proofs.lemmas.List.Elements.{All-contains}
 use Rattle.build_base.specs.World.{World}
 use Rattle.step_engine.specs.Meaning.{asks_of, AreRight, IsRight}
 use Rattle.step_engine.specs.Entries.{IsValid}
 use Rattle.step_engine.specs.Needed.{IsStale}
 use Rattle.step_engine.specs.Build.{Setting, IsHere}
-use Rattle.step_engine.specs.Engine.{State, IsNext, Grows, HasTalkParts, AreAnswered, IsCheckedBatch}
+use Rattle.step_engine.specs.Agreeing.{HasTalkParts}
+use Rattle.step_engine.specs.Engine.{State, IsNext, Grows, AreAnswered, IsCheckedBatch}
 use Rattle.step_engine.specs.Loops.{IsRunning}
-use Rattle.step_engine.proofs.Moves.{has_key_grows}
+use Rattle.step_engine.proofs.AgreeLemmas.{parts_grow}
 use Rattle.step_engine.proofs.Steps.{running_more, checking_next, checking_more, item_in, take_whole}
 use Rattle.step_engine.specs.declared.talk.Ask.{Ask}
 use Rattle.step_engine.specs.declared.talk.Pair.{Pair}
@@ -20,13 +21,13 @@ use Rattle.step_engine.specs.declared.items.Item.TheVariants as item
 
 -- what holds of a key under way goes on to hold when entries are added
 pub running_on : {K O : Type 0} (s : Setting K O) (k : K) (x y : State K O) (talk : List (Batch K O)) → Grows x.fresh y.fresh → IsRunning s k x talk → IsRunning s k y talk
-running_on s k x y talk g r = record { follows = r.follows; right = r.right; small = r.small; parts = λ b c part f. has_key_grows x.fresh y.fresh part g (r.parts b c part f) }
+running_on s k x y talk g r = record { follows = r.follows; right = r.right; small = r.small; parts = parts_grow x.fresh y.fresh talk g r.parts }
 
 pub check_on : {K O : Type 0} (s : Setting K O) (x y : State K O) (e : Entry K O) (i : ℕ) → Grows x.fresh y.fresh → IsCheck s x e i → IsCheck s y e i
 check_on s x y e i g c = record {
   old = c.old;
   only = c.only;
-  checking = record { right = c.checking.right; parts = λ b d part f. has_key_grows x.fresh y.fresh part g (c.checking.parts b d part f) };
+  checking = record { right = c.checking.right; parts = parts_grow x.fresh y.fresh (take i e.talk.batches) g c.checking.parts };
 }
 
 pub item_on : {K O : Type 0} (s : Setting K O) (x y : State K O) (a : Item K O) → Grows x.fresh y.fresh → IsItem s x a → IsItem s y a

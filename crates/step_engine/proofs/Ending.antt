@@ -1,5 +1,5 @@
 -- What a build leaves, over what holds when its key has its outcome.
-use Rattle.std.proofs.Common.{◌≡◌, ℕ, List, [], ◌∷◌, refl, sym, ap, ◌∙◌, subst, Contains, All, arith, inl, inr, ◌⊎◌, length, slice_get, Option, Some, None, IsPermutation, Result, Ok, Err, IfOk}
+use Rattle.std.proofs.Common.{◌≡◌, ℕ, List, [], ◌∷◌, refl, sym, ap, ◌∙◌, subst, Contains, All, arith, inl, inr, ◌⊎◌, length, slice_get, Option, Some, None, IsPermutation}
 use Rattle.std.proofs.lemmas.List.Elements.{All-nil, All-contains, All-weaker, All-contains_itself}
 use Rattle.std.proofs.lemmas.Option.{slice_get_read}
 use Rattle.std.specs.Cmp.{IsTotalOrder}
@@ -13,7 +13,8 @@ use Rattle.step_engine.specs.Entries.{IsSound, AreSound, IsValid, IsEntry}
 use Rattle.step_engine.specs.Needed.{IsNeeded, IsStep, IsFull, IsBad, IsNeededEntry, IsOtherEntry, IsLeft, IsNeededCount}
 use Rattle.step_engine.specs.Needed.IsNeededBy.{itself, asked}
 use Rattle.step_engine.specs.Build.{Setting, IsHere, IsEntryOf, RanAll, IsBuilt, Built}
-use Rattle.step_engine.specs.Engine.{State, state, AreKept, HasTalkParts}
+use Rattle.step_engine.specs.Engine.{State, state, AreKept}
+use Rattle.step_engine.specs.Agreeing.{HasTalkParts, Agree}
 use Rattle.step_engine.proofs.Talks.{valid_entry, same_entry, asked_in}
 use Rattle.step_engine.proofs.Moves.{none_in, one_in, has_key_grows}
 use Rattle.step_engine.proofs.Caches.{Contains-cons_cases, put_has, put_keeps, put_cases}
@@ -28,8 +29,9 @@ use Rattle.step_engine.specs.declared.places.Place.{Place}
 use Rattle.step_engine.proofs.Going.{going_none}
 use Rattle.step_engine.specs.Rounds.{IsGoing, IsEnd, IsOneEach, AreSame}
 use Rattle.step_engine.specs.Items.{IsReady}
-use Rattle.step_engine.specs.Reading.{read_at}
-use Rattle.build_base.specs.declared.outside.Got.{Got}
+use Rattle.step_engine.specs.Reading.{knowledge}
+use Rattle.step_engine.specs.declared.learned.Learned.{Learned}
+use Rattle.step_engine.proofs.AgreeLemmas.{parts_grow, compared_grows, asked_pair, agree_under}
 use Rattle.step_engine.specs.Settling.{IsBroughtTo}
 use Rattle.step_engine.specs.declared.places.Place.TheVariants.{Done}
 
@@ -50,7 +52,9 @@ module _ {K O : Type 0} (s : Setting K O) (w : World) (here : IsHere s w) (top :
       let t : IsTalk s.means w k e.talk.batches = subst (λ (k : K). IsTalk s.means w k e.talk.batches) h.2 (entry_made e h.1).talk in
       let b = asked_in s.means w k (ask.Part part) e.talk.batches t n in
       let closed : HasTalkParts z.fresh e.talk.batches = All-contains (λ (e : Entry K O). HasTalkParts z.fresh e.talk.batches) z.fresh e d.kept.closed h.1 in
-      closed b.0 b.1 part b.2
+      let p = asked_pair b.0.pairs (ask.Part part) b.2 in
+      let made = (closed b.0 b.1 part p.0 p.1 p.2).1 in
+      (made.0, made.1, made.2)
 
   -- each needed key has an entry
   made_needed : (k : K) → IsNeeded s.means w top k → HasKey z.fresh k
@@ -141,7 +145,7 @@ module _ {K O : Type 0} (s : Setting K O) (top : K) (z : State K O) (added : Lis
   built_bad b cache in_order j w i = built_by cache in_order j.grows w i (left_bad s w i top z added r d b.0 b.1 cache j)
 
 -- the entries, in another order
-pub end_of : {K O : Type 0} (s : Setting K O) (top : K) (x z : State K O) (t u : Known K) (r : Outcome O) (cache : List (Entry K O)) (b : IsBroughtTo s top x z t u r) (g : IsGoing s top x z u) → AreSame z.fresh cache → IsEnd s top (state cache z.files z.ran z.reads) g.added r
+pub end_of : {K O : Type 0} (s : Setting K O) (top : K) (x z : State K O) (t u : Known K) (r : Outcome O) (cache : List (Entry K O)) (b : IsBroughtTo s top x z t u r) (g : IsGoing s top x z u) → AreSame z.fresh cache → IsEnd s top (state cache z.learned z.ran z.reads) g.added r
 end_of {K} {O} s top x z t u r cache b g same =
     let over : (P : Entry K O → Type 0) → All P z.fresh → All P cache = λ P h. All-weaker (Contains cache) P (λ e c. All-contains P z.fresh e h (same.from e c)) cache (All-contains_itself cache) in
     let P : Entry K O → Type 0 = λ e. HasTalkParts z.fresh e.talk.batches in
@@ -152,9 +156,10 @@ end_of {K} {O} s top x z t u r cache b g same =
       kept = record {
         sound = λ o. over (IsSound s.means) (q.sound o);
         right = λ w i. over (IsValid s.means w) (q.right w i);
-        closed = All-weaker P Q (λ e h c d part f. has_key_grows z.fresh cache part same.into (h c d part f)) cache (over P q.closed);
+        closed = All-weaker P Q (λ e h. parts_grow z.fresh cache e.talk.batches same.into h) cache (over P q.closed);
         known = q.known;
         within = q.within;
+        compared = compared_grows s.old z.fresh cache z.learned.compared same.into q.compared;
       };
       entry = (b.entry.0, same.into b.entry.0 b.entry.1, b.entry.2, b.entry.3);
       needed = λ w i e c. g.needed w i e (same.from e c);
@@ -162,8 +167,8 @@ end_of {K} {O} s top x z t u r cache b g same =
     }
 
 -- the keys that ran
-pub end_all : {K O : Type 0} (s : Setting K O) (top : K) (x z : State K O) (u : Known K) (r : Outcome O) (cache : List (Entry K O)) (g : IsGoing s top x z u) → IsEnd s top (state cache z.files z.ran z.reads) g.added r → RanAll s top x.ran z.ran
-end_all s top x z u r cache g d = (g.added, g.is, g.distinct, λ w i k t. all_ran s w i top (state cache z.files z.ran z.reads) g.added r d k t)
+pub end_all : {K O : Type 0} (s : Setting K O) (top : K) (x z : State K O) (u : Known K) (r : Outcome O) (cache : List (Entry K O)) (g : IsGoing s top x z u) → IsEnd s top (state cache z.learned z.ran z.reads) g.added r → RanAll s top x.ran z.ran
+end_all s top x z u r cache g d = (g.added, g.is, g.distinct, λ w i k t. all_ran s w i top (state cache z.learned z.ran z.reads) g.added r d k t)
 
 pub end_joined : {K O : Type 0} (s : Setting K O) (top : K) (z : State K O) (added : List K) (r : Outcome O) (cache : List (Entry K O)) → IsEnd s top z added r → IsJoined z.fresh s.old cache → IsEntryOf top r cache
 end_joined s top z added r cache d j = (d.entry.0, j.grows d.entry.0 d.entry.1, d.entry.2, d.entry.3)
@@ -229,9 +234,8 @@ same_permuted xs ys cache p a = record {
 pub one_permuted : {K O : Type 0} (xs ys : List (Entry K O)) → IsPermutation xs ys → IsOneEach xs → IsOneEach ys
 one_permuted xs ys p o d e c f = o d e (Contains-permutation ys xs d (IsPermutation-sym xs ys p) c) (Contains-permutation ys xs e (IsPermutation-sym xs ys p) f)
 
-pub same_after : {K O E : Type 0} (xs ys : List (Entry K O)) (r : Result (List (Entry K O)) E) → IsPermutation xs ys → IfOk r (λ cache. AreSame ys cache) → IfOk r (λ cache. AreSame xs cache)
-same_after xs ys (Ok cache) p a = same_permuted xs ys cache p a
-same_after xs ys (Err e) p a = tt
+pub agree_permuted : {K O : Type 0} (xs ys cache : List (Entry K O)) → IsPermutation xs ys → ((e : Entry K O) → Contains cache e → Contains ys e) → Agree xs → Agree cache
+agree_permuted xs ys cache p f a = agree_under xs cache (λ e c. Contains-permutation ys xs e (IsPermutation-sym xs ys p) (f e c)) a
 
 -- at the start
 pub begun : {K O : Type 0} (s : Setting K O) (top : K) (x : State K O) (cmp : K → K → Ordering) (entries : List (K × Place)) → x.fresh ≡ [] → entries ≡ [] → IsGoing s top x x (place_at cmp entries)
@@ -240,14 +244,15 @@ begun s top x cmp entries none blank = going_none s top x (place_at cmp entries)
 pub ready_none : {K O : Type 0} (s : Setting K O) (x : State K O) (cmp : K → K → Ordering) (entries : List (K × Place)) → AreKept s x → entries ≡ [] → IsReady s x (place_at cmp entries)
 ready_none s x cmp entries q blank = record { kept = q; finds = rw blank (λ k i h. absurd (let a : None ≡ Some (Done i) = h in cc)) }
 
-pub kept_none : {K O : Type 0} (s : Setting K O) (fresh : List (Entry K O)) (files : List (List ℕ × Got)) (ran : List K) (reads : Option (List (List ℕ))) → fresh ≡ [] → files ≡ [] → AreKept s (state fresh (read_at files) ran reads)
-kept_none {K} {O} s fresh files ran reads e f =
-    rw (e, f) (record {
+pub kept_none : {K O : Type 0} (s : Setting K O) (cmp : K → K → Ordering) (fresh : List (Entry K O)) (learned : Learned K) (ran : List K) (reads : Option (List (List ℕ))) → fresh ≡ [] → learned.files ≡ [] → learned.compared ≡ [] → AreKept s (state fresh (knowledge cmp learned) ran reads)
+kept_none {K} {O} s cmp fresh learned ran reads e f c =
+    rw e (record {
       sound = λ o. All-nil (IsSound s.means);
       right = λ w i. All-nil (IsValid s.means w);
       closed = All-nil (λ (e : Entry K O). HasTalkParts [] e.talk.batches);
-      known = λ h t p got q. absurd (let a : None ≡ Some got = q in cc);
-      within = λ p got q. absurd (let a : None ≡ Some got = q in cc);
+      known = λ h t p got q. absurd (let a : None ≡ Some got = rw f at q in cc);
+      within = λ p got q. absurd (let a : None ≡ Some got = rw f at q in cc);
+      compared = λ part same q. absurd (let a : None ≡ Some same = rw c at q in cc);
     })
 
 no_more : {A : Type 0} (xs : List A) → length xs ≡ 0 → xs ≡ []

@@ -5,8 +5,10 @@ use Rattle.build_base.specs.World.{World}
 use Rattle.step_engine.specs.Entries.{IsSound, AreSound, IsValid}
 use Rattle.step_engine.specs.Needed.{IsNeeded, IsStale}
 use Rattle.step_engine.specs.Build.{Setting, IsHere, HasRead, added_to}
-use Rattle.step_engine.specs.Engine.{State, state, ReadFiles, AreKept, HasTalkParts, IsKnown, IsPathAsked, IsFrom, Grows, Adds, Moves}
-use Rattle.step_engine.proofs.Moves.{none_in, one_in, added_none, added_twice, distinct_append, has_key_grows, known_grows, asked_through, needs_one}
+use Rattle.step_engine.specs.Engine.{State, state, Knowledge, AreKept, IsKnown, IsPathAsked, IsFrom, Grows, Adds, Moves}
+use Rattle.step_engine.specs.Agreeing.{HasTalkParts}
+use Rattle.step_engine.proofs.AgreeLemmas.{parts_grow, compared_grows}
+use Rattle.step_engine.proofs.Moves.{none_in, one_in, added_none, added_twice, distinct_append, known_grows, asked_through, needs_one}
 use Rattle.step_engine.specs.declared.talk.Entry.{Entry}
 use Rattle.step_engine.specs.Table.{Known, IsPlaced, IsDone, IsStarted}
 use Rattle.step_engine.specs.Rounds.{IsWanted, AreNoted, IsGoing}
@@ -14,14 +16,14 @@ use Rattle.step_engine.specs.declared.places.Place.TheVariants.{Checking, Runnin
 use Rattle.step_engine.proofs.TableLemmas.{table_checking, table_running, table_done, get_in}
 
 abbrev pub pushing : {K O : Type 0} → Entry K O → State K O → State K O
-pushing e y = state (y.fresh ++ e ∷ []) y.files y.ran y.reads
+pushing e y = state (y.fresh ++ e ∷ []) y.learned y.ran y.reads
 
 abbrev pub granting : {K O : Type 0} → K → State K O → State K O
-granting k y = state y.fresh y.files (y.ran ++ k ∷ []) y.reads
+granting k y = state y.fresh y.learned (y.ran ++ k ∷ []) y.reads
 
 -- the reads alone: the state without the entries and the book
 abbrev pub reading : {K O : Type 0} → State K O → State K O
-reading y = state y.fresh y.files [] y.reads
+reading y = state y.fresh y.learned [] y.reads
 
 -- a build begins
 pub going_none : {K O : Type 0} (s : Setting K O) (top : K) (x : State K O) (t : Known K) → x.fresh ≡ [] → ((k : K) → t k ≡ None) → IsGoing s top x x t
@@ -124,8 +126,8 @@ module _ {K O : Type 0} (s : Setting K O) (top : K) (x y : State K O) (t u : Kno
   going_reused e p wanted here old valid = going_made e (λ d. absurd (let a : Some Checking ≡ Some (Done d.0) = sym here ∙ d.1 in cc)) p wanted (λ w i. inr (e, old, refl, valid w i))
 
 -- files were read for a key that is needed
-module _ {K O : Type 0} (s : Setting K O) (top k : K) (x y : State K O) (t : Known K) (g : IsGoing s top x y t) (wanted : IsWanted s top k) (files : ReadFiles) (reads : Option (List (List ℕ))) where
-  paths_more : Adds s k (reading y) (state y.fresh files [] reads) → (HasRead s top x.reads reads)
+module _ {K O : Type 0} (s : Setting K O) (top k : K) (x y : State K O) (t : Known K) (g : IsGoing s top x y t) (wanted : IsWanted s top k) (learned : Knowledge K) (reads : Option (List (List ℕ))) where
+  paths_more : Adds s k (reading y) (state y.fresh learned [] reads) → (HasRead s top x.reads reads)
   paths_more b = (
     g.paths ++ b.added,
     b.is ∙ (ap (λ r. added_to r b.added) g.reads ∙ added_twice x.reads g.paths b.added),
@@ -136,10 +138,10 @@ module _ {K O : Type 0} (s : Setting K O) (top k : K) (x y : State K O) (t : Kno
     ]),
   )
 
-  pub noted_read : Adds s k (reading y) (state y.fresh files [] reads) → AreNoted s top x (state y.fresh files y.ran reads)
+  pub noted_read : Adds s k (reading y) (state y.fresh learned [] reads) → AreNoted s top x (state y.fresh learned y.ran reads)
   noted_read b = record { ran = (let n = going_noted s top x y t g in n.ran); read = paths_more b }
 
-  pub going_read : Moves s k (reading y) (state y.fresh files [] reads) → IsGoing s top x (state y.fresh files y.ran reads) t
+  pub going_read : Moves s k (reading y) (state y.fresh learned [] reads) → IsGoing s top x (state y.fresh learned y.ran reads) t
   going_read m =
       let b = m.adds in
       record {
@@ -150,8 +152,8 @@ module _ {K O : Type 0} (s : Setting K O) (top k : K) (x y : State K O) (t : Kno
         paths = g.paths ++ b.added;
         reads = b.is ∙ (ap (λ r. added_to r b.added) g.reads ∙ added_twice x.reads g.paths b.added);
         paths_distinct = distinct_append g.paths b.added g.paths_distinct b.distinct (λ p l r. b.is_new p r (g.paths_known p l));
-        paths_known = λ p h. (elim (Contains-append_cases g.paths b.added p h) as (λ _. IsKnown files p) [
-          | inl l ↦ known_grows y.files files p m.grows_files (g.paths_known p l)
+        paths_known = λ p h. (elim (Contains-append_cases g.paths b.added p h) as (λ _. IsKnown learned.files p) [
+          | inl l ↦ known_grows y.learned.files learned.files p m.grows_files (g.paths_known p l)
           | inr q ↦ m.read p q
         ]);
         asked = λ w i p h. (elim (Contains-append_cases g.paths b.added p h) as (λ _. IsPathAsked s.means w (top ∷ []) p) [
@@ -170,11 +172,12 @@ kept_push {K} {O} s e y q sound valid parts =
     let P : Entry K O → Type 0 = λ e. HasTalkParts y.fresh e.talk.batches in
     let Q : Entry K O → Type 0 = λ e. HasTalkParts all e.talk.batches in
     let grows : Grows y.fresh all = λ d h. Contains-append_left y.fresh (e ∷ []) d h in
-    let on : (d : Entry K O) → P d → Q d = λ d h b c part f. has_key_grows y.fresh all part grows (h b c part f) in
+    let on : (d : Entry K O) → P d → Q d = λ d h. parts_grow y.fresh all d.talk.batches grows h in
     record {
       sound = λ o. All-push (IsSound s.means) y.fresh e (q.sound o) (sound o);
       right = λ w i. All-push (IsValid s.means w) y.fresh e (q.right w i) (valid w i);
       closed = All-push Q y.fresh e (All-weaker P Q on y.fresh q.closed) (on e parts);
       known = q.known;
       within = q.within;
+      compared = compared_grows s.old y.fresh all y.learned.compared grows q.compared;
     }

@@ -1,6 +1,7 @@
 pub mod Talks
 pub mod Moves
 pub mod Caches
+pub mod AgreeLemmas
 pub mod Steps
 pub mod Left
 pub mod Joining

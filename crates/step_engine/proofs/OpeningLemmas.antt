@@ -22,14 +22,14 @@ idle_none : {K : Type 0} (t : Known K) (k : K) → t k ≡ None → IsStarted (t
 idle_none t k e (inl h) = absurd (let a : None ≡ Some Running = sym e ∙ h in cc)
 idle_none t k e (inr h) = absurd (let a : None ≡ Some (Done h.0) = sym e ∙ h.1 in cc)
 
-adv_opened : {K O : Type 0} (s : Setting K O) (k : K) (y : State K O) (t u : Known K) (ran : List K) (a : Item K O) → IsReady s y t → IsOpened k s.old y.ran ran t u a → IsAdvanced s k y (state y.fresh y.files ran y.reads) t u (Some a)
+adv_opened : {K O : Type 0} (s : Setting K O) (k : K) (y : State K O) (t u : Known K) (ran : List K) (a : Item K O) → IsReady s y t → IsOpened k s.old y.ran ran t u a → IsAdvanced s k y (state y.fresh y.learned ran y.reads) t u (Some a)
 adv_opened {K} {O} s k y t u ran (item.Run q) r h = record {
   act = record {
-    ready = record { kept = kept_of s y.fresh y.files y.ran ran y.reads y.reads r.kept; finds = finds_placed t u k y.fresh h.3 r.finds };
+    ready = record { kept = kept_of s y.fresh y.learned y.ran ran y.reads y.reads r.kept; finds = finds_placed t u k y.fresh h.3 r.finds };
     grows = λ e c. c;
     going = λ top x g w. rw h.2 (going_granted s top x y t u g k (idle_none t k h.0) h.3 w (λ v i e c j n. h.1 (e, c, j)));
   };
-  item = (rw h.5 (running_none s q.key (state y.fresh y.files ran y.reads)), h.4);
+  item = (rw h.5 (running_none s q.key (state y.fresh y.learned ran y.reads)), h.4);
 }
 adv_opened s k y t u ran (item.Asked q) r h = absurd h
 adv_opened {K} {O} s k y t u ran (item.Check q) r h =
@@ -42,7 +42,7 @@ adv_opened {K} {O} s k y t u ran (item.Check q) r h =
       item = (record { old = h.4; only = λ d c j. h.5 d c (j ∙ h.3); checking = rw h.6 (checking_none s q.entry.talk.batches y) }, h.3);
     })
 
-adv_open : {K O : Type 0} (s : Setting K O) (k : K) (y : State K O) (t u : Known K) (ran : List K) (r : Option (Item K O)) → IsReady s y t → MatchOption r ((ran ≡ y.ran) × (u ≡ t)) (IsOpened k s.old y.ran ran t u) → IsAdvanced s k y (state y.fresh y.files ran y.reads) t u r
+adv_open : {K O : Type 0} (s : Setting K O) (k : K) (y : State K O) (t u : Known K) (ran : List K) (r : Option (Item K O)) → IsReady s y t → MatchOption r ((ran ≡ y.ran) × (u ≡ t)) (IsOpened k s.old y.ran ran t u) → IsAdvanced s k y (state y.fresh y.learned ran y.reads) t u r
 adv_open s k y t u ran None r h = rw (h.0, h.1) (record { act = act_none s k y t r; item = tt })
 adv_open s k y t u ran (Some a) r h = adv_opened s k y t u ran a r h
 
@@ -51,13 +51,13 @@ opens_none keys old book t s y o e r = rw (sym e) (list_none s y t (λ top. AreW
 
 pub opens_more : {K O : Type 0} (keys : List K) (old : List (Entry K O)) (book book1 book2 : List K) (t u v : Known K) (items items' : List (Item K O)) (k : K) (r : Option (Item K O)) → Opens keys old book t book1 u items → Contains keys k → MatchOption r ((book2 ≡ book1) × (v ≡ u)) (IsOpened k old book1 book2 u v) → PutsIn r items items' → Opens keys old book t book2 v items'
 opens_more {K} {O} keys old book book1 book2 t u v items items' k r so c h put s y o e q =
-    let z = state y.fresh y.files book1 y.reads in
+    let z = state y.fresh y.learned book1 y.reads in
     let l = so s y o e q in
     let h' : MatchOption r ((book2 ≡ book1) × (v ≡ u)) (IsOpened k s.old book1 book2 u v) = subst (λ (old : List (Entry K O)). MatchOption r ((book2 ≡ book1) × (v ≡ u)) (IsOpened k old book1 book2 u v)) (sym o) h in
-    list_put s y z t u (λ top. AreWanted s top keys) items l k (λ top b. All-contains (λ k. IsWanted s top k) keys k b c) (state y.fresh y.files book2 y.reads) v r items' (adv_open s k z u v book2 r l.ready h') put
+    list_put s y z t u (λ top. AreWanted s top keys) items l k (λ top b. All-contains (λ k. IsWanted s top k) keys k b c) (state y.fresh y.learned book2 y.reads) v r items' (adv_open s k z u v book2 r l.ready h') put
 
 pub opens_noted : {K O : Type 0} (keys : List K) (old : List (Entry K O)) (book book' : List K) (t u : Known K) (items : List (Item K O)) → Opens keys old book t book' u items → OpensNoted keys old book t book'
-opens_noted keys old book book' t u items so s y o e r top x g w = list_noted s y (state y.fresh y.files book' y.reads) t u (λ top. AreWanted s top keys) [] items (so s y o e r) top x g w
+opens_noted keys old book book' t u items so s y o e r top x g w = list_noted s y (state y.fresh y.learned book' y.reads) t u (λ top. AreWanted s top keys) [] items (so s y o e r) top x g w
 
 -- a refusal leaves the book as it was, or with what was opened
 pub opens_refused : {K O : Type 0} (keys : List K) (old : List (Entry K O)) (book book1 book2 : List K) (t u : Known K) (items : List (Item K O)) → Opens keys old book t book1 u items → book2 ≡ book1 → OpensNoted keys old book t book2

@@ -66,7 +66,7 @@ asked_wanted : {K O : Type 0} (s : Setting K O) (law : AreLawful s.means) (top :
 asked_wanted s law top y a parts f i w = All-weaker (Contains parts) (IsWanted s top) (λ k c. item_part s law top k y a i w (f k c)) parts (All-contains_itself parts)
 
 pub scans : {K O : Type 0} (a : Item K O) (old : List (Entry K O)) (book book' : List K) (t u : Known K) (parts : List K) (more : List (Item K O)) → ((k : K) → Contains parts k → IsAskedBy k a) → Opens parts old book t book' u more → Scans a old book t book' u more
-scans a old book book' t u parts more f so s y law o e r i = list_under s y (state y.fresh y.files book' y.reads) t u (λ top. IsWanted s top (item_key a)) (λ top. AreWanted s top parts) more (so s y o e r) (λ top w. asked_wanted s law top y a parts f i w)
+scans a old book book' t u parts more f so s y law o e r i = list_under s y (state y.fresh y.learned book' y.reads) t u (λ top. IsWanted s top (item_key a)) (λ top. AreWanted s top parts) more (so s y o e r) (λ top w. asked_wanted s law top y a parts f i w)
 
 pub scans_noted : {K O : Type 0} (a : Item K O) (old : List (Entry K O)) (book book' : List K) (t : Known K) (parts : List K) → ((k : K) → Contains parts k → IsAskedBy k a) → OpensNoted parts old book t book' → ScansNoted a old book t book'
 scans_noted a old book book' t parts f n s y law o e r i top x g w = n s y o e r top x g (asked_wanted s law top y a parts f i w)
@@ -84,17 +84,17 @@ scan_all_none items old book t s y law o e r h = rw (sym e) (list_none s y t (λ
 
 pub scan_all_more : {K O : Type 0} (items : List (Item K O)) (old : List (Entry K O)) (book book1 book2 : List K) (t u v : Known K) (opened more after : List (Item K O)) (a : Item K O) → ScansAll items old book t book1 u opened → Contains items a → after ≡ opened ++ more → Scans a old book1 u book2 v more → ScansAll items old book t book2 v after
 scan_all_more items old book book1 book2 t u v opened more after a so c is m s y law o e r h =
-    let z = state y.fresh y.files book1 y.reads in
+    let z = state y.fresh y.learned book1 y.reads in
     let l = so s y law o e r h in
     let n = m s z law o refl l.ready (list_item s y z items a l.grows h c) in
-    rw is (list_join s y z (state y.fresh y.files book2 y.reads) t u v (λ top. AreItemsWanted s top items) (λ top. IsWanted s top (item_key a)) opened more l n (need_item s items a c))
+    rw is (list_join s y z (state y.fresh y.learned book2 y.reads) t u v (λ top. AreItemsWanted s top items) (λ top. IsWanted s top (item_key a)) opened more l n (need_item s items a c))
 
 pub scan_all_noted : {K O : Type 0} (items : List (Item K O)) (old : List (Entry K O)) (book book1 : List K) (t u : Known K) (opened : List (Item K O)) → ScansAll items old book t book1 u opened → ScansAllNoted items old book t book1
-scan_all_noted items old book book1 t u opened so s y law o e r h top x g w = list_noted s y (state y.fresh y.files book1 y.reads) t u (λ top. AreItemsWanted s top items) [] opened (so s y law o e r h) top x g w
+scan_all_noted items old book book1 t u opened so s y law o e r h top x g w = list_noted s y (state y.fresh y.learned book1 y.reads) t u (λ top. AreItemsWanted s top items) [] opened (so s y law o e r h) top x g w
 
 pub scan_all_refused : {K O : Type 0} (items : List (Item K O)) (old : List (Entry K O)) (book book1 book2 : List K) (t u : Known K) (opened : List (Item K O)) (a : Item K O) → ScansAll items old book t book1 u opened → Contains items a → ScansNoted a old book1 u book2 → ScansAllNoted items old book t book2
 scan_all_refused items old book book1 book2 t u opened a so c n s y law o e r h top x g w =
-    let z = state y.fresh y.files book1 y.reads in
+    let z = state y.fresh y.learned book1 y.reads in
     let l = so s y law o e r h in
     n s z law o refl l.ready (list_item s y z items a l.grows h c) top x (l.going top x g w) (need_item s items a c top w)
 
@@ -134,7 +134,7 @@ module _ {K O : Type 0} (cmp : K → K → Ordering) (pool : Pool K O) (news : L
   wanted_news s top h = All-weaker (Contains news) (λ (a : Item K O). IsWanted s top (item_key a)) (λ a c. h a (inl (subst (λ (xs : List (Item K O)). Contains xs a) news_is c))) news (All-contains_itself news)
 
   pub readies : (old : List (Entry K O)) (book book' : List K) (t u : Known K) (opened : List (Item K O)) → ScansAll news old book t book' u opened → Readies cmp pool old book t book' u opened
-  readies old book book' t u opened so s y law o e r h = list_under s y (state y.fresh y.files book' y.reads) t u (λ top. AreAllWanted cmp s top pool) (λ top. AreItemsWanted s top news) opened (so s y law o e r (under_news s y h)) (wanted_news s)
+  readies old book book' t u opened so s y law o e r h = list_under s y (state y.fresh y.learned book' y.reads) t u (λ top. AreAllWanted cmp s top pool) (λ top. AreItemsWanted s top news) opened (so s y law o e r (under_news s y h)) (wanted_news s)
 
   pub readies_noted : (old : List (Entry K O)) (book book' : List K) (t : Known K) → ScansAllNoted news old book t book' → ReadiesNoted cmp pool old book t book'
   readies_noted old book book' t n s y law o e r h top x g w = n s y law o e r (under_news s y h) top x g (wanted_news s top w)
@@ -162,21 +162,21 @@ put_back_held {K} {O} cmp pool pool' left news is same f a (inr h) =
 
 module _ {K O : Type 0} (cmp : K → K → Ordering) (s : Setting K O) (law : AreLawful s.means) (y : State K O) (t : Known K) (ready : IsReady s y t) (before mid : Pool K O) (under : AreUnderWay cmp s y before) (book1 : List K) (u : Known K) (able : List (Item K O)) (so : Readies cmp before s.old y.ran t book1 u mid.news.items) (held : (a : Item K O) → Contains able a ⊎ (Holds mid.woken.items a ⊎ Parks cmp mid.parked a) → IsIn cmp before a) where
   -- the keys that are able to go on
-  pub able_ready : IsReady s (state y.fresh y.files book1 y.reads) u
+  pub able_ready : IsReady s (state y.fresh y.learned book1 y.reads) u
   able_ready = let l = so s y law refl refl ready under in l.ready
 
-  pub able_items : AreItems s (state y.fresh y.files book1 y.reads) able
-  able_items = All-weaker (Contains able) (λ (a : Item K O). IsItem s (state y.fresh y.files book1 y.reads) a) (λ a c. item_on s y (state y.fresh y.files book1 y.reads) a (λ e h. h) (under a (held a (inl c)))) able (All-contains_itself able)
+  pub able_items : AreItems s (state y.fresh y.learned book1 y.reads) able
+  able_items = All-weaker (Contains able) (λ (a : Item K O). IsItem s (state y.fresh y.learned book1 y.reads) a) (λ a c. item_on s y (state y.fresh y.learned book1 y.reads) a (λ e h. h) (under a (held a (inl c)))) able (All-contains_itself able)
 
   able_wanted : (top : K) → AreAllWanted cmp s top before → AreItemsWanted s top able
   able_wanted top w = All-weaker (Contains able) (λ (a : Item K O). IsWanted s top (item_key a)) (λ a c. w a (held a (inl c))) able (All-contains_itself able)
 
-  pub visit_noted : (z : State K O) → ListNotes s (state y.fresh y.files book1 y.reads) z u (λ top. AreItemsWanted s top able) → ListNotes s y z t (λ top. AreAllWanted cmp s top before)
+  pub visit_noted : (z : State K O) → ListNotes s (state y.fresh y.learned book1 y.reads) z u (λ top. AreItemsWanted s top able) → ListNotes s y z t (λ top. AreAllWanted cmp s top before)
   visit_noted z n top x g w = (let l = so s y law refl refl ready under in n top x (l.going top x g w) (able_wanted top w))
 
-  module _ (z : State K O) (v : Known K) (left : List (Item K O)) (m : IsList s (state y.fresh y.files book1 y.reads) z u v (λ top. AreItemsWanted s top able) [] left) (after : Pool K O) (put : (a : Item K O) → IsIn cmp after a → Contains left a ⊎ IsIn cmp mid a) where
+  module _ (z : State K O) (v : Known K) (left : List (Item K O)) (m : IsList s (state y.fresh y.learned book1 y.reads) z u v (λ top. AreItemsWanted s top able) [] left) (after : Pool K O) (put : (a : Item K O) → IsIn cmp after a → Contains left a ⊎ IsIn cmp mid a) where
     mid_item : (a : Item K O) → IsIn cmp mid a → IsItem s z a
-    mid_item a (inl c) = (let l = so s y law refl refl ready under in item_on s (state y.fresh y.files book1 y.reads) z a m.grows (All-contains (λ (a : Item K O). IsItem s (state y.fresh y.files book1 y.reads) a) mid.news.items a l.rest_are c))
+    mid_item a (inl c) = (let l = so s y law refl refl ready under in item_on s (state y.fresh y.learned book1 y.reads) z a m.grows (All-contains (λ (a : Item K O). IsItem s (state y.fresh y.learned book1 y.reads) a) mid.news.items a l.rest_are c))
     mid_item a (inr h) = item_on s y z a m.grows (under a (held a (inr h)))
 
     mid_wanted : (top : K) → AreAllWanted cmp s top before → (a : Item K O) → IsIn cmp mid a → IsWanted s top (item_key a)
@@ -211,7 +211,7 @@ first_only cmp pool none empty a (inr (inr h)) = absurd (parks_none cmp pool.par
 -- one key is under way
 pub begins : {K O : Type 0} (cmp : K → K → Ordering) (top : K) (keys : List K) (old : List (Entry K O)) (book book' : List K) (t u : Known K) (pool : Pool K O) → keys ≡ top ∷ [] → Opens keys old book t book' u pool.news.items → pool.woken.items ≡ [] → pool.parked.entries ≡ [] → Begins cmp top old book t book' u pool
 begins {K} {O} cmp top keys old book book' t u pool ks so none empty s y o e r =
-    let z = state y.fresh y.files book' y.reads in
+    let z = state y.fresh y.learned book' y.reads in
     let l = so s y o e r in
     let w : AreWanted s top keys = rw ks (top_wanted s top) in
     record {
@@ -236,7 +236,7 @@ settling_noted cmp s top y z t u pool k x g = going_noted s top x z u (k.going x
 pub settling_refused : {K O : Type 0} (cmp : K → K → Ordering) (s : Setting K O) (top : K) (y z v : State K O) (t u : Known K) (pool : Pool K O) → IsSettling cmp s top y z t u pool → ListNotes s z v u (λ top. AreAllWanted cmp s top pool) → TopNotes s top y v t
 settling_refused cmp s top y z v t u pool k n x g = n top x (k.going x g) k.wanted
 
-pub begins_noted : {K O : Type 0} (s : Setting K O) (top : K) (y : State K O) (t : Known K) (book' : List K) → IsReady s y t → OpensNoted (top ∷ []) s.old y.ran t book' → TopNotes s top y (state y.fresh y.files book' y.reads) t
+pub begins_noted : {K O : Type 0} (s : Setting K O) (top : K) (y : State K O) (t : Known K) (book' : List K) → IsReady s y t → OpensNoted (top ∷ []) s.old y.ran t book' → TopNotes s top y (state y.fresh y.learned book' y.reads) t
 begins_noted s top y t book' r n x g = n s y refl refl r top x g (top_wanted s top)
 
 pub brought_to : {K O : Type 0} (cmp : K → K → Ordering) (s : Setting K O) (top : K) (y z : State K O) (t u : Known K) (pool : Pool K O) (r q : Outcome O) → IsSettling cmp s top y z t u pool → IsEntryOf top q z.fresh → r ≡ q → IsBroughtTo s top y z t u r

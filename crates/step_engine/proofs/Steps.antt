@@ -5,7 +5,6 @@ use Rattle.std.proofs.lemmas.List.Elements.{Contains-push_cases, All-push, All-m
 use Rattle.std.proofs.Math.Seq.{split_at}
 use Rattle.build_base.specs.Outside.{Files}
 use Rattle.build_base.specs.World.{World}
-use Rattle.step_engine.specs.Caches.{HasKey}
 use Rattle.step_engine.specs.Reading.{IsRead, IsReadOk}
 use Rattle.step_engine.specs.Meaning.{Meaning, asks_of, right, AreRight, Follows, IsSmall, ArePairsSmall}
 use Rattle.step_engine.specs.Entries.{IsSound, IsValid}
@@ -13,10 +12,12 @@ use Rattle.step_engine.specs.Needed.{IsNeededBy}
 use Rattle.step_engine.specs.Needed.IsNeededBy.{asked}
 use Rattle.step_engine.specs.Turns.{AreLawful}
 use Rattle.step_engine.specs.Build.{Setting, setting, IsHere, IsEntryOf}
-use Rattle.step_engine.specs.Engine.{State, AreKept, IsKnown, HasParts, HasTalkParts, Adds, Moves, IsNext, IsPathAsked, Grows, IsAnswered, AreAnswered, IsCheckedBatch}
+use Rattle.step_engine.specs.Agreeing.{IsPartAnswer, HaveParts, HasTalkParts}
+use Rattle.step_engine.specs.Engine.{State, AreKept, IsKnown, Adds, Moves, IsNext, IsPathAsked, Grows, IsAnswered, AreAnswered, IsCheckedBatch}
 use Rattle.step_engine.specs.Loops.{IsUnderWay, IsAnswering, IsCheckingBatch, IsChecking, IsRunning}
 use Rattle.step_engine.proofs.Talks.{follows_front, follows_push, next_asked}
-use Rattle.step_engine.proofs.Moves.{none_in, one_in, added_none, moves_none, moves_then, adds_then, has_key_grows, needed_itself}
+use Rattle.step_engine.proofs.Moves.{none_in, one_in, added_none, moves_none, moves_then, adds_then, needed_itself}
+use Rattle.step_engine.proofs.AgreeLemmas.{parts_grow, parts_push}
 use Rattle.step_engine.specs.declared.talk.Ask.{Ask}
 use Rattle.step_engine.specs.declared.talk.Ask.TheVariants as ask
 use Rattle.step_engine.specs.declared.talk.Answer.{Answer}
@@ -75,22 +76,22 @@ answered_field {K} {O} s k i x text q e = record {
 }
 
 -- a part
-pub answered_part : {K O : Type 0} (s : Setting K O) (k part : K) (x : State K O) (r : Outcome O) → AreKept s x → IsEntryOf part r x.fresh → IsAnswered s k (ask.Part part) x x (answer.Part r)
-answered_part {K} {O} s k part x r q f =
+pub answered_part : {K O : Type 0} (s : Setting K O) (k part : K) (x y : State K O) (r : Outcome O) → Moves s k x y → AreKept s y → IsEntryOf part r y.fresh → IsAnswered s k (ask.Part part) x y (answer.Part r)
+answered_part {K} {O} s k part x y r moves q f =
     let e = f.0 in
     record {
-      moves = moves_none s k x;
+      moves = moves;
       kept = q;
       right = λ w h.
-          let sound : IsSound s.means e = All-contains (IsSound s.means) x.fresh e (q.sound h.sound) f.1 in
-          let valid : IsValid s.means w e = All-contains (IsValid s.means w) x.fresh e (q.right w h) f.1 in
+          let sound : IsSound s.means e = All-contains (IsSound s.means) y.fresh e (q.sound h.sound) f.1 in
+          let valid : IsValid s.means w e = All-contains (IsValid s.means w) y.fresh e (q.right w h) f.1 in
           ap answer.Part (sym f.3 ∙ (sym (sound.value w h.world valid) ∙ ap (λ (k : K). s.means.value k w) f.2));
       small = tt;
-      parts = λ p h. (e, f.1, f.2 ∙ (let same : part ≡ p = cc in same));
+      parts = λ p h. (let same : part ≡ p = cc in subst (λ p. IsPartAnswer y.fresh p (answer.Part r)) same (r, f, refl));
     }
 
 -- a file
-pub adds_read : {K O : Type 0} (s : Setting K O) (k : K) (p : List ℕ) (x y : State K O) → ((w : World) → IsHere s w → IsPathAsked s.means w (k ∷ []) p) → IsRead p x.files x.reads y.reads → Adds s k x y
+pub adds_read : {K O : Type 0} (s : Setting K O) (k : K) (p : List ℕ) (x y : State K O) → ((w : World) → IsHere s w → IsPathAsked s.means w (k ∷ []) p) → IsRead p x.learned.files x.reads y.reads → Adds s k x y
 adds_read s k p x y n (inl l) = record {
   added = [];
   is = l ∙ added_none x.reads;
@@ -102,18 +103,18 @@ adds_read s k p x y n (inr l) = record {
   added = p ∷ [];
   is = l.0;
   distinct = (none_in p, tt);
-  is_new = λ q h o. l.1 (subst (IsKnown x.files) (sym (one_in q p h)) o);
+  is_new = λ q h o. l.1 (subst (IsKnown x.learned.files) (sym (one_in q p h)) o);
   asked = λ w i q h. subst (IsPathAsked s.means w (k ∷ [])) (one_in q p h) (n w i);
 }
 
-path_read : {K O : Type 0} (s : Setting K O) (k : K) (p : List ℕ) (x y : State K O) (n : (w : World) → IsHere s w → IsPathAsked s.means w (k ∷ []) p) (r : IsRead p x.files x.reads y.reads) → IsKnown y.files p → (q : List ℕ) → Contains (adds_read s k p x y n r).added q → IsKnown y.files q
+path_read : {K O : Type 0} (s : Setting K O) (k : K) (p : List ℕ) (x y : State K O) (n : (w : World) → IsHere s w → IsPathAsked s.means w (k ∷ []) p) (r : IsRead p x.learned.files x.reads y.reads) → IsKnown y.learned.files p → (q : List ℕ) → Contains (adds_read s k p x y n r).added q → IsKnown y.learned.files q
 unfolding adds_read
 path_read s k p x y n (inl l) has q h = absurd (none_in q h)
-path_read s k p x y n (inr l) has q h = subst (IsKnown y.files) (one_in q p h) has
+path_read s k p x y n (inr l) has q h = subst (IsKnown y.learned.files) (one_in q p h) has
 
-pub answered_file : {K O : Type 0} (s : Setting K O) (k : K) (p : List ℕ) (x y : State K O) (a : Answer O) → y.fresh ≡ x.fresh → ((w : World) → IsHere s w → IsPathAsked s.means w (k ∷ []) p) → IsRead p x.files x.reads y.reads → AreKept s x → IsReadOk p s.held x.files y.files a → IsAnswered s k (ask.File p) x y a
+pub answered_file : {K O : Type 0} (s : Setting K O) (k : K) (p : List ℕ) (x y : State K O) (a : Answer O) → y.fresh ≡ x.fresh → ((w : World) → IsHere s w → IsPathAsked s.means w (k ∷ []) p) → IsRead p x.learned.files x.reads y.reads → AreKept s x → y.learned.compared ≡ x.learned.compared → IsReadOk p s.held x.learned.files y.learned.files a → IsAnswered s k (ask.File p) x y a
 unfolding adds_read
-answered_file {K} {O} s k p x y a f n r q o = record {
+answered_file {K} {O} s k p x y a f n r q c o = record {
   moves = record {
     adds = adds_read s k p x y n r;
     read = path_read s k p x y n r o.has;
@@ -126,11 +127,15 @@ answered_file {K} {O} s k p x y a f n r q o = record {
     closed = rw f q.closed;
     known = o.known;
     within = o.within;
+    compared = rw (f, c) q.compared;
   };
   right = λ w i. o.right w.files i.told;
   small = o.small;
   parts = λ part g. cc;
 }
+
+pub take_one : {A : Type 0} (xs : List A) (i : ℕ) (a : A) → i < length xs → a ≡ get_or xs i a → take (i + 1) xs ≡ take i xs ++ a ∷ []
+take_one {A} xs i a l e = take_more xs i a l ∙ ap (λ (b : A). take i xs ++ b ∷ []) (sym e)
 
 -- one more answer
 pub answering_none : {K O : Type 0} (s : Setting K O) (asks : List (Ask K)) (y : State K O) → IsAnswering s asks 0 y []
@@ -138,55 +143,46 @@ answering_none {K} {O} s asks y = record {
   asks_are = refl;
   right = λ w i. All-nil (λ (p : Pair K O). p.answer ≡ right s.means w p.ask);
   small = All-nil (λ (p : Pair K O). IsSmall p.answer);
-  parts = λ part h. absurd (none_in (ask.Part part) h);
+  parts = λ part p h. absurd (none_in p h);
 }
 
 asks_push : {K O : Type 0} (ps : List (Pair K O)) (p : Pair K O) → asks_of (ps ++ p ∷ []) ≡ asks_of ps ++ p.ask ∷ []
 asks_push [] p = refl
 asks_push (q ∷ ps) p = ap (λ l. q.ask ∷ l) (asks_push ps p)
 
-pub parts_push : {K O : Type 0} (fresh fresh' : List (Entry K O)) (asks : List (Ask K)) (a : Ask K) → Grows fresh fresh' → HasParts fresh asks → ((part : K) → a ≡ ask.Part part → HasKey fresh' part) → HasParts fresh' (asks ++ a ∷ [])
-parts_push fresh fresh' asks a grows h g part c = elim (Contains-push_cases asks a (ask.Part part) c) as (λ _. HasKey fresh' part) [
-  | inl l ↦ has_key_grows fresh fresh' part grows (h part l)
-  | inr r ↦ g part r
-]
-
-pub answering_more : {K O : Type 0} (s : Setting K O) (asks : List (Ask K)) (i : ℕ) (y z : State K O) (pairs : List (Pair K O)) (a : Ask K) (r : Answer O) → IsAnswering s asks i y pairs → i < length asks → a ≡ get_or asks i a → Grows y.fresh z.fresh → ((w : World) → IsHere s w → r ≡ right s.means w a) → IsSmall r → ((part : K) → a ≡ ask.Part part → HasKey z.fresh part) → IsAnswering s asks (i + 1) z (pairs ++ record { ask = a; answer = r } ∷ [])
+pub answering_more : {K O : Type 0} (s : Setting K O) (asks : List (Ask K)) (i : ℕ) (y z : State K O) (pairs : List (Pair K O)) (a : Ask K) (r : Answer O) → IsAnswering s asks i y pairs → i < length asks → a ≡ get_or asks i a → Grows y.fresh z.fresh → ((w : World) → IsHere s w → r ≡ right s.means w a) → IsSmall r → ((part : K) → a ≡ ask.Part part → IsPartAnswer z.fresh part r) → IsAnswering s asks (i + 1) z (pairs ++ record { ask = a; answer = r } ∷ [])
 answering_more {K} {O} s asks i y z pairs a r n l e grows t small parts =
     let p : Pair K O = record { ask = a; answer = r } in
-    let more : take (i + 1) asks ≡ take i asks ++ a ∷ [] = take_more asks i a l ∙ ap (λ (b : Ask K). take i asks ++ b ∷ []) (sym e) in
+    let more : take (i + 1) asks ≡ take i asks ++ a ∷ [] = take_one asks i a l e in
     record {
       asks_are = asks_push pairs p ∙ (ap (λ (l : List (Ask K)). l ++ a ∷ []) n.asks_are ∙ sym more);
       right = λ w h. All-push (λ (p : Pair K O). p.answer ≡ right s.means w p.ask) pairs p (n.right w h) (t w h);
       small = All-push (λ (p : Pair K O). IsSmall p.answer) pairs p n.small small;
-      parts = rw more (parts_push y.fresh z.fresh (take i asks) a grows n.parts parts);
+      parts = parts_push y.fresh z.fresh pairs p grows n.parts parts;
     }
 
 -- one more pair is checked
 pub checking_batch_none : {K O : Type 0} (s : Setting K O) (pairs : List (Pair K O)) (y : State K O) → IsCheckingBatch s pairs 0 y true
 checking_batch_none {K} {O} s pairs y = record {
   right = λ e w i. All-nil (λ (p : Pair K O). p.answer ≡ right s.means w p.ask);
-  parts = λ part h. absurd (none_in (ask.Part part) h);
+  parts = λ e part p h. absurd (none_in p h);
   wrong = λ e. cc;
 }
 
-take_asks : {K O : Type 0} (ps : List (Pair K O)) (i : ℕ) (p : Pair K O) → i < length ps → p ≡ get_or ps i p → asks_of (take (i + 1) ps) ≡ asks_of (take i ps) ++ p.ask ∷ []
-take_asks {K} {O} ps i p l e = ap (asks_of {K = K} {O = O}) (take_more ps i p l ∙ ap (λ (b : Pair K O). take i ps ++ b ∷ []) (sym e)) ∙ asks_push (take i ps) p
-
-pub checking_batch_same : {K O : Type 0} (s : Setting K O) (k : K) (pairs : List (Pair K O)) (i : ℕ) (x y z : State K O) (p : Pair K O) (r : Answer O) (b : Bool) → IsCheckingBatch s pairs i y b → i < length pairs → p ≡ get_or pairs i p → Grows y.fresh z.fresh → ((w : World) → IsHere s w → r ≡ right s.means w p.ask) → ((part : K) → p.ask ≡ ask.Part part → HasKey z.fresh part) → r ≡ p.answer → IsCheckingBatch s pairs (i + 1) z b
+pub checking_batch_same : {K O : Type 0} (s : Setting K O) (k : K) (pairs : List (Pair K O)) (i : ℕ) (x y z : State K O) (p : Pair K O) (r : Answer O) (b : Bool) → IsCheckingBatch s pairs i y b → i < length pairs → p ≡ get_or pairs i p → Grows y.fresh z.fresh → ((w : World) → IsHere s w → r ≡ right s.means w p.ask) → ((part : K) → p.ask ≡ ask.Part part → IsPartAnswer z.fresh part r) → r ≡ p.answer → IsCheckingBatch s pairs (i + 1) z b
 checking_batch_same {K} {O} s k pairs i x y z p r b n l e grows t parts same = record {
   right = λ f w h.
       let P : Pair K O → Type 0 = λ p. p.answer ≡ right s.means w p.ask in
       let here : P p = sym same ∙ t w h in
       All-more P pairs i p l (n.right f w h) (subst P e here);
-  parts = rw (take_asks pairs i p l e) (parts_push y.fresh z.fresh (asks_of (take i pairs)) p.ask grows n.parts parts);
+  parts = λ f. rw (take_one pairs i p l e) (parts_push y.fresh z.fresh (take i pairs) p grows (n.parts f) (λ part h. subst (IsPartAnswer z.fresh part) same (parts part h)));
   wrong = n.wrong;
 }
 
-pub checking_batch_other : {K O : Type 0} (s : Setting K O) (k : K) (pairs : List (Pair K O)) (i : ℕ) (x y z : State K O) (p : Pair K O) (r : Answer O) (b : Bool) → IsCheckingBatch s pairs i y b → i < length pairs → p ≡ get_or pairs i p → Grows y.fresh z.fresh → ((w : World) → IsHere s w → r ≡ right s.means w p.ask) → ((part : K) → p.ask ≡ ask.Part part → HasKey z.fresh part) → (r ≡ p.answer → ⊥) → IsCheckingBatch s pairs (i + 1) z false
-checking_batch_other {K} {O} s k pairs i x y z p r b n l e grows t parts other = record {
+pub checking_batch_other : {K O : Type 0} (s : Setting K O) (k : K) (pairs : List (Pair K O)) (i : ℕ) (x y z : State K O) (p : Pair K O) (r : Answer O) (b : Bool) → IsCheckingBatch s pairs i y b → i < length pairs → p ≡ get_or pairs i p → Grows y.fresh z.fresh → ((w : World) → IsHere s w → r ≡ right s.means w p.ask) → (r ≡ p.answer → ⊥) → IsCheckingBatch s pairs (i + 1) z false
+checking_batch_other {K} {O} s k pairs i x y z p r b n l e grows t other = record {
   right = λ f. cc;
-  parts = rw (take_asks pairs i p l e) (parts_push y.fresh z.fresh (asks_of (take i pairs)) p.ask grows n.parts parts);
+  parts = λ f. cc;
   wrong = λ f w h a.
       let P : Pair K O → Type 0 = λ p. p.answer ≡ right s.means w p.ask in
       let here : P p = subst P (sym e) (All-get_or P pairs i p l a) in
@@ -200,16 +196,16 @@ checking_none {K} {O} s talk y = record {
   parts = λ b h. absurd (none_in b h);
 }
 
-pub has_parts_push : {K O : Type 0} (fresh fresh' : List (Entry K O)) (talk : List (Batch K O)) (b : Batch K O) → Grows fresh fresh' → HasTalkParts fresh talk → HasParts fresh' (asks_of b.pairs) → HasTalkParts fresh' (talk ++ b ∷ [])
-has_parts_push {K} {O} fresh fresh' talk b grows h g c d part f = elim (Contains-push_cases talk b c d) as (λ _. HasKey fresh' part) [
-  | inl l ↦ has_key_grows fresh fresh' part grows (h c l part f)
-  | inr r ↦ g part (subst (λ (b : Batch K O). Contains (asks_of b.pairs) (ask.Part part)) (sym r) f)
+pub has_parts_push : {K O : Type 0} (fresh fresh' : List (Entry K O)) (talk : List (Batch K O)) (b : Batch K O) → Grows fresh fresh' → HasTalkParts fresh talk → HaveParts fresh' b.pairs → HasTalkParts fresh' (talk ++ b ∷ [])
+has_parts_push {K} {O} fresh fresh' talk b grows h g c d = elim (Contains-push_cases talk b c d) as (λ _. HaveParts fresh' c.pairs) [
+  | inl l ↦ parts_grow fresh fresh' talk grows h c l
+  | inr r ↦ subst (λ (b : Batch K O). HaveParts fresh' b.pairs) r g
 ]
 
-pub checking_more : {K O : Type 0} (s : Setting K O) (talk : List (Batch K O)) (i : ℕ) (y z : State K O) (b : Batch K O) → IsChecking s talk i y → i < length talk → b ≡ get_or talk i b → Grows y.fresh z.fresh → ((w : World) → IsHere s w → AreRight s.means w b.pairs) → HasParts z.fresh (asks_of b.pairs) → IsChecking s talk (i + 1) z
+pub checking_more : {K O : Type 0} (s : Setting K O) (talk : List (Batch K O)) (i : ℕ) (y z : State K O) (b : Batch K O) → IsChecking s talk i y → i < length talk → b ≡ get_or talk i b → Grows y.fresh z.fresh → ((w : World) → IsHere s w → AreRight s.means w b.pairs) → HaveParts z.fresh b.pairs → IsChecking s talk (i + 1) z
 checking_more {K} {O} s talk i y z b n l e grows t parts =
     let P : World → Batch K O → Type 0 = λ w b. AreRight s.means w b.pairs in
-    let more : take (i + 1) talk ≡ take i talk ++ b ∷ [] = take_more talk i b l ∙ ap (λ (c : Batch K O). take i talk ++ c ∷ []) (sym e) in
+    let more : take (i + 1) talk ≡ take i talk ++ b ∷ [] = take_one talk i b l e in
     record {
       right = λ w h. All-more (P w) talk i b l (n.right w h) (subst (P w) e (t w h));
       parts = rw more (has_parts_push y.fresh z.fresh (take i talk) b grows n.parts parts);
@@ -238,7 +234,7 @@ answering_all {K} s k h1 c0 c1 x y items asks i pairs way n e l = record {
   asks_are = n.asks_are ∙ (take_whole items i l ∙ e);
   right = n.right;
   small = n.small;
-  parts = subst (HasParts y.fresh) (take_whole items i l ∙ e) n.parts;
+  parts = n.parts;
 }
 
 pub checking_batch_all : {K O : Type 0} (s : Setting K O) (k : K) (h1 : (Option Files)) (c0 c1 : ℕ) (x y : State K O) (items pairs : List (Pair K O)) (i : ℕ) (r : Bool) → IsUnderWay s k h1 c0 c1 x y → IsCheckingBatch s items i y r → items ≡ pairs → length items ≤ i → IsCheckedBatch s k pairs x y r
@@ -248,7 +244,7 @@ checking_batch_all {K} {O} s k h1 c0 c1 x y items pairs i r way n e l =
       moves = way.moves;
       kept = way.kept;
       right = λ f w h. subst (AreRight s.means w) whole (n.right f w h);
-      parts = λ f. subst (λ (ps : List (Pair K O)). HasParts y.fresh (asks_of ps)) whole n.parts;
+      parts = λ f. subst (HaveParts y.fresh) whole (n.parts f);
       wrong = λ f w h a. n.wrong f w h (subst (AreRight s.means w) (sym e) a);
     }
 
@@ -289,16 +285,16 @@ running_none {K} {O} s k y = record {
 pub running_next : {K O : Type 0} (s : Setting K O) (k : K) (y : State K O) (talk : List (Batch K O)) (asks : List (Ask K)) → IsRunning s k y talk → s.means.next k talk ≡ Some asks → (w : World) → IsHere s w → IsNext s.means w k asks
 running_next s k y talk asks n e w h = record { talk = talk; follows = n.follows; right = n.right w h; next = e }
 
-pub running_more : {K O : Type 0} (s : Setting K O) (k : K) (y z : State K O) (talk : List (Batch K O)) (pairs : List (Pair K O)) (asks : List (Ask K)) → IsRunning s k y talk → s.means.next k talk ≡ Some asks → asks_of pairs ≡ asks → Grows y.fresh z.fresh → ((w : World) → IsHere s w → AreRight s.means w pairs) → ArePairsSmall pairs → HasParts z.fresh asks → IsRunning s k z (talk ++ record { pairs = pairs } ∷ [])
+pub running_more : {K O : Type 0} (s : Setting K O) (k : K) (y z : State K O) (talk : List (Batch K O)) (pairs : List (Pair K O)) (asks : List (Ask K)) → IsRunning s k y talk → s.means.next k talk ≡ Some asks → asks_of pairs ≡ asks → Grows y.fresh z.fresh → ((w : World) → IsHere s w → AreRight s.means w pairs) → ArePairsSmall pairs → HaveParts z.fresh pairs → IsRunning s k z (talk ++ record { pairs = pairs } ∷ [])
 running_more {K} {O} s k y z talk pairs asks n e is grows t small parts =
     let b : Batch K O = record { pairs = pairs } in
     record {
       follows = follows_push s.means k talk b n.follows (e ∙ ap Some (sym is));
       right = λ w h. All-push (λ (b : Batch K O). AreRight s.means w b.pairs) talk b (n.right w h) (t w h);
       small = All-push (λ (b : Batch K O). ArePairsSmall b.pairs) talk b n.small small;
-      parts = has_parts_push y.fresh z.fresh talk b grows n.parts (subst (HasParts z.fresh) (sym is) parts);
+      parts = has_parts_push y.fresh z.fresh talk b grows n.parts parts;
     }
 
-pub checking_batch_step : {K O : Type 0} (s : Setting K O) (k : K) (pairs : List (Pair K O)) (i : ℕ) (x y z : State K O) (p : Pair K O) (r : Answer O) (b c same : Bool) → IsCheckingBatch s pairs i y b → i < length pairs → p ≡ get_or pairs i p → Grows y.fresh z.fresh → ((w : World) → IsHere s w → r ≡ right s.means w p.ask) → ((part : K) → p.ask ≡ ask.Part part → HasKey z.fresh part) → (IsTrue same ↔ (r ≡ p.answer)) → (same ≡ true → c ≡ b) → (same ≡ false → c ≡ false) → IsCheckingBatch s pairs (i + 1) z c
+pub checking_batch_step : {K O : Type 0} (s : Setting K O) (k : K) (pairs : List (Pair K O)) (i : ℕ) (x y z : State K O) (p : Pair K O) (r : Answer O) (b c same : Bool) → IsCheckingBatch s pairs i y b → i < length pairs → p ≡ get_or pairs i p → Grows y.fresh z.fresh → ((w : World) → IsHere s w → r ≡ right s.means w p.ask) → ((part : K) → p.ask ≡ ask.Part part → IsPartAnswer z.fresh part r) → (IsTrue same ↔ (r ≡ p.answer)) → (same ≡ true → c ≡ b) → (same ≡ false → c ≡ false) → IsCheckingBatch s pairs (i + 1) z c
 checking_batch_step s k pairs i x y z p r b c true n l e grows t parts d same_right other_right = rw (same_right refl) (checking_batch_same s k pairs i x y z p r b n l e grows t parts (d.0 refl))
-checking_batch_step s k pairs i x y z p r b c false n l e grows t parts d same_right other_right = rw (other_right refl) (checking_batch_other s k pairs i x y z p r b n l e grows t parts (λ q. let h = d.1 q in cc))
+checking_batch_step s k pairs i x y z p r b c false n l e grows t parts d same_right other_right = rw (other_right refl) (checking_batch_other s k pairs i x y z p r b n l e grows t (λ q. let h = d.1 q in cc))

@@ -1,25 +1,24 @@
 -- What is noted of keys, and what that leaves of the table.
-use Rattle.std.proofs.Common.{◌≡◌, ℕ, zero, suc, ◌<◌, ◌++◌, ◌⊎◌, List, [], ◌∷◌, Some, None, Bool, true, false, cond, refl, sym, ap, ◌∙◌, subst, Contains, inl, inr, length, slice_get, get_or, Result, Ok, Err, is_err, OnOk}
+use Rattle.std.proofs.Common.{◌≡◌, ℕ, zero, suc, ◌<◌, ◌++◌, ◌⊎◌, List, [], ◌∷◌, Option, Some, None, Bool, true, false, cond, refl, sym, ap, ◌∙◌, subst, Contains, inl, inr, length, slice_get, get_or, Result, Ok, Err, is_err, OnOk}
 use Rattle.std.proofs.lemmas.Option.{slice_get_within, get_or_from_slice_get, slice_get_read}
 use Rattle.std.proofs.lemmas.List.Elements.{Contains-push_cases, Contains-push, Contains-append_left}
-use Rattle.std.specs.BTreeMap.{BTreeMap, is_at, Updates}
+use Rattle.std.specs.BTreeMap.{BTreeMap, is_at, get, Updates}
 use Rattle.std.specs.declared.cmp.Ordering.{Ordering}
 use Rattle.std.specs.declared.cmp.Ordering.TheVariants.{Equal}
 use Rattle.std.proofs.lemmas.Map.Views.{tells_apart}
 use Rattle.step_engine.specs.Build.{IsEntryOf}
 use Rattle.step_engine.specs.declared.talk.Entry.{Entry}
-use Rattle.step_engine.specs.Table.{Known, place_at, IsPlaced, IsDone, IsStarted, Finds, IsTable}
-use Rattle.step_engine.specs.declared.places.Place.{Place}
+use Rattle.step_engine.specs.Table.{Known, IsPlaced, IsDone, IsStarted, Finds, IsTable}
 use Rattle.step_engine.specs.declared.places.Place.TheVariants.{Checking, Running, Done}
 
-placed_case : {K : Type 0} (cmp : K → K → Ordering) (law : (a b : K) → cmp a b ≡ Equal → a ≡ b) (k j : K) (p : Place) (t u : Known K) (b : Bool) → is_at (cmp k) j ≡ b → u j ≡ cond b (Some p) (t j) → ((k ≡ j) × (u j ≡ Some p)) ⊎ (u j ≡ t j)
+placed_case : {K V : Type 0} (cmp : K → K → Ordering) (law : (a b : K) → cmp a b ≡ Equal → a ≡ b) (k j : K) (p : V) (t u : K → Option V) (b : Bool) → is_at (cmp k) j ≡ b → u j ≡ cond b (Some p) (t j) → ((k ≡ j) × (u j ≡ Some p)) ⊎ (u j ≡ t j)
 placed_case cmp law k j p t u true e h = inl (tells_apart law k j e, h)
 placed_case cmp law k j p t u false e h = inr h
 
-pub placed : {K : Type 0} (cmp : K → K → Ordering) (law : (a b : K) → cmp a b ≡ Equal → a ≡ b) (k : K) (p : Place) (m n : BTreeMap K Place) → Updates cmp m n k (Some p) → IsPlaced k p (place_at cmp m.entries) (place_at cmp n.entries)
+pub placed : {K V : Type 0} (cmp : K → K → Ordering) (law : (a b : K) → cmp a b ≡ Equal → a ≡ b) (k : K) (p : V) (m n : BTreeMap K V) → Updates cmp m n k (Some p) → IsPlaced k p (get cmp m) (get cmp n)
 placed cmp law k p m n h = record {
   here = h.1;
-  cases = λ j. placed_case cmp law k j p (place_at cmp m.entries) (place_at cmp n.entries) (is_at (cmp k) j) refl (h.0 j);
+  cases = λ j. placed_case cmp law k j p (get cmp m) (get cmp n) (is_at (cmp k) j) refl (h.0 j);
 }
 
 pub get_push_old : {A : Type 0} (xs : List A) (y a : A) (i : ℕ) → slice_get xs i ≡ Some a → slice_get (xs ++ y ∷ []) i ≡ Some a

@@ -24,7 +24,7 @@ use Rattle.step_engine.proofs.Acting.{act_none, act_new}
 use Rattle.step_engine.proofs.Listing.{runs_on, items_on}
 
 -- one turn
-pub adv_taken : {K O : Type 0} (s : Setting K O) (k : K) (talk : Talk K O) (turned : Turn K O) (y : State K O) (t u : Known K) (fresh : List (Entry K O)) (r : Option (Item K O)) → IsReady s y t → IsRunning s k y talk.batches → IsTurn s.means k talk.batches turned → TakesUp k talk turned t u y.fresh fresh r → IsAdvanced s k y (state fresh y.files y.ran y.reads) t u r
+pub adv_taken : {K O : Type 0} (s : Setting K O) (k : K) (talk : Talk K O) (turned : Turn K O) (y : State K O) (t u : Known K) (fresh : List (Entry K O)) (r : Option (Item K O)) → IsReady s y t → IsRunning s k y talk.batches → IsTurn s.means k talk.batches turned → TakesUp k talk turned t u y.fresh fresh r → IsAdvanced s k y (state fresh y.learned y.ran y.reads) t u r
 adv_taken s k talk (turn.Ask asks permit) y t u fresh r q run n h = rw (h.0, h.1, h.2) (record { act = act_none s k y t q; item = (record { running = run; next = n }, refl) })
 adv_taken {K} {O} s k talk (turn.Done result) y t u fresh r q run n h =
     let e : Entry K O = record { key = k; talk = talk; result = result } in
@@ -60,14 +60,14 @@ takes_none fresh u done rest s y z t items e h = rw (sym e) h.list
 -- one more turn
 pub takes_more : {K O : Type 0} (fresh : List (Entry K O)) (u : Known K) (done : List (Turned K O)) (rest : List (Item K O)) (fresh1 fresh2 : List (Entry K O)) (v w : Known K) (rest1 rest2 : List (Item K O)) (d : Turned K O) (r : Option (Item K O)) → Takes fresh u done rest fresh1 v rest1 → Grows fresh fresh1 → Contains done d → TakesUp d.key d.talk d.turn v w fresh1 fresh2 r → PutsIn r rest1 rest2 → Takes fresh u done rest fresh2 w rest2
 takes_more {K} {O} fresh u done rest fresh1 fresh2 v w rest1 rest2 d r so grows in_done up put s y z t items e h =
-    let z1 = state fresh1 z.files z.ran z.reads in
+    let z1 = state fresh1 z.learned z.ran z.reads in
     let l = so s y z t items e h in
     let Before : K → Type 0 = λ top. AreItemsWanted s top items in
     let on : Grows z.fresh fresh1 = subst (λ f. Grows f fresh1) (sym e) grows in
     let run : IsRunning s d.key z1 d.talk.batches = running_on s d.key z z1 d.talk.batches on (All-contains (λ (d : Turned K O). IsRunning s d.key z d.talk.batches) done d h.running in_done) in
     let n : IsTurn s.means d.key d.talk.batches d.turn = All-contains (λ (d : Turned K O). IsTurn s.means d.key d.talk.batches d.turn) done d h.turn in_done in
     let a = adv_taken s d.key d.talk d.turn z1 v w fresh2 r l.ready run n up in
-    list_put s y z1 t v Before rest1 l d.key (λ top b. All-contains (λ (d : Turned K O). IsWanted s top d.key) done d (h.wanted top b) in_done) (state fresh2 z.files z.ran z.reads) w r rest2 a put
+    list_put s y z1 t v Before rest1 l d.key (λ top b. All-contains (λ (d : Turned K O). IsWanted s top d.key) done d (h.wanted top b) in_done) (state fresh2 z.learned z.ran z.reads) w r rest2 a put
 
 -- the entries grow
 pub takes_grow : {K O : Type 0} (k : K) (talk : Talk K O) (turned : Turn K O) (t u : Known K) (fresh fresh' : List (Entry K O)) (r : Option (Item K O)) → TakesUp k talk turned t u fresh fresh' r → Grows fresh fresh'

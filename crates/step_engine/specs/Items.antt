@@ -6,7 +6,8 @@ use Rattle.step_engine.specs.Turns.{IsTurn}
 use Rattle.step_engine.specs.Build.{Setting, IsHere}
 use Rattle.step_engine.specs.Entries.{IsValid}
 use Rattle.step_engine.specs.Needed.{IsStale}
-use Rattle.step_engine.specs.Engine.{State, AreKept, Moves, Grows, HasTalkParts}
+use Rattle.step_engine.specs.Agreeing.{HasTalkParts}
+use Rattle.step_engine.specs.Engine.{State, AreKept, Moves, Grows}
 use Rattle.step_engine.specs.Loops.{IsRunning, IsChecking}
 use Rattle.step_engine.specs.declared.talk.Ask.{Ask}
 use Rattle.step_engine.specs.declared.talk.Batch.{Batch}

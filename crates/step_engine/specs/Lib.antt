@@ -6,8 +6,7 @@ pub mod Caches
 pub mod Engine
 pub mod Reading
 pub mod Build
-pub mod SmallRules
-pub mod SmallLaws
+pub mod Agreeing
 pub mod Loops
 pub mod Table
 pub mod Rounds

@@ -20,8 +20,8 @@ IsOpened k old book book' t u (item.Asked a) = ⊥
 
 -- the keys were opened
 abbrev pub Opens : {K O : Type 0} → List K → List (Entry K O) → List K → Known K → List K → Known K → List (Item K O) → Type 0
-Opens {K} {O} keys old book t book' u items = (s : Setting K O) (y : State K O) → s.old ≡ old → y.ran ≡ book → IsReady s y t → IsList s y (state y.fresh y.files book' y.reads) t u (λ top. AreWanted s top keys) [] items
+Opens {K} {O} keys old book t book' u items = (s : Setting K O) (y : State K O) → s.old ≡ old → y.ran ≡ book → IsReady s y t → IsList s y (state y.fresh y.learned book' y.reads) t u (λ top. AreWanted s top keys) [] items
 
 -- after every answer
 abbrev pub OpensNoted : {K O : Type 0} → List K → List (Entry K O) → List K → Known K → List K → Type 0
-OpensNoted {K} {O} keys old book t book' = (s : Setting K O) (y : State K O) → s.old ≡ old → y.ran ≡ book → IsReady s y t → (top : K) (x : State K O) → IsGoing s top x y t → AreWanted s top keys → AreNoted s top x (state y.fresh y.files book' y.reads)
+OpensNoted {K} {O} keys old book t book' = (s : Setting K O) (y : State K O) → s.old ≡ old → y.ran ≡ book → IsReady s y t → (top : K) (x : State K O) → IsGoing s top x y t → AreWanted s top keys → AreNoted s top x (state y.fresh y.learned book' y.reads)

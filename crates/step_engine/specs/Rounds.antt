@@ -27,7 +27,7 @@ pub record IsGoing {K O : Type 0} (s : Setting K O) (top : K) (x y : State K O) 
   pub paths : List (List ℕ)
   pub reads : y.reads ≡ added_to x.reads paths
   pub paths_distinct : AreDistinct paths
-  pub paths_known : (p : List ℕ) → Contains paths p → IsKnown y.files p
+  pub paths_known : (p : List ℕ) → Contains paths p → IsKnown y.learned.files p
   pub asked : (w : World) → IsHere s w → (p : List ℕ) → Contains paths p → IsPathAsked s.means w (top ∷ []) p
   pub needed : (w : World) → IsHere s w → (e : Entry K O) → Contains y.fresh e → IsNeeded s.means w top e.key
   pub from : (w : World) → IsHere s w → (e : Entry K O) → Contains y.fresh e → IsFrom s w added e.key

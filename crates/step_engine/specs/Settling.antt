@@ -37,4 +37,4 @@ pub record IsSettling {K O : Type 0} (cmp : K → K → Ordering) (s : Setting K
 
 -- it begins with one key
 abbrev pub Begins : {K O : Type 0} → (K → K → Ordering) → K → List (Entry K O) → List K → Known K → List K → Known K → Pool K O → Type 0
-Begins {K} {O} cmp top old book t book' u pool = (s : Setting K O) (y : State K O) → s.old ≡ old → y.ran ≡ book → IsReady s y t → IsSettling cmp s top y (state y.fresh y.files book' y.reads) t u pool
+Begins {K} {O} cmp top old book t book' u pool = (s : Setting K O) (y : State K O) → s.old ≡ old → y.ran ≡ book → IsReady s y t → IsSettling cmp s top y (state y.fresh y.learned book' y.reads) t u pool

@@ -14,8 +14,8 @@ Known K = K → Option Place
 abbrev pub place_at : {K : Type 0} → (K → K → Ordering) → List (K × Place) → Known K
 place_at cmp entries k = lookup (is_at (cmp k)) entries
 
--- the key stands at the place, and all others where they stood
-pub record IsPlaced {K : Type 0} (k : K) (p : Place) (t u : Known K) : Type 0 where
+-- at the key stands this, and at all others what stood there
+pub record IsPlaced {K V : Type 0} (k : K) (p : V) (t u : K → Option V) : Type 0 where
   pub here : u k ≡ Some p
   pub cases : (j : K) → ((k ≡ j) × (u j ≡ Some p)) ⊎ (u j ≡ t j)
 

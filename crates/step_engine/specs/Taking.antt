@@ -56,4 +56,4 @@ pub record IsTaking {K O : Type 0} (s : Setting K O) (y z : State K O) (t u : Kn
 
 -- they were taken up
 abbrev pub Takes : {K O : Type 0} → List (Entry K O) → Known K → List (Turned K O) → List (Item K O) → List (Entry K O) → Known K → List (Item K O) → Type 0
-Takes {K} {O} fresh u done rest fresh' v rest' = (s : Setting K O) (y z : State K O) (t : Known K) (items : List (Item K O)) → z.fresh ≡ fresh → IsTaking s y z t u (λ top. AreItemsWanted s top items) done rest → IsList s y (state fresh' z.files z.ran z.reads) t v (λ top. AreItemsWanted s top items) [] rest'
+Takes {K} {O} fresh u done rest fresh' v rest' = (s : Setting K O) (y z : State K O) (t : Known K) (items : List (Item K O)) → z.fresh ≡ fresh → IsTaking s y z t u (λ top. AreItemsWanted s top items) done rest → IsList s y (state fresh' z.learned z.ran z.reads) t v (λ top. AreItemsWanted s top items) [] rest'

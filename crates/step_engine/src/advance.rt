@@ -3,7 +3,7 @@ ghost use Rattle.std.specs.Prelude.{◌≡◌, IfOk, OnOk, [], ◌∷◌};
 ghost use Rattle.step_engine.specs.Build.{setting, Counts};
 ghost use Rattle.step_engine.specs.Edits.{over};
 ghost use Rattle.step_engine.specs.Engine.{state, AreKept, Adds};
-ghost use Rattle.step_engine.specs.Reading.{read_at};
+ghost use Rattle.step_engine.specs.Reading.{knowledge};
 ghost use Rattle.step_engine.specs.Table.{place_at, Finds};
 ghost use Rattle.step_engine.specs.Items.{IsAsked, IsCheck, IsResumed, IsCheckedOn, IsReady, IsAdvanced, IsItem, item_key, Notes, AreItems, AreItemsWanted};
 ghost use Rattle.step_engine.specs.Taking.{SortsIn, IsList, ListNotes};
@@ -11,8 +11,8 @@ ghost use Rattle.step_engine.specs.Taking.{SortsIn, IsList, ListNotes};
 use crate::answers::{answers, check_batch};
 use crate::cache::Cache;
 use crate::edits::Edits;
-use crate::files::FilesRead;
 use crate::items::{Asked, Check, Checked, Item, Run};
+use crate::learned::Learned;
 use crate::places::Places;
 use crate::refusal::EngineRefusal;
 use crate::rules::Rules;
@@ -42,16 +42,16 @@ fn resume<R: Rules, T: Tree>(
     places: &Places<R::Key>,
     tree: &mut T,
     edits: &Edits,
-    files: &mut FilesRead,
+    learned: &mut Learned<R::Key>,
     acts: &mut u64,
 ) -> Result<Item<R::Key, R::Out>, EngineRefusal>
-    requires kept { AreKept (setting R.means (over edits.now (T.held tree.old)) job.now old.now) (state fresh.now.items (read_at files.old) [] (T.reads tree.old)) }
+    requires kept { AreKept (setting R.means (over edits.now (T.held tree.old)) job.now old.now) (state fresh.now.items (knowledge R.Key.cmp learned.old) [] (T.reads tree.old)) }
     requires finds { Finds (place_at R.Key.cmp places.now) fresh.now.items }
-    requires asked { IsAsked (setting R.means (over edits.now (T.held tree.old)) job.now old.now) (state fresh.now.items (read_at files.old) [] (T.reads tree.old)) asked.key asked.talk.batches asked.asks }
+    requires asked { IsAsked (setting R.means (over edits.now (T.held tree.old)) job.now old.now) (state fresh.now.items (knowledge R.Key.cmp learned.old) [] (T.reads tree.old)) asked.key asked.talk.batches asked.asks }
     ensures held { T.held tree.new ≡ T.held tree.old }
     ensures count { Counts (T.faults tree.old) (T.faults tree.new) result }
-    ensures adds { Adds (setting R.means (over edits.now (T.held tree.old)) job.now old.now) asked.key (state fresh.now.items (read_at files.old) [] (T.reads tree.old)) (state fresh.now.items (read_at files.new) [] (T.reads tree.new)) }
-    ensures ok { IfOk result (IsResumed (setting R.means (over edits.now (T.held tree.old)) job.now old.now) asked.key (state fresh.now.items (read_at files.old) [] (T.reads tree.old)) (state fresh.now.items (read_at files.new) [] (T.reads tree.new))) }
+    ensures adds { Adds (setting R.means (over edits.now (T.held tree.old)) job.now old.now) asked.key (state fresh.now.items (knowledge R.Key.cmp learned.old) [] (T.reads tree.old)) (state fresh.now.items (knowledge R.Key.cmp learned.new) [] (T.reads tree.new)) }
+    ensures ok { IfOk result (IsResumed (setting R.means (over edits.now (T.held tree.old)) job.now old.now) asked.key (state fresh.now.items (knowledge R.Key.cmp learned.old) [] (T.reads tree.old)) (state fresh.now.items (knowledge R.Key.cmp learned.new) [] (T.reads tree.new))) }
 {
     let Asked {
         key,
@@ -60,7 +60,7 @@ fn resume<R: Rules, T: Tree>(
         asks,
     } = asked;
     let found = answers(
-        alloc, rules, job, old, &key, &asks, fresh, places, tree, edits, files,
+        alloc, rules, job, old, &key, &asks, fresh, places, tree, edits, learned,
     )?;
     let Some(pairs) = found else {
         return Ok(Item::Asked(Asked {
@@ -87,16 +87,16 @@ fn check_next<R: Rules, T: Tree>(
     places: &Places<R::Key>,
     tree: &mut T,
     edits: &Edits,
-    files: &mut FilesRead,
+    learned: &mut Learned<R::Key>,
     acts: &mut u64,
 ) -> Result<Checked<R::Key, R::Out>, EngineRefusal>
-    requires kept { AreKept (setting R.means (over edits.now (T.held tree.old)) job.now old.now) (state fresh.now.items (read_at files.old) [] (T.reads tree.old)) }
+    requires kept { AreKept (setting R.means (over edits.now (T.held tree.old)) job.now old.now) (state fresh.now.items (knowledge R.Key.cmp learned.old) [] (T.reads tree.old)) }
     requires finds { Finds (place_at R.Key.cmp places.now) fresh.now.items }
-    requires check { IsCheck (setting R.means (over edits.now (T.held tree.old)) job.now old.now) (state fresh.now.items (read_at files.old) [] (T.reads tree.old)) check.entry check.batch }
+    requires check { IsCheck (setting R.means (over edits.now (T.held tree.old)) job.now old.now) (state fresh.now.items (knowledge R.Key.cmp learned.old) [] (T.reads tree.old)) check.entry check.batch }
     ensures held { T.held tree.new ≡ T.held tree.old }
     ensures count { Counts (T.faults tree.old) (T.faults tree.new) result }
-    ensures adds { Adds (setting R.means (over edits.now (T.held tree.old)) job.now old.now) check.entry.key (state fresh.now.items (read_at files.old) [] (T.reads tree.old)) (state fresh.now.items (read_at files.new) [] (T.reads tree.new)) }
-    ensures ok { IfOk result (IsCheckedOn (setting R.means (over edits.now (T.held tree.old)) job.now old.now) check.entry.key (state fresh.now.items (read_at files.old) [] (T.reads tree.old)) (state fresh.now.items (read_at files.new) [] (T.reads tree.new))) }
+    ensures adds { Adds (setting R.means (over edits.now (T.held tree.old)) job.now old.now) check.entry.key (state fresh.now.items (knowledge R.Key.cmp learned.old) [] (T.reads tree.old)) (state fresh.now.items (knowledge R.Key.cmp learned.new) [] (T.reads tree.new)) }
+    ensures ok { IfOk result (IsCheckedOn (setting R.means (over edits.now (T.held tree.old)) job.now old.now) check.entry.key (state fresh.now.items (knowledge R.Key.cmp learned.old) [] (T.reads tree.old)) (state fresh.now.items (knowledge R.Key.cmp learned.new) [] (T.reads tree.new))) }
 {
     let Check { entry, batch } = check;
     let talk = entry.talk.value();
@@ -104,7 +104,7 @@ fn check_next<R: Rules, T: Tree>(
         Some(batch) => {
             let pairs = &batch.pairs;
             check_batch(
-                alloc, rules, job, old, &entry.key, pairs, fresh, places, tree, edits, files,
+                alloc, rules, job, old, &entry.key, pairs, fresh, places, tree, edits, learned,
             )?
         }
         None => {
@@ -135,27 +135,27 @@ pub fn advance<R: Rules, T: Tree>(
     tree: &mut T,
     edits: &Edits,
     book: &mut Book<R::Key>,
-    files: &mut FilesRead,
+    learned: &mut Learned<R::Key>,
     acts: &mut u64,
 ) -> Result<Option<Item<R::Key, R::Out>>, EngineRefusal>
-    requires ready { IsReady (setting R.means (over edits.now (T.held tree.old)) job.now old.now) (state fresh.old.items (read_at files.old) book.old (T.reads tree.old)) (place_at R.Key.cmp places.old) }
-    requires item { IsItem (setting R.means (over edits.now (T.held tree.old)) job.now old.now) (state fresh.old.items (read_at files.old) book.old (T.reads tree.old)) item }
+    requires ready { IsReady (setting R.means (over edits.now (T.held tree.old)) job.now old.now) (state fresh.old.items (knowledge R.Key.cmp learned.old) book.old (T.reads tree.old)) (place_at R.Key.cmp places.old) }
+    requires item { IsItem (setting R.means (over edits.now (T.held tree.old)) job.now old.now) (state fresh.old.items (knowledge R.Key.cmp learned.old) book.old (T.reads tree.old)) item }
     ensures held { T.held tree.new ≡ T.held tree.old }
     ensures count { Counts (T.faults tree.old) (T.faults tree.new) result }
-    ensures notes { Notes (setting R.means (over edits.now (T.held tree.old)) job.now old.now) (item_key item) (state fresh.old.items (read_at files.old) book.old (T.reads tree.old)) (state fresh.new.items (read_at files.new) book.new (T.reads tree.new)) (place_at R.Key.cmp places.old) }
-    ensures ok { IfOk result (IsAdvanced (setting R.means (over edits.now (T.held tree.old)) job.now old.now) (item_key item) (state fresh.old.items (read_at files.old) book.old (T.reads tree.old)) (state fresh.new.items (read_at files.new) book.new (T.reads tree.new)) (place_at R.Key.cmp places.old) (place_at R.Key.cmp places.new)) }
+    ensures notes { Notes (setting R.means (over edits.now (T.held tree.old)) job.now old.now) (item_key item) (state fresh.old.items (knowledge R.Key.cmp learned.old) book.old (T.reads tree.old)) (state fresh.new.items (knowledge R.Key.cmp learned.new) book.new (T.reads tree.new)) (place_at R.Key.cmp places.old) }
+    ensures ok { IfOk result (IsAdvanced (setting R.means (over edits.now (T.held tree.old)) job.now old.now) (item_key item) (state fresh.old.items (knowledge R.Key.cmp learned.old) book.old (T.reads tree.old)) (state fresh.new.items (knowledge R.Key.cmp learned.new) book.new (T.reads tree.new)) (place_at R.Key.cmp places.old) (place_at R.Key.cmp places.new)) }
 {
     match item {
         Item::Run(run) => Ok(Some(Item::Run(run))),
         Item::Asked(asked) => {
             let item = resume(
-                alloc, rules, job, old, asked, fresh, places, tree, edits, files, acts,
+                alloc, rules, job, old, asked, fresh, places, tree, edits, learned, acts,
             )?;
             Ok(Some(item))
         }
         Item::Check(check) => {
             let checked = check_next(
-                alloc, rules, job, old, check, fresh, places, tree, edits, files, acts,
+                alloc, rules, job, old, check, fresh, places, tree, edits, learned, acts,
             )?;
             match checked {
                 Checked::Right(entry) => {
@@ -209,22 +209,22 @@ pub fn advance_all<R: Rules, T: Tree>(
     tree: &mut T,
     edits: &Edits,
     book: &mut Book<R::Key>,
-    files: &mut FilesRead,
+    learned: &mut Learned<R::Key>,
     acts: &mut u64,
     rest: &mut Vec<Item<R::Key, R::Out>>,
 ) -> Result<Vec<Run<R::Key, R::Out>>, EngineRefusal>
-    requires ready { IsReady (setting R.means (over edits.now (T.held tree.old)) job.now old.now) (state fresh.old.items (read_at files.old) book.old (T.reads tree.old)) (place_at R.Key.cmp places.old) }
-    requires items { AreItems (setting R.means (over edits.now (T.held tree.old)) job.now old.now) (state fresh.old.items (read_at files.old) book.old (T.reads tree.old)) items.items }
+    requires ready { IsReady (setting R.means (over edits.now (T.held tree.old)) job.now old.now) (state fresh.old.items (knowledge R.Key.cmp learned.old) book.old (T.reads tree.old)) (place_at R.Key.cmp places.old) }
+    requires items { AreItems (setting R.means (over edits.now (T.held tree.old)) job.now old.now) (state fresh.old.items (knowledge R.Key.cmp learned.old) book.old (T.reads tree.old)) items.items }
     requires none { rest.old.items ≡ [] }
     ensures held { T.held tree.new ≡ T.held tree.old }
     ensures count { Counts (T.faults tree.old) (T.faults tree.new) result }
-    ensures notes { ListNotes (setting R.means (over edits.now (T.held tree.old)) job.now old.now) (state fresh.old.items (read_at files.old) book.old (T.reads tree.old)) (state fresh.new.items (read_at files.new) book.new (T.reads tree.new)) (place_at R.Key.cmp places.old) (λ top. AreItemsWanted (setting R.means (over edits.now (T.held tree.old)) job.now old.now) top items.items) }
-    ensures ok { IfOk result (λ runs. IsList (setting R.means (over edits.now (T.held tree.old)) job.now old.now) (state fresh.old.items (read_at files.old) book.old (T.reads tree.old)) (state fresh.new.items (read_at files.new) book.new (T.reads tree.new)) (place_at R.Key.cmp places.old) (place_at R.Key.cmp places.new) (λ top. AreItemsWanted (setting R.means (over edits.now (T.held tree.old)) job.now old.now) top items.items) runs.items rest.new.items) }
+    ensures notes { ListNotes (setting R.means (over edits.now (T.held tree.old)) job.now old.now) (state fresh.old.items (knowledge R.Key.cmp learned.old) book.old (T.reads tree.old)) (state fresh.new.items (knowledge R.Key.cmp learned.new) book.new (T.reads tree.new)) (place_at R.Key.cmp places.old) (λ top. AreItemsWanted (setting R.means (over edits.now (T.held tree.old)) job.now old.now) top items.items) }
+    ensures ok { IfOk result (λ runs. IsList (setting R.means (over edits.now (T.held tree.old)) job.now old.now) (state fresh.old.items (knowledge R.Key.cmp learned.old) book.old (T.reads tree.old)) (state fresh.new.items (knowledge R.Key.cmp learned.new) book.new (T.reads tree.new)) (place_at R.Key.cmp places.old) (place_at R.Key.cmp places.new) (λ top. AreItemsWanted (setting R.means (over edits.now (T.held tree.old)) job.now old.now) top items.items) runs.items rest.new.items) }
 {
     let mut runs = Vec::new(alloc);
     for item in items {
         let left = advance(
-            alloc, rules, job, old, item, fresh, places, tree, edits, book, files, acts,
+            alloc, rules, job, old, item, fresh, places, tree, edits, book, learned, acts,
         )?;
         sort_in(left, &mut runs, rest)?;
     }

@@ -1,21 +1,23 @@
 //! The answers to asks, where all their parts are done.
-ghost use Rattle.std.specs.Prelude.{MatchOption, ◌≡◌, ◌<◌, ◌≤◌, true, false, IfOk, OnOk, ◌++◌, List, [], ◌∷◌, Contains, slice_index_or};
+ghost use Rattle.std.specs.Prelude.{MatchOption, ◌≡◌, ◌⊎◌, ◌<◌, ◌≤◌, true, false, IfOk, OnOk, IfSome, ◌++◌, List, [], ◌∷◌, Contains, slice_index_or};
 ghost use Rattle.build_base.specs.World.{World};
 ghost use Rattle.step_engine.specs.Meaning.{asks_of};
 ghost use Rattle.step_engine.specs.Build.{setting, IsHere, Counts};
 ghost use Rattle.step_engine.specs.Edits.{over};
-ghost use Rattle.step_engine.specs.Engine.{state, AreKept, Adds, IsNext, AreLower, IsAnswered, AreAnswered, IsCheckedBatch};
-ghost use Rattle.step_engine.specs.Reading.{read_at};
-ghost use Rattle.step_engine.specs.Table.{place_at, Finds};
+ghost use Rattle.step_engine.specs.Engine.{state, AreKept, Adds, IsNext, AreLower, IsAnswered, AreAnswered, IsCheckedPair, IsCheckedBatch};
+ghost use Rattle.step_engine.specs.Agreeing.{HasPair, Agree, IsCompared, AreCompared};
+ghost use Rattle.step_engine.specs.Reading.{knowledge, compared_at};
+ghost use Rattle.step_engine.specs.Table.{place_at, IsPlaced, Finds};
 ghost use Rattle.step_engine.specs.Items.{IsStill};
 
 use crate::cache::Cache;
+use crate::compared::Compared;
 use crate::edits::Edits;
-use crate::files::FilesRead;
+use crate::learned::Learned;
 use crate::places::Places;
 use crate::read::read_once;
 use crate::refusal::EngineRefusal;
-use crate::rules::Rules;
+use crate::rules::{Rules, StepKey};
 use crate::table::result_of;
 use crate::talk::{Answer, Ask, Entry, Pair};
 use build_base::outside::Tree;
@@ -78,20 +80,20 @@ fn answer<R: Rules, T: Tree>(
     places: &Places<R::Key>,
     tree: &mut T,
     edits: &Edits,
-    files: &mut FilesRead,
+    learned: &mut Learned<R::Key>,
 ) -> Result<Option<Answer<R::Out>>, EngineRefusal>
-    requires kept { AreKept (setting R.means (over edits.now (T.held tree.old)) job.now old.now) (state fresh.now.items (read_at files.old) [] (T.reads tree.old)) }
+    requires kept { AreKept (setting R.means (over edits.now (T.held tree.old)) job.now old.now) (state fresh.now.items (knowledge R.Key.cmp learned.old) [] (T.reads tree.old)) }
     requires finds { Finds (place_at R.Key.cmp places.now) fresh.now.items }
     requires lower { (part : R.Key) → ask.now ≡ Ask.Part part → R.means.rank part < R.means.rank key.now }
     requires next { (w : World) → IsHere (setting R.means (over edits.now (T.held tree.old)) job.now old.now) w → (asks : List (Ask R.Key)) × Contains asks ask.now × IsNext R.means w key.now asks }
     ensures held { T.held tree.new ≡ T.held tree.old }
     ensures count { Counts (T.faults tree.old) (T.faults tree.new) result }
-    ensures adds { Adds (setting R.means (over edits.now (T.held tree.old)) job.now old.now) key.now (state fresh.now.items (read_at files.old) [] (T.reads tree.old)) (state fresh.now.items (read_at files.new) [] (T.reads tree.new)) }
-    ensures ok { IfOk result (λ r. MatchOption r (IsStill (setting R.means (over edits.now (T.held tree.old)) job.now old.now) key.now (state fresh.now.items (read_at files.old) [] (T.reads tree.old)) (state fresh.now.items (read_at files.new) [] (T.reads tree.new))) (IsAnswered (setting R.means (over edits.now (T.held tree.old)) job.now old.now) key.now ask.now (state fresh.now.items (read_at files.old) [] (T.reads tree.old)) (state fresh.now.items (read_at files.new) [] (T.reads tree.new)))) }
+    ensures adds { Adds (setting R.means (over edits.now (T.held tree.old)) job.now old.now) key.now (state fresh.now.items (knowledge R.Key.cmp learned.old) [] (T.reads tree.old)) (state fresh.now.items (knowledge R.Key.cmp learned.new) [] (T.reads tree.new)) }
+    ensures ok { IfOk result (λ r. MatchOption r (IsStill (setting R.means (over edits.now (T.held tree.old)) job.now old.now) key.now (state fresh.now.items (knowledge R.Key.cmp learned.old) [] (T.reads tree.old)) (state fresh.now.items (knowledge R.Key.cmp learned.new) [] (T.reads tree.new))) (IsAnswered (setting R.means (over edits.now (T.held tree.old)) job.now old.now) key.now ask.now (state fresh.now.items (knowledge R.Key.cmp learned.old) [] (T.reads tree.old)) (state fresh.now.items (knowledge R.Key.cmp learned.new) [] (T.reads tree.new)))) }
 {
     match ask {
         Ask::File(path) => {
-            let answer = read_once(alloc, tree, edits, files, path)?;
+            let answer = read_once(alloc, tree, edits, &mut learned.files, path)?;
             Ok(Some(answer))
         }
         Ask::Field(number) => Ok(Some(Answer::Field(field(alloc, job, *number)?))),
@@ -114,21 +116,21 @@ pub fn answers<R: Rules, T: Tree>(
     places: &Places<R::Key>,
     tree: &mut T,
     edits: &Edits,
-    files: &mut FilesRead,
+    learned: &mut Learned<R::Key>,
 ) -> Result<Option<Rows<Pair<R::Key, R::Out>>>, EngineRefusal>
-    requires kept { AreKept (setting R.means (over edits.now (T.held tree.old)) job.now old.now) (state fresh.now.items (read_at files.old) [] (T.reads tree.old)) }
+    requires kept { AreKept (setting R.means (over edits.now (T.held tree.old)) job.now old.now) (state fresh.now.items (knowledge R.Key.cmp learned.old) [] (T.reads tree.old)) }
     requires finds { Finds (place_at R.Key.cmp places.now) fresh.now.items }
     requires lower { AreLower (setting R.means (over edits.now (T.held tree.old)) job.now old.now) key.now asks.now }
     requires next { (w : World) → IsHere (setting R.means (over edits.now (T.held tree.old)) job.now old.now) w → IsNext R.means w key.now asks.now }
     ensures held { T.held tree.new ≡ T.held tree.old }
     ensures count { Counts (T.faults tree.old) (T.faults tree.new) result }
-    ensures adds { Adds (setting R.means (over edits.now (T.held tree.old)) job.now old.now) key.now (state fresh.now.items (read_at files.old) [] (T.reads tree.old)) (state fresh.now.items (read_at files.new) [] (T.reads tree.new)) }
-    ensures ok { IfOk result (λ r. MatchOption r (IsStill (setting R.means (over edits.now (T.held tree.old)) job.now old.now) key.now (state fresh.now.items (read_at files.old) [] (T.reads tree.old)) (state fresh.now.items (read_at files.new) [] (T.reads tree.new))) (AreAnswered (setting R.means (over edits.now (T.held tree.old)) job.now old.now) key.now asks.now (state fresh.now.items (read_at files.old) [] (T.reads tree.old)) (state fresh.now.items (read_at files.new) [] (T.reads tree.new)))) }
+    ensures adds { Adds (setting R.means (over edits.now (T.held tree.old)) job.now old.now) key.now (state fresh.now.items (knowledge R.Key.cmp learned.old) [] (T.reads tree.old)) (state fresh.now.items (knowledge R.Key.cmp learned.new) [] (T.reads tree.new)) }
+    ensures ok { IfOk result (λ r. MatchOption r (IsStill (setting R.means (over edits.now (T.held tree.old)) job.now old.now) key.now (state fresh.now.items (knowledge R.Key.cmp learned.old) [] (T.reads tree.old)) (state fresh.now.items (knowledge R.Key.cmp learned.new) [] (T.reads tree.new))) (AreAnswered (setting R.means (over edits.now (T.held tree.old)) job.now old.now) key.now asks.now (state fresh.now.items (knowledge R.Key.cmp learned.old) [] (T.reads tree.old)) (state fresh.now.items (knowledge R.Key.cmp learned.new) [] (T.reads tree.new)))) }
 {
     let mut pairs = Rows::new(alloc);
     for ask in asks.items() {
         let found = answer(
-            alloc, rules, job, old, key, ask, fresh, places, tree, edits, files,
+            alloc, rules, job, old, key, ask, fresh, places, tree, edits, learned,
         )?;
         let Some(answer) = found else {
             return Ok(None);
@@ -137,6 +139,92 @@ pub fn answers<R: Rules, T: Tree>(
         add_pair(&mut pairs, ask, answer)?;
     }
     Ok(Some(pairs))
+}
+
+// Notes whether the old answers to a part are its outcome, where they are all the same.
+fn note_compared<K: StepKey, O: Drop>(
+    alloc: Global,
+    old: &Cache<K, O>,
+    part: &K,
+    same: bool,
+    compared: &mut Compared<K>,
+) -> Result<(), WantOfMemory>
+    ensures { OnOk result ((compared.new ≡ compared.old) ⊎ (Agree old.now × IsPlaced part.now same (compared_at K.cmp compared.old) (compared_at K.cmp compared.new))) }
+{
+    if !old.agrees() {
+        return Ok(());
+    }
+    let noted = part.copy(alloc)?;
+    compared.note(noted, same)?;
+    Ok(())
+}
+
+// Whether the old answer to a part is its outcome, where it is done. Answers that are all the same
+// are compared once.
+fn check_part<K: StepKey, O: Same + Drop>(
+    alloc: Global,
+    old: &Cache<K, O>,
+    part: &K,
+    pair: &Pair<K, O>,
+    fresh: &Vec<Entry<K, O>>,
+    places: &Places<K>,
+    compared: &mut Compared<K>,
+) -> Result<Option<bool>, WantOfMemory>
+    requires finds { Finds (place_at K.cmp places.now) fresh.now.items }
+    requires compared { AreCompared old.now fresh.now.items (compared_at K.cmp compared.old) }
+    requires asked { pair.now.ask ≡ Ask.Part part.now }
+    requires old { HasPair old.now pair.now }
+    ensures same { IfOk result (λ r. IfSome r (λ same. IsCompared fresh.now.items part.now same pair.now.answer)) }
+    ensures compared { OnOk result (AreCompared old.now fresh.now.items (compared_at K.cmp compared.new)) }
+{
+    if let Some(same) = compared.get(part) {
+        return Ok(Some(same));
+    }
+    let Some(outcome) = result_of(part, fresh, places) else {
+        return Ok(None);
+    };
+    let outcome = outcome.copy(alloc)?;
+    let answer = Answer::Part(outcome);
+    let same = answer.same(&pair.answer);
+    note_compared(alloc, old, part, same, compared)?;
+    Ok(Some(same))
+}
+
+// Whether the answer of a pair is the right one, where its ask has an answer by now.
+fn check_pair<R: Rules, T: Tree>(
+    alloc: Global,
+    rules: &R,
+    job: &Rows<Text>,
+    old: &Cache<R::Key, R::Out>,
+    key: &R::Key,
+    pair: &Pair<R::Key, R::Out>,
+    fresh: &Vec<Entry<R::Key, R::Out>>,
+    places: &Places<R::Key>,
+    tree: &mut T,
+    edits: &Edits,
+    learned: &mut Learned<R::Key>,
+) -> Result<Option<bool>, EngineRefusal>
+    requires kept { AreKept (setting R.means (over edits.now (T.held tree.old)) job.now old.now) (state fresh.now.items (knowledge R.Key.cmp learned.old) [] (T.reads tree.old)) }
+    requires finds { Finds (place_at R.Key.cmp places.now) fresh.now.items }
+    requires lower { (part : R.Key) → pair.now.ask ≡ Ask.Part part → R.means.rank part < R.means.rank key.now }
+    requires next { (w : World) → IsHere (setting R.means (over edits.now (T.held tree.old)) job.now old.now) w → (asks : List (Ask R.Key)) × Contains asks pair.now.ask × IsNext R.means w key.now asks }
+    requires old { HasPair old.now pair.now }
+    ensures held { T.held tree.new ≡ T.held tree.old }
+    ensures count { Counts (T.faults tree.old) (T.faults tree.new) result }
+    ensures adds { Adds (setting R.means (over edits.now (T.held tree.old)) job.now old.now) key.now (state fresh.now.items (knowledge R.Key.cmp learned.old) [] (T.reads tree.old)) (state fresh.now.items (knowledge R.Key.cmp learned.new) [] (T.reads tree.new)) }
+    ensures ok { IfOk result (λ r. MatchOption r (IsStill (setting R.means (over edits.now (T.held tree.old)) job.now old.now) key.now (state fresh.now.items (knowledge R.Key.cmp learned.old) [] (T.reads tree.old)) (state fresh.now.items (knowledge R.Key.cmp learned.new) [] (T.reads tree.new))) (IsCheckedPair (setting R.means (over edits.now (T.held tree.old)) job.now old.now) key.now pair.now (state fresh.now.items (knowledge R.Key.cmp learned.old) [] (T.reads tree.old)) (state fresh.now.items (knowledge R.Key.cmp learned.new) [] (T.reads tree.new)))) }
+{
+    if let Ask::Part(part) = &pair.ask {
+        let same = check_part(alloc, old, part, pair, fresh, places, &mut learned.compared)?;
+        return Ok(same);
+    }
+    let found = answer(
+        alloc, rules, job, old, key, &pair.ask, fresh, places, tree, edits, learned,
+    )?;
+    match found {
+        Some(answer) => Ok(Some(answer.same(&pair.answer))),
+        None => Ok(None),
+    }
 }
 
 /// Whether the answers of a batch are right, where all asks have an answer by now.
@@ -151,28 +239,29 @@ pub fn check_batch<R: Rules, T: Tree>(
     places: &Places<R::Key>,
     tree: &mut T,
     edits: &Edits,
-    files: &mut FilesRead,
+    learned: &mut Learned<R::Key>,
 ) -> Result<Option<bool>, EngineRefusal>
-    requires kept { AreKept (setting R.means (over edits.now (T.held tree.old)) job.now old.now) (state fresh.now.items (read_at files.old) [] (T.reads tree.old)) }
+    requires kept { AreKept (setting R.means (over edits.now (T.held tree.old)) job.now old.now) (state fresh.now.items (knowledge R.Key.cmp learned.old) [] (T.reads tree.old)) }
     requires finds { Finds (place_at R.Key.cmp places.now) fresh.now.items }
     requires next { (w : World) → IsHere (setting R.means (over edits.now (T.held tree.old)) job.now old.now) w → IsNext R.means w key.now (asks_of pairs.now) }
+    requires old { (p : Pair R.Key R.Out) → Contains pairs.now p → HasPair old.now p }
     ensures held { T.held tree.new ≡ T.held tree.old }
     ensures count { Counts (T.faults tree.old) (T.faults tree.new) result }
-    ensures adds { Adds (setting R.means (over edits.now (T.held tree.old)) job.now old.now) key.now (state fresh.now.items (read_at files.old) [] (T.reads tree.old)) (state fresh.now.items (read_at files.new) [] (T.reads tree.new)) }
-    ensures ok { IfOk result (λ r. MatchOption r (IsStill (setting R.means (over edits.now (T.held tree.old)) job.now old.now) key.now (state fresh.now.items (read_at files.old) [] (T.reads tree.old)) (state fresh.now.items (read_at files.new) [] (T.reads tree.new))) (IsCheckedBatch (setting R.means (over edits.now (T.held tree.old)) job.now old.now) key.now pairs.now (state fresh.now.items (read_at files.old) [] (T.reads tree.old)) (state fresh.now.items (read_at files.new) [] (T.reads tree.new)))) }
+    ensures adds { Adds (setting R.means (over edits.now (T.held tree.old)) job.now old.now) key.now (state fresh.now.items (knowledge R.Key.cmp learned.old) [] (T.reads tree.old)) (state fresh.now.items (knowledge R.Key.cmp learned.new) [] (T.reads tree.new)) }
+    ensures ok { IfOk result (λ r. MatchOption r (IsStill (setting R.means (over edits.now (T.held tree.old)) job.now old.now) key.now (state fresh.now.items (knowledge R.Key.cmp learned.old) [] (T.reads tree.old)) (state fresh.now.items (knowledge R.Key.cmp learned.new) [] (T.reads tree.new))) (IsCheckedBatch (setting R.means (over edits.now (T.held tree.old)) job.now old.now) key.now pairs.now (state fresh.now.items (knowledge R.Key.cmp learned.old) [] (T.reads tree.old)) (state fresh.now.items (knowledge R.Key.cmp learned.new) [] (T.reads tree.new)))) }
 {
     let mut right = true;
     for pair in pairs.items() {
         if !is_lower(rules, key, &pair.ask) {
             return Ok(Some(false));
         }
-        let found = answer(
-            alloc, rules, job, old, key, &pair.ask, fresh, places, tree, edits, files,
+        let found = check_pair(
+            alloc, rules, job, old, key, pair, fresh, places, tree, edits, learned,
         )?;
-        let Some(answer) = found else {
+        let Some(same) = found else {
             return Ok(None);
         };
-        right = both(right, answer.same(&pair.answer));
+        right = both(right, same);
     }
     Ok(Some(right))
 }

@@ -8,8 +8,8 @@ ghost use Rattle.step_engine.specs.Build.{setting, Counts, IsEntryOf, Ran, RanAl
 
 use crate::cache::Cache;
 use crate::edits::Edits;
-use crate::files::FilesRead;
 use crate::in_order::in_order;
+use crate::learned::Learned;
 use crate::places::Places;
 use crate::refusal::EngineRefusal;
 use crate::rules::{Rules, StepKey};
@@ -90,7 +90,7 @@ fn joined<K: StepKey, O: Same + Drop>(
     if all.append(&mut others).is_err() {
         return Err(WantOfMemory);
     }
-    in_order(alloc, all)
+    in_order(alloc, all, false)
 }
 
 /// The outcome of a key, from the entries that an earlier build left.
@@ -174,7 +174,7 @@ pub fn bring_over<H: Threads + Sync, R: Rules, T: Tree, G: Gate>(
 {
     let mut fresh = Vec::new(alloc);
     let mut places = Places::new(alloc);
-    let mut files = FilesRead::new(alloc);
+    let mut learned = Learned::new(alloc);
     let result = settle(
         rt,
         alloc,
@@ -187,11 +187,11 @@ pub fn bring_over<H: Threads + Sync, R: Rules, T: Tree, G: Gate>(
         tree,
         edits,
         book,
-        &mut files,
+        &mut learned,
         workers,
         gate,
     )?;
-    let made = in_order(alloc, fresh)?;
+    let made = in_order(alloc, fresh, true)?;
     let needed = made.entries().len() as u64;
     if is_bad(&result) {
         let cache = joined(alloc, &cache, made)?;

@@ -1,5 +1,5 @@
 //! The entries of a build.
-ghost use Rattle.std.specs.Prelude.{◌≡◌, [], IfSome, IfNone, OnOk, OnErr, Contains};
+ghost use Rattle.std.specs.Prelude.{◌≡◌, true, [], IfSome, IfNone, OnOk, OnErr, Contains};
 
 use crate::place::{keep_in, place, put_into};
 use crate::rules::StepKey;
@@ -8,26 +8,31 @@ use build_base::text::WantOfMemory;
 use std::alloc::Global;
 use std::marker::Model;
 
-/// At most one entry for a key, seen as the list of entries in ascending order of their keys.
+/// At most one entry for a key, seen as the list of entries in ascending order of their keys. `agrees`
+/// is set only where all answers to one part are known to be the same.
 #[derive(Drop)]
 pub struct Cache<K: StepKey, O: Drop> {
     store: Vec<Entry<K, O>>,
+    agrees: bool,
 }
 
 impl<K: StepKey, O: Drop> Model for Cache<K, O> {
     ghost use Rattle.std.specs.Prelude.{List};
     ghost use Rattle.step_engine.specs.declared.talk.Entry.{Entry};
+    ghost use Rattle.std.specs.Prelude.{◌≡◌, true};
     ghost use Rattle.step_engine.specs.Caches.{AreInOrder};
+    ghost use Rattle.step_engine.specs.Agreeing.{Agree};
 
     ghost Value = { List (Entry K O) };
 
     ghost view = { λ c. c.store.items };
 
-    ghost invariant = { λ c. AreInOrder K.cmp c.store.items };
+    ghost invariant = { λ c. AreInOrder K.cmp c.store.items × (c.agrees ≡ true → Agree c.store.items) };
 }
 
 impl<K: StepKey, O: Drop> Cache<K, O> {
     ghost use Rattle.step_engine.specs.Caches.{put_entry, HasKey, AreInOrder, Keeps};
+    ghost use Rattle.step_engine.specs.Agreeing.{Agree};
     ghost use Rattle.std.specs.Fn.{FnReturnsAt};
     ghost use Rattle.step_engine.specs.declared.talk.Entry.{Entry};
 
@@ -37,6 +42,7 @@ impl<K: StepKey, O: Drop> Cache<K, O> {
     {
         Cache {
             store: Vec::new(alloc),
+            agrees: true,
         }
     }
 
@@ -53,6 +59,7 @@ impl<K: StepKey, O: Drop> Cache<K, O> {
         ensures ok { OnOk result (self.new ≡ put_entry K.cmp entry self.old) }
         ensures err { OnErr result (self.new ≡ self.old) }
     {
+        self.agrees = false;
         put_into(&mut self.store, entry)
     }
 
@@ -69,8 +76,24 @@ impl<K: StepKey, O: Drop> Cache<K, O> {
         ensures all { result.items ≡ self }
         ensures sorted { AreInOrder K.cmp result.items }
     {
-        let Cache { store } = self;
+        let Cache { store, .. } = self;
         store
+    }
+
+    // The same entries, all of whose answers to one part may be known to be the same.
+    pub(crate) fn agreeing(self, agrees: bool) -> Cache<K, O>
+        requires { agrees ≡ true → Agree self }
+        ensures { result ≡ self }
+    {
+        let Cache { store, .. } = self;
+        Cache { store, agrees }
+    }
+
+    // Whether all answers to one part are known to be the same.
+    pub(crate) fn agrees(&self) -> bool
+        ensures { result ≡ true → Agree self.now }
+    {
+        self.agrees
     }
 
     // The entry of a key.

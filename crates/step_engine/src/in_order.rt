@@ -1,7 +1,8 @@
 //! The entries of a build as a cache.
-ghost use Rattle.std.specs.Prelude.{IfOk, OnOk, IsPermutation};
+ghost use Rattle.std.specs.Prelude.{◌≡◌, true, IfOk, OnOk, IsPermutation, Contains};
 ghost use Rattle.step_engine.specs.Caches.{AreInOrder, PutsMissing};
 ghost use Rattle.step_engine.specs.Rounds.{IsOneEach, AreSame};
+ghost use Rattle.step_engine.specs.Agreeing.{Agree};
 
 use crate::cache::Cache;
 use crate::rules::StepKey;
@@ -45,6 +46,7 @@ fn put_all<K: StepKey, O: Same + Drop>(
 ) -> Result<Cache<K, O>, WantOfMemory>
     ensures same { IsOneEach entries.items → IfOk result (λ cache. AreSame entries.items cache) }
     ensures sorted { IfOk result (AreInOrder K.cmp) }
+    ensures only { IfOk result (λ cache. (e : Entry K O) → Contains cache e → Contains entries.items e) }
 {
     let mut cache = Cache::new(alloc);
     for entry in entries {
@@ -53,14 +55,18 @@ fn put_all<K: StepKey, O: Same + Drop>(
     Ok(cache)
 }
 
-/// The cache of these entries, one for a key.
+/// The cache of these entries, one for a key, and whether all their answers to one part are known to
+/// be the same.
 pub fn in_order<K: StepKey, O: Same + Drop>(
     alloc: Global,
     entries: Vec<Entry<K, O>>,
+    agree: bool,
 ) -> Result<Cache<K, O>, WantOfMemory>
+    requires { agree ≡ true → Agree entries.items }
     ensures same { IsOneEach entries.items → IfOk result (λ cache. AreSame entries.items cache) }
     ensures sorted { IfOk result (AreInOrder K.cmp) }
 {
     let entries = sorted(entries)?;
-    put_all(alloc, entries)
+    let cache = put_all(alloc, entries)?;
+    Ok(cache.agreeing(agree))
 }

@@ -5,10 +5,12 @@ mod advance;
 mod answers;
 pub mod brought;
 pub mod cache;
+mod compared;
 pub mod edits;
 mod files;
 mod in_order;
 mod items;
+mod learned;
 mod open;
 mod place;
 mod places;
@@ -32,8 +34,3 @@ pub use edits::{Edit, Edits};
 pub use refusal::EngineRefusal;
 pub use rules::{Rules, StepKey, Turn};
 pub use talk::{Answer, Ask, Batch, Entry, Outcome, Pair, Talk};
-
-#[cfg(test)]
-mod small_rules;
-#[cfg(test)]
-mod tests;

@@ -3,7 +3,7 @@ ghost use Rattle.std.specs.Prelude.{◌≡◌, ◌≤◌, IfOk, []};
 ghost use Rattle.step_engine.specs.Build.{setting, Counts};
 ghost use Rattle.step_engine.specs.Edits.{over};
 ghost use Rattle.step_engine.specs.Engine.{state};
-ghost use Rattle.step_engine.specs.Reading.{read_at};
+ghost use Rattle.step_engine.specs.Reading.{knowledge};
 ghost use Rattle.step_engine.specs.Table.{place_at};
 ghost use Rattle.step_engine.specs.Items.{IsReady, AreItems, AreItemsWanted};
 ghost use Rattle.step_engine.specs.Taking.{IsList, ListNotes};
@@ -11,8 +11,8 @@ ghost use Rattle.step_engine.specs.Taking.{IsList, ListNotes};
 use crate::advance::{advance_all, count_act};
 use crate::cache::Cache;
 use crate::edits::Edits;
-use crate::files::FilesRead;
 use crate::items::Item;
+use crate::learned::Learned;
 use crate::places::Places;
 use crate::refusal::EngineRefusal;
 use crate::rules::Rules;
@@ -39,7 +39,7 @@ pub fn round<H: Threads + Sync, R: Rules, T: Tree, G: Gate>(
     tree: &mut T,
     edits: &Edits,
     book: &mut Book<R::Key>,
-    files: &mut FilesRead,
+    learned: &mut Learned<R::Key>,
     workers: u32,
     gate: &G,
     waves: &mut u64,
@@ -47,16 +47,16 @@ pub fn round<H: Threads + Sync, R: Rules, T: Tree, G: Gate>(
 ) -> Result<Vec<Item<R::Key, R::Out>>, EngineRefusal>
     requires some { 1 ≤ workers }
     requires most { workers ≤ 64 }
-    requires ready { IsReady (setting R.means (over edits.now (T.held tree.old)) job.now old.now) (state fresh.old.items (read_at files.old) book.old (T.reads tree.old)) (place_at R.Key.cmp places.old) }
-    requires items { AreItems (setting R.means (over edits.now (T.held tree.old)) job.now old.now) (state fresh.old.items (read_at files.old) book.old (T.reads tree.old)) items.items }
+    requires ready { IsReady (setting R.means (over edits.now (T.held tree.old)) job.now old.now) (state fresh.old.items (knowledge R.Key.cmp learned.old) book.old (T.reads tree.old)) (place_at R.Key.cmp places.old) }
+    requires items { AreItems (setting R.means (over edits.now (T.held tree.old)) job.now old.now) (state fresh.old.items (knowledge R.Key.cmp learned.old) book.old (T.reads tree.old)) items.items }
     ensures held { T.held tree.new ≡ T.held tree.old }
     ensures count { Counts (T.faults tree.old) (T.faults tree.new) result }
-    ensures notes { ListNotes (setting R.means (over edits.now (T.held tree.old)) job.now old.now) (state fresh.old.items (read_at files.old) book.old (T.reads tree.old)) (state fresh.new.items (read_at files.new) book.new (T.reads tree.new)) (place_at R.Key.cmp places.old) (λ top. AreItemsWanted (setting R.means (over edits.now (T.held tree.old)) job.now old.now) top items.items) }
-    ensures ok { IfOk result (λ left. IsList (setting R.means (over edits.now (T.held tree.old)) job.now old.now) (state fresh.old.items (read_at files.old) book.old (T.reads tree.old)) (state fresh.new.items (read_at files.new) book.new (T.reads tree.new)) (place_at R.Key.cmp places.old) (place_at R.Key.cmp places.new) (λ top. AreItemsWanted (setting R.means (over edits.now (T.held tree.old)) job.now old.now) top items.items) [] left.items) }
+    ensures notes { ListNotes (setting R.means (over edits.now (T.held tree.old)) job.now old.now) (state fresh.old.items (knowledge R.Key.cmp learned.old) book.old (T.reads tree.old)) (state fresh.new.items (knowledge R.Key.cmp learned.new) book.new (T.reads tree.new)) (place_at R.Key.cmp places.old) (λ top. AreItemsWanted (setting R.means (over edits.now (T.held tree.old)) job.now old.now) top items.items) }
+    ensures ok { IfOk result (λ left. IsList (setting R.means (over edits.now (T.held tree.old)) job.now old.now) (state fresh.old.items (knowledge R.Key.cmp learned.old) book.old (T.reads tree.old)) (state fresh.new.items (knowledge R.Key.cmp learned.new) book.new (T.reads tree.new)) (place_at R.Key.cmp places.old) (place_at R.Key.cmp places.new) (λ top. AreItemsWanted (setting R.means (over edits.now (T.held tree.old)) job.now old.now) top items.items) [] left.items) }
 {
     let mut left = Vec::new(alloc);
     let runs = advance_all(
-        alloc, rules, job, old, items, fresh, places, tree, edits, book, files, acts, &mut left,
+        alloc, rules, job, old, items, fresh, places, tree, edits, book, learned, acts, &mut left,
     )?;
     count_act(acts, !runs.is_empty());
     let done = turns(rt, alloc, rules, runs, workers, gate, waves)?;

@@ -16,6 +16,12 @@ pub trait StepKey: Same + Ord + Drop + Send + Sync {
     ghost same_key: { (a b : Self) → Self.cmp a b ≡ Equal → a ≡ b };
 }
 
+impl StepKey for u32 {
+    ghost use Rattle.std.proofs.lemmas.Map.Lookups.{exact_unsigned};
+
+    ghost same_key = { exact_unsigned };
+}
+
 /// What a step does next: it asks, and gets its permit back with the answers, or it is done.
 #[derive(Drop)]
 pub enum Turn<K, O> {

@@ -3,7 +3,7 @@ ghost use Rattle.std.specs.Prelude.{◌≡◌, ◌≤◌, IfOk, [], ◌∷◌};
 ghost use Rattle.step_engine.specs.Build.{setting, Counts};
 ghost use Rattle.step_engine.specs.Edits.{over};
 ghost use Rattle.step_engine.specs.Engine.{state};
-ghost use Rattle.step_engine.specs.Reading.{read_at};
+ghost use Rattle.step_engine.specs.Reading.{knowledge};
 ghost use Rattle.step_engine.specs.Table.{place_at};
 ghost use Rattle.step_engine.specs.Items.{IsReady};
 ghost use Rattle.step_engine.specs.Taking.{ListNotes};
@@ -14,7 +14,7 @@ ghost use Rattle.step_engine.specs.Opening.{OpensNoted};
 use crate::advance::count_act;
 use crate::cache::Cache;
 use crate::edits::Edits;
-use crate::files::FilesRead;
+use crate::learned::Learned;
 use crate::open::open_all;
 use crate::places::Places;
 use crate::pool::Pool;
@@ -45,7 +45,7 @@ fn visit<H: Threads + Sync, R: Rules, T: Tree, G: Gate>(
     tree: &mut T,
     edits: &Edits,
     book: &mut Book<R::Key>,
-    files: &mut FilesRead,
+    learned: &mut Learned<R::Key>,
     workers: u32,
     gate: &G,
     waves: &mut u64,
@@ -54,18 +54,18 @@ fn visit<H: Threads + Sync, R: Rules, T: Tree, G: Gate>(
 ) -> Result<(), EngineRefusal>
     requires some { 1 ≤ workers }
     requires most { workers ≤ 64 }
-    requires ready { IsReady (setting R.means (over edits.now (T.held tree.old)) job.now old.now) (state fresh.old.items (read_at files.old) book.old (T.reads tree.old)) (place_at R.Key.cmp places.old) }
-    requires items { AreUnderWay R.Key.cmp (setting R.means (over edits.now (T.held tree.old)) job.now old.now) (state fresh.old.items (read_at files.old) book.old (T.reads tree.old)) pool.old }
+    requires ready { IsReady (setting R.means (over edits.now (T.held tree.old)) job.now old.now) (state fresh.old.items (knowledge R.Key.cmp learned.old) book.old (T.reads tree.old)) (place_at R.Key.cmp places.old) }
+    requires items { AreUnderWay R.Key.cmp (setting R.means (over edits.now (T.held tree.old)) job.now old.now) (state fresh.old.items (knowledge R.Key.cmp learned.old) book.old (T.reads tree.old)) pool.old }
     ensures held { T.held tree.new ≡ T.held tree.old }
     ensures count { Counts (T.faults tree.old) (T.faults tree.new) result }
-    ensures notes { ListNotes (setting R.means (over edits.now (T.held tree.old)) job.now old.now) (state fresh.old.items (read_at files.old) book.old (T.reads tree.old)) (state fresh.new.items (read_at files.new) book.new (T.reads tree.new)) (place_at R.Key.cmp places.old) (λ top. AreAllWanted R.Key.cmp (setting R.means (over edits.now (T.held tree.old)) job.now old.now) top pool.old) }
-    ensures ok { IfOk result (λ _. IsVisited R.Key.cmp (setting R.means (over edits.now (T.held tree.old)) job.now old.now) (state fresh.old.items (read_at files.old) book.old (T.reads tree.old)) (state fresh.new.items (read_at files.new) book.new (T.reads tree.new)) (place_at R.Key.cmp places.old) (place_at R.Key.cmp places.new) pool.old pool.new) }
+    ensures notes { ListNotes (setting R.means (over edits.now (T.held tree.old)) job.now old.now) (state fresh.old.items (knowledge R.Key.cmp learned.old) book.old (T.reads tree.old)) (state fresh.new.items (knowledge R.Key.cmp learned.new) book.new (T.reads tree.new)) (place_at R.Key.cmp places.old) (λ top. AreAllWanted R.Key.cmp (setting R.means (over edits.now (T.held tree.old)) job.now old.now) top pool.old) }
+    ensures ok { IfOk result (λ _. IsVisited R.Key.cmp (setting R.means (over edits.now (T.held tree.old)) job.now old.now) (state fresh.old.items (knowledge R.Key.cmp learned.old) book.old (T.reads tree.old)) (state fresh.new.items (knowledge R.Key.cmp learned.new) book.new (T.reads tree.new)) (place_at R.Key.cmp places.old) (place_at R.Key.cmp places.new) pool.old pool.new) }
 {
     let able = take_able(alloc, rules, old, pool, places, book)?;
     count_act(acts, !pool.news.is_empty());
     let first = fresh.len();
     let left = round(
-        rt, alloc, rules, job, old, able, fresh, places, tree, edits, book, files, workers, gate,
+        rt, alloc, rules, job, old, able, fresh, places, tree, edits, book, learned, workers, gate,
         waves, acts,
     )?;
     put_back(alloc, left, fresh, first, pool)?;
@@ -114,17 +114,17 @@ pub fn settle<H: Threads + Sync, R: Rules, T: Tree, G: Gate>(
     tree: &mut T,
     edits: &Edits,
     book: &mut Book<R::Key>,
-    files: &mut FilesRead,
+    learned: &mut Learned<R::Key>,
     workers: u32,
     gate: &G,
 ) -> Result<Outcome<R::Out>, EngineRefusal>
     requires some { 1 ≤ workers }
     requires most { workers ≤ 64 }
-    requires ready { IsReady (setting R.means (over edits.now (T.held tree.old)) job.now old.now) (state fresh.old.items (read_at files.old) book.old (T.reads tree.old)) (place_at R.Key.cmp places.old) }
+    requires ready { IsReady (setting R.means (over edits.now (T.held tree.old)) job.now old.now) (state fresh.old.items (knowledge R.Key.cmp learned.old) book.old (T.reads tree.old)) (place_at R.Key.cmp places.old) }
     ensures held { T.held tree.new ≡ T.held tree.old }
     ensures count { Counts (T.faults tree.old) (T.faults tree.new) result }
-    ensures notes { TopNotes (setting R.means (over edits.now (T.held tree.old)) job.now old.now) top.now (state fresh.old.items (read_at files.old) book.old (T.reads tree.old)) (state fresh.new.items (read_at files.new) book.new (T.reads tree.new)) (place_at R.Key.cmp places.old) }
-    ensures ok { IfOk result (λ r. IsBroughtTo (setting R.means (over edits.now (T.held tree.old)) job.now old.now) top.now (state fresh.old.items (read_at files.old) book.old (T.reads tree.old)) (state fresh.new.items (read_at files.new) book.new (T.reads tree.new)) (place_at R.Key.cmp places.old) (place_at R.Key.cmp places.new) r) }
+    ensures notes { TopNotes (setting R.means (over edits.now (T.held tree.old)) job.now old.now) top.now (state fresh.old.items (knowledge R.Key.cmp learned.old) book.old (T.reads tree.old)) (state fresh.new.items (knowledge R.Key.cmp learned.new) book.new (T.reads tree.new)) (place_at R.Key.cmp places.old) }
+    ensures ok { IfOk result (λ r. IsBroughtTo (setting R.means (over edits.now (T.held tree.old)) job.now old.now) top.now (state fresh.old.items (knowledge R.Key.cmp learned.old) book.old (T.reads tree.old)) (state fresh.new.items (knowledge R.Key.cmp learned.new) book.new (T.reads tree.new)) (place_at R.Key.cmp places.old) (place_at R.Key.cmp places.new) r) }
 {
     let mut pool = begin(alloc, old, top, places, book)?;
     let mut waves = 0;
@@ -135,7 +135,7 @@ pub fn settle<H: Threads + Sync, R: Rules, T: Tree, G: Gate>(
         }
         let before = acts;
         visit(
-            rt, alloc, rules, job, old, fresh, places, tree, edits, book, files, workers, gate,
+            rt, alloc, rules, job, old, fresh, places, tree, edits, book, learned, workers, gate,
             &mut waves, &mut acts, &mut pool,
         )?;
         if acts <= before {

@@ -3,6 +3,7 @@ use Rattle.std.proofs.Common.{refl, sym}
 use Rattle.std.proofs.lemmas.Bool.{ltb-false}
 use Rattle.step_engine.proofs.Moves.{adds_none}
 use Rattle.step_engine.proofs.Asking.{still_none}
+use Rattle.step_engine.proofs.Steps.{item_in}
 use Rattle.step_engine.proofs.Advancing.{check_good, check_asks, check_more, check_stale}
 use Rattle.step_engine.proofs.advance.check_next.Goals as goal
 
@@ -10,6 +11,11 @@ pub check_batch-requires-clause-next : goal.check_batch-requires-clause-next
 check_batch-requires-clause-next g c =
     let a = rw (c.items.ensures, c.value-talk.ensures) at c.in-Some.ensures.lookup in
     λ κs q w i. check_asks _ _ c.args.check.entry c.args.check.batch c.requires.check c.in-Some.batch.now a.3.0 a.1 w i
+
+pub check_batch-requires-clause-old : goal.check_batch-requires-clause-old
+check_batch-requires-clause-old g c =
+    let a = rw (c.items.ensures, c.value-talk.ensures) at c.in-Some.ensures.lookup in
+    λ κs q p h. (c.args.check.entry, c.in-Some.batch.now, c.requires.check.old, item_in _ _ _ _ refl a.3.0 a.1, h)
 
 pub returns-in-None-clause-adds : goal.returns-in-None-clause-adds
 returns-in-None-clause-adds g c = adds_none _ _ _

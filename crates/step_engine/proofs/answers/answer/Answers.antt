@@ -1,6 +1,6 @@
 -- The answer to one ask.
 use Rattle.std.proofs.Common.{refl}
-use Rattle.step_engine.proofs.Moves.{adds_none}
+use Rattle.step_engine.proofs.Moves.{adds_none, moves_none}
 use Rattle.step_engine.proofs.Steps.{adds_read, answered_field, answered_file, answered_part, file_asked}
 use Rattle.step_engine.proofs.Asking.{still_none}
 use Rattle.step_engine.proofs.answers.answer.Goals as goal
@@ -18,7 +18,7 @@ returns-in_ok-answer-in-File-clause-adds g c =
 pub returns-in_ok-answer-in-File-clause-ok : goal.returns-in_ok-answer-in-File-clause-ok
 returns-in_ok-answer-in-File-clause-ok g c =
     let laws = g.met.R.Rules g.world.𝓛 g.world.𝓜 g.world.𝓡 ((λ s x. x), (λ x. x), (λ x. x), λ x. x) in
-    rw c.in-File.is (answered_file _ _ _ _ _ _ refl (λ w i. file_asked _ laws.lawful w _ _ _ (c.requires.next w i) c.in-File.is) c.read_once.ensures.read c.requires.kept c.in_ok-answer-in-File.ensures.ok)
+    rw c.in-File.is (answered_file _ _ _ _ _ _ refl (λ w i. file_asked _ laws.lawful w _ _ _ (c.requires.next w i) c.in-File.is) c.read_once.ensures.read c.requires.kept refl c.in_ok-answer-in-File.ensures.ok)
 
 pub returns-in_err-field-in-Field-clause-adds : goal.returns-in_err-field-in-Field-clause-adds
 returns-in_err-field-in-Field-clause-adds g c = adds_none _ _ _
@@ -36,7 +36,7 @@ pub returns-in_ok-copy-in-Some-clause-adds : goal.returns-in_ok-copy-in-Some-cla
 returns-in_ok-copy-in-Some-clause-adds g c = adds_none _ _ _
 
 pub returns-in_ok-copy-in-Some-clause-ok : goal.returns-in_ok-copy-in-Some-clause-ok
-returns-in_ok-copy-in-Some-clause-ok g c = rw (c.in-Part.is, c.in_ok-copy-in-Some.ensures) (answered_part _ _ _ _ _ c.requires.kept c.in-Some.ensures)
+returns-in_ok-copy-in-Some-clause-ok g c = rw (c.in-Part.is, c.in_ok-copy-in-Some.ensures) (answered_part _ _ _ _ _ _ (moves_none _ _ _) c.requires.kept c.in-Some.ensures)
 
 pub returns-in-None-clause-adds : goal.returns-in-None-clause-adds
 returns-in-None-clause-adds g c = adds_none _ _ _

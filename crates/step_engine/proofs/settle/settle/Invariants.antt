@@ -3,7 +3,7 @@ use Rattle.std.proofs.Common.{◌≡◌, ◌-◌}
 use Rattle.step_engine.specs.Build.{setting}
 use Rattle.step_engine.specs.Edits.{over}
 use Rattle.step_engine.specs.Engine.{state}
-use Rattle.step_engine.specs.Reading.{read_at}
+use Rattle.step_engine.specs.Reading.{knowledge}
 use Rattle.step_engine.specs.Table.{place_at}
 use Rattle.step_engine.specs.Settling.{IsSettling}
 use Rattle.step_engine.proofs.settle.settle.Given as goal
@@ -11,8 +11,8 @@ use Rattle.step_engine.proofs.settle.settle.Given as goal
 abbrev pub invariant-loop-acts : goal.invariant-loop-acts
 invariant-loop-acts g l =
     let s = setting g.R.Rules.means (over l.fn.edits (g.T.Tree.held l.fn.tree)) l.fn.job l.fn.old in
-    let y = state l.fn.fresh.items (read_at l.fn.files) l.fn.book (g.T.Tree.reads l.fn.tree) in
-    let z = state l.fresh.items (read_at l.files) l.book (g.T.Tree.reads l.tree) in record {
+    let y = state l.fn.fresh.items (knowledge g.R.Key.Ord.cmp l.fn.learned) l.fn.book (g.T.Tree.reads l.fn.tree) in
+    let z = state l.fresh.items (knowledge g.R.Key.Ord.cmp l.learned) l.book (g.T.Tree.reads l.tree) in record {
       held : g.T.Tree.held l.tree ≡ g.T.Tree.held l.fn.tree;
       count : g.T.Tree.faults l.tree ≡ g.T.Tree.faults l.fn.tree;
       here : IsSettling g.R.Key.Ord.cmp s l.fn.top y z (place_at g.R.Key.Ord.cmp l.fn.places) (place_at g.R.Key.Ord.cmp l.places) l.pool;

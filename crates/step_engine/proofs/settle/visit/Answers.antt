@@ -3,7 +3,7 @@ use Rattle.std.proofs.Common.{refl}
 use Rattle.step_engine.specs.Build.{setting}
 use Rattle.step_engine.specs.Edits.{over}
 use Rattle.step_engine.specs.Engine.{state}
-use Rattle.step_engine.specs.Reading.{read_at}
+use Rattle.step_engine.specs.Reading.{knowledge}
 use Rattle.step_engine.specs.Table.{place_at}
 use Rattle.step_engine.proofs.ScanLemmas.{able_ready, able_items, visit_noted, visited}
 use Rattle.step_engine.proofs.settle.visit.Goals as goal
@@ -11,48 +11,48 @@ use Rattle.step_engine.proofs.settle.visit.Goals as goal
 pub returns-in_err-able-clause-notes : goal.returns-in_err-able-clause-notes
 returns-in_err-able-clause-notes g c =
     let s = setting g.R.Rules.means (over c.args.edits.now (g.T.Tree.held c.args.tree.now)) c.args.job.now c.args.old.now in
-    let y = state c.args.fresh.now.items (read_at c.args.files.now) c.args.book.now (g.T.Tree.reads c.args.tree.now) in
+    let y = state c.args.fresh.now.items (knowledge g.R.Key.Ord.cmp c.args.learned.now) c.args.book.now (g.T.Tree.reads c.args.tree.now) in
     let laws = g.met.R.Rules g.world.𝓛 g.world.𝓜 g.world.𝓡 ((λ s x. x), (λ x. x), (λ x. x), λ x. x) in
     λ top x q w. c.take_able.ensures.noted s y laws.lawful refl refl c.requires.ready c.requires.items top x q w
 
 pub round-requires-clause-ready : goal.round-requires-clause-ready
 round-requires-clause-ready g c =
     let s = setting g.R.Rules.means (over c.args.edits.now (g.T.Tree.held c.args.tree.now)) c.args.job.now c.args.old.now in
-    let y = state c.args.fresh.now.items (read_at c.args.files.now) c.args.book.now (g.T.Tree.reads c.args.tree.now) in
+    let y = state c.args.fresh.now.items (knowledge g.R.Key.Ord.cmp c.args.learned.now) c.args.book.now (g.T.Tree.reads c.args.tree.now) in
     let laws = g.met.R.Rules g.world.𝓛 g.world.𝓜 g.world.𝓡 ((λ s x. x), (λ x. x), (λ x. x), λ x. x) in
     λ κs q. able_ready g.R.Key.Ord.cmp s laws.lawful y (place_at g.R.Key.Ord.cmp c.args.places.now) c.requires.ready c.args.pool.now c.take_able.new.pool c.requires.items c.take_able.new.book (place_at g.R.Key.Ord.cmp c.take_able.new.places) c.in_ok-able.able.items c.in_ok-able.ensures.ok c.in_ok-able.ensures.held
 
 pub round-requires-clause-items : goal.round-requires-clause-items
 round-requires-clause-items g c =
     let s = setting g.R.Rules.means (over c.args.edits.now (g.T.Tree.held c.args.tree.now)) c.args.job.now c.args.old.now in
-    let y = state c.args.fresh.now.items (read_at c.args.files.now) c.args.book.now (g.T.Tree.reads c.args.tree.now) in
+    let y = state c.args.fresh.now.items (knowledge g.R.Key.Ord.cmp c.args.learned.now) c.args.book.now (g.T.Tree.reads c.args.tree.now) in
     let laws = g.met.R.Rules g.world.𝓛 g.world.𝓜 g.world.𝓡 ((λ s x. x), (λ x. x), (λ x. x), λ x. x) in
     λ κs q. able_items g.R.Key.Ord.cmp s laws.lawful y (place_at g.R.Key.Ord.cmp c.args.places.now) c.requires.ready c.args.pool.now c.take_able.new.pool c.requires.items c.take_able.new.book (place_at g.R.Key.Ord.cmp c.take_able.new.places) c.in_ok-able.able.items c.in_ok-able.ensures.ok c.in_ok-able.ensures.held
 
 pub returns-clause-ok : goal.returns-clause-ok
 returns-clause-ok g c =
     let s = setting g.R.Rules.means (over c.args.edits.now (g.T.Tree.held c.args.tree.now)) c.args.job.now c.args.old.now in
-    let y = state c.args.fresh.now.items (read_at c.args.files.now) c.args.book.now (g.T.Tree.reads c.args.tree.now) in
+    let y = state c.args.fresh.now.items (knowledge g.R.Key.Ord.cmp c.args.learned.now) c.args.book.now (g.T.Tree.reads c.args.tree.now) in
     let laws = g.met.R.Rules g.world.𝓛 g.world.𝓜 g.world.𝓡 ((λ s x. x), (λ x. x), (λ x. x), λ x. x) in
-    visited g.R.Key.Ord.cmp s laws.lawful y (place_at g.R.Key.Ord.cmp c.args.places.now) c.requires.ready c.args.pool.now c.take_able.new.pool c.requires.items c.take_able.new.book (place_at g.R.Key.Ord.cmp c.take_able.new.places) c.in_ok-able.able.items c.in_ok-able.ensures.ok c.in_ok-able.ensures.held (state c.round.new.fresh.items (read_at c.round.new.files) c.round.new.book (g.T.Tree.reads c.round.new.tree)) (place_at g.R.Key.Ord.cmp c.round.new.places) c.in_ok-left.left.items c.in_ok-left.ensures.ok c.put_back.new.pool c.in_ok-put_back.ensures
+    visited g.R.Key.Ord.cmp s laws.lawful y (place_at g.R.Key.Ord.cmp c.args.places.now) c.requires.ready c.args.pool.now c.take_able.new.pool c.requires.items c.take_able.new.book (place_at g.R.Key.Ord.cmp c.take_able.new.places) c.in_ok-able.able.items c.in_ok-able.ensures.ok c.in_ok-able.ensures.held (state c.round.new.fresh.items (knowledge g.R.Key.Ord.cmp c.round.new.learned) c.round.new.book (g.T.Tree.reads c.round.new.tree)) (place_at g.R.Key.Ord.cmp c.round.new.places) c.in_ok-left.left.items c.in_ok-left.ensures.ok c.put_back.new.pool c.in_ok-put_back.ensures
 
 pub returns-in_err-left-clause-notes : goal.returns-in_err-left-clause-notes
 returns-in_err-left-clause-notes g c =
     let s = setting g.R.Rules.means (over c.args.edits.now (g.T.Tree.held c.args.tree.now)) c.args.job.now c.args.old.now in
-    let y = state c.args.fresh.now.items (read_at c.args.files.now) c.args.book.now (g.T.Tree.reads c.args.tree.now) in
+    let y = state c.args.fresh.now.items (knowledge g.R.Key.Ord.cmp c.args.learned.now) c.args.book.now (g.T.Tree.reads c.args.tree.now) in
     let laws = g.met.R.Rules g.world.𝓛 g.world.𝓜 g.world.𝓡 ((λ s x. x), (λ x. x), (λ x. x), λ x. x) in
-    visit_noted g.R.Key.Ord.cmp s laws.lawful y (place_at g.R.Key.Ord.cmp c.args.places.now) c.requires.ready c.args.pool.now c.take_able.new.pool c.requires.items c.take_able.new.book (place_at g.R.Key.Ord.cmp c.take_able.new.places) c.in_ok-able.able.items c.in_ok-able.ensures.ok c.in_ok-able.ensures.held (state c.round.new.fresh.items (read_at c.round.new.files) c.round.new.book (g.T.Tree.reads c.round.new.tree)) c.round.ensures.notes
+    visit_noted g.R.Key.Ord.cmp s laws.lawful y (place_at g.R.Key.Ord.cmp c.args.places.now) c.requires.ready c.args.pool.now c.take_able.new.pool c.requires.items c.take_able.new.book (place_at g.R.Key.Ord.cmp c.take_able.new.places) c.in_ok-able.able.items c.in_ok-able.ensures.ok c.in_ok-able.ensures.held (state c.round.new.fresh.items (knowledge g.R.Key.Ord.cmp c.round.new.learned) c.round.new.book (g.T.Tree.reads c.round.new.tree)) c.round.ensures.notes
 
 pub returns-in_err-put_back-clause-notes : goal.returns-in_err-put_back-clause-notes
 returns-in_err-put_back-clause-notes g c =
     let s = setting g.R.Rules.means (over c.args.edits.now (g.T.Tree.held c.args.tree.now)) c.args.job.now c.args.old.now in
-    let y = state c.args.fresh.now.items (read_at c.args.files.now) c.args.book.now (g.T.Tree.reads c.args.tree.now) in
+    let y = state c.args.fresh.now.items (knowledge g.R.Key.Ord.cmp c.args.learned.now) c.args.book.now (g.T.Tree.reads c.args.tree.now) in
     let laws = g.met.R.Rules g.world.𝓛 g.world.𝓜 g.world.𝓡 ((λ s x. x), (λ x. x), (λ x. x), λ x. x) in
-    visit_noted g.R.Key.Ord.cmp s laws.lawful y (place_at g.R.Key.Ord.cmp c.args.places.now) c.requires.ready c.args.pool.now c.take_able.new.pool c.requires.items c.take_able.new.book (place_at g.R.Key.Ord.cmp c.take_able.new.places) c.in_ok-able.able.items c.in_ok-able.ensures.ok c.in_ok-able.ensures.held (state c.round.new.fresh.items (read_at c.round.new.files) c.round.new.book (g.T.Tree.reads c.round.new.tree)) c.round.ensures.notes
+    visit_noted g.R.Key.Ord.cmp s laws.lawful y (place_at g.R.Key.Ord.cmp c.args.places.now) c.requires.ready c.args.pool.now c.take_able.new.pool c.requires.items c.take_able.new.book (place_at g.R.Key.Ord.cmp c.take_able.new.places) c.in_ok-able.able.items c.in_ok-able.ensures.ok c.in_ok-able.ensures.held (state c.round.new.fresh.items (knowledge g.R.Key.Ord.cmp c.round.new.learned) c.round.new.book (g.T.Tree.reads c.round.new.tree)) c.round.ensures.notes
 
 pub returns-clause-notes : goal.returns-clause-notes
 returns-clause-notes g c =
     let s = setting g.R.Rules.means (over c.args.edits.now (g.T.Tree.held c.args.tree.now)) c.args.job.now c.args.old.now in
-    let y = state c.args.fresh.now.items (read_at c.args.files.now) c.args.book.now (g.T.Tree.reads c.args.tree.now) in
+    let y = state c.args.fresh.now.items (knowledge g.R.Key.Ord.cmp c.args.learned.now) c.args.book.now (g.T.Tree.reads c.args.tree.now) in
     let laws = g.met.R.Rules g.world.𝓛 g.world.𝓜 g.world.𝓡 ((λ s x. x), (λ x. x), (λ x. x), λ x. x) in
-    visit_noted g.R.Key.Ord.cmp s laws.lawful y (place_at g.R.Key.Ord.cmp c.args.places.now) c.requires.ready c.args.pool.now c.take_able.new.pool c.requires.items c.take_able.new.book (place_at g.R.Key.Ord.cmp c.take_able.new.places) c.in_ok-able.able.items c.in_ok-able.ensures.ok c.in_ok-able.ensures.held (state c.round.new.fresh.items (read_at c.round.new.files) c.round.new.book (g.T.Tree.reads c.round.new.tree)) c.round.ensures.notes
+    visit_noted g.R.Key.Ord.cmp s laws.lawful y (place_at g.R.Key.Ord.cmp c.args.places.now) c.requires.ready c.args.pool.now c.take_able.new.pool c.requires.items c.take_able.new.book (place_at g.R.Key.Ord.cmp c.take_able.new.places) c.in_ok-able.able.items c.in_ok-able.ensures.ok c.in_ok-able.ensures.held (state c.round.new.fresh.items (knowledge g.R.Key.Ord.cmp c.round.new.learned) c.round.new.book (g.T.Tree.reads c.round.new.tree)) c.round.ensures.notes

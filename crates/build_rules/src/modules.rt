@@ -1,0 +1,345 @@
+//! The steps of libraries and PCDs.
+ghost use Rattle.std.specs.Prelude.{◌≡◌, ℕ, List, [], true, IfOk};
+ghost use Rattle.build_stages.specs.Gives.{Gives, GivesIn};
+ghost use Rattle.build_stages.specs.Known.{advance_at};
+ghost use Rattle.library_choice.specs.Choices.{choice};
+ghost use Rattle.library_choice.specs.Closure.{is_known, wanted};
+ghost use Rattle.pcd_resolve.specs.Platform.{SkusEnd};
+ghost use Rattle.step_pack.specs.Keys.{key_cmp};
+ghost use Rattle.build_rules.specs.Fits.{fits};
+ghost use Rattle.build_rules.specs.ModuleTrees.{round_stages, choice_after, most_rounds, choice_stages, linked_stages, described_stages, parts_stages, modules_parts, setting_in, pcds_from, pcds_stages, values_of_out, values_in, one_described, one_parts, module_parts, values_from, commands_in, values_stages};
+ghost use Rattle.build_rules.specs.Rules.{Comes};
+ghost use Rattle.build_rules.specs.Trees.{given_as};
+ghost use Rattle.step_pack.specs.declared.out.Out.TheVariants as out;
+
+use crate::documents::platform_in;
+use crate::images::flash_in;
+use crate::shapes::EdkRules;
+use build_base::{Path, Permit, Rows, Same};
+use build_stages::{Given, Known, Stop, gather};
+use doc_types::choice::{Choice, Module};
+use doc_types::flash::FlashDoc;
+use doc_types::module::InfDoc;
+use doc_types::parts::ModuleParts;
+use doc_types::pcd::PcdSet;
+use doc_types::platform::PlatformDoc;
+use doc_types::values::Values;
+use library_choice::{choose, next_wanted};
+use module_steps::parts::choice_at;
+use module_steps::{
+    Described, Linked, Setting, choice_asks, commands_of, dec_asks, described_at, described_from,
+    inf_asks, linked_asks, linked_from, linked_module, own_inf, package_asks, parts_at, parts_from,
+    pcds_given, setting_of, skus_end, values_given, with_more,
+};
+use std::alloc::Global;
+use step_engine::Ask;
+use step_pack::{Key, Out};
+
+/// The most rounds in which the libraries of a module are found: each but the last makes at least one of
+/// 1,025 instances known.
+const MOST_ROUNDS: u32 = 1026;
+
+// The descriptions that a round asks for, behind those that are known.
+fn round(
+    alloc: Global,
+    known: &Known<'_, Key, Out>,
+    infs: Rows<InfDoc>,
+    paths: &[Path],
+    permit: Permit,
+) -> Result<(Rows<InfDoc>, Permit), Stop<Key>>
+    ensures value { Gives (λ x. x.0) result (advance_at key_cmp fits known.now (round_stages infs paths.now)) }
+    ensures known { (path : List ℕ) → is_known infs path ≡ true → IfOk result (λ x. is_known x.0 path ≡ true) }
+{
+    let asks = inf_asks(alloc, paths)?;
+    let (given, permit) = gather(alloc, &EdkRules, known, asks.items(), permit)?;
+    Ok((with_more(alloc, infs, &given, paths)?, permit))
+}
+
+// The libraries of a module of which all descriptions are known that it wants.
+fn chosen(
+    alloc: Global,
+    module: &Module,
+    platform: &PlatformDoc,
+    infs: &Rows<InfDoc>,
+    permit: Permit,
+) -> Result<Out, Stop<Key>>
+    requires known { is_known infs.now «module».now.inf ≡ true }
+    requires closed { wanted «module».now platform.now infs.now ≡ [] }
+    ensures { GivesIn (λ out. out) result (given_as out.Choice (choice «module».now platform.now infs.now)) }
+{
+    Ok(Out::Choice(choose(alloc, permit, module, platform, infs)?))
+}
+
+// The libraries of a module, of which some descriptions are known.
+#[tactic(auto, unfolding(crate::specs::ModuleTrees::most_rounds), using(crate::proofs::ChoiceLemmas::choice_none))]
+fn rounds(
+    alloc: Global,
+    known: &Known<'_, Key, Out>,
+    module: &Module,
+    platform: &PlatformDoc,
+    first: Rows<InfDoc>,
+    permit: Permit,
+) -> Result<Out, Stop<Key>>
+    requires { is_known first «module».now.inf ≡ true }
+    ensures { Comes known.now (choice_after most_rounds «module».now platform.now first) result }
+{
+    let mut infs = first;
+    let mut permit = permit;
+    let mut left = MOST_ROUNDS;
+    while left > 0 {
+        let wanted = next_wanted(alloc, module, platform, &infs)?;
+        if wanted.items().is_empty() {
+            return chosen(alloc, module, platform, &infs, permit);
+        }
+        match round(alloc, known, infs, wanted.items(), permit) {
+            Ok((more, again)) => {
+                infs = more;
+                permit = again;
+            }
+            Err(stop) => return Err(stop),
+        }
+        left -= 1;
+    }
+    Err(Stop::Misfit)
+}
+
+/// The libraries of a module.
+pub fn choice(
+    alloc: Global,
+    known: &Known<'_, Key, Out>,
+    module: &Module,
+    permit: Permit,
+) -> Result<Out, Stop<Key>>
+    ensures { Comes known.now (choice_stages «module».now) result }
+{
+    let asks = [
+        Ask::Part(Key::Platform),
+        Ask::Part(Key::Inf(module.inf.copy(alloc)?)),
+    ];
+    let (given, permit) = gather(alloc, &EdkRules, known, &asks, permit)?;
+    let platform = platform_in(&given, 0)?;
+    let infs = own_inf(alloc, &given, 1, module)?;
+    rounds(alloc, known, module, platform, infs, permit)
+}
+
+fn linked(
+    alloc: Global,
+    known: &Known<'_, Key, Out>,
+    modules: &[Module],
+    permit: Permit,
+) -> Result<(Rows<Linked>, Permit), Stop<Key>>
+    ensures { Gives (λ x. x.0) result (advance_at key_cmp fits known.now (linked_stages modules.now)) }
+{
+    let asks = choice_asks(alloc, modules)?;
+    let (given, permit) = gather(alloc, &EdkRules, known, asks.items(), permit)?;
+    Ok((linked_from(alloc, &given, modules)?, permit))
+}
+
+fn described(
+    alloc: Global,
+    known: &Known<'_, Key, Out>,
+    modules: &[Linked],
+    permit: Permit,
+) -> Result<(Rows<Described>, Permit), Stop<Key>>
+    ensures { Gives (λ x. x.0) result (advance_at key_cmp fits known.now (described_stages modules.now)) }
+{
+    let asks = linked_asks(alloc, modules)?;
+    let (given, permit) = gather(alloc, &EdkRules, known, asks.items(), permit)?;
+    Ok((described_from(alloc, &given, modules)?, permit))
+}
+
+fn parts(
+    alloc: Global,
+    known: &Known<'_, Key, Out>,
+    modules: &[Described],
+    permit: Permit,
+) -> Result<(Rows<ModuleParts>, Permit), Stop<Key>>
+    ensures { Gives (λ x. x.0) result (advance_at key_cmp fits known.now (parts_stages modules.now)) }
+{
+    let asks = package_asks(alloc, modules)?;
+    let (given, permit) = gather(alloc, &EdkRules, known, asks.items(), permit)?;
+    Ok((parts_from(alloc, &given, modules)?, permit))
+}
+
+// The modules of a build with the descriptions and the packages that their values come from.
+#[tactic(auto, using(build_stages::specs::Bounds::advance_bind))]
+fn modules_parts(
+    alloc: Global,
+    known: &Known<'_, Key, Out>,
+    modules: &[Module],
+    permit: Permit,
+) -> Result<(Rows<ModuleParts>, Permit), Stop<Key>>
+    ensures { Gives (λ x. x.0) result (advance_at key_cmp fits known.now (modules_parts modules.now)) }
+{
+    let (linked, permit) = linked(alloc, known, modules, permit)?;
+    let (described, permit) = described(alloc, known, linked.items(), permit)?;
+    parts(alloc, known, described.items(), permit)
+}
+
+fn setting_in(
+    alloc: Global,
+    platform: &PlatformDoc,
+    given: &Given<'_, Out>,
+) -> Result<Setting, Stop<Key>>
+    ensures { GivesIn (λ s. s) result (setting_in platform.now given.now) }
+{
+    let arches = given.field(2)?;
+    let sku = given.field(3)?;
+    let pcds = given.field(4)?;
+    setting_of(alloc, platform, arches.bytes(), sku.bytes(), pcds.bytes())
+}
+
+#[tactic(auto, using(build_stages::specs::Bounds::advance_bind))]
+fn pcds_from(
+    alloc: Global,
+    known: &Known<'_, Key, Out>,
+    platform: &PlatformDoc,
+    flash: &FlashDoc,
+    setting: &Setting,
+    permit: Permit,
+) -> Result<Out, Stop<Key>>
+    requires { SkusEnd platform.now.skus }
+    ensures { Comes known.now (pcds_from platform.now flash.now setting.now) result }
+{
+    let (modules, permit) = modules_parts(alloc, known, setting.modules.items(), permit)?;
+    let values = pcds_given(alloc, permit, platform, flash, setting, modules)?;
+    Ok(Out::Values(values))
+}
+
+/// The rows of dynamic PCDs.
+pub fn pcds(alloc: Global, known: &Known<'_, Key, Out>, permit: Permit) -> Result<Out, Stop<Key>>
+    ensures { Comes known.now pcds_stages result }
+{
+    let asks = [
+        Ask::Part(Key::Platform),
+        Ask::Part(Key::Flash),
+        Ask::Field(1),
+        Ask::Field(4),
+        Ask::Field(6),
+    ];
+    let (given, permit) = gather(alloc, &EdkRules, known, &asks, permit)?;
+    let platform = platform_in(&given, 0)?;
+    if !skus_end(platform.skus.items()) {
+        return Err(Stop::Misfit);
+    }
+    let flash = flash_in(&given, 1)?;
+    let setting = setting_in(alloc, platform, &given)?;
+    pcds_from(alloc, known, platform, flash, &setting, permit)
+}
+
+fn values_of_out(out: &Out) -> Result<&Values, Stop<Key>>
+    ensures { GivesIn (λ values. values.now) result (values_of_out out.now) }
+{
+    match out {
+        Out::Values(values) => Ok(values),
+        _ => Err(Stop::Misfit),
+    }
+}
+
+fn values_in<'a>(given: &Given<'a, Out>, place: usize) -> Result<&'a Values, Stop<Key>>
+    ensures { GivesIn (λ values. values.now) result (values_in given.now place) }
+{
+    values_of_out(given.part(place)?)
+}
+
+fn commands_in(
+    alloc: Global,
+    platform: &PlatformDoc,
+    given: &Given<'_, Out>,
+    place: usize,
+) -> Result<Rows<PcdSet>, Stop<Key>>
+    ensures { GivesIn (λ sets. sets) result (commands_in platform.now given.now place) }
+{
+    let text = given.field(place)?;
+    commands_of(alloc, &platform.at, text.bytes())
+}
+
+fn one_described(
+    alloc: Global,
+    known: &Known<'_, Key, Out>,
+    linked: &Linked,
+    permit: Permit,
+) -> Result<(Described, Permit), Stop<Key>>
+    ensures { Gives (λ x. x.0) result (advance_at key_cmp fits known.now (one_described linked.now)) }
+{
+    let asks = inf_asks(alloc, linked.paths.items())?;
+    let (given, permit) = gather(alloc, &EdkRules, known, asks.items(), permit)?;
+    let (described, _next) = described_at(alloc, &given, 0, linked)?;
+    Ok((described, permit))
+}
+
+fn one_parts(
+    alloc: Global,
+    known: &Known<'_, Key, Out>,
+    described: &Described,
+    permit: Permit,
+) -> Result<(ModuleParts, Permit), Stop<Key>>
+    ensures { Gives (λ x. x.0) result (advance_at key_cmp fits known.now (one_parts described.now)) }
+{
+    let asks = dec_asks(alloc, described.packages.items())?;
+    let (given, permit) = gather(alloc, &EdkRules, known, asks.items(), permit)?;
+    let (parts, _next) = parts_at(alloc, &given, 0, described)?;
+    Ok((parts, permit))
+}
+
+// A module with the descriptions and the packages that its values come from.
+#[tactic(auto, using(build_stages::specs::Bounds::advance_bind))]
+fn module_parts(
+    alloc: Global,
+    known: &Known<'_, Key, Out>,
+    module: &Module,
+    choice: &Choice,
+    permit: Permit,
+) -> Result<(ModuleParts, Permit), Stop<Key>>
+    ensures { Gives (λ x. x.0) result (advance_at key_cmp fits known.now (module_parts «module».now choice.now)) }
+{
+    let linked = linked_module(alloc, module, choice)?;
+    let (described, permit) = one_described(alloc, known, &linked, permit)?;
+    one_parts(alloc, known, &described, permit)
+}
+
+#[tactic(auto, using(build_stages::specs::Bounds::advance_bind))]
+fn values_from(
+    alloc: Global,
+    known: &Known<'_, Key, Out>,
+    module: &Module,
+    platform: &PlatformDoc,
+    flash: &FlashDoc,
+    dynamic: &Values,
+    choice: &Choice,
+    commands: Rows<PcdSet>,
+    permit: Permit,
+) -> Result<Out, Stop<Key>>
+    ensures { Comes known.now (values_from «module».now platform.now flash.now dynamic.now choice.now commands) result }
+{
+    let (parts, permit) = module_parts(alloc, known, module, choice, permit)?;
+    let values = values_given(alloc, permit, platform, flash, commands, dynamic, parts)?;
+    Ok(Out::Values(values))
+}
+
+/// The values of a module.
+pub fn values(
+    alloc: Global,
+    known: &Known<'_, Key, Out>,
+    module: &Module,
+    permit: Permit,
+) -> Result<Out, Stop<Key>>
+    ensures { Comes known.now (values_stages «module».now) result }
+{
+    let asks = [
+        Ask::Part(Key::Platform),
+        Ask::Part(Key::Flash),
+        Ask::Part(Key::PlatformPcds),
+        Ask::Part(Key::Choice(module.copy(alloc)?)),
+        Ask::Field(6),
+    ];
+    let (given, permit) = gather(alloc, &EdkRules, known, &asks, permit)?;
+    let platform = platform_in(&given, 0)?;
+    let flash = flash_in(&given, 1)?;
+    let dynamic = values_in(&given, 2)?;
+    let (choice, _next) = choice_at(&given, 3)?;
+    let commands = commands_in(alloc, platform, &given, 4)?;
+    values_from(
+        alloc, known, module, platform, flash, dynamic, choice, commands, permit,
+    )
+}

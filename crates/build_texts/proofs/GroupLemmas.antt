@@ -1,0 +1,60 @@
+-- Tables of items by their names.
+use Rattle.std.proofs.Common.{◌≡◌, ◌∙◌, ◌+◌, ◌<◌, length, take, get_or, add-one, append_assoc, ℕ, Bool, true, false, cond, map, List, [], ◌∷◌, ◌++◌, refl, sym, ap}
+use Rattle.std.specs.Prelude.{filter}
+use Rattle.std.specs.Cmp.Lexicographic.{same_text}
+use Rattle.std.specs.Global.{Vec}
+use Rattle.std.specs.HashMap.{HashMap}
+use Rattle.std.specs.Str.{bytes_eq}
+use Rattle.std.specs.List.{flat_map}
+use Rattle.std.proofs.Math.Seq.{take-suc}
+use Rattle.build_base.proofs.Steps.{map-passed}
+use Rattle.std.proofs.lemmas.List.{map-append, append-nil, flat_map_more}
+use Rattle.std.proofs.lemmas.List.Elements.{filter-append}
+use Rattle.build_texts.specs.Groups.{same_key, group, Grouped}
+
+bytes_same : (xs ys : List ℕ) → bytes_eq xs ys ≡ true → xs ≡ ys
+bytes_same xs ys e = same_text xs ys (sym e)
+
+one_kept : {X : Type 0} (p : X → Bool) (x : X) (b : Bool) → p x ≡ b → filter p (x ∷ []) ≡ cond b (x ∷ []) []
+one_kept p x true e = rw e refl
+one_kept p x false e = rw e refl
+
+picked : {V X : Type 0} (view : V → X) (old here : List V) (v : V) (p : X → Bool) (xs : List X) (b : Bool)
+    → p (view v) ≡ b
+    → (b ≡ true → map view here ≡ filter p xs)
+    → (b ≡ false → map view old ≡ filter p xs)
+    → map view (cond b (here ++ v ∷ []) old) ≡ filter p (xs ++ view v ∷ [])
+picked view old here v p xs true e h o =
+    map-append view here (v ∷ []) ∙ ap (λ ys. ys ++ view v ∷ []) (h refl)
+    ∙ ap (λ ys. filter p xs ++ ys) (sym (one_kept p (view v) true e)) ∙ sym (filter-append p xs (view v ∷ []))
+picked view old here v p xs false e h o =
+    o refl ∙ sym (append-nil (filter p xs))
+    ∙ ap (λ ys. filter p xs ++ ys) (sym (one_kept p (view v) false e)) ∙ sym (filter-append p xs (view v ∷ []))
+
+pub grouped_more : {V X S : Type 0} (view : V → X) (name : X → List ℕ) (xs : List X) (v : V) (k : Vec ℕ) (old new : HashMap (Vec ℕ) (Vec V) S)
+    → k.items ≡ name (view v)
+    → ((q : Vec ℕ) → group new q ≡ cond (same_key k q) (group old k ++ v ∷ []) (group old q))
+    → Grouped view name xs old → Grouped view name (xs ++ view v ∷ []) new
+grouped_more view name xs v k old new named put h = λ q.
+    let same : bytes_eq (name (view v)) q.items ≡ same_key k q = ap (λ n. bytes_eq n q.items) (sym named) in
+    ap (map view) (put q)
+    ∙ picked view (group old q) (group old k) v (λ x. bytes_eq (name x) q.items) xs (same_key k q) same
+    (λ t. h k ∙ ap (λ n. filter (λ x. bytes_eq (name x) n) xs) (bytes_same k.items q.items t))
+    (λ f. h q)
+
+pub grouped_none : {V X S : Type 0} (view : V → X) (name : X → List ℕ) (table : HashMap (Vec ℕ) (Vec V) S) → table.entries ≡ [] → Grouped view name [] table
+grouped_none view name table e = λ q. rw e refl
+
+take_grown : {Y : Type 0} (ys : List Y) (i : ℕ) (y : Y) → i < length ys → y ≡ get_or ys i y → take (i + 1) ys ≡ take i ys ++ y ∷ []
+take_grown ys i y h e = ap (λ n. take n ys) (add-one i) ∙ take-suc ys i y h ∙ ap (λ z. take i ys ++ z ∷ []) (sym e)
+
+-- a loop that adds what each item gives
+pub grown_by_one : {V X S Y : Type 0} (view : V → X) (name : X → List ℕ) (f : Y → X) (xs : List X) (ys : List Y) (i : ℕ) (y : Y) (t : HashMap (Vec ℕ) (Vec V) S)
+    → i < length ys → y ≡ get_or ys i y → Grouped view name ((xs ++ map f (take i ys)) ++ f y ∷ []) t → Grouped view name (xs ++ map f (take (i + 1) ys)) t
+grown_by_one view name f xs ys i y t h e g = λ q.
+    g q ∙ ap (filter (λ x. bytes_eq (name x) q.items)) (append_assoc xs (map f (take i ys)) (f y ∷ []) ∙ ap (λ z. xs ++ z) (sym (map-passed f ys i y h e)))
+
+pub grown_by_some : {V X S Y : Type 0} (view : V → X) (name : X → List ℕ) (f : Y → List X) (xs : List X) (ys : List Y) (i : ℕ) (y : Y) (t : HashMap (Vec ℕ) (Vec V) S)
+    → i < length ys → y ≡ get_or ys i y → Grouped view name ((xs ++ flat_map f (take i ys)) ++ f y) t → Grouped view name (xs ++ flat_map f (take (i + 1) ys)) t
+grown_by_some view name f xs ys i y t h e g = λ q.
+    g q ∙ ap (filter (λ x. bytes_eq (name x) q.items)) (flat_map_more f xs (take i ys) y ∙ ap (λ z. xs ++ flat_map f z) (sym (take_grown ys i y h e)))

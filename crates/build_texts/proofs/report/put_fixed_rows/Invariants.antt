@@ -1,0 +1,10 @@
+use Rattle.std.proofs.Common.{◌≡◌, ◌++◌, length}
+use Rattle.std.specs.List.{flat_map}
+use Rattle.build_texts.specs.Report.{fixed_line}
+use Rattle.build_texts.proofs.report.put_fixed_rows.Given as goal
+
+abbrev pub invariant-loop-left : goal.invariant-loop-left
+invariant-loop-left l = l.out.items ++ flat_map fixed_line l.left ≡ l.fn.out.items ++ flat_map fixed_line l.rows
+
+abbrev pub decreases-loop-left : goal.decreases-loop-left
+decreases-loop-left l = length l.left

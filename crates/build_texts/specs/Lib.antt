@@ -1,0 +1,7 @@
+pub mod Code
+pub mod Groups
+pub mod Guids
+pub mod Named
+pub mod Report
+pub mod Views
+pub mod Words

@@ -1,0 +1,75 @@
+//! What the texts are made from.
+use build_base::{Guid, Rows, Same, Text, WantOfMemory, all_same, copied};
+use doc_types::choice::{Choice, Module};
+use doc_types::parts::ModuleParts;
+use doc_types::platform::{PlatformDoc, Sku};
+use doc_types::together::three;
+use doc_types::values::Values;
+use std::alloc::Global;
+
+/// For the texts of one module. `file_guid` is that of its component where this states one, else that of its INF file.
+#[derive(Debug, Drop)]
+pub struct CodeAsk {
+    pub file_guid: Guid,
+    pub parts: ModuleParts,
+    pub choice: Choice,
+    pub values: Values,
+}
+
+/// What the report tells of one module.
+#[derive(Debug, Drop)]
+pub struct ModuleReport {
+    pub module: Module,
+    pub choice: Choice,
+    pub values: Values,
+}
+
+/// For the report of a build: `skus` are the chosen ones, `dynamic` the values of the platform's dynamic PCDs.
+#[derive(Debug, Drop)]
+pub struct ReportAsk {
+    pub platform: PlatformDoc,
+    pub target: Text,
+    pub tag: Text,
+    pub skus: Rows<Sku>,
+    pub dynamic: Values,
+    pub modules: Rows<ModuleReport>,
+}
+
+impl Same for CodeAsk {
+    fn copy(&self, alloc: Global) -> Result<CodeAsk, WantOfMemory> {
+        copied!(CodeAsk, self, alloc; file_guid, parts, choice, values)
+    }
+
+    fn same(&self, other: &CodeAsk) -> bool {
+        all_same!(self, other; file_guid, parts, choice, values)
+    }
+}
+
+impl Same for ModuleReport {
+    fn copy(&self, alloc: Global) -> Result<ModuleReport, WantOfMemory> {
+        copied!(ModuleReport, self, alloc; module, choice, values)
+    }
+
+    fn same(&self, other: &ModuleReport) -> bool {
+        all_same!(self, other; module, choice, values)
+    }
+}
+
+impl Same for ReportAsk {
+    fn copy(&self, alloc: Global) -> Result<ReportAsk, WantOfMemory> {
+        let (platform, target, tag) = three(&self.platform, &self.target, &self.tag, alloc)?;
+        let (skus, dynamic, modules) = three(&self.skus, &self.dynamic, &self.modules, alloc)?;
+        Ok(ReportAsk {
+            platform,
+            target,
+            tag,
+            skus,
+            dynamic,
+            modules,
+        })
+    }
+
+    fn same(&self, other: &ReportAsk) -> bool {
+        all_same!(self, other; platform, target, tag, skus, dynamic, modules)
+    }
+}

@@ -1,0 +1,196 @@
+//! The GUIDs that the names of a module's INF files stand for.
+ghost use Rattle.std.specs.Prelude.{◌≡◌, ◌++◌, List, OnOk, IfOk, map};
+ghost use Rattle.std.specs.BTreeMap.{insert_entry};
+ghost use Rattle.std.specs.Cmp.Lexicographic.{slice_cmp};
+ghost use Rattle.std.specs.Ordering.{nat_cmp};
+ghost use Rattle.build_base.specs.Answer.{AnswersAs};
+ghost use Rattle.build_texts.specs.Groups.{Grouped};
+ghost use Rattle.build_texts.specs.Named.{Declared, all_of, by_name, declared_name, found, inf_guids, line_guids, module_guids, package_lines};
+ghost use Rattle.build_texts.specs.Views.{by_bytes, declared_view, entry_view, given, seen};
+
+use crate::groups::group;
+use crate::packages::{DeclaredGuid, first_guid, lines_by_name, packages_of};
+use crate::words::serves;
+use build_base::{Guid, Refusal, WantOfMemory, refuse};
+use doc_types::arch::Arch;
+use doc_types::module::{InfDoc, Named};
+use doc_types::parts::ModuleParts;
+use indexmap::IndexMap;
+use std::alloc::Global;
+use std::collections::BTreeMap;
+
+/// A name and its GUID.
+#[derive(Clone, Copy)]
+pub struct FoundGuid<'a> {
+    pub name: &'a [u8],
+    pub guid: Guid,
+}
+
+fn found<'a>(
+    alloc: Global,
+    named: &'a Named,
+    guid: Option<Guid>,
+) -> Result<Option<FoundGuid<'a>>, Refusal>
+    ensures { AnswersAs given result (found named.now guid) }
+{
+    match guid {
+        None => Err(refuse(alloc, 511, &named.at, named.name.bytes())),
+        Some(guid) => Ok(Some(FoundGuid {
+            name: named.name.bytes(),
+            guid,
+        })),
+    }
+}
+
+fn key_of(alloc: Global, named: &Named) -> Result<Vec<u8>, WantOfMemory>
+    ensures { IfOk result (λ v. v.items ≡ named.now.name) }
+{
+    Ok(Vec::from_slice(alloc, named.name.bytes())?)
+}
+
+#[tactic(auto, unfolding(crate::specs::Named::line_guids))]
+fn line_guid<'a>(
+    alloc: Global,
+    arch: Arch,
+    table: &IndexMap<Vec<u8>, Vec<DeclaredGuid<'_>>>,
+    paths: &[&[u8]],
+    named: &'a Named,
+) -> Result<Option<FoundGuid<'a>>, Refusal>
+    ensures { (lines : List Declared) → Grouped declared_view declared_name lines table.now → AnswersAs given result (line_guids arch lines (map (λ p. p.now) paths.now) named.now) }
+{
+    if !serves(named.arch, arch) {
+        return Ok(None);
+    }
+    let name = key_of(alloc, named)?;
+    let guid = first_guid(arch, group(table, &name), paths);
+    found(alloc, named, guid)
+}
+
+fn put_found<'a>(
+    guids: &mut Vec<FoundGuid<'a>>,
+    found: Option<FoundGuid<'a>>,
+) -> Result<(), WantOfMemory>
+    ensures { OnOk result (seen guids.new.items ≡ seen guids.old.items ++ given found.entry) }
+{
+    if let Some(found) = found {
+        if guids.push(found).is_err() {
+            return Err(WantOfMemory);
+        }
+    }
+    Ok(())
+}
+
+fn lines_guids<'a>(
+    alloc: Global,
+    arch: Arch,
+    table: &IndexMap<Vec<u8>, Vec<DeclaredGuid<'_>>>,
+    paths: &[&[u8]],
+    names: &'a [Named],
+) -> Result<Vec<FoundGuid<'a>>, Refusal>
+    ensures { (lines : List Declared) → Grouped declared_view declared_name lines table.now → AnswersAs (λ v. seen v.items) result (all_of (map (line_guids arch lines (map (λ p. p.now) paths.now)) names.now)) }
+{
+    let mut guids = Vec::new(alloc);
+    for named in names {
+        let found = line_guid(alloc, arch, table, paths, named)?;
+        put_found(&mut guids, found)?;
+    }
+    Ok(guids)
+}
+
+#[tactic(auto, unfolding(crate::specs::Named::inf_guids))]
+fn inf_guids<'a>(
+    alloc: Global,
+    arch: Arch,
+    table: &IndexMap<Vec<u8>, Vec<DeclaredGuid<'_>>>,
+    inf: &'a InfDoc,
+) -> Result<Vec<FoundGuid<'a>>, Refusal>
+    ensures { (lines : List Declared) → Grouped declared_view declared_name lines table.now → AnswersAs (λ v. seen v.items) result (inf_guids arch lines inf.now) }
+{
+    let paths = packages_of(alloc, arch, inf)?;
+    lines_guids(alloc, arch, table, paths.as_slice(), inf.guids.items())
+}
+
+fn append<'a>(guids: &mut Vec<FoundGuid<'a>>, more: &[FoundGuid<'a>]) -> Result<(), WantOfMemory>
+    ensures { OnOk result (seen guids.new.items ≡ seen guids.old.items ++ seen more.now) }
+{
+    let mut left = more;
+    while let [found, rest @ ..] = left {
+        if guids.push(*found).is_err() {
+            return Err(WantOfMemory);
+        }
+        left = rest;
+    }
+    Ok(())
+}
+
+fn infs_guids<'a>(
+    alloc: Global,
+    arch: Arch,
+    table: &IndexMap<Vec<u8>, Vec<DeclaredGuid<'_>>>,
+    infs: &'a [InfDoc],
+) -> Result<Vec<FoundGuid<'a>>, Refusal>
+    ensures { (lines : List Declared) → Grouped declared_view declared_name lines table.now → AnswersAs (λ v. seen v.items) result (all_of (map (inf_guids arch lines) infs.now)) }
+{
+    let mut guids = Vec::new(alloc);
+    for inf in infs {
+        let more = inf_guids(alloc, arch, table, inf)?;
+        append(&mut guids, more.as_slice())?;
+    }
+    Ok(guids)
+}
+
+/// What the INF files of a module name, file by file and line by line, or the first fault.
+#[tactic(auto, unfolding(crate::specs::Named::module_guids))]
+pub fn module_guids<'a>(
+    alloc: Global,
+    parts: &'a ModuleParts,
+) -> Result<Vec<FoundGuid<'a>>, Refusal>
+    ensures { AnswersAs (λ v. seen v.items) result (module_guids parts.now) }
+{
+    let table = lines_by_name(alloc, parts.decs.items())?;
+    infs_guids(alloc, parts.module.arch, &table, parts.infs.items())
+}
+
+fn insert(
+    table: &mut BTreeMap<Vec<u8>, Guid>,
+    name: Vec<u8>,
+    guid: Guid,
+) -> Result<(), WantOfMemory>
+    ensures { OnOk result (table.new.entries ≡ insert_entry by_bytes table.old.entries name guid) }
+{
+    match table.insert(name, guid) {
+        Ok(_) => Ok(()),
+        Err(_) => Err(WantOfMemory),
+    }
+}
+
+fn put_entry(
+    alloc: Global,
+    table: &mut BTreeMap<Vec<u8>, Guid>,
+    name: &[u8],
+    guid: Guid,
+) -> Result<(), WantOfMemory>
+    ensures { OnOk result (map entry_view table.new.entries ≡ insert_entry (slice_cmp nat_cmp) (map entry_view table.old.entries) name.now guid) }
+{
+    let name = Vec::from_slice(alloc, name)?;
+    insert(table, name, guid)?;
+    Ok(())
+}
+
+/// The names in ascending order, each with the GUID of the first of its lines: the lines go in from the last one on, and
+/// each takes the place of one of its name.
+#[tactic(auto, using(crate::proofs::EntryLemmas::by_name_step, crate::proofs::EntryLemmas::by_name_end))]
+pub fn by_name(
+    alloc: Global,
+    guids: &[FoundGuid<'_>],
+) -> Result<BTreeMap<Vec<u8>, Guid>, WantOfMemory>
+    ensures { IfOk result (λ table. map entry_view table.entries ≡ by_name (seen guids.now)) }
+{
+    let mut table = BTreeMap::new(alloc);
+    let mut i = guids.len();
+    while i > 0 {
+        i -= 1;
+        put_entry(alloc, &mut table, guids[i].name, guids[i].guid)?;
+    }
+    Ok(table)
+}

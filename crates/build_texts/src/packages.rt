@@ -1,0 +1,164 @@
+//! The packages of a module, and the lines by which they declare the names of GUIDs.
+ghost use Rattle.std.specs.Prelude.{◌≡◌, ◌++◌, ◌∷◌, [], List, map, filter, IfOk, OnOk};
+ghost use Rattle.std.specs.List.{flat_map};
+ghost use Rattle.build_texts.specs.Groups.{Grouped};
+ghost use Rattle.build_texts.specs.Named.{Declared, declared_name, first_guid, guid_from, is_from, line_from, package_lines, packages_of};
+ghost use Rattle.build_texts.specs.Views.{declared_view};
+ghost use Rattle.build_texts.specs.Words.{serves};
+
+use crate::groups::add;
+use crate::words::serves;
+use build_base::{Guid, Path, WantOfMemory};
+use doc_types::arch::Arch;
+use doc_types::depex::NamedGuid;
+use doc_types::module::{InfDoc, Named};
+use doc_types::parts::Package;
+use indexmap::IndexMap;
+use std::alloc::Global;
+
+/// A line of the package of a path.
+#[derive(Clone, Copy)]
+pub struct DeclaredGuid<'a> {
+    pub from: &'a Path,
+    pub line: &'a NamedGuid,
+}
+
+fn add_line<'a>(
+    alloc: Global,
+    table: &mut IndexMap<Vec<u8>, Vec<DeclaredGuid<'a>>>,
+    from: &'a Path,
+    line: &'a NamedGuid,
+) -> Result<(), WantOfMemory>
+    ensures { (xs : List Declared) → Grouped declared_view declared_name xs table.old → OnOk result (Grouped declared_view declared_name (xs ++ line_from from.now line.now ∷ []) table.new) }
+{
+    let name = Vec::from_slice(alloc, line.name.bytes())?;
+    add(alloc, table, name, DeclaredGuid { from, line })?;
+    Ok(())
+}
+
+fn add_lines<'a>(
+    alloc: Global,
+    table: &mut IndexMap<Vec<u8>, Vec<DeclaredGuid<'a>>>,
+    from: &'a Path,
+    lines: &'a [NamedGuid],
+) -> Result<(), WantOfMemory>
+    ensures { (xs : List Declared) → Grouped declared_view declared_name xs table.old → OnOk result (Grouped declared_view declared_name (xs ++ map (line_from from.now) lines.now) table.new) }
+{
+    for line in lines {
+        add_line(alloc, table, from, line)?;
+    }
+    Ok(())
+}
+
+fn add_package<'a>(
+    alloc: Global,
+    table: &mut IndexMap<Vec<u8>, Vec<DeclaredGuid<'a>>>,
+    held: &'a Package,
+) -> Result<(), WantOfMemory>
+    ensures { (xs : List Declared) → Grouped declared_view declared_name xs table.old → OnOk result (Grouped declared_view declared_name (xs ++ map (line_from held.now.path) held.now.doc.guids) table.new) }
+{
+    add_lines(alloc, table, &held.path, held.doc.guids.items())?;
+    Ok(())
+}
+
+fn add_packages<'a>(
+    alloc: Global,
+    table: &mut IndexMap<Vec<u8>, Vec<DeclaredGuid<'a>>>,
+    decs: &'a [Package],
+) -> Result<(), WantOfMemory>
+    ensures { (xs : List Declared) → Grouped declared_view declared_name xs table.old → OnOk result (Grouped declared_view declared_name (xs ++ flat_map (λ held. map (line_from held.path) held.doc.guids) decs.now) table.new) }
+{
+    for held in decs {
+        add_package(alloc, table, held)?;
+    }
+    Ok(())
+}
+
+/// The lines of packages by the names that they declare.
+#[tactic(auto, unfolding(crate::specs::Named::package_lines))]
+pub fn lines_by_name<'a>(
+    alloc: Global,
+    decs: &'a [Package],
+) -> Result<IndexMap<Vec<u8>, Vec<DeclaredGuid<'a>>>, WantOfMemory>
+    ensures { IfOk result (λ table. Grouped declared_view declared_name (package_lines decs.now) table) }
+{
+    let mut table = IndexMap::new(alloc);
+    add_packages(alloc, &mut table, decs)?;
+    Ok(table)
+}
+
+fn put_package<'a>(
+    arch: Arch,
+    named: &'a Named,
+    paths: &mut Vec<&'a [u8]>,
+) -> Result<(), WantOfMemory>
+    ensures { OnOk result (map (λ p. p.now) paths.new.items ≡ map (λ p. p.now) paths.old.items ++ map (λ n. n.name) (filter (λ n. serves n.arch arch) (named.now ∷ []))) }
+{
+    if serves(named.arch, arch) {
+        if paths.push(named.name.bytes()).is_err() {
+            return Err(WantOfMemory);
+        }
+    }
+    Ok(())
+}
+
+fn put_packages<'a>(
+    arch: Arch,
+    names: &'a [Named],
+    paths: &mut Vec<&'a [u8]>,
+) -> Result<(), WantOfMemory>
+    ensures { OnOk result (map (λ p. p.now) paths.new.items ≡ map (λ p. p.now) paths.old.items ++ map (λ n. n.name) (filter (λ n. serves n.arch arch) names.now)) }
+{
+    for named in names {
+        put_package(arch, named, paths)?;
+    }
+    Ok(())
+}
+
+/// The packages that an INF names for an architecture.
+#[tactic(auto, unfolding(crate::specs::Named::packages_of))]
+pub fn packages_of<'a>(
+    alloc: Global,
+    arch: Arch,
+    inf: &'a InfDoc,
+) -> Result<Vec<&'a [u8]>, WantOfMemory>
+    ensures { IfOk result (λ v. map (λ p. p.now) v.items ≡ packages_of arch inf.now) }
+{
+    let mut paths = Vec::new(alloc);
+    put_packages(arch, inf.packages.items(), &mut paths)?;
+    Ok(paths)
+}
+
+#[tactic(auto, unfolding(crate::specs::Named::is_from))]
+fn is_from(arch: Arch, path: &[u8], declared: &DeclaredGuid<'_>) -> bool
+    ensures { result ≡ is_from arch path.now (declared_view declared.now) }
+{
+    if declared.from.bytes() != path {
+        return false;
+    }
+    serves(declared.line.arch, arch)
+}
+
+fn guid_from(arch: Arch, lines: &[DeclaredGuid<'_>], path: &[u8]) -> Option<Guid>
+    ensures { result ≡ guid_from arch (map declared_view lines.now) path.now }
+{
+    for declared in lines {
+        if is_from(arch, path, declared) {
+            return Some(declared.line.guid);
+        }
+    }
+    None
+}
+
+/// The GUID of the first of some lines, by packages in order and then by lines.
+#[tactic(auto, unfolding(crate::specs::Named::first_guid))]
+pub fn first_guid(arch: Arch, lines: &[DeclaredGuid<'_>], paths: &[&[u8]]) -> Option<Guid>
+    ensures { result ≡ first_guid arch (map declared_view lines.now) (map (λ p. p.now) paths.now) }
+{
+    for path in paths {
+        if let Some(guid) = guid_from(arch, lines, *path) {
+            return Some(guid);
+        }
+    }
+    None
+}

@@ -1,0 +1,4 @@
+pub mod Command
+pub mod Values
+pub mod Jobs
+pub mod Fields

@@ -1,0 +1,60 @@
+//! What the words of a build ask for.
+use crate::workers::Workers;
+use build_base::{Path, Rows, Text};
+
+/// The files that the words name: the platform's, the flash description's in place of the one that the
+/// platform names, and the report's.
+#[derive(Debug, Drop)]
+pub struct Files {
+    pub platform: Path,
+    pub flash: Option<Path>,
+    pub report: Option<Path>,
+}
+
+/// The build's target, the tool chain's tag and the SKU, where the words name them.
+#[derive(Debug, Drop)]
+pub struct Names {
+    pub target: Option<Text>,
+    pub tag: Option<Text>,
+    pub sku: Option<Text>,
+}
+
+/// The macros `NAME` or `NAME=VALUE` and the PCDs `Space.Name=Value` that the words set, in their order.
+#[derive(Debug, Drop)]
+pub struct Settings {
+    pub defines: Rows<Text>,
+    pub pcds: Rows<Text>,
+}
+
+/// The names of the flash devices and volumes that are wanted, as they stand in the words.
+#[derive(Debug, Drop)]
+pub struct Images {
+    pub devices: Rows<Text>,
+    pub volumes: Rows<Text>,
+}
+
+/// A job. Its architectures are in upper case, each once; where the words name none, all that the
+/// platform supports are meant.
+#[derive(Debug)]
+pub struct Job {
+    pub files: Files,
+    pub names: Names,
+    pub arches: Rows<Text>,
+    pub settings: Settings,
+    pub images: Images,
+    pub workers: Workers,
+}
+
+// Written out, so that a caller that lets a job go has one call here and not a case for each option.
+impl Drop for Job {
+    fn drop(self) {
+        let Job {
+            files: _files,
+            names: _names,
+            arches: _arches,
+            settings: _settings,
+            images: _images,
+            workers: _workers,
+        } = self;
+    }
+}

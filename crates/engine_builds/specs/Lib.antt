@@ -1,0 +1,2 @@
+pub mod SmallRules
+pub mod SmallLaws

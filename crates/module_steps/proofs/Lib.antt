@@ -1,0 +1,3 @@
+pub mod SkuLemmas
+pub mod KnownLemmas
+pub mod TakenLemmas

@@ -1,0 +1,6 @@
+pub mod Settings
+pub mod Asks
+pub mod Parts
+pub mod Choices
+pub mod Skus
+pub mod Pcds

@@ -1,0 +1,19 @@
+//! What the steps of libraries and PCDs ask, and what they give by the answers.
+#![tactic(auto)]
+
+pub mod asks;
+pub mod choices;
+pub mod parts;
+pub mod pcds;
+pub mod settings;
+pub mod skus;
+
+pub use asks::{choice_asks, dec_asks, inf_asks, linked_asks, package_asks, push_modules};
+pub use choices::{own_inf, with_more};
+pub use parts::{
+    Described, Linked, described_at, described_from, infs_from, linked_from, linked_module,
+    parts_at, parts_from,
+};
+pub use pcds::{pcds_given, values_given};
+pub use settings::{Setting, built_modules, commands_of, setting_of};
+pub use skus::skus_end;
