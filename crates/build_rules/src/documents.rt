@@ -16,6 +16,7 @@ use document_stages::lines_of;
 use dsc_platform::read_platform;
 use flash_document::read_flash;
 use inf_docs::read_inf;
+use shared_value::Shared;
 use std::alloc::Global;
 use step_engine::Ask;
 use step_pack::{Key, Out};
@@ -32,7 +33,8 @@ pub fn dec(
 {
     let none = Rows::new(alloc);
     let (lines, permit) = lines_of(alloc, &EdkRules, known, path, &none, &none, permit)?;
-    Ok(Out::Dec(read_dec(alloc, permit, &lines)?))
+    let document = read_dec(alloc, permit, &lines)?;
+    Ok(Out::Dec(Shared::new(alloc, document)?))
 }
 
 /// The description of a module.
@@ -86,10 +88,11 @@ pub fn platform(
     let fixed = job_macros(alloc, &given)?;
     let none = Rows::new(alloc);
     let (lines, permit) = lines_of(alloc, &EdkRules, known, &path, &none, &fixed, permit)?;
-    Ok(Out::Platform(read_platform(alloc, permit, &lines)?))
+    let document = read_platform(alloc, permit, &lines)?;
+    Ok(Out::Platform(Shared::new(alloc, document)?))
 }
 
-fn platform_of_out(out: &Out) -> Result<&PlatformDoc, Stop<Key>>
+fn platform_of_out(out: &Out) -> Result<&Shared<PlatformDoc>, Stop<Key>>
     ensures { GivesIn (λ document. document.now) result (platform_of_out out.now) }
 {
     match out {
@@ -98,11 +101,21 @@ fn platform_of_out(out: &Out) -> Result<&PlatformDoc, Stop<Key>>
     }
 }
 
+/// The platform that stands at a place among answers, as it is shared.
+pub fn shared_platform<'a>(
+    given: &Given<'a, Out>,
+    place: usize,
+) -> Result<&'a Shared<PlatformDoc>, Stop<Key>>
+    ensures { GivesIn (λ document. document.now) result (platform_in given.now place) }
+{
+    platform_of_out(given.part(place)?)
+}
+
 /// The platform that stands at a place among answers.
 pub fn platform_in<'a>(given: &Given<'a, Out>, place: usize) -> Result<&'a PlatformDoc, Stop<Key>>
     ensures { GivesIn (λ document. document.now) result (platform_in given.now place) }
 {
-    platform_of_out(given.part(place)?)
+    Ok(shared_platform(given, place)?.value())
 }
 
 fn stated(alloc: Global, path: &Option<Path>) -> Result<Option<Path>, WantOfMemory>
@@ -167,9 +180,10 @@ fn flash_from(
         Some(path) => {
             let macros = &platform.macros;
             let (lines, permit) = lines_of(alloc, &EdkRules, known, path, macros, fixed, permit)?;
-            Ok(Out::Flash(read_flash(alloc, permit, &lines)?))
+            let document = read_flash(alloc, permit, &lines)?;
+            Ok(Out::Flash(Shared::new(alloc, document)?))
         }
-        None => Ok(Out::Flash(empty_flash(alloc, platform)?)),
+        None => Ok(Out::Flash(Shared::new(alloc, empty_flash(alloc, platform)?)?)),
     }
 }
 

@@ -16,11 +16,12 @@ use image_steps::{
     are_few, device_given, file_asks, file_given, item_asks, region_asks, regions_below,
     sections_below, unbuilt, volume_given,
 };
+use shared_value::Shared;
 use std::alloc::Global;
 use step_engine::Ask;
 use step_pack::{Key, Out};
 
-fn flash_of_out(out: &Out) -> Result<&FlashDoc, Stop<Key>>
+fn flash_of_out(out: &Out) -> Result<&Shared<FlashDoc>, Stop<Key>>
     ensures { GivesIn (λ document. document.now) result (flash_of_out out.now) }
 {
     match out {
@@ -29,11 +30,21 @@ fn flash_of_out(out: &Out) -> Result<&FlashDoc, Stop<Key>>
     }
 }
 
+/// The flash description that stands at a place among answers, as it is shared.
+pub fn shared_flash<'a>(
+    given: &Given<'a, Out>,
+    place: usize,
+) -> Result<&'a Shared<FlashDoc>, Stop<Key>>
+    ensures { GivesIn (λ document. document.now) result (flash_in given.now place) }
+{
+    flash_of_out(given.part(place)?)
+}
+
 /// The flash description that stands at a place among answers.
 pub fn flash_in<'a>(given: &Given<'a, Out>, place: usize) -> Result<&'a FlashDoc, Stop<Key>>
     ensures { GivesIn (λ document. document.now) result (flash_in given.now place) }
 {
-    flash_of_out(given.part(place)?)
+    Ok(shared_flash(given, place)?.value())
 }
 
 // What a number names, or the fault that it names nothing.

@@ -12,8 +12,8 @@ ghost use Rattle.build_rules.specs.Rules.{Comes};
 ghost use Rattle.build_rules.specs.Trees.{given_as};
 ghost use Rattle.step_pack.specs.declared.out.Out.TheVariants as out;
 
-use crate::documents::platform_in;
-use crate::images::flash_in;
+use crate::documents::{platform_in, shared_platform};
+use crate::images::shared_flash;
 use crate::shapes::EdkRules;
 use build_base::{Path, Permit, Rows, Same};
 use build_stages::{Given, Known, Stop, gather};
@@ -31,6 +31,7 @@ use module_steps::{
     inf_asks, linked_asks, linked_from, linked_module, own_inf, package_asks, parts_at, parts_from,
     pcds_given, setting_of, skus_end, values_given, with_more,
 };
+use shared_value::Shared;
 use std::alloc::Global;
 use step_engine::Ask;
 use step_pack::{Key, Out};
@@ -193,8 +194,8 @@ fn setting_in(
 fn pcds_from(
     alloc: Global,
     known: &Known<'_, Key, Out>,
-    platform: &PlatformDoc,
-    flash: &FlashDoc,
+    platform: &Shared<PlatformDoc>,
+    flash: &Shared<FlashDoc>,
     setting: &Setting,
     permit: Permit,
 ) -> Result<Out, Stop<Key>>
@@ -203,7 +204,7 @@ fn pcds_from(
 {
     let (modules, permit) = modules_parts(alloc, known, setting.modules.items(), permit)?;
     let values = pcds_given(alloc, permit, platform, flash, setting, modules)?;
-    Ok(Out::Values(values))
+    Ok(Out::Values(Shared::new(alloc, values)?))
 }
 
 /// The rows of dynamic PCDs.
@@ -218,16 +219,16 @@ pub fn pcds(alloc: Global, known: &Known<'_, Key, Out>, permit: Permit) -> Resul
         Ask::Field(6),
     ];
     let (given, permit) = gather(alloc, &EdkRules, known, &asks, permit)?;
-    let platform = platform_in(&given, 0)?;
-    if !skus_end(platform.skus.items()) {
+    let platform = shared_platform(&given, 0)?;
+    if !skus_end(platform.value().skus.items()) {
         return Err(Stop::Misfit);
     }
-    let flash = flash_in(&given, 1)?;
-    let setting = setting_in(alloc, platform, &given)?;
+    let flash = shared_flash(&given, 1)?;
+    let setting = setting_in(alloc, platform.value(), &given)?;
     pcds_from(alloc, known, platform, flash, &setting, permit)
 }
 
-fn values_of_out(out: &Out) -> Result<&Values, Stop<Key>>
+fn values_of_out(out: &Out) -> Result<&Shared<Values>, Stop<Key>>
     ensures { GivesIn (λ values. values.now) result (values_of_out out.now) }
 {
     match out {
@@ -236,7 +237,7 @@ fn values_of_out(out: &Out) -> Result<&Values, Stop<Key>>
     }
 }
 
-fn values_in<'a>(given: &Given<'a, Out>, place: usize) -> Result<&'a Values, Stop<Key>>
+fn values_in<'a>(given: &Given<'a, Out>, place: usize) -> Result<&'a Shared<Values>, Stop<Key>>
     ensures { GivesIn (λ values. values.now) result (values_in given.now place) }
 {
     values_of_out(given.part(place)?)
@@ -303,9 +304,9 @@ fn values_from(
     alloc: Global,
     known: &Known<'_, Key, Out>,
     module: &Module,
-    platform: &PlatformDoc,
-    flash: &FlashDoc,
-    dynamic: &Values,
+    platform: &Shared<PlatformDoc>,
+    flash: &Shared<FlashDoc>,
+    dynamic: &Shared<Values>,
     choice: &Choice,
     commands: Rows<PcdSet>,
     permit: Permit,
@@ -314,7 +315,7 @@ fn values_from(
 {
     let (parts, permit) = module_parts(alloc, known, module, choice, permit)?;
     let values = values_given(alloc, permit, platform, flash, commands, dynamic, parts)?;
-    Ok(Out::Values(values))
+    Ok(Out::Values(Shared::new(alloc, values)?))
 }
 
 /// The values of a module.
@@ -334,11 +335,11 @@ pub fn values(
         Ask::Field(6),
     ];
     let (given, permit) = gather(alloc, &EdkRules, known, &asks, permit)?;
-    let platform = platform_in(&given, 0)?;
-    let flash = flash_in(&given, 1)?;
+    let platform = shared_platform(&given, 0)?;
+    let flash = shared_flash(&given, 1)?;
     let dynamic = values_in(&given, 2)?;
     let (choice, _next) = choice_at(&given, 3)?;
-    let commands = commands_in(alloc, platform, &given, 4)?;
+    let commands = commands_in(alloc, platform.value(), &given, 4)?;
     values_from(
         alloc, known, module, platform, flash, dynamic, choice, commands, permit,
     )

@@ -9,7 +9,8 @@ use Rattle.std.proofs.lemmas.List.{drop_more, drop_all}
 use Rattle.build_base.specs.declared.guid.Guid.{Guid}
 use Rattle.build_texts.specs.declared.names.FoundGuid.{FoundGuid}
 use Rattle.build_texts.specs.Named.{by_name}
-use Rattle.build_texts.specs.Views.{by_bytes, entry_view, seen}
+use Rattle.pcd_resolve.specs.Groups.{by_bytes}
+use Rattle.build_texts.specs.Views.{entry_view, seen}
 
 seen_by : (e : Vec ℕ × Guid) (k : Vec ℕ) (g : Guid) (es : List (Vec ℕ × Guid)) (o : Ordering)
     → map entry_view (insert_entry by_bytes es k g) ≡ insert_entry (slice_cmp nat_cmp) (map entry_view es) k.items g

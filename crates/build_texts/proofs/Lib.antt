@@ -1,3 +1,2 @@
 pub mod EntryLemmas
 pub mod FrontLemmas
-pub mod GroupLemmas

@@ -18,7 +18,8 @@ use Rattle.pcd_values.specs.Printing.{number_text, printed}
 use Rattle.build_texts.specs.declared.asks.CodeAsk.{CodeAsk}
 use Rattle.build_texts.specs.Guids.{guid_text, initializer}
 use Rattle.build_texts.specs.Named.{Found, by_name, module_guids}
-use Rattle.build_texts.specs.Words.{arch_word, is_dynamic}
+use Rattle.pcd_resolve.specs.Names.{is_dynamic}
+use Rattle.build_texts.specs.Words.{arch_word}
 
 -- `/* INF ARCH */`
 unfoldable pub title : Module → List ℕ

@@ -1,5 +1,4 @@
 pub mod Code
-pub mod Groups
 pub mod Guids
 pub mod Named
 pub mod Report

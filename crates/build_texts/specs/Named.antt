@@ -16,7 +16,8 @@ use Rattle.doc_types.specs.declared.module.InfDoc.{InfDoc}
 use Rattle.doc_types.specs.declared.module.Named.{Named}
 use Rattle.doc_types.specs.declared.parts.ModuleParts.{ModuleParts}
 use Rattle.doc_types.specs.declared.parts.Package.{Package}
-use Rattle.build_texts.specs.Words.{serves}
+use Rattle.pcd_resolve.specs.Listing.{packages_of}
+use Rattle.pcd_resolve.specs.Names.{serves}
 
 -- A line of the package of a path.
 pub record Declared : Type 0 where
@@ -35,10 +36,6 @@ declared_name d = d.line.name
 
 abbrev pub lines_of : List ℕ → List Declared → List Declared
 lines_of name lines = filter (λ d. bytes_eq (declared_name d) name) lines
-
--- the packages that an INF names for an architecture
-unfoldable pub packages_of : Arch → InfDoc → List (List ℕ)
-packages_of arch inf = map (λ named. named.name) (filter (λ named. serves named.arch arch) inf.packages)
 
 -- a line of the package of a path that counts for an architecture
 unfoldable pub is_from : Arch → List ℕ → Declared → Bool

@@ -11,7 +11,8 @@ use Rattle.pcd_values.specs.Printing.{printed}
 use Rattle.build_texts.specs.declared.asks.ModuleReport.{ModuleReport}
 use Rattle.build_texts.specs.declared.asks.ReportAsk.{ReportAsk}
 use Rattle.build_texts.specs.Guids.{guid_text}
-use Rattle.build_texts.specs.Words.{arch_word, kind_word, datum_word, source_word, is_dynamic}
+use Rattle.pcd_resolve.specs.Names.{is_dynamic}
+use Rattle.build_texts.specs.Words.{arch_word, kind_word, datum_word, source_word}
 
 -- `platform NAME guid`
 unfoldable pub platform_line : PlatformDoc → List ℕ

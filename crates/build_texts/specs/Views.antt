@@ -1,9 +1,6 @@
 -- What the code holds, and what it stands for.
 use Rattle.std.specs.Prelude.{ℕ, List, [], ◌∷◌, map, Option, Some, None}
-use Rattle.std.specs.Cmp.Lexicographic.{slice_cmp}
 use Rattle.std.specs.Global.{Vec}
-use Rattle.std.specs.Ordering.{nat_cmp}
-use Rattle.std.specs.declared.cmp.Ordering.{Ordering}
 use Rattle.build_base.specs.declared.guid.Guid.{Guid}
 use Rattle.build_texts.specs.declared.packages.DeclaredGuid.{DeclaredGuid}
 use Rattle.build_texts.specs.declared.names.FoundGuid.{FoundGuid}
@@ -17,10 +14,6 @@ found_view f = (f.name.now, f.guid)
 
 abbrev pub entry_view : Vec ℕ × Guid → Found
 entry_view e = (e.0.items, e.1)
-
--- the order of names by their bytes
-abbrev pub by_bytes : Vec ℕ → Vec ℕ → Ordering
-by_bytes x y = slice_cmp nat_cmp x.items y.items
 
 abbrev pub seen : List FoundGuid → List Found
 seen guids = map found_view guids

@@ -1,6 +1,6 @@
 -- The words of the texts: of architectures, and of kinds, types and sources of PCDs (EDK II DSC, DEC and INF
--- specifications); and when a line counts. The words of sources are this project's own.
-use Rattle.std.specs.Prelude.{ℕ, Bool, true, false, ◌==◌, if◌then◌else◌, List, [], codes}
+-- specifications). The words of sources are this project's own.
+use Rattle.std.specs.Prelude.{ℕ, ◌==◌, if◌then◌else◌, List, [], codes}
 use Rattle.doc_types.specs.declared.arch.Arch.{Arch}
 use Rattle.doc_types.specs.declared.arch.Arch.TheVariants.{Common, Ia32, X64, Arm, Aarch64, Riscv64, Loongarch64, Ebc}
 use Rattle.doc_types.specs.declared.pcd.Datum.{Datum}
@@ -46,20 +46,3 @@ source_word rank =
     else if rank == 7 then codes "INF"
     else if rank == 8 then codes "DEC"
     else []
-
-abbrev pub is_dynamic : Kind → Bool
-is_dynamic Dynamic = true
-is_dynamic DynamicEx = true
-is_dynamic kind = false
-
--- a line of an architecture counts for a module of another one where it is common or the same
-unfoldable pub serves : Arch → Arch → Bool
-serves Common arch = true
-serves Ia32 Ia32 = true
-serves X64 X64 = true
-serves Arm Arm = true
-serves Aarch64 Aarch64 = true
-serves Riscv64 Riscv64 = true
-serves Loongarch64 Loongarch64 = true
-serves Ebc Ebc = true
-serves line arch = false

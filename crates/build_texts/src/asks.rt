@@ -5,6 +5,7 @@ use doc_types::parts::ModuleParts;
 use doc_types::platform::{PlatformDoc, Sku};
 use doc_types::together::three;
 use doc_types::values::Values;
+use shared_value::Shared;
 use std::alloc::Global;
 
 /// For the texts of one module. `file_guid` is that of its component where this states one, else that of its INF file.
@@ -13,7 +14,7 @@ pub struct CodeAsk {
     pub file_guid: Guid,
     pub parts: ModuleParts,
     pub choice: Choice,
-    pub values: Values,
+    pub values: Shared<Values>,
 }
 
 /// What the report tells of one module.
@@ -21,17 +22,17 @@ pub struct CodeAsk {
 pub struct ModuleReport {
     pub module: Module,
     pub choice: Choice,
-    pub values: Values,
+    pub values: Shared<Values>,
 }
 
 /// For the report of a build: `skus` are the chosen ones, `dynamic` the values of the platform's dynamic PCDs.
 #[derive(Debug, Drop)]
 pub struct ReportAsk {
-    pub platform: PlatformDoc,
+    pub platform: Shared<PlatformDoc>,
     pub target: Text,
     pub tag: Text,
     pub skus: Rows<Sku>,
-    pub dynamic: Values,
+    pub dynamic: Shared<Values>,
     pub modules: Rows<ModuleReport>,
 }
 

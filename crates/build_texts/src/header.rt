@@ -4,12 +4,13 @@ ghost use Rattle.build_texts.specs.Code.{title, base_name, define_base_name, def
 
 use crate::asks::CodeAsk;
 use crate::guids::{put_guid, put_number};
-use crate::words::{arch_word, is_dynamic};
+use crate::words::arch_word;
 use build_base::{Guid, Text, WantOfMemory};
 use doc_types::choice::Module;
 use doc_types::module::InfDoc;
 use doc_types::pcd::PcdName;
 use doc_types::values::PcdRow;
+use pcd_resolve::names::is_dynamic;
 use pcd_values::print_value;
 use std::alloc::{AllocError, Global};
 
@@ -175,6 +176,6 @@ pub fn header_text(alloc: Global, ask: &CodeAsk) -> Result<Text, WantOfMemory>
     put_title(&mut out, &ask.parts.module)?;
     put_base_name(&mut out, base_name(ask.parts.infs.items()))?;
     put_file_guid(&mut out, &ask.file_guid)?;
-    put_pcds(alloc, &mut out, ask.values.rows.items())?;
+    put_pcds(alloc, &mut out, ask.values.value().rows.items())?;
     Ok(Text::from_vec(out))
 }

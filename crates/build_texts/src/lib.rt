@@ -4,7 +4,6 @@
 
 pub mod asks;
 mod code;
-mod groups;
 mod guids;
 mod header;
 mod names;
@@ -16,3 +15,4 @@ mod words;
 pub use asks::{CodeAsk, ModuleReport, ReportAsk};
 pub use code::code_texts;
 pub use report::report_text;
+pub use words::arch_word;

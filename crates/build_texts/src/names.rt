@@ -4,18 +4,19 @@ ghost use Rattle.std.specs.BTreeMap.{insert_entry};
 ghost use Rattle.std.specs.Cmp.Lexicographic.{slice_cmp};
 ghost use Rattle.std.specs.Ordering.{nat_cmp};
 ghost use Rattle.build_base.specs.Answer.{AnswersAs};
-ghost use Rattle.build_texts.specs.Groups.{Grouped};
 ghost use Rattle.build_texts.specs.Named.{Declared, all_of, by_name, declared_name, found, inf_guids, line_guids, module_guids, package_lines};
-ghost use Rattle.build_texts.specs.Views.{by_bytes, declared_view, entry_view, given, seen};
+ghost use Rattle.pcd_resolve.specs.Groups.{by_bytes, Grouped};
+ghost use Rattle.build_texts.specs.Views.{declared_view, entry_view, given, seen};
 
-use crate::groups::group;
-use crate::packages::{DeclaredGuid, first_guid, lines_by_name, packages_of};
-use crate::words::serves;
+use crate::packages::{DeclaredGuid, first_guid, lines_by_name};
 use build_base::{Guid, Refusal, WantOfMemory, refuse};
 use doc_types::arch::Arch;
 use doc_types::module::{InfDoc, Named};
 use doc_types::parts::ModuleParts;
 use indexmap::IndexMap;
+use pcd_resolve::groups::group;
+use pcd_resolve::names::serves;
+use pcd_resolve::packages::packages_of;
 use std::alloc::Global;
 use std::collections::BTreeMap;
 

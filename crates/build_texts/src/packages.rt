@@ -1,19 +1,17 @@
 //! The packages of a module, and the lines by which they declare the names of GUIDs.
-ghost use Rattle.std.specs.Prelude.{◌≡◌, ◌++◌, ◌∷◌, [], List, map, filter, IfOk, OnOk};
+ghost use Rattle.std.specs.Prelude.{◌≡◌, ◌++◌, ◌∷◌, [], List, map, IfOk, OnOk};
 ghost use Rattle.std.specs.List.{flat_map};
-ghost use Rattle.build_texts.specs.Groups.{Grouped};
-ghost use Rattle.build_texts.specs.Named.{Declared, declared_name, first_guid, guid_from, is_from, line_from, package_lines, packages_of};
+ghost use Rattle.build_texts.specs.Named.{Declared, declared_name, first_guid, guid_from, is_from, line_from, package_lines};
 ghost use Rattle.build_texts.specs.Views.{declared_view};
-ghost use Rattle.build_texts.specs.Words.{serves};
+ghost use Rattle.pcd_resolve.specs.Groups.{Grouped};
 
-use crate::groups::add;
-use crate::words::serves;
 use build_base::{Guid, Path, WantOfMemory};
 use doc_types::arch::Arch;
 use doc_types::depex::NamedGuid;
-use doc_types::module::{InfDoc, Named};
 use doc_types::parts::Package;
 use indexmap::IndexMap;
+use pcd_resolve::groups::add;
+use pcd_resolve::names::serves;
 use std::alloc::Global;
 
 /// A line of the package of a path.
@@ -57,7 +55,7 @@ fn add_package<'a>(
 ) -> Result<(), WantOfMemory>
     ensures { (xs : List Declared) → Grouped declared_view declared_name xs table.old → OnOk result (Grouped declared_view declared_name (xs ++ map (line_from held.now.path) held.now.doc.guids) table.new) }
 {
-    add_lines(alloc, table, &held.path, held.doc.guids.items())?;
+    add_lines(alloc, table, &held.path, held.doc.value().guids.items())?;
     Ok(())
 }
 
@@ -85,48 +83,6 @@ pub fn lines_by_name<'a>(
     let mut table = IndexMap::new(alloc);
     add_packages(alloc, &mut table, decs)?;
     Ok(table)
-}
-
-fn put_package<'a>(
-    arch: Arch,
-    named: &'a Named,
-    paths: &mut Vec<&'a [u8]>,
-) -> Result<(), WantOfMemory>
-    ensures { OnOk result (map (λ p. p.now) paths.new.items ≡ map (λ p. p.now) paths.old.items ++ map (λ n. n.name) (filter (λ n. serves n.arch arch) (named.now ∷ []))) }
-{
-    if serves(named.arch, arch) {
-        if paths.push(named.name.bytes()).is_err() {
-            return Err(WantOfMemory);
-        }
-    }
-    Ok(())
-}
-
-fn put_packages<'a>(
-    arch: Arch,
-    names: &'a [Named],
-    paths: &mut Vec<&'a [u8]>,
-) -> Result<(), WantOfMemory>
-    ensures { OnOk result (map (λ p. p.now) paths.new.items ≡ map (λ p. p.now) paths.old.items ++ map (λ n. n.name) (filter (λ n. serves n.arch arch) names.now)) }
-{
-    for named in names {
-        put_package(arch, named, paths)?;
-    }
-    Ok(())
-}
-
-/// The packages that an INF names for an architecture.
-#[tactic(auto, unfolding(crate::specs::Named::packages_of))]
-pub fn packages_of<'a>(
-    alloc: Global,
-    arch: Arch,
-    inf: &'a InfDoc,
-) -> Result<Vec<&'a [u8]>, WantOfMemory>
-    ensures { IfOk result (λ v. map (λ p. p.now) v.items ≡ packages_of arch inf.now) }
-{
-    let mut paths = Vec::new(alloc);
-    put_packages(arch, inf.packages.items(), &mut paths)?;
-    Ok(paths)
 }
 
 #[tactic(auto, unfolding(crate::specs::Named::is_from))]

@@ -5,12 +5,13 @@ ghost use Rattle.build_texts.specs.Report.{platform_line, target_line, sku_line,
 
 use crate::asks::{ModuleReport, ReportAsk};
 use crate::guids::put_guid;
-use crate::words::{arch_word, datum_word, is_dynamic, kind_word, source_word};
+use crate::words::{arch_word, datum_word, kind_word, source_word};
 use build_base::{Path, Text, WantOfMemory};
 use doc_types::choice::{Call, Module};
 use doc_types::platform::{PlatformDoc, Sku};
 use doc_types::values::PcdRow;
 use itoa::Buffer;
+use pcd_resolve::names::is_dynamic;
 use pcd_values::print_value;
 use std::alloc::{AllocError, Global};
 
@@ -205,7 +206,7 @@ fn put_report(alloc: Global, out: &mut Vec<u8>, built: &ModuleReport) -> Result<
     put_module(out, &built.module)?;
     put_libraries(out, built.choice.instances.items())?;
     put_constructors(out, built.choice.constructors.items())?;
-    put_fixed_rows(alloc, out, built.values.rows.items())?;
+    put_fixed_rows(alloc, out, built.values.value().rows.items())?;
     Ok(())
 }
 
@@ -230,10 +231,10 @@ pub fn report_text(alloc: Global, ask: &ReportAsk) -> Result<Text, WantOfMemory>
     ensures { IfOk result (λ t. t ≡ report_text ask.now) }
 {
     let mut out = Vec::new(alloc);
-    put_platform(&mut out, &ask.platform)?;
+    put_platform(&mut out, ask.platform.value())?;
     put_target(&mut out, ask.target.bytes(), ask.tag.bytes())?;
     put_skus(&mut out, ask.skus.items())?;
-    put_dynamics(alloc, &mut out, ask.dynamic.rows.items())?;
+    put_dynamics(alloc, &mut out, ask.dynamic.value().rows.items())?;
     put_reports(alloc, &mut out, ask.modules.items())?;
     Ok(Text::from_vec(out))
 }

@@ -1,10 +1,11 @@
 //! The words of the texts.
 ghost use Rattle.std.specs.Prelude.{◌≡◌};
-ghost use Rattle.build_texts.specs.Words.{arch_word, kind_word, datum_word, source_word, is_dynamic, serves};
+ghost use Rattle.build_texts.specs.Words.{arch_word, kind_word, datum_word, source_word};
 
 use doc_types::arch::Arch;
 use doc_types::pcd::{Datum, Kind};
 
+/// The word of an architecture.
 pub fn arch_word(arch: Arch) -> &'static [u8]
     ensures { result.now ≡ arch_word arch }
 {
@@ -59,33 +60,5 @@ pub fn source_word(rank: u8) -> &'static [u8]
         7 => b"INF".as_slice(),
         8 => b"DEC".as_slice(),
         _ => b"".as_slice(),
-    }
-}
-
-pub fn is_dynamic(kind: Kind) -> bool
-    ensures { result ≡ is_dynamic kind }
-{
-    match kind {
-        Kind::Dynamic => true,
-        Kind::DynamicEx => true,
-        _ => false,
-    }
-}
-
-/// Whether a line of an architecture counts for another one.
-#[tactic(auto, unfolding(crate::specs::Words::serves))]
-pub fn serves(line: Arch, arch: Arch) -> bool
-    ensures { result ≡ serves line arch }
-{
-    match (line, arch) {
-        (Arch::Common, _) => true,
-        (Arch::Ia32, Arch::Ia32) => true,
-        (Arch::X64, Arch::X64) => true,
-        (Arch::Arm, Arch::Arm) => true,
-        (Arch::Aarch64, Arch::Aarch64) => true,
-        (Arch::Riscv64, Arch::Riscv64) => true,
-        (Arch::Loongarch64, Arch::Loongarch64) => true,
-        (Arch::Ebc, Arch::Ebc) => true,
-        _ => false,
     }
 }

@@ -12,6 +12,7 @@ use doc_types::asks::PlatformAsk;
 use doc_types::flash::FlashDoc;
 use doc_types::pcd::PcdSet;
 use doc_types::platform::PlatformDoc;
+use shared_value::Shared;
 use std::alloc::Global;
 
 fn flash_of(alloc: Global, at: Place, sets: Rows<PcdSet>) -> FlashDoc {
@@ -28,9 +29,11 @@ fn asked(alloc: Global, plan: Plan, platform: PlatformDoc) -> Result<PlatformAsk
     ensures { IfOk result (λ ask. ask.platform ≡ platform) }
 {
     let at = platform.at.copy(alloc)?;
+    let platform = Shared::new(alloc, platform)?;
+    let flash = Shared::new(alloc, flash_of(alloc, at, plan.sets))?;
     Ok(PlatformAsk {
         platform,
-        flash: flash_of(alloc, at, plan.sets),
+        flash,
         commands: plan.commands,
         skus: plan.skus,
         arches: plan.arches,

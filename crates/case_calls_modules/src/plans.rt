@@ -11,6 +11,7 @@ use doc_types::choice::Module;
 use doc_types::module::InfDoc;
 use doc_types::parts::{ModuleParts, Package};
 use doc_types::pcd::PcdSet;
+use shared_value::Shared;
 use std::alloc::Global;
 
 #[derive(Drop)]
@@ -38,7 +39,7 @@ fn empty_plan(alloc: Global) -> Plan {
 
 fn package_read(alloc: Global, files: &[Output], word: &str) -> Result<Package, Stop> {
     let path = path_of(alloc, word)?;
-    let doc = package_of(alloc, files, &path)?;
+    let doc = Shared::new(alloc, package_of(alloc, files, &path)?)?;
     Ok(Package { path, doc })
 }
 

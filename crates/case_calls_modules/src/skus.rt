@@ -50,8 +50,8 @@ fn rows_of(alloc: Global, sets: &[PcdSet]) -> Result<Rows<SkuRow>, Stop> {
 pub fn call_sku_value(page: &mut Page, files: &[Output], path: &str) -> Result<(), Stop> {
     let alloc = page.alloc();
     let ask = ask_of(alloc, files, path)?;
-    let rows = rows_of(alloc, ask.flash.sets.items())?;
-    let skus = &ask.platform.skus;
+    let rows = rows_of(alloc, ask.flash.value().sets.items())?;
+    let skus = &ask.platform.value().skus;
     tell_skus(page, &rows, skus, skus.items());
     Ok(())
 }

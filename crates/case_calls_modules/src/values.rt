@@ -13,6 +13,7 @@ use doc_types::parts::ModuleParts;
 use doc_types::together::three;
 use doc_types::values::{PcdRow, Values};
 use pcd_resolve::{resolve_module, resolve_platform};
+use shared_value::Shared;
 use std::alloc::Global;
 
 fn tell_row(page: &mut Page, row: &PcdRow) -> Result<(), Stop> {
@@ -63,7 +64,7 @@ fn asked_of(
     alloc: Global,
     ask: &PlatformAsk,
     parts: &ModuleParts,
-    dynamic: &Values,
+    dynamic: &Shared<Values>,
 ) -> Result<ModuleAsk, WantOfMemory> {
     let (platform, flash, commands) = three(&ask.platform, &ask.flash, &ask.commands, alloc)?;
     let parts = parts.copy(alloc)?;
@@ -82,7 +83,7 @@ fn module_ask(
     alloc: Global,
     ask: &PlatformAsk,
     parts: &ModuleParts,
-    dynamic: &Values,
+    dynamic: &Shared<Values>,
 ) -> Result<ModuleAsk, Stop> {
     Ok(asked_of(alloc, ask, parts, dynamic)?)
 }
@@ -108,7 +109,7 @@ fn tell_module(page: &mut Page, ask: &ModuleAsk) -> Result<(), Stop> {
     tell_values_of(page, &ask)
 }
 
-fn tell_modules(page: &mut Page, ask: &PlatformAsk, dynamic: &Values) -> Result<(), Stop> {
+fn tell_modules(page: &mut Page, ask: &PlatformAsk, dynamic: &Shared<Values>) -> Result<(), Stop> {
     let alloc = page.alloc();
     for parts in ask.modules.items() {
         tell_module(page, &module_ask(alloc, ask, parts, dynamic)?)?;
@@ -120,6 +121,6 @@ fn tell_modules(page: &mut Page, ask: &PlatformAsk, dynamic: &Values) -> Result<
 pub fn call_resolve_module(page: &mut Page, files: &[Output], path: &str) -> Result<(), Stop> {
     let alloc = page.alloc();
     let ask = ask_of(alloc, files, path)?;
-    let dynamic = dynamic_of(alloc, &ask)?;
+    let dynamic = Shared::new(alloc, dynamic_of(alloc, &ask)?)?;
     tell_modules(page, &ask, &dynamic)
 }

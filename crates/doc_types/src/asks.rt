@@ -7,6 +7,7 @@ use crate::platform::PlatformDoc;
 use crate::together::three;
 use crate::values::Values;
 use build_base::{Rows, Same, Text, WantOfMemory, all_same, copied};
+use shared_value::Shared;
 use std::alloc::Global;
 
 /// For the values of dynamic PCDs, which a platform has once: `commands` are the values that the build's words give,
@@ -14,8 +15,8 @@ use std::alloc::Global;
 /// that are built.
 #[derive(Debug, Drop)]
 pub struct PlatformAsk {
-    pub platform: PlatformDoc,
-    pub flash: FlashDoc,
+    pub platform: Shared<PlatformDoc>,
+    pub flash: Shared<FlashDoc>,
     pub commands: Rows<PcdSet>,
     pub skus: Rows<Text>,
     pub arches: Rows<Arch>,
@@ -25,11 +26,11 @@ pub struct PlatformAsk {
 /// For the values of one module. `dynamic` are those of the platform's dynamic PCDs.
 #[derive(Debug, Drop)]
 pub struct ModuleAsk {
-    pub platform: PlatformDoc,
-    pub flash: FlashDoc,
+    pub platform: Shared<PlatformDoc>,
+    pub flash: Shared<FlashDoc>,
     pub commands: Rows<PcdSet>,
     pub parts: ModuleParts,
-    pub dynamic: Values,
+    pub dynamic: Shared<Values>,
 }
 
 impl Same for PlatformAsk {

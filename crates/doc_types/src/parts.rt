@@ -3,13 +3,14 @@ use crate::choice::Module;
 use crate::module::InfDoc;
 use crate::package::DecDoc;
 use build_base::{Path, Rows, Same, WantOfMemory, all_same, copied};
+use shared_value::Shared;
 use std::alloc::Global;
 
-/// A package and what its DEC file says.
+/// A package and what its DEC file says, which all modules that name it share.
 #[derive(Debug, Drop)]
 pub struct Package {
     pub path: Path,
-    pub doc: DecDoc,
+    pub doc: Shared<DecDoc>,
 }
 
 /// A module, the descriptions of itself and of its library instances in first-found order, and the packages that

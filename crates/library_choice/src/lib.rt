@@ -18,4 +18,5 @@ mod wanted;
 
 pub use choosing::choose;
 pub use laws::{instances_stand_by_walks, lines_hold_by_rank};
+pub use lines::type_covers;
 pub use wanted::{is_known, next_wanted};

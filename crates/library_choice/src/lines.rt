@@ -51,7 +51,8 @@ pub fn same_type(stated: ModuleType, own: ModuleType) -> bool
     }
 }
 
-fn type_covers(stated: Option<ModuleType>, own: ModuleType) -> bool
+/// Whether what is stated for a type of module, or for all, holds for one.
+pub fn type_covers(stated: Option<ModuleType>, own: ModuleType) -> bool
     ensures { result ≡ type_covers stated own }
 {
     match stated {

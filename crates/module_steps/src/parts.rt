@@ -21,6 +21,7 @@ use doc_types::module::InfDoc;
 use doc_types::package::DecDoc;
 use doc_types::parts::{ModuleParts, Package};
 use pcd_resolve::packages::packages_in;
+use shared_value::Shared;
 use std::alloc::Global;
 use step_pack::{Key, Out};
 
@@ -99,7 +100,7 @@ pub fn inf_at(
     Ok((inf.copy(alloc)?, next))
 }
 
-fn dec_of_out(out: &Out) -> Result<&DecDoc, Stop<Key>>
+fn dec_of_out(out: &Out) -> Result<&Shared<DecDoc>, Stop<Key>>
     ensures { GivesIn (λ dec. dec.now) result (dec_of_out out.now) }
 {
     match out {
@@ -108,7 +109,7 @@ fn dec_of_out(out: &Out) -> Result<&DecDoc, Stop<Key>>
     }
 }
 
-fn held_package(alloc: Global, path: &Path, dec: &DecDoc) -> Result<Package, WantOfMemory>
+fn held_package(alloc: Global, path: &Path, dec: &Shared<DecDoc>) -> Result<Package, WantOfMemory>
     ensures { IfOk result (λ held. held_package path.now dec.now ≡ Ok held) }
 {
     Ok(Package {

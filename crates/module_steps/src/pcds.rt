@@ -14,12 +14,13 @@ use doc_types::platform::PlatformDoc;
 use doc_types::together::three;
 use doc_types::values::Values;
 use pcd_resolve::{resolve_module, resolve_platform};
+use shared_value::Shared;
 use std::alloc::Global;
 
 fn platform_ask(
     alloc: Global,
-    platform: &PlatformDoc,
-    flash: &FlashDoc,
+    platform: &Shared<PlatformDoc>,
+    flash: &Shared<FlashDoc>,
     setting: &Setting,
     modules: Rows<ModuleParts>,
 ) -> Result<PlatformAsk, WantOfMemory>
@@ -40,8 +41,8 @@ fn platform_ask(
 pub fn pcds_given(
     alloc: Global,
     permit: Permit,
-    platform: &PlatformDoc,
-    flash: &FlashDoc,
+    platform: &Shared<PlatformDoc>,
+    flash: &Shared<FlashDoc>,
     setting: &Setting,
     modules: Rows<ModuleParts>,
 ) -> Result<Values, Refusal>
@@ -54,10 +55,10 @@ pub fn pcds_given(
 
 fn module_ask(
     alloc: Global,
-    platform: &PlatformDoc,
-    flash: &FlashDoc,
+    platform: &Shared<PlatformDoc>,
+    flash: &Shared<FlashDoc>,
     commands: Rows<PcdSet>,
-    dynamic: &Values,
+    dynamic: &Shared<Values>,
     parts: ModuleParts,
 ) -> Result<ModuleAsk, WantOfMemory>
     ensures { IfOk result (λ ask. ask ≡ module_ask platform.now flash.now commands dynamic.now parts) }
@@ -75,10 +76,10 @@ fn module_ask(
 pub fn values_given(
     alloc: Global,
     permit: Permit,
-    platform: &PlatformDoc,
-    flash: &FlashDoc,
+    platform: &Shared<PlatformDoc>,
+    flash: &Shared<FlashDoc>,
     commands: Rows<PcdSet>,
-    dynamic: &Values,
+    dynamic: &Shared<Values>,
     parts: ModuleParts,
 ) -> Result<Values, Refusal>
     ensures { Answers result (values_given platform.now flash.now commands dynamic.now parts) }

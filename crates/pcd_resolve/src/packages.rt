@@ -69,7 +69,8 @@ fn put_packages<'a>(
     Ok(())
 }
 
-fn packages_of<'a>(
+/// The packages that an INF names for an architecture.
+pub fn packages_of<'a>(
     alloc: Global,
     arch: Arch,
     inf: &'a InfDoc,

@@ -192,7 +192,7 @@ fn rows_by<'a>(
         line,
         lines.as_slice(),
         sets,
-        &ask.platform.skus,
+        &ask.platform.value().skus,
         picked,
     )
 }
@@ -266,7 +266,7 @@ fn sets_of_ask<'a>(
 ) -> Result<IndexMap<Vec<u8>, Vec<&'a PcdSet>>, WantOfMemory>
     ensures { IfOk result (λ table. Grouped (λ s. s.now) set_name (platform_sets ask.now) table) }
 {
-    sets_by_name(alloc, ask.commands.items(), ask.flash.sets.items())
+    sets_by_name(alloc, ask.commands.items(), ask.flash.value().sets.items())
 }
 
 fn chosen_by<'a>(
@@ -293,8 +293,8 @@ fn chosen_of<'a>(alloc: Global, ask: &'a PlatformAsk) -> Result<Vec<&'a Sku>, Wa
     chosen_by(
         alloc,
         ask.skus.items(),
-        ask.platform.sku_choice.bytes(),
-        ask.platform.skus.items(),
+        ask.platform.value().sku_choice.bytes(),
+        ask.platform.value().skus.items(),
     )
 }
 
@@ -313,7 +313,7 @@ fn rows_of_modules<'a>(
 {
     let names = names_of_modules(alloc, ask.modules.items())?;
     let uses = all_uses_by_name(alloc, modules)?;
-    let lines = lines_by_name(alloc, &ask.platform)?;
+    let lines = lines_by_name(alloc, ask.platform.value())?;
     let sets = sets_of_ask(alloc, ask)?;
     all_rows(
         alloc,
@@ -343,7 +343,7 @@ fn words_known(alloc: Global, ask: &PlatformAsk) -> Result<(), Refusal>
     if is_all(ask.skus.items()) {
         return Ok(());
     }
-    skus_known(alloc, &ask.platform, ask.skus.items())
+    skus_known(alloc, ask.platform.value(), ask.skus.items())
 }
 
 /// The values of a platform's dynamic PCDs, PCD by PCD in the order of their names, for each chosen SKU. Or the first

@@ -98,7 +98,7 @@ fn sets_of_ask<'a>(
 ) -> Result<IndexMap<Vec<u8>, Vec<&'a PcdSet>>, WantOfMemory>
     ensures { IfOk result (λ table. Grouped (λ s. s.now) set_name (sets_in ask.now) table) }
 {
-    sets_by_name(alloc, ask.commands.items(), ask.flash.sets.items())
+    sets_by_name(alloc, ask.commands.items(), ask.flash.value().sets.items())
 }
 
 fn rows_by_tables<'a>(
@@ -113,9 +113,9 @@ fn rows_by_tables<'a>(
     requires uses { Grouped use_view use_name (uses_of_module ask.now.parts) uses.now }
     ensures { Answers result (all_rows (map (rows_in ask.now (uses_of_module ask.now.parts) (stated_in ask.now.platform)) (map (λ n. n.items) names.now))) }
 {
-    let lines = lines_by_name(alloc, &ask.platform)?;
+    let lines = lines_by_name(alloc, ask.platform.value())?;
     let sets = sets_of_ask(alloc, ask)?;
-    let dynamic = rows_by_name(alloc, ask.dynamic.rows.items())?;
+    let dynamic = rows_by_name(alloc, ask.dynamic.value().rows.items())?;
     all_rows(alloc, ask, names, tables, uses, &lines, &sets, &dynamic)
 }
 

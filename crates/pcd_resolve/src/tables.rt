@@ -157,7 +157,7 @@ fn add_package<'a>(
 ) -> Result<(), WantOfMemory>
     ensures { (xs : List Declared) → Grouped declared_view declared_name xs table.old → OnOk result (Grouped declared_view declared_name (xs ++ map (line_from held.now.path) held.now.doc.pcds) table.new) }
 {
-    add_declarations(alloc, table, &held.path, held.doc.pcds.items())?;
+    add_declarations(alloc, table, &held.path, held.doc.value().pcds.items())?;
     Ok(())
 }
 

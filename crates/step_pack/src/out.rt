@@ -9,6 +9,7 @@ use doc_types::package::DecDoc;
 use doc_types::platform::PlatformDoc;
 use doc_types::texts::Texts;
 use doc_types::values::Values;
+use shared_value::Shared;
 use std::alloc::Global;
 
 /// A file of the build, and the step that gives its bytes. `part` is 1 for the second of two texts,
@@ -20,15 +21,15 @@ pub struct Output {
     pub part: u8,
 }
 
-/// What a step gives, by the kind of its key. `PlatformPcds` gives `Values` too.
+/// What a step gives, by the kind of its key. What many steps read is shared. `PlatformPcds` gives `Values` too.
 #[derive(Debug, Drop)]
 pub enum Out {
-    Dec(DecDoc),
+    Dec(Shared<DecDoc>),
     Inf(InfDoc),
-    Platform(PlatformDoc),
-    Flash(FlashDoc),
+    Platform(Shared<PlatformDoc>),
+    Flash(Shared<FlashDoc>),
     Choice(Choice),
-    Values(Values),
+    Values(Shared<Values>),
     Code(Option<Texts>),
     Depex(Text),
     File(FileImage),

@@ -1,6 +1,6 @@
 use Rattle.std.proofs.Common.{◌≡◌, List, map, drop}
 use Rattle.build_base.specs.First.{with_front}
-use Rattle.build_texts.specs.Groups.{Grouped}
+use Rattle.pcd_resolve.specs.Groups.{Grouped}
 use Rattle.build_texts.specs.Named.{Declared, all_of, declared_name, inf_guids}
 use Rattle.build_texts.specs.Views.{declared_view, seen}
 use Rattle.build_texts.proofs.names.infs_guids.Given as goal

@@ -1,7 +1,7 @@
 use Rattle.std.proofs.Common.{◌∙◌}
 use Rattle.build_texts.specs.Named.{declared_name}
 use Rattle.build_texts.specs.Views.{declared_view}
-use Rattle.build_texts.proofs.GroupLemmas.{grouped_more}
+use Rattle.pcd_resolve.proofs.GroupLemmas.{grouped_more}
 use Rattle.build_texts.proofs.packages.add_line.Goals as goal
 
 pub returns : goal.returns

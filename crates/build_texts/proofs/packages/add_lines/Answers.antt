@@ -1,6 +1,6 @@
 use Rattle.build_texts.specs.Named.{declared_name, line_from}
 use Rattle.build_texts.specs.Views.{declared_view}
-use Rattle.build_texts.proofs.GroupLemmas.{grown_by_one}
+use Rattle.pcd_resolve.proofs.GroupLemmas.{grown_by_one}
 use Rattle.build_texts.proofs.packages.add_lines.Goals as goal
 
 pub loop-line-preserved : goal.loop-line-preserved

@@ -1,7 +1,7 @@
 use Rattle.std.proofs.Common.{map}
 use Rattle.build_texts.specs.Named.{declared_name, line_from}
 use Rattle.build_texts.specs.Views.{declared_view}
-use Rattle.build_texts.proofs.GroupLemmas.{grown_by_some}
+use Rattle.pcd_resolve.proofs.GroupLemmas.{grown_by_some}
 use Rattle.build_texts.proofs.packages.add_packages.Goals as goal
 
 pub loop-held-preserved : goal.loop-held-preserved

@@ -1,6 +1,6 @@
 use Rattle.std.proofs.Common.{◌++◌, List, map, take}
 use Rattle.std.specs.List.{flat_map}
-use Rattle.build_texts.specs.Groups.{Grouped}
+use Rattle.pcd_resolve.specs.Groups.{Grouped}
 use Rattle.build_texts.specs.Named.{Declared, declared_name, line_from}
 use Rattle.build_texts.specs.Views.{declared_view}
 use Rattle.build_texts.proofs.packages.add_packages.Given as goal

@@ -1,7 +1,7 @@
 use Rattle.std.proofs.Common.{[]}
 use Rattle.build_texts.specs.Named.{declared_name, package_lines}
 use Rattle.build_texts.specs.Views.{declared_view}
-use Rattle.build_texts.proofs.GroupLemmas.{grouped_none}
+use Rattle.pcd_resolve.proofs.GroupLemmas.{grouped_none}
 use Rattle.build_texts.proofs.packages.lines_by_name.Goals as goal
 
 pub returns : goal.returns

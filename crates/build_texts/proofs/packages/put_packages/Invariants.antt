@@ -1,8 +1,0 @@
-use Rattle.std.proofs.Common.{◌≡◌, ◌++◌, map, take}
-use Rattle.std.specs.Prelude.{filter}
-use Rattle.build_texts.specs.Words.{serves}
-use Rattle.build_texts.proofs.packages.put_packages.Given as goal
-
-abbrev pub invariant-loop-named : goal.invariant-loop-named
-invariant-loop-named l =
-    map (λ p. p.now) l.paths.items ≡ map (λ p. p.now) l.fn.paths.items ++ map (λ n. n.name) (filter (λ n. serves n.arch l.arch) (take l.named-index l.names))
