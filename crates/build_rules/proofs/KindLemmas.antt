@@ -44,9 +44,13 @@ use Rattle.image_steps.specs.Asks.{sections_below, regions_below, are_few}
 use Rattle.image_steps.specs.Files.{file_given}
 use Rattle.image_steps.specs.Volumes.{volume_given}
 use Rattle.image_steps.specs.Devices.{device_given}
-use Rattle.build_rules.specs.AllTree.{folder_in, modules_in}
-use Rattle.build_rules.specs.ModuleTrees.{round_stages, choice_round, choice_after, most_rounds, modules_parts, setting_in, values_in, module_parts, commands_in}
+use Rattle.build_rules.specs.AllTree.{folder_in, modules_in, report_in}
+use Rattle.build_rules.specs.ModuleTrees.{round_stages, choice_round, choice_after, most_rounds, modules_parts, setting_in, module_parts, commands_in}
 use Rattle.build_rules.specs.Outputs.{outputs_of}
+use Rattle.build_rules.specs.TextTrees.{told_modules_in, heading_in}
+use Rattle.text_steps.specs.Code.{code_given}
+use Rattle.text_steps.specs.Depex.{depex_given}
+use Rattle.text_steps.specs.Report.{values_at, report_given}
 use Rattle.build_rules.specs.Trees.{EdkStages, given_as, document_stages, root_in, macros_in, platform_in, flash_root, flash_from}
 use Rattle.build_rules.specs.ImageTrees.{flash_in, volume_at, item_at, device_at, item_stages}
 use Rattle.build_rules.specs.Rules.{edk, stages_of}
@@ -116,11 +120,14 @@ of_kind key.PlatformPcds =
     attempt_kind 5 (setting_in platform given) _ (λ setting. bind_kind 5 (modules_parts setting.modules) _ (λ modules.
     given_kind 5 out.Values (λ x. refl) (pcds_given platform flash setting modules))))))
 of_kind (key.Values m) =
-    λ given. attempt_kind 5 (platform_in given 0) _ (λ platform. attempt_kind 5 (flash_in given 1) _ (λ flash. attempt_kind 5 (values_in given 2) _ (λ dynamic.
+    λ given. attempt_kind 5 (platform_in given 0) _ (λ platform. attempt_kind 5 (flash_in given 1) _ (λ flash. attempt_kind 5 (values_at given 2) _ (λ dynamic.
     attempt_kind 5 (choice_at given 3) _ (λ choice. attempt_kind 5 (commands_in platform given 4) _ (λ commands. bind_kind 5 (module_parts m choice) _ (λ parts.
     given_kind 5 out.Values (λ x. refl) (values_given platform flash commands dynamic parts)))))))
-of_kind (key.Code m) = tt
-of_kind (key.Depex m) = tt
+of_kind (key.Code m) =
+    λ given. attempt_kind 6 (platform_in given 0) _ (λ platform. attempt_kind 6 (choice_at given 1) _ (λ choice. attempt_kind 6 (values_at given 2) _ (λ values.
+    bind_kind 6 (module_parts m choice) _ (λ parts. given_kind 6 out.Code (λ x. refl) (code_given platform choice values parts)))))
+of_kind (key.Depex m) =
+    λ given. attempt_kind 7 (choice_at given 0) _ (λ choice. bind_kind 7 (module_parts m choice) _ (λ parts. given_kind 7 out.Depex (λ x. refl) (depex_given choice parts)))
 of_kind (key.File v i) =
     λ given. attempt_kind 8 (flash_in given 0) _ (λ flash. attempt_kind 8 (volume_at flash v) _ (λ plan. attempt_kind 8 (item_at flash plan i) _ (λ it. item_kind v flash plan.head it)))
 of_kind (key.Volume v) =
@@ -129,10 +136,13 @@ of_kind (key.Volume v) =
 of_kind (key.Device d) =
     λ given. attempt_kind 10 (flash_in given 0) _ (λ flash. attempt_kind 10 (device_at flash d) _ (λ plan.
     when_kind 10 (regions_below plan.regions) _ (λ parts. given_kind 10 out.Device (λ x. refl) (device_given plan parts))))
-of_kind key.Report = tt
+of_kind key.Report =
+    λ given. attempt_kind 11 (platform_in given 0) _ (λ platform. attempt_kind 11 (told_modules_in platform given) _ (λ modules. attempt_kind 11 (heading_in platform given) _ (λ heading.
+    λ told. given_kind 11 out.Report (λ x. refl) (report_given platform heading modules told))))
 of_kind key.All =
     λ given. attempt_kind 12 (platform_in given 0) _ (λ platform. attempt_kind 12 (flash_in given 1) _ (λ flash. attempt_kind 12 (folder_in platform given) _ (λ folder.
-    attempt_kind 12 (modules_in platform given) _ (λ modules. when_kind 12 (are_few (length flash.volumes) && are_few (length flash.devices)) _ (λ images. given_kind 12 out.All (λ x. refl) (outputs_of folder flash))))))
+    attempt_kind 12 (modules_in platform given) _ (λ modules. attempt_kind 12 (report_in given) _ (λ report.
+    when_kind 12 (are_few (length flash.volumes) && are_few (length flash.devices)) _ (λ files. given_kind 12 out.All (λ x. refl) (outputs_of folder modules flash report files)))))))
 
 run_kind : (n : ℕ) (o : Ask Key → Answer Out) (s : EdkStages) → AreOfKind n s → IfOk (run fits o s) (λ given. kind_of given ≡ n)
 run_kind n o (end (Ok given)) h = h

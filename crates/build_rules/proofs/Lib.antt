@@ -6,3 +6,4 @@ mod DescriptionLemmas
 mod ToldLemmas
 mod ChoiceValues
 mod PcdValues
+mod TextLemmas

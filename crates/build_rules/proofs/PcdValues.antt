@@ -79,7 +79,7 @@ modules_run w e modules =
     bind_is w (described_stages held) _ (all_ok (map (described_value w) held)) (λ found. all_ok (map (parts_value w) found)) (described_run w held) (λ found. parts_run w found))
 
 -- what ends with what a value makes
-made_run : {A B : Type 0} (w : World) (variant : B → Out) (s : Stages Key Out A) (r : Result A Fault) (f : A → Result B Fault) → comes w s ≡ r → comes w (bind s (λ x. end (given_as variant (f x)))) ≡ given_as variant (and_then r f)
+pub made_run : {A B : Type 0} (w : World) (variant : B → Out) (s : Stages Key Out A) (r : Result A Fault) (f : A → Result B Fault) → comes w s ≡ r → comes w (bind s (λ x. end (given_as variant (f x)))) ≡ given_as variant (and_then r f)
 made_run {A} {B} w variant s r f e = bind_is w s (λ x. end (given_as variant (f x))) r (λ x. given_as variant (f x)) e (λ x. refl) ∙ given_then variant r f
 
 -- by what the steps of the platform and the flash description gave
@@ -119,7 +119,7 @@ pcds_is w e = value_is key_cmp edk edk_is_bounded w key.PlatformPcds ∙ ap outc
 
 -- the values of a module
 
-module_run : (w : World) (m : Module) (choice : Choice) → comes w (module_parts m choice) ≡ module_value w m choice
+pub module_run : (w : World) (m : Module) (choice : Choice) → comes w (module_parts m choice) ≡ module_value w m choice
 unfolding module_value
 module_run w m choice =
     bind_is w (one_described (linked_module m choice)) _ (described_value w (linked_module m choice)) (parts_value w)

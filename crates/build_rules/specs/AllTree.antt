@@ -1,6 +1,6 @@
 -- What the whole build asks, stage by stage, and what comes of the answers; the rule is this
--- project's own. Of the report nothing is asked yet, and no step makes texts of modules.
-use Rattle.std.specs.Prelude.{ℕ, ◌+◌, ◌&&◌, List, [], ◌∷◌, ◌++◌, length, Result}
+-- project's own.
+use Rattle.std.specs.Prelude.{ℕ, ◌+◌, ◌&&◌, List, [], ◌∷◌, ◌++◌, length, Option, Some, None, Result}
 use Rattle.build_base.specs.First.{and_then}
 use Rattle.build_base.specs.declared.fault.Fault.{Fault}
 use Rattle.step_engine.specs.declared.talk.Ask.{Ask}
@@ -16,9 +16,9 @@ use Rattle.step_pack.specs.declared.key.Key.TheVariants as key
 use Rattle.step_pack.specs.declared.out.Out.{Out}
 use Rattle.step_pack.specs.declared.out.Out.TheVariants as out
 use Rattle.image_steps.specs.Asks.{are_few}
-use Rattle.module_steps.specs.Asks.{module_asks}
 use Rattle.module_steps.specs.Settings.{built_modules}
-use Rattle.build_rules.specs.Trees.{EdkStages, given_as, platform_in}
+use Rattle.text_steps.specs.Asks.{build_module_asks}
+use Rattle.build_rules.specs.Trees.{EdkStages, given_as, platform_in, flash_named}
 use Rattle.build_rules.specs.ImageTrees.{flash_in}
 use Rattle.build_rules.specs.Outputs.{output_folder, outputs_of}
 
@@ -47,23 +47,35 @@ folder_in platform given =
 abbrev pub modules_in : PlatformDoc → List (Answer Out) → Result (List Module) Fault
 modules_in platform given = and_then (field_at given 2) (built_modules platform)
 
--- the rows of dynamic PCDs, each module, and all images
-abbrev pub build_asks : List Module → FlashDoc → List (Ask Key)
-build_asks modules flash =
-    ask.Part key.PlatformPcds ∷ module_asks modules ++ image_asks flash
+-- the file of the report, if one is wanted
+abbrev pub report_named : List ℕ → Result (Option (List ℕ)) Fault
+report_named text = flash_named None text
 
--- modules and the images of a flash description, and then the files of the build
-abbrev pub images_stages : List ℕ → List Module → FlashDoc → EdkStages
-images_stages folder modules flash =
+abbrev pub report_in : List (Answer Out) → Result (Option (List ℕ)) Fault
+report_in given = and_then (field_at given 7) report_named
+
+abbrev pub report_part : Option (List ℕ) → List (Ask Key)
+report_part None = []
+report_part (Some path) = ask.Part key.Report ∷ []
+
+-- the rows of dynamic PCDs, each module, all images, and last the report
+abbrev pub build_asks : List Module → FlashDoc → Option (List ℕ) → List (Ask Key)
+build_asks modules flash report =
+    ask.Part key.PlatformPcds ∷ build_module_asks modules ++ image_asks flash ++ report_part report
+
+-- modules, the images of a flash description and the report, and then the files of the build
+abbrev pub files_stages : List ℕ → List Module → FlashDoc → Option (List ℕ) → EdkStages
+files_stages folder modules flash report =
     when (are_few (length flash.volumes) && are_few (length flash.devices))
-    (stage (build_asks modules flash) (λ given. end (given_as out.All (outputs_of folder flash))))
+    (stage (build_asks modules flash report) (λ given. end (given_as out.All (outputs_of folder modules flash report given))))
 
 abbrev pub all_given : List (Answer Out) → EdkStages
 all_given given =
     attempt (platform_in given 0) (λ platform.
     attempt (flash_in given 1) (λ flash.
     attempt (folder_in platform given) (λ folder.
-    attempt (modules_in platform given) (λ modules. images_stages folder modules flash))))
+    attempt (modules_in platform given) (λ modules.
+    attempt (report_in given) (λ report. files_stages folder modules flash report)))))
 
 abbrev pub all_stages : EdkStages
 all_stages = stage all_asks all_given

@@ -24,10 +24,10 @@ use Rattle.step_pack.specs.declared.key.Key.{Key}
 use Rattle.step_pack.specs.declared.key.Key.TheVariants as key
 use Rattle.std.proofs.Common.{Option, Some, None}
 use Rattle.image_steps.specs.Asks.{source_file, source_volume, section_files, section_volumes, body_asks, source_below, sections_below, is_apriori, files_where, kind_asks, region_asks, kind_below, regions_below, are_few}
-use Rattle.module_steps.specs.Asks.{one_module, module_asks}
+use Rattle.text_steps.specs.Asks.{built_asks, build_module_asks}
 use Rattle.build_rules.specs.Trees.{platform_in}
 use Rattle.build_rules.specs.ImageTrees.{flash_in, volume_at, item_at, device_at, item_stages, file_stages, plan_stages, volume_stages, device_stages}
-use Rattle.build_rules.specs.AllTree.{steps_from, folder_in, modules_in, image_asks, images_stages, all_stages}
+use Rattle.build_rules.specs.AllTree.{steps_from, folder_in, modules_in, report_in, image_asks, report_part, files_stages, all_stages}
 use Rattle.build_rules.specs.Rules.{rank_of}
 use Rattle.build_rules.specs.Fits.{fits}
 
@@ -158,11 +158,12 @@ devices_asked n [] = All-nil (IsLower rank_of 0x400000002)
 devices_asked n (plan ∷ plans) =
     All-cons (IsLower rank_of 0x400000002) (ask.Part (key.Device n)) (steps_from key.Device (n + 1) plans) (omega arith) (devices_asked (n + 1) plans)
 
-modules_asked : (modules : List Module) → All (IsLower rank_of 0x400000002) (module_asks modules)
+modules_asked : (modules : List Module) → All (IsLower rank_of 0x400000002) (build_module_asks modules)
 modules_asked [] = All-nil (IsLower rank_of 0x400000002)
 modules_asked (m ∷ modules) =
-    All-append (IsLower rank_of 0x400000002) (one_module m) (module_asks modules)
-    (all_two (IsLower rank_of 0x400000002) (ask.Part (key.Inf m.inf)) (ask.Part (key.Values m)) (omega arith) (omega arith))
+    All-append (IsLower rank_of 0x400000002) (built_asks m) (build_module_asks modules)
+    (All-cons (IsLower rank_of 0x400000002) (ask.Part (key.Inf m.inf)) (ask.Part (key.Code m) ∷ ask.Part (key.Depex m) ∷ []) (omega arith)
+    (all_two (IsLower rank_of 0x400000002) (ask.Part (key.Code m)) (ask.Part (key.Depex m)) (omega arith) (omega arith)))
     (modules_asked modules)
 
 images_asked : (flash : FlashDoc) → (are_few (length flash.volumes) && are_few (length flash.devices)) ≡ true → All (IsLower rank_of 0x400000002) (image_asks flash)
@@ -172,11 +173,17 @@ images_asked flash e =
     (let few : length flash.volumes < 65536 = ltb-true (length flash.volumes) 65536 (both_hold (are_few (length flash.volumes)) (are_few (length flash.devices)) e).0 in omega (arith, few)))
     (devices_asked 0 flash.devices)
 
-images_lower : (folder : List ℕ) (modules : List Module) (flash : FlashDoc) → AreLower rank_of 0x400000002 (images_stages folder modules flash)
-images_lower folder modules flash =
+report_asked : (report : Option (List ℕ)) → All (IsLower rank_of 0x400000002) (report_part report)
+report_asked None = All-nil (IsLower rank_of 0x400000002)
+report_asked (Some path) = all_one (IsLower rank_of 0x400000002) (ask.Part key.Report) (omega arith)
+
+build_lower : (folder : List ℕ) (modules : List Module) (flash : FlashDoc) (report : Option (List ℕ)) → AreLower rank_of 0x400000002 (files_stages folder modules flash report)
+build_lower folder modules flash report =
     when_lower rank_of 0x400000002 (are_few (length flash.volumes) && are_few (length flash.devices)) _ (λ e. (
-      All-cons (IsLower rank_of 0x400000002) (ask.Part key.PlatformPcds) (module_asks modules ++ image_asks flash) (omega arith)
-          (All-append (IsLower rank_of 0x400000002) (module_asks modules) (image_asks flash) (modules_asked modules) (images_asked flash e)),
+      All-cons (IsLower rank_of 0x400000002) (ask.Part key.PlatformPcds) (build_module_asks modules ++ image_asks flash ++ report_part report) (omega arith)
+          (All-append (IsLower rank_of 0x400000002) (build_module_asks modules ++ image_asks flash) (report_part report)
+          (All-append (IsLower rank_of 0x400000002) (build_module_asks modules) (image_asks flash) (modules_asked modules) (images_asked flash e))
+          (report_asked report)),
       λ given. tt,
     ))
 
@@ -194,7 +201,7 @@ all_lower = (
       (all_two (IsLower rank_of 0x400000002) (ask.Part key.Platform) (ask.Part key.Flash) (omega arith) (omega arith)) (fields_lower 0x400000002),
   λ given. attempt_lower rank_of 0x400000002 (platform_in given 0) _ (λ platform. attempt_lower rank_of 0x400000002 (flash_in given 1) _ (λ flash.
       attempt_lower rank_of 0x400000002 (folder_in platform given) _ (λ folder. attempt_lower rank_of 0x400000002 (modules_in platform given) _ (λ modules.
-      images_lower folder modules flash)))),
+      attempt_lower rank_of 0x400000002 (report_in given) _ (λ report. build_lower folder modules flash report))))),
 )
 
 pub all_within : IsWithin fits 2 all_stages
@@ -202,5 +209,6 @@ all_within = (
   omega arith,
   λ given fit. attempt_within fits 1 (platform_in given 0) _ (λ platform. attempt_within fits 1 (flash_in given 1) _ (λ flash.
       attempt_within fits 1 (folder_in platform given) _ (λ folder. attempt_within fits 1 (modules_in platform given) _ (λ modules.
-      when_within fits 1 (are_few (length flash.volumes) && are_few (length flash.devices)) _ (omega arith, λ images fit_too. tt))))),
+      attempt_within fits 1 (report_in given) _ (λ report.
+      when_within fits 1 (are_few (length flash.volumes) && are_few (length flash.devices)) _ (omega arith, λ files fit_too. tt)))))),
 )

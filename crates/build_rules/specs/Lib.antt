@@ -3,11 +3,14 @@ pub mod Fits
 pub mod Trees
 pub mod ImageTrees
 pub mod ModuleTrees
+pub mod TextTrees
 pub mod Outputs
 pub mod AllTree
 pub mod Rules
 pub mod ImageBounds
 pub mod ModuleBounds
+pub mod TextBounds
 pub mod RulesBounds
 pub mod Values
 pub mod ModuleValues
+pub mod TextValues

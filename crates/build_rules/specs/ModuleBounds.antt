@@ -20,9 +20,10 @@ use Rattle.module_steps.specs.Asks.{linked_asks, package_asks}
 use Rattle.module_steps.specs.Choices.{own_inf}
 use Rattle.module_steps.specs.Parts.{choice_at, linked_module}
 use Rattle.module_steps.specs.Skus.{skus_end}
+use Rattle.text_steps.specs.Report.{values_at}
 use Rattle.build_rules.specs.Trees.{EdkStages, platform_in}
 use Rattle.build_rules.specs.ImageTrees.{flash_in}
-use Rattle.build_rules.specs.ModuleTrees.{round_stages, choice_round, choice_after, most_rounds, choice_given, choice_stages, linked_stages, described_stages, parts_stages, modules_parts, setting_in, pcds_from, pcds_stages, values_in, one_described, one_parts, module_parts, values_from, commands_in, values_stages}
+use Rattle.build_rules.specs.ModuleTrees.{round_stages, choice_round, choice_after, most_rounds, choice_given, choice_stages, linked_stages, described_stages, parts_stages, modules_parts, setting_in, pcds_from, pcds_stages, one_described, one_parts, module_parts, values_from, commands_in, values_stages}
 use Rattle.build_rules.specs.Rules.{rank_of}
 use Rattle.build_rules.specs.Fits.{fits}
 
@@ -128,12 +129,12 @@ pcds_within = (
 
 -- the values of a module
 
-module_lower : (bound : ℕ) → 1 < bound → (m : Module) (choice : Choice) → AreLower rank_of bound (module_parts m choice)
+pub module_lower : (bound : ℕ) → 1 < bound → (m : Module) (choice : Choice) → AreLower rank_of bound (module_parts m choice)
 module_lower bound h m choice =
     bind_lower rank_of bound (one_described (linked_module m choice)) _ (parts_lower bound key.Inf (λ path. h) (linked_module m choice).paths, λ given. tt) (λ described.
     (parts_lower bound key.Dec (λ path. h) described.packages, λ given. tt))
 
-module_within : (m : Module) (choice : Choice) → IsWithin fits 2 (module_parts m choice)
+pub module_within : (m : Module) (choice : Choice) → IsWithin fits 2 (module_parts m choice)
 module_within m choice =
     bind_within fits 1 1 (one_described (linked_module m choice)) _ (omega arith, λ given fit. tt) (λ described. (omega arith, λ given fit. tt))
 
@@ -144,7 +145,7 @@ values_lower m = (
       (All-cons (IsLower rank_of 6) (ask.Part key.PlatformPcds) (ask.Part (key.Choice m) ∷ ask.Field 6 ∷ []) (omega arith)
       (all_two (IsLower rank_of 6) (ask.Part (key.Choice m)) (ask.Field 6) (omega arith) tt))),
   λ given. attempt_lower rank_of 6 (platform_in given 0) _ (λ platform. attempt_lower rank_of 6 (flash_in given 1) _ (λ flash.
-      attempt_lower rank_of 6 (values_in given 2) _ (λ dynamic. attempt_lower rank_of 6 (choice_at given 3) _ (λ choice.
+      attempt_lower rank_of 6 (values_at given 2) _ (λ dynamic. attempt_lower rank_of 6 (choice_at given 3) _ (λ choice.
       attempt_lower rank_of 6 (commands_in platform given 4) _ (λ commands.
       bind_lower rank_of 6 (module_parts m choice) _ (module_lower 6 (omega arith) m choice) (λ parts. tt)))))),
 )
@@ -153,7 +154,7 @@ pub values_within : (m : Module) → IsWithin fits 3 (values_stages m)
 values_within m = (
   omega arith,
   λ given fit. attempt_within fits 2 (platform_in given 0) _ (λ platform. attempt_within fits 2 (flash_in given 1) _ (λ flash.
-      attempt_within fits 2 (values_in given 2) _ (λ dynamic. attempt_within fits 2 (choice_at given 3) _ (λ choice.
+      attempt_within fits 2 (values_at given 2) _ (λ dynamic. attempt_within fits 2 (choice_at given 3) _ (λ choice.
       attempt_within fits 2 (commands_in platform given 4) _ (λ commands.
       bind_within fits 2 0 (module_parts m choice) _ (module_within m choice) (λ parts. tt)))))),
 )

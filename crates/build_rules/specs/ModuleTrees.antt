@@ -1,6 +1,6 @@
 -- What the steps of libraries and PCDs ask, stage by stage, and what comes of the answers; the rule is
 -- this project's own. What they give is told by the EDK II DSC, INF, DEC and Build specifications.
-use Rattle.std.specs.Prelude.{ℕ, zero, suc, List, [], ◌∷◌, Result, Ok, Err}
+use Rattle.std.specs.Prelude.{ℕ, zero, suc, List, [], ◌∷◌, Result, Err}
 use Rattle.build_base.specs.First.{and_then}
 use Rattle.build_base.specs.declared.fault.Fault.{Fault}
 use Rattle.step_engine.specs.declared.talk.Ask.{Ask}
@@ -17,7 +17,7 @@ use Rattle.doc_types.specs.declared.values.Values.{Values}
 use Rattle.library_choice.specs.Choices.{choice}
 use Rattle.library_choice.specs.Closure.{wanted}
 use Rattle.build_stages.specs.Stages.{Stages, end, stage, bind, misfit}
-use Rattle.build_stages.specs.Writing.{attempt, when, part_at, field_at}
+use Rattle.build_stages.specs.Writing.{attempt, when, field_at}
 use Rattle.step_pack.specs.declared.key.Key.{Key}
 use Rattle.step_pack.specs.declared.key.Key.TheVariants as key
 use Rattle.step_pack.specs.declared.out.Out.{Out}
@@ -31,6 +31,7 @@ use Rattle.module_steps.specs.Parts.{choice_at, linked_module, linked_from, desc
 use Rattle.module_steps.specs.Pcds.{pcds_given, values_given}
 use Rattle.module_steps.specs.Settings.{commands_of, setting_of}
 use Rattle.module_steps.specs.Skus.{skus_end}
+use Rattle.text_steps.specs.Report.{values_at}
 use Rattle.build_rules.specs.Trees.{EdkStages, given_as, platform_in}
 use Rattle.build_rules.specs.ImageTrees.{flash_in}
 
@@ -117,13 +118,6 @@ pcds_stages = stage pcds_asks pcds_first
 
 -- The values of a module.
 
-abbrev pub values_of_out : Out → Result Values Fault
-values_of_out (out.Values values) = Ok values
-values_of_out _ = Err misfit
-
-abbrev pub values_in : List (Answer Out) → ℕ → Result Values Fault
-values_in given i = and_then (part_at given i) values_of_out
-
 -- the platform, the flash description, the rows of dynamic PCDs, the module's libraries, and the values
 -- that the words give
 abbrev pub values_asks : Module → List (Ask Key)
@@ -155,7 +149,7 @@ abbrev pub values_first : Module → List (Answer Out) → EdkStages
 values_first m given =
     attempt (platform_in given 0) (λ platform.
     attempt (flash_in given 1) (λ flash.
-    attempt (values_in given 2) (λ dynamic.
+    attempt (values_at given 2) (λ dynamic.
     attempt (choice_at given 3) (λ choice.
     attempt (commands_in platform given 4) (λ commands. values_from m platform flash dynamic choice commands)))))
 

@@ -18,7 +18,8 @@ use Rattle.build_rules.specs.Fits.{fits}
 use Rattle.build_rules.specs.AllTree.{all_stages}
 use Rattle.build_rules.specs.ImageTrees.{file_stages, volume_stages, device_stages}
 use Rattle.build_rules.specs.ModuleTrees.{most_rounds, choice_stages, pcds_stages, values_stages}
-use Rattle.build_rules.specs.Trees.{EdkStages, dec_stages, inf_stages, platform_stages, flash_stages, unbuilt}
+use Rattle.build_rules.specs.TextTrees.{code_stages, depex_stages, report_stages}
+use Rattle.build_rules.specs.Trees.{EdkStages, dec_stages, inf_stages, platform_stages, flash_stages}
 
 abbrev pub stages_of : Key → EdkStages
 stages_of (key.Dec path) = dec_stages path
@@ -28,12 +29,12 @@ stages_of key.Flash = flash_stages
 stages_of (key.Choice m) = choice_stages m
 stages_of key.PlatformPcds = pcds_stages
 stages_of (key.Values m) = values_stages m
-stages_of (key.Code m) = unbuilt
-stages_of (key.Depex m) = unbuilt
+stages_of (key.Code m) = code_stages m
+stages_of (key.Depex m) = depex_stages m
 stages_of (key.File v i) = file_stages v i
 stages_of (key.Volume v) = volume_stages v
 stages_of (key.Device d) = device_stages d
-stages_of key.Report = unbuilt
+stages_of key.Report = report_stages
 stages_of key.All = all_stages
 
 -- a volume's number is below 2^32, so that a device's rank is above those of all volumes
@@ -62,12 +63,12 @@ most_of key.Flash = 1 + most_files
 most_of (key.Choice m) = 1 + most_rounds
 most_of key.PlatformPcds = 4
 most_of (key.Values m) = 3
-most_of (key.Code m) = 0
-most_of (key.Depex m) = 0
+most_of (key.Code m) = 3
+most_of (key.Depex m) = 3
 most_of (key.File v i) = 2
 most_of (key.Volume v) = 2
 most_of (key.Device d) = 2
-most_of key.Report = 0
+most_of key.Report = 2
 most_of key.All = 2
 
 abbrev pub is_empty : List ℕ → Bool
@@ -76,13 +77,13 @@ is_empty text = length text == 0
 abbrev pub is_path_or_empty : List ℕ → Bool
 is_path_or_empty text = if is_empty text then true else is_some (path_field text)
 
--- The field 0 of a job names a file, and so does 7 where it isn't empty. Images and a report can't be
--- asked for yet.
+-- The field 0 of a job names a file, and so do 7 and 9 where they aren't empty. Images can't be asked
+-- for yet.
 abbrev pub is_job : List (List ℕ) → Bool
 is_job fields =
     is_some (path_field (slice_index_or fields 0 []))
     && (is_path_or_empty (slice_index_or fields 7 [])
-    && (is_empty (slice_index_or fields 8 []) && is_empty (slice_index_or fields 9 [])))
+    && (is_empty (slice_index_or fields 8 []) && is_path_or_empty (slice_index_or fields 9 [])))
 
 abbrev pub edk : Staged Key Out
 edk = record { stages = stages_of; rank = rank_of; most = most_of; fits = fits; is_job = is_job }

@@ -22,6 +22,7 @@ use Rattle.doc_types.specs.declared.platform.PlatformDoc.{PlatformDoc}
 use Rattle.flash_document.specs.Flash.{flash_of}
 use Rattle.build_rules.specs.ImageBounds.{file_lower, volume_lower, device_lower, all_lower, file_within, volume_within, device_within, all_within}
 use Rattle.build_rules.specs.ModuleBounds.{choice_lower, pcds_lower, values_lower, choice_within, pcds_within, values_within}
+use Rattle.build_rules.specs.TextBounds.{code_lower, depex_lower, report_lower, code_within, depex_within, report_within}
 use Rattle.build_rules.specs.Trees.{given_as, document_stages, root_in, macros_in, platform_given, platform_in, flash_root, flash_from, flash_given}
 use Rattle.build_rules.specs.Rules.{stages_of, rank_of, most_of, edk}
 
@@ -71,12 +72,12 @@ lower key.Flash = (
 lower (key.Choice m) = choice_lower m
 lower key.PlatformPcds = pcds_lower
 lower (key.Values m) = values_lower m
-lower (key.Code m) = tt
-lower (key.Depex m) = tt
+lower (key.Code m) = code_lower m
+lower (key.Depex m) = depex_lower m
 lower (key.File v i) = file_lower v i
 lower (key.Volume v) = volume_lower v
 lower (key.Device d) = device_lower d
-lower key.Report = tt
+lower key.Report = report_lower
 lower key.All = all_lower
 
 within : (k : Key) → IsWithin fits (most_of k) (stages_of k)
@@ -97,12 +98,12 @@ within key.Flash = (
 within (key.Choice m) = choice_within m
 within key.PlatformPcds = pcds_within
 within (key.Values m) = values_within m
-within (key.Code m) = tt
-within (key.Depex m) = tt
+within (key.Code m) = code_within m
+within (key.Depex m) = depex_within m
 within (key.File v i) = file_within v i
 within (key.Volume v) = volume_within v
 within (key.Device d) = device_within d
-within key.Report = tt
+within key.Report = report_within
 within key.All = all_within
 
 pub edk_is_bounded : AreBounded edk

@@ -114,7 +114,3 @@ flash_given given =
 
 abbrev pub flash_stages : EdkStages
 flash_stages = stage flash_asks flash_given
-
--- the step of a kind that isn't built yet
-abbrev pub unbuilt : EdkStages
-unbuilt = end (Err misfit)

@@ -123,19 +123,21 @@ regions_value w plan =
 unfoldable pub device_value : World → ℕ → Result (List ℕ) Fault
 device_value w d = and_then (flash_value w) (λ flash. and_then (device_at flash d) (regions_value w))
 
-abbrev pub images_value : World → List ℕ → List Module → FlashDoc → Result (List Output) Fault
-images_value w folder modules flash =
+abbrev pub files_value : World → List ℕ → List Module → FlashDoc → Option (List ℕ) → Result (List Output) Fault
+files_value w folder modules flash report =
     if_shaped (are_few (length flash.volumes) && are_few (length flash.devices))
-    (by_answers w (build_asks modules flash) (λ given. outputs_of folder flash))
+    (by_answers w (build_asks modules flash report) (outputs_of folder modules flash report))
 
--- The files of the build: each volume's in order, and then each device's. The first fault is one of the
--- rows of dynamic PCDs, of a module's description or values, of a volume or of a device.
+-- The files of the build: each module's, each volume's, each device's, and last the report. The first
+-- fault is one of the rows of dynamic PCDs; module by module of its description, its texts or its
+-- expression; of a volume, of a device, or of the report.
 unfoldable pub all_value : World → Result (List Output) Fault
 all_value w =
     and_then (platform_value w) (λ platform.
     and_then (flash_value w) (λ flash.
     and_then (output_folder platform.output (field w 2) (field w 3)) (λ folder.
-    and_then (built_modules platform (field w 1)) (λ modules. images_value w folder modules flash))))
+    and_then (built_modules platform (field w 1)) (λ modules.
+    files_value w folder modules flash (flash_file None (field w 9))))))
 
 -- the step of a document gives its value
 abbrev pub GivesPackage : World → List ℕ → Type 0

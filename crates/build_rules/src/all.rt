@@ -2,9 +2,9 @@
 ghost use Rattle.std.specs.Prelude.{◌≡◌, ◌++◌, ◌∷◌, [], ◌<◌, length, IfOk, OnOk};
 ghost use Rattle.build_stages.specs.Gives.{GivesIn};
 ghost use Rattle.build_rules.specs.Rules.{Comes};
-ghost use Rattle.build_rules.specs.AllTree.{steps_from, build_asks, folder_in, modules_in, images_stages, all_stages};
+ghost use Rattle.build_rules.specs.AllTree.{steps_from, report_part, build_asks, folder_in, modules_in, report_in, files_stages, all_stages};
 
-use crate::documents::platform_in;
+use crate::documents::{flash_named, platform_in};
 use crate::images::flash_in;
 use crate::outputs::{output_folder, outputs_of};
 use crate::shapes::EdkRules;
@@ -15,10 +15,11 @@ use doc_types::flash::{DevicePlan, FlashDoc};
 use doc_types::platform::PlatformDoc;
 use doc_types::volume::VolumePlan;
 use image_steps::are_few;
-use module_steps::{built_modules, push_modules};
+use module_steps::built_modules;
 use std::alloc::Global;
 use step_engine::Ask;
 use step_pack::{Key, Out};
+use text_steps::push_module_asks;
 
 // Appends a step for each volume.
 #[tactic(auto, unfolding(crate::specs::AllTree::steps_from))]
@@ -52,21 +53,33 @@ fn push_devices(asks: &mut Rows<Ask<Key>>, plans: &[DevicePlan]) -> Result<(), W
     Ok(())
 }
 
-// The rows of dynamic PCDs, each module, all volumes by their numbers, and then all devices.
+// Appends the step of the report, where one is wanted.
+fn push_report(asks: &mut Rows<Ask<Key>>, report: &Option<Path>) -> Result<(), WantOfMemory>
+    ensures { OnOk result (asks.new ≡ asks.old ++ report_part report.now) }
+{
+    match report {
+        Some(_path) => asks.push(Ask::Part(Key::Report)),
+        None => Ok(()),
+    }
+}
+
+// The rows of dynamic PCDs, each module, all volumes by their numbers, all devices, and then the report.
 fn build_asks(
     alloc: Global,
     modules: &[Module],
     flash: &FlashDoc,
+    report: &Option<Path>,
 ) -> Result<Rows<Ask<Key>>, WantOfMemory>
     requires volumes { length flash.now.volumes < 65536 }
     requires devices { length flash.now.devices < 65536 }
-    ensures { IfOk result (λ asks. asks ≡ build_asks modules.now flash.now) }
+    ensures { IfOk result (λ asks. asks ≡ build_asks modules.now flash.now report.now) }
 {
     let mut asks = Rows::new(alloc);
     asks.push(Ask::Part(Key::PlatformPcds))?;
-    push_modules(alloc, &mut asks, modules)?;
+    push_module_asks(alloc, &mut asks, modules)?;
     push_volumes(&mut asks, flash.volumes.items())?;
     push_devices(&mut asks, flash.devices.items())?;
+    push_report(&mut asks, report)?;
     Ok(asks)
 }
 
@@ -93,21 +106,32 @@ fn modules_in(
     built_modules(alloc, platform, arches.bytes())
 }
 
-// Modules and images, and then the files of the images.
-fn images(
+// The file of the report, if one is wanted.
+fn report_in(alloc: Global, given: &Given<'_, Out>) -> Result<Option<Path>, Stop<Key>>
+    ensures { GivesIn (λ report. report) result (report_in given.now) }
+{
+    let text = given.field(7)?;
+    let none = None;
+    flash_named(alloc, &none, text.bytes())
+}
+
+// Modules, images and the report, and then the files of the build.
+fn files(
     alloc: Global,
     known: &Known<'_, Key, Out>,
     folder: &Path,
     modules: &[Module],
     flash: &FlashDoc,
+    report: &Option<Path>,
     permit: Permit,
 ) -> Result<Out, Stop<Key>>
-    ensures { Comes known.now (images_stages folder.now modules.now flash.now) result }
+    ensures { Comes known.now (files_stages folder.now modules.now flash.now report.now) result }
 {
     if are_few(flash.volumes.items().len()) && are_few(flash.devices.items().len()) {
-        let asks = build_asks(alloc, modules, flash)?;
-        let (_given, _permit) = gather(alloc, &EdkRules, known, asks.items(), permit)?;
-        return Ok(Out::All(outputs_of(alloc, folder, flash)?));
+        let asks = build_asks(alloc, modules, flash, report)?;
+        let (given, _permit) = gather(alloc, &EdkRules, known, asks.items(), permit)?;
+        let outputs = outputs_of(alloc, folder, modules, flash, report, &given)?;
+        return Ok(Out::All(outputs));
     }
     Err(Stop::Misfit)
 }
@@ -131,5 +155,14 @@ pub fn all(alloc: Global, known: &Known<'_, Key, Out>, permit: Permit) -> Result
     let flash = flash_in(&given, 1)?;
     let folder = folder_in(alloc, platform, &given)?;
     let modules = modules_in(alloc, platform, &given)?;
-    images(alloc, known, &folder, modules.items(), flash, permit)
+    let report = report_in(alloc, &given)?;
+    files(
+        alloc,
+        known,
+        &folder,
+        modules.items(),
+        flash,
+        &report,
+        permit,
+    )
 }

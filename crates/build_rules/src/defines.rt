@@ -76,14 +76,16 @@ pub fn or_default<'a>(text: &'a [u8], default: &'a [u8]) -> &'a [u8]
     if text.is_empty() { default } else { text }
 }
 
-fn target(alloc: Global, text: &[u8]) -> Result<Macro, WantOfMemory>
+/// The macro of the target; a target that isn't stated is DEBUG.
+pub fn target(alloc: Global, text: &[u8]) -> Result<Macro, WantOfMemory>
     ensures { IfOk result (λ m. m ≡ target_of text.now) }
 {
     let value = or_default(text, b"DEBUG".as_slice());
     new_macro(alloc, b"TARGET".as_slice(), value)
 }
 
-fn tag(alloc: Global, text: &[u8]) -> Result<Macro, WantOfMemory>
+/// The macro of the tool chain's tag; one that isn't stated is GCC.
+pub fn tag(alloc: Global, text: &[u8]) -> Result<Macro, WantOfMemory>
     ensures { IfOk result (λ m. m ≡ tag_of text.now) }
 {
     let value = or_default(text, b"GCC".as_slice());

@@ -127,9 +127,13 @@ fn stated(alloc: Global, path: &Option<Path>) -> Result<Option<Path>, WantOfMemo
     }
 }
 
-// The file that a text names, or else the platform, if any.
+/// The file that a text names, or where it is empty the one that is stated, if any.
 #[tactic(auto, unfolding(crate::specs::Trees::flash_named))]
-fn flash_named(alloc: Global, path: &Option<Path>, text: &[u8]) -> Result<Option<Path>, Stop<Key>>
+pub fn flash_named(
+    alloc: Global,
+    path: &Option<Path>,
+    text: &[u8],
+) -> Result<Option<Path>, Stop<Key>>
     ensures { GivesIn (λ root. root) result (flash_named path.now text.now) }
 {
     if text.is_empty() {

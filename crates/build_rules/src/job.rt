@@ -31,13 +31,13 @@ fn is_path_or_empty(text: &[u8]) -> bool
     is_path_field(text)
 }
 
-/// Whether fields are in their form: 0 names a file, and so does 7 where it isn't empty. Images and a
-/// report, 8 and 9, can't be asked for yet.
+/// Whether fields are in their form: 0 names a file, and so do 7 and 9 where they aren't empty. Images,
+/// 8, can't be asked for yet.
 pub fn is_job(fields: &Rows<Text>) -> bool
     ensures { result ≡ is_job fields.now }
 {
     is_path_field(field(fields, 0))
         && is_path_or_empty(field(fields, 7))
         && field(fields, 8).is_empty()
-        && field(fields, 9).is_empty()
+        && is_path_or_empty(field(fields, 9))
 }

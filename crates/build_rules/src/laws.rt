@@ -7,6 +7,7 @@ ghost use Rattle.build_stages.specs.Stages.{meaning_of};
 ghost use Rattle.step_pack.specs.Keys.{key_cmp};
 ghost use Rattle.build_rules.specs.Rules.{edk};
 ghost use Rattle.build_rules.specs.ModuleValues.{GivesChoice, GivesPcds, GivesValues};
+ghost use Rattle.build_rules.specs.TextValues.{GivesCode, GivesDepex, GivesReport};
 ghost use Rattle.build_rules.specs.Values.{GivesPackage, GivesModule, GivesPlatform, GivesFlash, GivesFile, GivesVolume, GivesDevice, GivesAll};
 
 /// A package's step gives what its lines come to.
@@ -47,6 +48,23 @@ pub fn values_are_resolved()
     ensures { (w : World) (m : Module) → IsWorld (meaning_of key_cmp edk) w → GivesValues w m }
 {}
 
+/// The step of a module's texts gives them, nothing for a library, or the first fault.
+pub fn texts_are_made()
+    ensures { (w : World) (m : Module) → IsWorld (meaning_of key_cmp edk) w → GivesCode w m }
+{}
+
+/// The step of a module's dependency expression gives its bytes, or the first fault: of the libraries, of a
+/// description, of a package, and then of the expression.
+pub fn expressions_are_compiled()
+    ensures { (w : World) (m : Module) → IsWorld (meaning_of key_cmp edk) w → GivesDepex w m }
+{}
+
+/// The step of the report gives it, or the first fault: of the platform, of the words' architectures, of the
+/// rows of dynamic PCDs, and then module by module of its libraries and its values.
+pub fn reports_are_told()
+    ensures { (w : World) → IsWorld (meaning_of key_cmp edk) w → GivesReport w }
+{}
+
 /// The step of an item gives its file, or the first fault: of a volume that it holds, then of a file that
 /// it asks for, then of the file itself.
 pub fn files_are_made()
@@ -64,7 +82,7 @@ pub fn devices_are_made()
     ensures { (w : World) (d : ℕ) → IsWorld (meaning_of key_cmp edk) w → GivesDevice w d }
 {}
 
-/// The whole build gives its files, or the first fault of a module, a volume or a device.
+/// The whole build gives its files, or the first fault of a module, a volume, a device or the report.
 pub fn builds_give_their_files()
     ensures { (w : World) → IsWorld (meaning_of key_cmp edk) w → GivesAll w }
 {}

@@ -11,6 +11,7 @@ pub mod modules;
 pub mod outputs;
 pub mod rules;
 pub mod shapes;
+pub mod texts;
 
 pub use job::is_job;
 pub use rules::EdkRules;

@@ -7,7 +7,7 @@ ghost use Rattle.library_choice.specs.Closure.{is_known, wanted};
 ghost use Rattle.pcd_resolve.specs.Platform.{SkusEnd};
 ghost use Rattle.step_pack.specs.Keys.{key_cmp};
 ghost use Rattle.build_rules.specs.Fits.{fits};
-ghost use Rattle.build_rules.specs.ModuleTrees.{round_stages, choice_after, most_rounds, choice_stages, linked_stages, described_stages, parts_stages, modules_parts, setting_in, pcds_from, pcds_stages, values_of_out, values_in, one_described, one_parts, module_parts, values_from, commands_in, values_stages};
+ghost use Rattle.build_rules.specs.ModuleTrees.{round_stages, choice_after, most_rounds, choice_stages, linked_stages, described_stages, parts_stages, modules_parts, setting_in, pcds_from, pcds_stages, one_described, one_parts, module_parts, values_from, commands_in, values_stages};
 ghost use Rattle.build_rules.specs.Rules.{Comes};
 ghost use Rattle.build_rules.specs.Trees.{given_as};
 ghost use Rattle.step_pack.specs.declared.out.Out.TheVariants as out;
@@ -35,6 +35,7 @@ use shared_value::Shared;
 use std::alloc::Global;
 use step_engine::Ask;
 use step_pack::{Key, Out};
+use text_steps::report::values_at;
 
 /// The most rounds in which the libraries of a module are found: each but the last makes at least one of
 /// 1,025 instances known.
@@ -228,21 +229,6 @@ pub fn pcds(alloc: Global, known: &Known<'_, Key, Out>, permit: Permit) -> Resul
     pcds_from(alloc, known, platform, flash, &setting, permit)
 }
 
-fn values_of_out(out: &Out) -> Result<&Shared<Values>, Stop<Key>>
-    ensures { GivesIn (λ values. values.now) result (values_of_out out.now) }
-{
-    match out {
-        Out::Values(values) => Ok(values),
-        _ => Err(Stop::Misfit),
-    }
-}
-
-fn values_in<'a>(given: &Given<'a, Out>, place: usize) -> Result<&'a Shared<Values>, Stop<Key>>
-    ensures { GivesIn (λ values. values.now) result (values_in given.now place) }
-{
-    values_of_out(given.part(place)?)
-}
-
 fn commands_in(
     alloc: Global,
     platform: &PlatformDoc,
@@ -283,9 +269,9 @@ fn one_parts(
     Ok((parts, permit))
 }
 
-// A module with the descriptions and the packages that its values come from.
+/// A module with the descriptions and the packages that its values come from.
 #[tactic(auto, using(build_stages::specs::Bounds::advance_bind))]
-fn module_parts(
+pub fn module_parts(
     alloc: Global,
     known: &Known<'_, Key, Out>,
     module: &Module,
@@ -337,7 +323,7 @@ pub fn values(
     let (given, permit) = gather(alloc, &EdkRules, known, &asks, permit)?;
     let platform = shared_platform(&given, 0)?;
     let flash = shared_flash(&given, 1)?;
-    let dynamic = values_in(&given, 2)?;
+    let dynamic = values_at(&given, 2)?;
     let (choice, _next) = choice_at(&given, 3)?;
     let commands = commands_in(alloc, platform.value(), &given, 4)?;
     values_from(

@@ -4,6 +4,7 @@ use crate::documents::{dec, flash, inf, platform};
 use crate::images::{device, file, volume};
 use crate::modules::{choice, pcds, values};
 pub use crate::shapes::EdkRules;
+use crate::texts::{code, depex, report};
 use build_base::{Permit, WantOfMemory};
 use build_stages::{Known, StagedRules, Stop, turn_by};
 use std::alloc::Global;
@@ -45,11 +46,13 @@ impl StagedRules for EdkRules {
             Key::Choice(module) => choice(alloc, known, module, permit),
             Key::PlatformPcds => pcds(alloc, known, permit),
             Key::Values(module) => values(alloc, known, module, permit),
+            Key::Code(module) => code(alloc, known, module, permit),
+            Key::Depex(module) => depex(alloc, known, module, permit),
             Key::File(volume, item) => file(alloc, known, *volume, *item, permit),
             Key::Volume(number) => volume(alloc, known, *number, permit),
             Key::Device(number) => device(alloc, known, *number, permit),
+            Key::Report => report(alloc, known, permit),
             Key::All => all(alloc, known, permit),
-            Key::Code(_) | Key::Depex(_) | Key::Report => Err(Stop::Misfit),
         }
     }
 

@@ -5,8 +5,7 @@ use Rattle.build_words.specs.Fields.{job_fields}
 use Rattle.build_words.specs.Jobs.{words_job}
 use Rattle.build_words.specs.declared.job.Job.{Job}
 
--- the job, where the rules of a build take its fields: they have no steps yet for images that are wanted and for a
--- report
+-- the job, where the rules of a build take its fields: they have no steps yet for images that are wanted
 abbrev pub with_steps : Option Job → Option Job
 with_steps None = None
 with_steps (Some job) = if is_job (job_fields job) then Some job else None

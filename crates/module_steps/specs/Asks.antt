@@ -1,5 +1,5 @@
 -- What the steps of libraries and PCDs ask of modules; the rule is this project's own.
-use Rattle.std.specs.Prelude.{ℕ, List, [], ◌∷◌, ◌++◌, map}
+use Rattle.std.specs.Prelude.{ℕ, List, map}
 use Rattle.std.specs.List.{flat_map}
 use Rattle.step_engine.specs.declared.talk.Ask.{Ask}
 use Rattle.step_engine.specs.declared.talk.Ask.TheVariants as ask
@@ -27,10 +27,3 @@ linked_asks modules = flat_map (λ linked. inf_asks linked.paths) modules
 -- the packages that they name, module by module
 abbrev pub package_asks : List Described → List (Ask Key)
 package_asks modules = flat_map (λ described. dec_asks described.packages) modules
-
--- what is asked of each module of a build, until texts are made of it
-abbrev pub one_module : Module → List (Ask Key)
-one_module m = ask.Part (key.Inf m.inf) ∷ ask.Part (key.Values m) ∷ []
-
-abbrev pub module_asks : List Module → List (Ask Key)
-module_asks modules = flat_map one_module modules

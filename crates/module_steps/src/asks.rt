@@ -1,6 +1,6 @@
 //! What the steps of libraries and PCDs ask of modules.
-ghost use Rattle.std.specs.Prelude.{◌≡◌, ◌++◌, ◌∷◌, [], IfOk, OnOk};
-ghost use Rattle.module_steps.specs.Asks.{choice_asks, inf_asks, dec_asks, linked_asks, package_asks, one_module, module_asks};
+ghost use Rattle.std.specs.Prelude.{◌≡◌, ◌++◌, IfOk, OnOk};
+ghost use Rattle.module_steps.specs.Asks.{choice_asks, inf_asks, dec_asks, linked_asks, package_asks};
 
 use crate::parts::{Described, Linked};
 use build_base::{Path, Rows, Same, WantOfMemory};
@@ -86,31 +86,4 @@ pub fn package_asks(alloc: Global, modules: &[Described]) -> Result<Rows<Ask<Key
         left = rest;
     }
     Ok(asks)
-}
-
-fn push_module(
-    alloc: Global,
-    asks: &mut Rows<Ask<Key>>,
-    module: &Module,
-) -> Result<(), WantOfMemory>
-    ensures { OnOk result (asks.new ≡ asks.old ++ one_module «module».now) }
-{
-    asks.push(Ask::Part(Key::Inf(module.inf.copy(alloc)?)))?;
-    asks.push(Ask::Part(Key::Values(module.copy(alloc)?)))
-}
-
-/// Appends what a build asks of each module, until texts are made of it: its description and its values.
-pub fn push_modules(
-    alloc: Global,
-    asks: &mut Rows<Ask<Key>>,
-    modules: &[Module],
-) -> Result<(), WantOfMemory>
-    ensures { OnOk result (asks.new ≡ asks.old ++ module_asks modules.now) }
-{
-    let mut left = modules;
-    while let [module, rest @ ..] = left {
-        push_module(alloc, asks, module)?;
-        left = rest;
-    }
-    Ok(())
 }

@@ -40,8 +40,8 @@ pub struct Described {
     pub packages: Rows<Path>,
 }
 
-// What the step at a place gave, and the place behind it.
-fn out_at<'a>(given: &Given<'a, Out>, place: usize) -> Result<(&'a Out, usize), Stop<Key>>
+/// What the step at a place gave, and the place behind it.
+pub fn out_at<'a>(given: &Given<'a, Out>, place: usize) -> Result<(&'a Out, usize), Stop<Key>>
     ensures value { GivesIn (λ x. x.0.now) result (part_at given.now place) }
     ensures next { IfOk result (λ x. x.1 ≡ place + 1) }
 {

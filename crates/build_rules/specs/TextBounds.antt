@@ -1,0 +1,77 @@
+-- The bounds of the steps of texts, dependency expressions and the report: what they ask is of lower rank, and how many
+-- batches they ask.
+use Rattle.std.proofs.Common.{ℕ, ◌<◌, arith, List, [], ◌∷◌, All}
+use Rattle.std.specs.List.{flat_map}
+use Rattle.std.proofs.lemmas.List.Elements.{All-nil, All-cons, All-append}
+use Rattle.step_engine.specs.declared.talk.Ask.TheVariants as ask
+use Rattle.build_stages.specs.Stages.{IsLower, AreLower, IsWithin}
+use Rattle.build_stages.specs.Bounds.{all_one, all_two, attempt_lower, attempt_within, bind_lower, bind_within}
+use Rattle.doc_types.specs.declared.choice.Module.{Module}
+use Rattle.step_pack.specs.declared.key.Key.TheVariants as key
+use Rattle.module_steps.specs.Parts.{choice_at}
+use Rattle.text_steps.specs.Asks.{told_asks}
+use Rattle.text_steps.specs.Report.{values_at}
+use Rattle.build_rules.specs.Trees.{platform_in}
+use Rattle.build_rules.specs.ModuleTrees.{module_parts}
+use Rattle.build_rules.specs.ModuleBounds.{module_lower, module_within}
+use Rattle.build_rules.specs.TextTrees.{code_stages, depex_stages, told_modules_in, heading_in, report_stages}
+use Rattle.build_rules.specs.Rules.{rank_of}
+use Rattle.build_rules.specs.Fits.{fits}
+
+pub code_lower : (m : Module) → AreLower rank_of 7 (code_stages m)
+code_lower m = (
+  All-cons (IsLower rank_of 7) (ask.Part key.Platform) (ask.Part (key.Choice m) ∷ ask.Part (key.Values m) ∷ []) (omega arith)
+      (all_two (IsLower rank_of 7) (ask.Part (key.Choice m)) (ask.Part (key.Values m)) (omega arith) (omega arith)),
+  λ given. attempt_lower rank_of 7 (platform_in given 0) _ (λ platform. attempt_lower rank_of 7 (choice_at given 1) _ (λ choice.
+      attempt_lower rank_of 7 (values_at given 2) _ (λ values.
+      bind_lower rank_of 7 (module_parts m choice) _ (module_lower 7 (omega arith) m choice) (λ parts. tt)))),
+)
+
+pub code_within : (m : Module) → IsWithin fits 3 (code_stages m)
+code_within m = (
+  omega arith,
+  λ given fit. attempt_within fits 2 (platform_in given 0) _ (λ platform. attempt_within fits 2 (choice_at given 1) _ (λ choice.
+      attempt_within fits 2 (values_at given 2) _ (λ values.
+      bind_within fits 2 0 (module_parts m choice) _ (module_within m choice) (λ parts. tt)))),
+)
+
+pub depex_lower : (m : Module) → AreLower rank_of 7 (depex_stages m)
+depex_lower m = (
+  all_one (IsLower rank_of 7) (ask.Part (key.Choice m)) (omega arith),
+  λ given. attempt_lower rank_of 7 (choice_at given 0) _ (λ choice.
+      bind_lower rank_of 7 (module_parts m choice) _ (module_lower 7 (omega arith) m choice) (λ parts. tt)),
+)
+
+pub depex_within : (m : Module) → IsWithin fits 3 (depex_stages m)
+depex_within m = (
+  omega arith,
+  λ given fit. attempt_within fits 2 (choice_at given 0) _ (λ choice.
+      bind_within fits 2 0 (module_parts m choice) _ (module_within m choice) (λ parts. tt)),
+)
+
+told_lower : (modules : List Module) → All (IsLower rank_of 0x400000001) (flat_map told_asks modules)
+told_lower [] = All-nil (IsLower rank_of 0x400000001)
+told_lower (m ∷ modules) =
+    All-append (IsLower rank_of 0x400000001) (told_asks m) (flat_map told_asks modules)
+    (all_two (IsLower rank_of 0x400000001) (ask.Part (key.Choice m)) (ask.Part (key.Values m)) (omega arith) (omega arith))
+    (told_lower modules)
+
+pub report_lower : AreLower rank_of 0x400000001 report_stages
+report_lower = (
+  All-cons (IsLower rank_of 0x400000001) (ask.Part key.Platform) (ask.Field 1 ∷ ask.Field 2 ∷ ask.Field 3 ∷ ask.Field 4 ∷ []) (omega arith)
+      (All-cons (IsLower rank_of 0x400000001) (ask.Field 1) (ask.Field 2 ∷ ask.Field 3 ∷ ask.Field 4 ∷ []) tt
+      (All-cons (IsLower rank_of 0x400000001) (ask.Field 2) (ask.Field 3 ∷ ask.Field 4 ∷ []) tt
+      (all_two (IsLower rank_of 0x400000001) (ask.Field 3) (ask.Field 4) tt tt))),
+  λ given. attempt_lower rank_of 0x400000001 (platform_in given 0) _ (λ platform. attempt_lower rank_of 0x400000001 (told_modules_in platform given) _ (λ modules.
+      attempt_lower rank_of 0x400000001 (heading_in platform given) _ (λ heading. (
+        All-cons (IsLower rank_of 0x400000001) (ask.Part key.PlatformPcds) (flat_map told_asks modules) (omega arith) (told_lower modules),
+        λ told. tt,
+      )))),
+)
+
+pub report_within : IsWithin fits 2 report_stages
+report_within = (
+  omega arith,
+  λ given fit. attempt_within fits 1 (platform_in given 0) _ (λ platform. attempt_within fits 1 (told_modules_in platform given) _ (λ modules.
+      attempt_within fits 1 (heading_in platform given) _ (λ heading. (omega arith, λ told fit_too. tt)))),
+)

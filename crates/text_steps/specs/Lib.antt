@@ -1,0 +1,5 @@
+pub mod Stems
+pub mod Asks
+pub mod Code
+pub mod Depex
+pub mod Report

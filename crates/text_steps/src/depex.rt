@@ -1,0 +1,249 @@
+//! The dependency expression of a module.
+ghost use Rattle.std.specs.Prelude.{◌≡◌, ◌++◌, ◌∷◌, [], filter, map, IfOk, OnOk};
+ghost use Rattle.std.specs.List.{flat_map};
+ghost use Rattle.build_stages.specs.Gives.{GivesIn};
+ghost use Rattle.text_steps.specs.Depex.{applies, counts, names_at, names_by, names_of, wanted_names, group_of, groups_of, own_type, depex_given};
+
+use build_base::{Permit, Rows, Same, Text, WantOfMemory};
+use build_stages::Stop;
+use depex_code::compile;
+use doc_types::arch::Arch;
+use doc_types::choice::Choice;
+use doc_types::depex::{DepexGroup, DepexPart, NamedGuid};
+use doc_types::module::{InfDoc, Named};
+use doc_types::module_type::ModuleType;
+use doc_types::parts::{ModuleParts, Package};
+use library_choice::type_covers;
+use pcd_resolve::names::serves;
+use std::alloc::Global;
+use step_pack::Key;
+
+#[tactic(auto, unfolding(crate::specs::Depex::applies))]
+fn applies(arch: Arch, kind: ModuleType, part: &DepexPart) -> bool
+    ensures { result ≡ applies arch kind part.now }
+{
+    serves(part.arch, arch) && type_covers(part.kind, kind)
+}
+
+fn push_part(
+    alloc: Global,
+    parts: &mut Rows<DepexPart>,
+    arch: Arch,
+    kind: ModuleType,
+    part: &DepexPart,
+) -> Result<(), WantOfMemory>
+    ensures { OnOk result (parts.new ≡ parts.old ++ filter (applies arch kind) (part.now ∷ [])) }
+{
+    if applies(arch, kind, part) {
+        return parts.push(part.copy(alloc)?);
+    }
+    Ok(())
+}
+
+// The sections that apply.
+fn parts_of(
+    alloc: Global,
+    arch: Arch,
+    kind: ModuleType,
+    sections: &[DepexPart],
+) -> Result<Rows<DepexPart>, WantOfMemory>
+    ensures { IfOk result (λ parts. parts ≡ filter (applies arch kind) sections.now) }
+{
+    let mut parts = Rows::new(alloc);
+    let mut left = sections;
+    while let [part, rest @ ..] = left {
+        push_part(alloc, &mut parts, arch, kind, part)?;
+        left = rest;
+    }
+    Ok(parts)
+}
+
+fn push_name(
+    alloc: Global,
+    names: &mut Rows<NamedGuid>,
+    arch: Arch,
+    line: &NamedGuid,
+) -> Result<(), WantOfMemory>
+    ensures { OnOk result (names.new ≡ names.old ++ filter (counts arch) (line.now ∷ [])) }
+{
+    if serves(line.arch, arch) {
+        return names.push(line.copy(alloc)?);
+    }
+    Ok(())
+}
+
+fn push_names(
+    alloc: Global,
+    names: &mut Rows<NamedGuid>,
+    arch: Arch,
+    lines: &[NamedGuid],
+) -> Result<(), WantOfMemory>
+    ensures { OnOk result (names.new ≡ names.old ++ filter (counts arch) lines.now) }
+{
+    let mut left = lines;
+    while let [line, rest @ ..] = left {
+        push_name(alloc, names, arch, line)?;
+        left = rest;
+    }
+    Ok(())
+}
+
+fn push_at(
+    alloc: Global,
+    names: &mut Rows<NamedGuid>,
+    arch: Arch,
+    path: &[u8],
+    held: &Package,
+) -> Result<(), WantOfMemory>
+    ensures { OnOk result (names.new ≡ names.old ++ names_at arch path.now held.now) }
+{
+    if held.path.bytes() == path {
+        push_names(alloc, names, arch, held.doc.value().guids.items())?;
+    }
+    Ok(())
+}
+
+fn push_each(
+    alloc: Global,
+    names: &mut Rows<NamedGuid>,
+    arch: Arch,
+    path: &[u8],
+    decs: &[Package],
+) -> Result<(), WantOfMemory>
+    ensures { OnOk result (names.new ≡ names.old ++ flat_map (names_at arch path.now) decs.now) }
+{
+    let mut left = decs;
+    while let [held, rest @ ..] = left {
+        push_at(alloc, names, arch, path, held)?;
+        left = rest;
+    }
+    Ok(())
+}
+
+fn push_by(
+    alloc: Global,
+    names: &mut Rows<NamedGuid>,
+    arch: Arch,
+    decs: &[Package],
+    named: &Named,
+) -> Result<(), WantOfMemory>
+    ensures { OnOk result (names.new ≡ names.old ++ names_by arch decs.now named.now) }
+{
+    if serves(named.arch, arch) {
+        push_each(alloc, names, arch, named.name.bytes(), decs)?;
+    }
+    Ok(())
+}
+
+// The names that the packages of an INF file declare.
+#[tactic(auto, unfolding(crate::specs::Depex::names_of))]
+fn names_of(
+    alloc: Global,
+    arch: Arch,
+    decs: &[Package],
+    packages: &[Named],
+) -> Result<Rows<NamedGuid>, WantOfMemory>
+    ensures { IfOk result (λ names. names ≡ names_of arch decs.now packages.now) }
+{
+    let mut names = Rows::new(alloc);
+    let mut left = packages;
+    while let [named, rest @ ..] = left {
+        push_by(alloc, &mut names, arch, decs, named)?;
+        left = rest;
+    }
+    Ok(names)
+}
+
+// The names that these sections of an INF file may use.
+fn wanted_names(
+    alloc: Global,
+    arch: Arch,
+    decs: &[Package],
+    inf: &InfDoc,
+    parts: &[DepexPart],
+) -> Result<Rows<NamedGuid>, WantOfMemory>
+    ensures { IfOk result (λ names. names ≡ wanted_names arch decs.now inf.now parts.now) }
+{
+    if parts.is_empty() {
+        return Ok(Rows::new(alloc));
+    }
+    names_of(alloc, arch, decs, inf.packages.items())
+}
+
+#[tactic(auto, unfolding(crate::specs::Depex::group_of))]
+fn group_of(
+    alloc: Global,
+    arch: Arch,
+    kind: ModuleType,
+    decs: &[Package],
+    inf: &InfDoc,
+) -> Result<DepexGroup, WantOfMemory>
+    ensures { IfOk result (λ group. group ≡ group_of arch kind decs.now inf.now) }
+{
+    let parts = parts_of(alloc, arch, kind, inf.depex.items())?;
+    let guids = wanted_names(alloc, arch, decs, inf, parts.items())?;
+    Ok(DepexGroup { parts, guids })
+}
+
+fn each_group(
+    alloc: Global,
+    arch: Arch,
+    kind: ModuleType,
+    decs: &[Package],
+    infs: &[InfDoc],
+) -> Result<Rows<DepexGroup>, WantOfMemory>
+    ensures { IfOk result (λ groups. groups ≡ map (group_of arch kind decs.now) infs.now) }
+{
+    let mut groups = Rows::new(alloc);
+    let mut left = infs;
+    while let [inf, rest @ ..] = left {
+        groups.push(group_of(alloc, arch, kind, decs, inf)?)?;
+        left = rest;
+    }
+    Ok(groups)
+}
+
+// One group for each INF file.
+#[tactic(auto, unfolding(crate::specs::Depex::groups_of))]
+fn groups_of(
+    alloc: Global,
+    kind: ModuleType,
+    parts: &ModuleParts,
+) -> Result<Rows<DepexGroup>, WantOfMemory>
+    ensures { IfOk result (λ groups. groups ≡ groups_of kind parts.now) }
+{
+    each_group(
+        alloc,
+        parts.module.arch,
+        kind,
+        parts.decs.items(),
+        parts.infs.items(),
+    )
+}
+
+fn own_type(infs: &[InfDoc]) -> Result<ModuleType, Stop<Key>>
+    ensures { GivesIn (λ kind. kind) result (own_type infs.now) }
+{
+    match infs {
+        [] => Err(Stop::Misfit),
+        [inf, ..] => Ok(inf.module_type),
+    }
+}
+
+/// The bytes of a module's expression, none for a library.
+#[tactic(auto, unfolding(crate::specs::Depex::depex_given))]
+pub fn depex_given(
+    alloc: Global,
+    permit: Permit,
+    choice: &Choice,
+    parts: &ModuleParts,
+) -> Result<Text, Stop<Key>>
+    ensures { GivesIn (λ bytes. bytes) result (depex_given choice.now parts.now) }
+{
+    if choice.library {
+        return Ok(Text::of(alloc, b"")?);
+    }
+    let kind = own_type(parts.infs.items())?;
+    let groups = groups_of(alloc, kind, parts)?;
+    Ok(compile(alloc, permit, kind, &groups)?)
+}

@@ -1,0 +1,14 @@
+//! What the steps of texts, dependency expressions and the report ask, and what they give by the answers.
+#![tactic(auto)]
+
+pub mod asks;
+pub mod code;
+pub mod depex;
+pub mod report;
+pub mod stems;
+
+pub use asks::{push_module_asks, report_asks};
+pub use code::code_given;
+pub use depex::depex_given;
+pub use report::{Heading, heading_of, report_given, report_modules};
+pub use stems::stem_of;

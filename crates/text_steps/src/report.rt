@@ -1,0 +1,229 @@
+//! The report of a build.
+ghost use Rattle.std.specs.Prelude.{◌≡◌, ◌+◌, List, Result, filter, map, Ok, IfOk};
+ghost use Rattle.build_base.specs.declared.fault.Fault.{Fault};
+ghost use Rattle.build_stages.specs.Gives.{GivesIn};
+ghost use Rattle.build_texts.specs.declared.asks.ModuleReport.{ModuleReport as Report};
+ghost use Rattle.module_steps.specs.Parts.{Steps, Stopped};
+ghost use Rattle.module_steps.specs.Settings.{named_skus};
+ghost use Rattle.pcd_resolve.specs.Platform.{is_chosen, wanted};
+ghost use Rattle.text_steps.specs.Report.{report_modules, report_skus, heading_of, values_of_out, values_at, module_report, report_at, reports_from, report_ask, report_given};
+
+use build_base::{Rows, Same, Text, WantOfMemory};
+use build_stages::{Given, Stop};
+use build_texts::{ModuleReport, ReportAsk, report_text};
+use doc_types::choice::{Choice, Module};
+use doc_types::platform::{PlatformDoc, Sku};
+use doc_types::values::Values;
+use meta_lexer::parts::field_texts;
+use module_steps::parts::{choice_at, out_at};
+use module_steps::{Setting, setting_of};
+use pcd_resolve::skus::chosen;
+use shared_value::Shared;
+use std::alloc::Global;
+use step_pack::{Key, Out};
+
+/// What stands at the head of a report: the target, the tool chain's tag, and the chosen SKUs.
+#[derive(Drop)]
+pub struct Heading {
+    pub target: Text,
+    pub tag: Text,
+    pub skus: Rows<Sku>,
+}
+
+/// The modules that are built. Fault 232 of an architecture that the words name and the platform doesn't support.
+#[tactic(auto, unfolding(crate::specs::Report::report_modules))]
+pub fn report_modules(
+    alloc: Global,
+    platform: &PlatformDoc,
+    arches: &[u8],
+) -> Result<Rows<Module>, Stop<Key>>
+    ensures { GivesIn (λ modules. modules) result (report_modules platform.now arches.now) }
+{
+    let none = b"".as_slice();
+    let Setting { modules, .. } = setting_of(alloc, platform, arches, none, none)?;
+    Ok(modules)
+}
+
+fn wanted_names(alloc: Global, sku: &[u8], choice: &[u8]) -> Result<Rows<Text>, WantOfMemory>
+    ensures { IfOk result (λ names. names ≡ wanted (named_skus sku.now) choice.now) }
+{
+    if sku.is_empty() {
+        return field_texts(alloc, choice);
+    }
+    let mut names = Rows::new(alloc);
+    names.push(Text::of(alloc, sku)?)?;
+    Ok(names)
+}
+
+// The same SKUs, owned.
+fn each_sku(alloc: Global, skus: &[&Sku]) -> Result<Rows<Sku>, WantOfMemory>
+    ensures { IfOk result (λ rows. rows ≡ map (λ s. s.now) skus.now) }
+{
+    let mut rows = Rows::new(alloc);
+    for sku in skus {
+        rows.push(sku.copy(alloc)?)?;
+    }
+    Ok(rows)
+}
+
+fn chosen_skus(alloc: Global, names: &[Text], skus: &[Sku]) -> Result<Rows<Sku>, WantOfMemory>
+    ensures { IfOk result (λ rows. rows ≡ filter (is_chosen names.now) skus.now) }
+{
+    let picked = chosen(alloc, names, skus)?;
+    each_sku(alloc, picked.as_slice())
+}
+
+#[tactic(auto, unfolding(crate::specs::Report::report_skus))]
+fn report_skus(alloc: Global, platform: &PlatformDoc, sku: &[u8]) -> Result<Rows<Sku>, WantOfMemory>
+    ensures { IfOk result (λ skus. skus ≡ report_skus platform.now sku.now) }
+{
+    let names = wanted_names(alloc, sku, platform.sku_choice.bytes())?;
+    chosen_skus(alloc, names.items(), platform.skus.items())
+}
+
+/// What stands at the head of a report, by the SKU that the words choose.
+pub fn heading_of(
+    alloc: Global,
+    platform: &PlatformDoc,
+    target: Text,
+    tag: Text,
+    sku: &[u8],
+) -> Result<Heading, WantOfMemory>
+    ensures { IfOk result (λ heading. heading ≡ heading_of platform.now target tag sku.now) }
+{
+    let skus = report_skus(alloc, platform, sku)?;
+    Ok(Heading { target, tag, skus })
+}
+
+fn values_of_out(out: &Out) -> Result<&Shared<Values>, Stop<Key>>
+    ensures { GivesIn (λ values. values.now) result (values_of_out out.now) }
+{
+    match out {
+        Out::Values(values) => Ok(values),
+        _ => Err(Stop::Misfit),
+    }
+}
+
+/// The values that stand at a place among answers.
+pub fn values_at<'a>(given: &Given<'a, Out>, place: usize) -> Result<&'a Shared<Values>, Stop<Key>>
+    ensures { GivesIn (λ values. values.now) result (values_at given.now place) }
+{
+    values_of_out(given.part(place)?)
+}
+
+// The same, and the place behind them.
+fn values_next<'a>(
+    given: &Given<'a, Out>,
+    place: usize,
+) -> Result<(&'a Shared<Values>, usize), Stop<Key>>
+    ensures value { GivesIn (λ x. x.0.now) result (values_at given.now place) }
+    ensures next { IfOk result (λ x. x.1 ≡ place + 1) }
+{
+    let (out, next) = out_at(given, place)?;
+    Ok((values_of_out(out)?, next))
+}
+
+fn module_report(
+    alloc: Global,
+    module: &Module,
+    choice: &Choice,
+    values: &Shared<Values>,
+) -> Result<ModuleReport, WantOfMemory>
+    ensures { IfOk result (λ report. module_report «module».now choice.now values.now ≡ Ok report) }
+{
+    Ok(ModuleReport {
+        module: module.copy(alloc)?,
+        choice: choice.copy(alloc)?,
+        values: values.copy(alloc)?,
+    })
+}
+
+// What is told of a module, by its two answers at a place, and the place behind them.
+#[tactic(auto, unfolding(crate::specs::Report::report_at))]
+fn report_at(
+    alloc: Global,
+    given: &Given<'_, Out>,
+    place: usize,
+    module: &Module,
+) -> Result<(ModuleReport, usize), Stop<Key>>
+    ensures value { GivesIn (λ x. x.0) result (report_at given.now place «module».now) }
+    ensures next { IfOk result (λ x. x.1 ≡ place + 2) }
+{
+    let (choice, second) = choice_at(given, place)?;
+    let (values, next) = values_next(given, second)?;
+    let report = module_report(alloc, module, choice, values)?;
+    Ok((report, next))
+}
+
+// Appends what is told of a module, by its two answers at a place; the place behind them.
+fn push_report(
+    alloc: Global,
+    given: &Given<'_, Out>,
+    place: usize,
+    module: &Module,
+    reports: &mut Rows<ModuleReport>,
+) -> Result<usize, Stop<Key>>
+    ensures value { (more : Result (List Report) Fault) → Steps result reports.old reports.new (report_at given.now place «module».now) more }
+    ensures stopped { Stopped result (report_at given.now place «module».now) }
+    ensures next { IfOk result (λ next. next ≡ place + 2) }
+{
+    let (report, next) = report_at(alloc, given, place, module)?;
+    reports.push(report)?;
+    Ok(next)
+}
+
+// What is told of each module, where the answers of the first begin at the second place.
+#[tactic(auto, unfolding(module_steps::specs::Parts::taken))]
+fn reports_from(
+    alloc: Global,
+    given: &Given<'_, Out>,
+    modules: &[Module],
+) -> Result<Rows<ModuleReport>, Stop<Key>>
+    ensures { GivesIn (λ x. x) result (reports_from given.now 1 modules.now) }
+{
+    let mut all = Rows::new(alloc);
+    let mut at = 1;
+    let mut left = modules;
+    while let [module, rest @ ..] = left {
+        at = push_report(alloc, given, at, module, &mut all)?;
+        left = rest;
+    }
+    Ok(all)
+}
+
+fn report_ask(
+    alloc: Global,
+    platform: &Shared<PlatformDoc>,
+    heading: Heading,
+    dynamic: &Shared<Values>,
+    modules: Rows<ModuleReport>,
+) -> Result<ReportAsk, WantOfMemory>
+    ensures { IfOk result (λ ask. ask ≡ report_ask platform.now heading dynamic.now modules) }
+{
+    let Heading { target, tag, skus } = heading;
+    Ok(ReportAsk {
+        platform: platform.copy(alloc)?,
+        target,
+        tag,
+        skus,
+        dynamic: dynamic.copy(alloc)?,
+        modules,
+    })
+}
+
+/// The report, by the answers of the steps that it asks.
+#[tactic(auto, unfolding(crate::specs::Report::report_given))]
+pub fn report_given(
+    alloc: Global,
+    platform: &Shared<PlatformDoc>,
+    heading: Heading,
+    modules: &[Module],
+    given: &Given<'_, Out>,
+) -> Result<Text, Stop<Key>>
+    ensures { GivesIn (λ text. text) result (report_given platform.now heading modules.now given.now) }
+{
+    let dynamic = values_at(given, 0)?;
+    let reports = reports_from(alloc, given, modules)?;
+    let ask = report_ask(alloc, platform, heading, dynamic, reports)?;
+    Ok(report_text(alloc, &ask)?)
+}
