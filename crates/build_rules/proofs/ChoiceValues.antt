@@ -1,25 +1,22 @@
 -- The libraries of a module in a world.
 use Rattle.std.specs.Prelude.{nat_eq, ◌||◌, filter}
 use Rattle.std.specs.Cmp.Lexicographic.{pointwise, same_text}
-use Rattle.std.specs.List.{flat_map, list_any}
+use Rattle.std.specs.List.{flat_map}
 use Rattle.std.proofs.Common.{◌≡◌, ℕ, zero, suc, ◌<◌, ◌≤◌, ◌-◌, arith, Bool, true, false, List, [], ◌∷◌, ◌++◌, length, map, Option, Some, None, Result, Ok, Err, refl, sym, ap, ◌∙◌, subst, cond}
 use Rattle.std.proofs.lemmas.Cmp.{nat_list_eq_equiv}
 use Rattle.build_base.specs.First.{and_then, or_else, or_fault, with_front, all_ok}
 use Rattle.build_base.specs.World.{World}
 use Rattle.build_base.specs.declared.fault.Fault.{Fault}
 use Rattle.step_engine.specs.Meaning.{right, IsWorld}
-use Rattle.step_engine.specs.declared.talk.Ask.TheVariants as ask
 use Rattle.step_engine.specs.declared.talk.Answer.TheVariants as answer
 use Rattle.step_engine.specs.declared.talk.Outcome.{Outcome}
 use Rattle.build_stages.specs.Bounds.{run_bind}
-use Rattle.build_stages.specs.Stages.{stage, run, fault_in, outcome_of, meaning_of}
+use Rattle.build_stages.specs.Stages.{fault_in, outcome_of, meaning_of}
 use Rattle.build_stages.specs.StagesLaws.{value_is}
 use Rattle.build_stages.specs.Writing.{attempt}
-use Rattle.doc_types.specs.declared.choice.Choice.{Choice}
 use Rattle.doc_types.specs.declared.choice.Module.{Module}
 use Rattle.doc_types.specs.declared.module.InfDoc.{InfDoc}
 use Rattle.doc_types.specs.declared.platform.PlatformDoc.{PlatformDoc}
-use Rattle.library_choice.specs.Choices.{choice}
 use Rattle.library_choice.specs.Closure.{same_path, known, is_known, instances, are_few, is_library, setting_of, wanted}
 use Rattle.library_choice.specs.Found.{is_in}
 use Rattle.library_choice.specs.Lines.{Setting}
@@ -39,7 +36,7 @@ use Rattle.build_rules.specs.ModuleTrees.{round_stages, choice_round, choice_aft
 use Rattle.build_rules.specs.ModuleValues.{infs_value, chosen_by, chosen_after, choice_value}
 use Rattle.build_rules.specs.Rules.{edk, value_in}
 use Rattle.build_rules.specs.RulesBounds.{edk_is_bounded}
-use Rattle.build_rules.specs.Trees.{EdkStages, given_as}
+use Rattle.build_rules.specs.Trees.{given_as}
 use Rattle.build_rules.specs.Values.{inf_value, platform_value, fault_asked}
 use Rattle.build_rules.proofs.DescriptionLemmas.{described_path}
 use Rattle.build_rules.proofs.KindLemmas.{stage_run}

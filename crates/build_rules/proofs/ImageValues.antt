@@ -34,13 +34,15 @@ use Rattle.image_steps.specs.Files.{file_given}
 use Rattle.image_steps.specs.Volumes.{volume_given}
 use Rattle.image_steps.specs.Devices.{device_given}
 use Rattle.build_rules.specs.AllTree.{all_asks, build_asks, report_named, all_given, all_stages, files_stages}
+use Rattle.build_rules.specs.Wanted.{wanted_of}
+use Rattle.build_rules.specs.declared.wanted.Wanted.{Wanted}
 use Rattle.build_rules.specs.Fits.{fits}
 use Rattle.build_rules.specs.ImageTrees.{flash_in, volume_at, item_at, device_at, item_stages, file_stages, volume_stages, device_stages}
 use Rattle.build_rules.specs.Outputs.{output_folder, outputs_of}
-use Rattle.build_rules.specs.Rules.{edk, is_empty, is_path_or_empty, value_in}
+use Rattle.build_rules.specs.Rules.{edk, is_path_or_empty, value_in}
 use Rattle.build_rules.specs.RulesBounds.{edk_is_bounded}
 use Rattle.build_rules.specs.Trees.{EdkStages, given_as, some_path, path_named, flash_named, flash_asks, flash_from, flash_given, flash_stages}
-use Rattle.build_rules.specs.Values.{job_macros, platform_value, flash_file, flash_of_file, flash_value, answers_in, fault_asked, by_answers, if_shaped, item_value, file_value, planned_value, volume_value, regions_value, device_value, files_value, all_value}
+use Rattle.build_rules.specs.Values.{job_macros, platform_value, flash_file, flash_of_file, flash_value, answers_in, fault_asked, by_answers, if_shaped, item_value, file_value, planned_value, volume_value, regions_value, device_value, files_value, wanted_value, all_value}
 use Rattle.build_rules.proofs.KindLemmas.{stage_run}
 use Rattle.build_rules.proofs.ValueLemmas.{document_run, path_some, platform_is}
 
@@ -118,7 +120,7 @@ flash_run w is_world e =
 
 field_7 : (w : World) → IsWorld (meaning_of key_cmp edk) w → is_path_or_empty (field w 7) ≡ true
 field_7 w e =
-    (both_hold (is_path_or_empty (field w 7)) (is_empty (field w 8) && is_path_or_empty (field w 9)) (both_hold (is_some (path_field (field w 0))) _ e).1).0
+    (both_hold (is_path_or_empty (field w 7)) (is_path_or_empty (field w 9)) (both_hold (is_some (path_field (field w 0))) _ e).1).0
 
 pub flash_is : (w : World) → IsWorld (meaning_of key_cmp edk) w → value_in w key.Flash ≡ outcome_of (given_as out.Flash (flash_value w))
 flash_is w e = value_is key_cmp edk edk_is_bounded w key.Flash ∙ ap outcome_of (flash_run w e (field_7 w e))
@@ -184,21 +186,22 @@ device_is w d e = value_is key_cmp edk edk_is_bounded w (key.Device d) ∙ ap ou
 
 -- the whole build
 
-files_run : (w : World) (folder : List ℕ) (modules : List Module) (flash : FlashDoc) (report : Option (List ℕ)) → gives w (files_stages folder modules flash report) ≡ given_as out.All (files_value w folder modules flash report)
-files_run w folder modules flash report =
-    when_run w out.All (are_few (length flash.volumes) && are_few (length flash.devices)) _ (by_answers w (build_asks modules flash report) (outputs_of folder modules flash report))
-    (last_run w out.All (build_asks modules flash report) (outputs_of folder modules flash report))
+files_run : (w : World) (folder : List ℕ) (modules : List Module) (flash : FlashDoc) (wanted : Wanted) (report : Option (List ℕ))
+    → gives w (files_stages folder modules flash wanted report) ≡ given_as out.All (files_value w folder modules flash wanted report)
+files_run w folder modules flash wanted report =
+    when_run w out.All (are_few (length flash.volumes) && are_few (length flash.devices)) _ (by_answers w (build_asks modules flash wanted report) (outputs_of folder modules flash wanted report))
+    (last_run w out.All (build_asks modules flash wanted report) (outputs_of folder modules flash wanted report))
 
 field_9 : (w : World) → IsWorld (meaning_of key_cmp edk) w → is_path_or_empty (field w 9) ≡ true
 field_9 w e =
-    (both_hold (is_empty (field w 8)) (is_path_or_empty (field w 9)) (both_hold (is_path_or_empty (field w 7)) (is_empty (field w 8) && is_path_or_empty (field w 9)) (both_hold (is_some (path_field (field w 0))) _ e).1).1).1
+    (both_hold (is_path_or_empty (field w 7)) (is_path_or_empty (field w 9)) (both_hold (is_some (path_field (field w 0))) _ e).1).1
 
 -- what stands for the report's file, and what follows it
-report_run : (w : World) → IsWorld (meaning_of key_cmp edk) w → (folder : List ℕ) (modules : List Module) (flash : FlashDoc)
-    → gives w (attempt (report_named (field w 9)) (λ report. files_stages folder modules flash report)) ≡ given_as out.All (files_value w folder modules flash (flash_file None (field w 9)))
-report_run w e folder modules flash =
-    ap (λ (r : Result (Option (List ℕ)) Fault). gives w (attempt r (λ report. files_stages folder modules flash report))) (path_or_empty (field w 9) (field_9 w e) None)
-    ∙ files_run w folder modules flash (flash_file None (field w 9))
+report_run : (w : World) → IsWorld (meaning_of key_cmp edk) w → (folder : List ℕ) (modules : List Module) (flash : FlashDoc) (wanted : Wanted)
+    → gives w (attempt (report_named (field w 9)) (λ report. files_stages folder modules flash wanted report)) ≡ given_as out.All (files_value w folder modules flash wanted (flash_file None (field w 9)))
+report_run w e folder modules flash wanted =
+    ap (λ (r : Result (Option (List ℕ)) Fault). gives w (attempt r (λ report. files_stages folder modules flash wanted report))) (path_or_empty (field w 9) (field_9 w e) None)
+    ∙ files_run w folder modules flash wanted (flash_file None (field w 9))
 
 abbrev by_both : World → Outcome Out → Outcome Out → Result Out Fault
 by_both w p v =
@@ -208,7 +211,8 @@ by_both w p v =
 
 by_both_is : (w : World) (p : Result PlatformDoc Fault) (r : Result FlashDoc Fault) → by_both w (outcome_of (given_as out.Platform p)) (outcome_of (given_as out.Flash r))
     ≡ and_then p (λ platform. and_then r (λ flash. gives w (attempt (output_folder platform.output (field w 2) (field w 3)) (λ folder.
-    attempt (built_modules platform (field w 1)) (λ modules. attempt (report_named (field w 9)) (λ report. files_stages folder modules flash report))))))
+    attempt (built_modules platform (field w 1)) (λ modules. attempt (wanted_of flash (field w 8)) (λ wanted.
+    attempt (report_named (field w 9)) (λ report. files_stages folder modules flash wanted report)))))))
 by_both_is w (Ok platform) (Ok flash) = refl
 by_both_is w (Ok platform) (Err fault) = refl
 by_both_is w (Err fault) (Ok flash) = refl
@@ -229,9 +233,11 @@ all_run w e =
     ∙ ap (by_both w (outcome_of (given_as out.Platform (platform_value w)))) (flash_is w e)
     ∙ by_both_is w (platform_value w) (flash_value w)
     ∙ both_same w out.All (platform_value w) (flash_value w) _ (λ platform flash. and_then (output_folder platform.output (field w 2) (field w 3)) (λ folder.
-    and_then (built_modules platform (field w 1)) (λ modules. files_value w folder modules flash (flash_file None (field w 9))))) (λ platform flash.
-    step_run w out.All (output_folder platform.output (field w 2) (field w 3)) _ (λ folder. and_then (built_modules platform (field w 1)) (λ modules. files_value w folder modules flash (flash_file None (field w 9)))) (λ folder.
-    step_run w out.All (built_modules platform (field w 1)) _ (λ modules. files_value w folder modules flash (flash_file None (field w 9))) (λ modules. report_run w e folder modules flash)))
+    and_then (built_modules platform (field w 1)) (λ modules. wanted_value w folder modules flash))) (λ platform flash.
+    step_run w out.All (output_folder platform.output (field w 2) (field w 3)) _ (λ folder. and_then (built_modules platform (field w 1)) (λ modules. wanted_value w folder modules flash)) (λ folder.
+    step_run w out.All (built_modules platform (field w 1)) _ (λ modules. wanted_value w folder modules flash) (λ modules.
+    step_run w out.All (wanted_of flash (field w 8)) _ (λ wanted. files_value w folder modules flash wanted (flash_file None (field w 9))) (λ wanted.
+    report_run w e folder modules flash wanted))))
 
 pub all_is : (w : World) → IsWorld (meaning_of key_cmp edk) w → value_in w key.All ≡ outcome_of (given_as out.All (all_value w))
 all_is w e = value_is key_cmp edk edk_is_bounded w key.All ∙ ap outcome_of (all_run w e)

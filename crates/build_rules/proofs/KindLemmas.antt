@@ -44,7 +44,7 @@ use Rattle.image_steps.specs.Asks.{sections_below, regions_below, are_few}
 use Rattle.image_steps.specs.Files.{file_given}
 use Rattle.image_steps.specs.Volumes.{volume_given}
 use Rattle.image_steps.specs.Devices.{device_given}
-use Rattle.build_rules.specs.AllTree.{folder_in, modules_in, report_in}
+use Rattle.build_rules.specs.AllTree.{folder_in, modules_in, wanted_in, report_in}
 use Rattle.build_rules.specs.ModuleTrees.{round_stages, choice_round, choice_after, most_rounds, modules_parts, setting_in, module_parts, commands_in}
 use Rattle.build_rules.specs.Outputs.{outputs_of}
 use Rattle.build_rules.specs.TextTrees.{told_modules_in, heading_in}
@@ -141,8 +141,8 @@ of_kind key.Report =
     λ told. given_kind 11 out.Report (λ x. refl) (report_given platform heading modules told))))
 of_kind key.All =
     λ given. attempt_kind 12 (platform_in given 0) _ (λ platform. attempt_kind 12 (flash_in given 1) _ (λ flash. attempt_kind 12 (folder_in platform given) _ (λ folder.
-    attempt_kind 12 (modules_in platform given) _ (λ modules. attempt_kind 12 (report_in given) _ (λ report.
-    when_kind 12 (are_few (length flash.volumes) && are_few (length flash.devices)) _ (λ files. given_kind 12 out.All (λ x. refl) (outputs_of folder modules flash report files)))))))
+    attempt_kind 12 (modules_in platform given) _ (λ modules. attempt_kind 12 (wanted_in flash given) _ (λ wanted. attempt_kind 12 (report_in given) _ (λ report.
+    when_kind 12 (are_few (length flash.volumes) && are_few (length flash.devices)) _ (λ files. given_kind 12 out.All (λ x. refl) (outputs_of folder modules flash wanted report files))))))))
 
 run_kind : (n : ℕ) (o : Ask Key → Answer Out) (s : EdkStages) → AreOfKind n s → IfOk (run fits o s) (λ given. kind_of given ≡ n)
 run_kind n o (end (Ok given)) h = h

@@ -1,6 +1,6 @@
 -- The values of PCDs in a world.
 use Rattle.std.specs.List.{flat_map}
-use Rattle.std.proofs.Common.{◌≡◌, ℕ, Bool, true, false, List, [], ◌∷◌, length, map, Option, Some, None, Result, Ok, Err, refl, sym, ap, ◌∙◌}
+use Rattle.std.proofs.Common.{◌≡◌, List, [], ◌∷◌, length, map, None, Result, Ok, Err, refl, ap, ◌∙◌}
 use Rattle.build_base.specs.First.{and_then, or_else, or_fault, all_ok}
 use Rattle.build_base.specs.World.{World, field}
 use Rattle.build_base.specs.declared.fault.Fault.{Fault}
@@ -8,14 +8,12 @@ use Rattle.step_engine.specs.Meaning.{right, IsWorld}
 use Rattle.step_engine.specs.declared.talk.Answer.TheVariants as answer
 use Rattle.step_engine.specs.declared.talk.Outcome.{Outcome}
 use Rattle.build_stages.specs.Bounds.{run_bind}
-use Rattle.build_stages.specs.Stages.{Stages, end, bind, run, fault_in, outcome_of, meaning_of}
+use Rattle.build_stages.specs.Stages.{Stages, end, bind, fault_in, outcome_of, meaning_of}
 use Rattle.build_stages.specs.StagesLaws.{value_is}
 use Rattle.build_stages.specs.Writing.{attempt, when, part_at}
 use Rattle.doc_types.specs.declared.choice.Choice.{Choice}
 use Rattle.doc_types.specs.declared.choice.Module.{Module}
 use Rattle.doc_types.specs.declared.flash.FlashDoc.{FlashDoc}
-use Rattle.doc_types.specs.declared.parts.ModuleParts.{ModuleParts}
-use Rattle.doc_types.specs.declared.pcd.PcdSet.{PcdSet}
 use Rattle.doc_types.specs.declared.platform.PlatformDoc.{PlatformDoc}
 use Rattle.doc_types.specs.declared.values.Values.{Values}
 use Rattle.step_pack.specs.Keys.{key_cmp}
@@ -25,7 +23,6 @@ use Rattle.step_pack.specs.declared.out.Out.{Out}
 use Rattle.step_pack.specs.declared.out.Out.TheVariants as out
 use Rattle.module_steps.specs.declared.parts.Described.{Described}
 use Rattle.module_steps.specs.declared.parts.Linked.{Linked}
-use Rattle.module_steps.specs.declared.settings.Setting.{Setting}
 use Rattle.module_steps.specs.Asks.{choice_asks, inf_asks, dec_asks, linked_asks, package_asks}
 use Rattle.module_steps.specs.Parts.{choice_of_out, one, taken, linked, linked_module, linked_at, described_at, path_count, parts_at, package_count}
 use Rattle.module_steps.specs.Pcds.{pcds_given, values_given}
@@ -33,11 +30,11 @@ use Rattle.module_steps.specs.Settings.{commands_of, setting_of}
 use Rattle.module_steps.specs.Skus.{skus_end}
 use Rattle.module_steps.proofs.TakenLemmas.{Tells, each, then_made}
 use Rattle.build_rules.specs.Fits.{fits}
-use Rattle.build_rules.specs.ModuleTrees.{linked_stages, described_stages, parts_stages, modules_parts, pcds_asks, pcds_from, pcds_first, pcds_stages, one_described, one_parts, module_parts, values_asks, values_from, values_first, values_stages}
+use Rattle.build_rules.specs.ModuleTrees.{linked_stages, described_stages, parts_stages, modules_parts, pcds_asks, pcds_from, pcds_first, pcds_stages, one_described, module_parts, values_asks, values_from, values_first, values_stages}
 use Rattle.build_rules.specs.ModuleValues.{choice_value, linked_value, described_value, parts_value, modules_value, pcds_value, module_value, values_value}
 use Rattle.build_rules.specs.Rules.{edk, value_in}
 use Rattle.build_rules.specs.RulesBounds.{edk_is_bounded}
-use Rattle.build_rules.specs.Trees.{EdkStages, given_as}
+use Rattle.build_rules.specs.Trees.{given_as}
 use Rattle.build_rules.specs.Values.{platform_value, flash_value, fault_asked, if_shaped}
 use Rattle.build_rules.proofs.ChoiceValues.{choice_is}
 use Rattle.build_rules.proofs.ImageValues.{flash_is, given_then, step_run, then_same, when_run}

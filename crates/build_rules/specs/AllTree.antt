@@ -1,6 +1,6 @@
 -- What the whole build asks, stage by stage, and what comes of the answers; the rule is this
 -- project's own.
-use Rattle.std.specs.Prelude.{ℕ, ◌+◌, ◌&&◌, List, [], ◌∷◌, ◌++◌, length, Option, Some, None, Result}
+use Rattle.std.specs.Prelude.{ℕ, ◌+◌, ◌&&◌, Bool, true, false, List, [], ◌∷◌, ◌++◌, length, Option, Some, None, Result}
 use Rattle.build_base.specs.First.{and_then}
 use Rattle.build_base.specs.declared.fault.Fault.{Fault}
 use Rattle.step_engine.specs.declared.talk.Ask.{Ask}
@@ -21,6 +21,8 @@ use Rattle.text_steps.specs.Asks.{build_module_asks}
 use Rattle.build_rules.specs.Trees.{EdkStages, given_as, platform_in, flash_named}
 use Rattle.build_rules.specs.ImageTrees.{flash_in}
 use Rattle.build_rules.specs.Outputs.{output_folder, outputs_of}
+use Rattle.build_rules.specs.Wanted.{wanted_of, is_marked}
+use Rattle.build_rules.specs.declared.wanted.Wanted.{Wanted}
 
 -- the platform, the flash description, the architectures, the target, the tag, the file of the flash
 -- description, the images that are wanted, and the report
@@ -29,14 +31,19 @@ all_asks =
     ask.Part key.Platform ∷ ask.Part key.Flash ∷ ask.Field 1 ∷ ask.Field 2 ∷ ask.Field 3
     ∷ ask.Field 7 ∷ ask.Field 8 ∷ ask.Field 9 ∷ []
 
--- steps by number, from one on, one for each of these
-unfoldable pub steps_from : {A : Type 0} → (ℕ → Key) → ℕ → List A → List (Ask Key)
-steps_from step n [] = []
-steps_from step n (x ∷ xs) = ask.Part (step n) ∷ steps_from step (n + 1) xs
+abbrev pub step_where : Bool → Key → List (Ask Key)
+step_where true step = ask.Part step ∷ []
+step_where false step = []
 
--- all volumes by their numbers, and then all devices
-abbrev pub image_asks : FlashDoc → List (Ask Key)
-image_asks flash = steps_from key.Volume 0 flash.volumes ++ steps_from key.Device 0 flash.devices
+-- steps by number, from one on, one for each of these whose number is marked
+unfoldable pub steps_from : {A : Type 0} → (ℕ → Key) → List Bool → ℕ → List A → List (Ask Key)
+steps_from step marks n [] = []
+steps_from step marks n (x ∷ xs) = step_where (is_marked marks n) (step n) ++ steps_from step marks (n + 1) xs
+
+-- the volumes that are wanted, by their numbers, and then the devices
+abbrev pub image_asks : FlashDoc → Wanted → List (Ask Key)
+image_asks flash wanted =
+    steps_from key.Volume wanted.volumes 0 flash.volumes ++ steps_from key.Device wanted.devices 0 flash.devices
 
 abbrev pub folder_in : PlatformDoc → List (Answer Out) → Result (List ℕ) Fault
 folder_in platform given =
@@ -46,6 +53,10 @@ folder_in platform given =
 -- the modules by the words' architectures
 abbrev pub modules_in : PlatformDoc → List (Answer Out) → Result (List Module) Fault
 modules_in platform given = and_then (field_at given 2) (built_modules platform)
+
+-- the images that the words want
+abbrev pub wanted_in : FlashDoc → List (Answer Out) → Result Wanted Fault
+wanted_in flash given = and_then (field_at given 6) (wanted_of flash)
 
 -- the file of the report, if one is wanted
 abbrev pub report_named : List ℕ → Result (Option (List ℕ)) Fault
@@ -58,16 +69,16 @@ abbrev pub report_part : Option (List ℕ) → List (Ask Key)
 report_part None = []
 report_part (Some path) = ask.Part key.Report ∷ []
 
--- the rows of dynamic PCDs, each module, all images, and last the report
-abbrev pub build_asks : List Module → FlashDoc → Option (List ℕ) → List (Ask Key)
-build_asks modules flash report =
-    ask.Part key.PlatformPcds ∷ build_module_asks modules ++ image_asks flash ++ report_part report
+-- the rows of dynamic PCDs, each module, the images that are wanted, and last the report
+abbrev pub build_asks : List Module → FlashDoc → Wanted → Option (List ℕ) → List (Ask Key)
+build_asks modules flash wanted report =
+    ask.Part key.PlatformPcds ∷ build_module_asks modules ++ image_asks flash wanted ++ report_part report
 
--- modules, the images of a flash description and the report, and then the files of the build
-abbrev pub files_stages : List ℕ → List Module → FlashDoc → Option (List ℕ) → EdkStages
-files_stages folder modules flash report =
+-- modules, images of a flash description and the report, and then the files of the build
+abbrev pub files_stages : List ℕ → List Module → FlashDoc → Wanted → Option (List ℕ) → EdkStages
+files_stages folder modules flash wanted report =
     when (are_few (length flash.volumes) && are_few (length flash.devices))
-    (stage (build_asks modules flash report) (λ given. end (given_as out.All (outputs_of folder modules flash report given))))
+    (stage (build_asks modules flash wanted report) (λ given. end (given_as out.All (outputs_of folder modules flash wanted report given))))
 
 abbrev pub all_given : List (Answer Out) → EdkStages
 all_given given =
@@ -75,7 +86,8 @@ all_given given =
     attempt (flash_in given 1) (λ flash.
     attempt (folder_in platform given) (λ folder.
     attempt (modules_in platform given) (λ modules.
-    attempt (report_in given) (λ report. files_stages folder modules flash report)))))
+    attempt (wanted_in flash given) (λ wanted.
+    attempt (report_in given) (λ report. files_stages folder modules flash wanted report))))))
 
 abbrev pub all_stages : EdkStages
 all_stages = stage all_asks all_given

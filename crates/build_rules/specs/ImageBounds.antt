@@ -27,7 +27,9 @@ use Rattle.image_steps.specs.Asks.{source_file, source_volume, section_files, se
 use Rattle.text_steps.specs.Asks.{built_asks, build_module_asks}
 use Rattle.build_rules.specs.Trees.{platform_in}
 use Rattle.build_rules.specs.ImageTrees.{flash_in, volume_at, item_at, device_at, item_stages, file_stages, plan_stages, volume_stages, device_stages}
-use Rattle.build_rules.specs.AllTree.{steps_from, folder_in, modules_in, report_in, image_asks, report_part, files_stages, all_stages}
+use Rattle.build_rules.specs.AllTree.{step_where, steps_from, folder_in, modules_in, wanted_in, report_in, image_asks, report_part, files_stages, all_stages}
+use Rattle.build_rules.specs.Wanted.{is_marked}
+use Rattle.build_rules.specs.declared.wanted.Wanted.{Wanted}
 use Rattle.build_rules.specs.Rules.{rank_of}
 use Rattle.build_rules.specs.Fits.{fits}
 
@@ -146,17 +148,23 @@ device_within d = (
       when_within fits 1 (regions_below plan.regions) _ (omega arith, λ parts fit_too. tt))),
 )
 
-volumes_asked : (n : ℕ) (plans : List VolumePlan) → n + length plans < 65536 → All (IsLower rank_of 0x400000002) (steps_from key.Volume n plans)
-unfolding steps_from
-volumes_asked n [] h = All-nil (IsLower rank_of 0x400000002)
-volumes_asked n (plan ∷ plans) h =
-    All-cons (IsLower rank_of 0x400000002) (ask.Part (key.Volume n)) (steps_from key.Volume (n + 1) plans) (omega (arith, h)) (volumes_asked (n + 1) plans (omega (arith, h)))
+where_asked : (b : Bool) (step : Key) → rank_of step < 0x400000002 → All (IsLower rank_of 0x400000002) (step_where b step)
+where_asked true step h = all_one (IsLower rank_of 0x400000002) (ask.Part step) h
+where_asked false step h = All-nil (IsLower rank_of 0x400000002)
 
-devices_asked : (n : ℕ) (plans : List DevicePlan) → All (IsLower rank_of 0x400000002) (steps_from key.Device n plans)
+volumes_asked : (marks : List Bool) (n : ℕ) (plans : List VolumePlan) → n + length plans < 65536 → All (IsLower rank_of 0x400000002) (steps_from key.Volume marks n plans)
 unfolding steps_from
-devices_asked n [] = All-nil (IsLower rank_of 0x400000002)
-devices_asked n (plan ∷ plans) =
-    All-cons (IsLower rank_of 0x400000002) (ask.Part (key.Device n)) (steps_from key.Device (n + 1) plans) (omega arith) (devices_asked (n + 1) plans)
+volumes_asked marks n [] h = All-nil (IsLower rank_of 0x400000002)
+volumes_asked marks n (plan ∷ plans) h =
+    All-append (IsLower rank_of 0x400000002) (step_where (is_marked marks n) (key.Volume n)) (steps_from key.Volume marks (n + 1) plans)
+    (where_asked (is_marked marks n) (key.Volume n) (omega (arith, h))) (volumes_asked marks (n + 1) plans (omega (arith, h)))
+
+devices_asked : (marks : List Bool) (n : ℕ) (plans : List DevicePlan) → All (IsLower rank_of 0x400000002) (steps_from key.Device marks n plans)
+unfolding steps_from
+devices_asked marks n [] = All-nil (IsLower rank_of 0x400000002)
+devices_asked marks n (plan ∷ plans) =
+    All-append (IsLower rank_of 0x400000002) (step_where (is_marked marks n) (key.Device n)) (steps_from key.Device marks (n + 1) plans)
+    (where_asked (is_marked marks n) (key.Device n) (omega arith)) (devices_asked marks (n + 1) plans)
 
 modules_asked : (modules : List Module) → All (IsLower rank_of 0x400000002) (build_module_asks modules)
 modules_asked [] = All-nil (IsLower rank_of 0x400000002)
@@ -166,23 +174,23 @@ modules_asked (m ∷ modules) =
     (all_two (IsLower rank_of 0x400000002) (ask.Part (key.Code m)) (ask.Part (key.Depex m)) (omega arith) (omega arith)))
     (modules_asked modules)
 
-images_asked : (flash : FlashDoc) → (are_few (length flash.volumes) && are_few (length flash.devices)) ≡ true → All (IsLower rank_of 0x400000002) (image_asks flash)
-images_asked flash e =
-    All-append (IsLower rank_of 0x400000002) (steps_from key.Volume 0 flash.volumes) (steps_from key.Device 0 flash.devices)
-    (volumes_asked 0 flash.volumes
+images_asked : (flash : FlashDoc) (wanted : Wanted) → (are_few (length flash.volumes) && are_few (length flash.devices)) ≡ true → All (IsLower rank_of 0x400000002) (image_asks flash wanted)
+images_asked flash wanted e =
+    All-append (IsLower rank_of 0x400000002) (steps_from key.Volume wanted.volumes 0 flash.volumes) (steps_from key.Device wanted.devices 0 flash.devices)
+    (volumes_asked wanted.volumes 0 flash.volumes
     (let few : length flash.volumes < 65536 = ltb-true (length flash.volumes) 65536 (both_hold (are_few (length flash.volumes)) (are_few (length flash.devices)) e).0 in omega (arith, few)))
-    (devices_asked 0 flash.devices)
+    (devices_asked wanted.devices 0 flash.devices)
 
 report_asked : (report : Option (List ℕ)) → All (IsLower rank_of 0x400000002) (report_part report)
 report_asked None = All-nil (IsLower rank_of 0x400000002)
 report_asked (Some path) = all_one (IsLower rank_of 0x400000002) (ask.Part key.Report) (omega arith)
 
-build_lower : (folder : List ℕ) (modules : List Module) (flash : FlashDoc) (report : Option (List ℕ)) → AreLower rank_of 0x400000002 (files_stages folder modules flash report)
-build_lower folder modules flash report =
+build_lower : (folder : List ℕ) (modules : List Module) (flash : FlashDoc) (wanted : Wanted) (report : Option (List ℕ)) → AreLower rank_of 0x400000002 (files_stages folder modules flash wanted report)
+build_lower folder modules flash wanted report =
     when_lower rank_of 0x400000002 (are_few (length flash.volumes) && are_few (length flash.devices)) _ (λ e. (
-      All-cons (IsLower rank_of 0x400000002) (ask.Part key.PlatformPcds) (build_module_asks modules ++ image_asks flash ++ report_part report) (omega arith)
-          (All-append (IsLower rank_of 0x400000002) (build_module_asks modules ++ image_asks flash) (report_part report)
-          (All-append (IsLower rank_of 0x400000002) (build_module_asks modules) (image_asks flash) (modules_asked modules) (images_asked flash e))
+      All-cons (IsLower rank_of 0x400000002) (ask.Part key.PlatformPcds) (build_module_asks modules ++ image_asks flash wanted ++ report_part report) (omega arith)
+          (All-append (IsLower rank_of 0x400000002) (build_module_asks modules ++ image_asks flash wanted) (report_part report)
+          (All-append (IsLower rank_of 0x400000002) (build_module_asks modules) (image_asks flash wanted) (modules_asked modules) (images_asked flash wanted e))
           (report_asked report)),
       λ given. tt,
     ))
@@ -201,7 +209,8 @@ all_lower = (
       (all_two (IsLower rank_of 0x400000002) (ask.Part key.Platform) (ask.Part key.Flash) (omega arith) (omega arith)) (fields_lower 0x400000002),
   λ given. attempt_lower rank_of 0x400000002 (platform_in given 0) _ (λ platform. attempt_lower rank_of 0x400000002 (flash_in given 1) _ (λ flash.
       attempt_lower rank_of 0x400000002 (folder_in platform given) _ (λ folder. attempt_lower rank_of 0x400000002 (modules_in platform given) _ (λ modules.
-      attempt_lower rank_of 0x400000002 (report_in given) _ (λ report. build_lower folder modules flash report))))),
+      attempt_lower rank_of 0x400000002 (wanted_in flash given) _ (λ wanted. attempt_lower rank_of 0x400000002 (report_in given) _ (λ report.
+      build_lower folder modules flash wanted report)))))),
 )
 
 pub all_within : IsWithin fits 2 all_stages
@@ -209,6 +218,6 @@ all_within = (
   omega arith,
   λ given fit. attempt_within fits 1 (platform_in given 0) _ (λ platform. attempt_within fits 1 (flash_in given 1) _ (λ flash.
       attempt_within fits 1 (folder_in platform given) _ (λ folder. attempt_within fits 1 (modules_in platform given) _ (λ modules.
-      attempt_within fits 1 (report_in given) _ (λ report.
-      when_within fits 1 (are_few (length flash.volumes) && are_few (length flash.devices)) _ (omega arith, λ files fit_too. tt)))))),
+      attempt_within fits 1 (wanted_in flash given) _ (λ wanted. attempt_within fits 1 (report_in given) _ (λ report.
+      when_within fits 1 (are_few (length flash.volumes) && are_few (length flash.devices)) _ (omega arith, λ files fit_too. tt))))))),
 )

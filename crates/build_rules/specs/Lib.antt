@@ -4,6 +4,7 @@ pub mod Trees
 pub mod ImageTrees
 pub mod ModuleTrees
 pub mod TextTrees
+pub mod Wanted
 pub mod Outputs
 pub mod AllTree
 pub mod Rules

@@ -23,7 +23,7 @@ use Rattle.module_steps.specs.Skus.{skus_end}
 use Rattle.text_steps.specs.Report.{values_at}
 use Rattle.build_rules.specs.Trees.{EdkStages, platform_in}
 use Rattle.build_rules.specs.ImageTrees.{flash_in}
-use Rattle.build_rules.specs.ModuleTrees.{round_stages, choice_round, choice_after, most_rounds, choice_given, choice_stages, linked_stages, described_stages, parts_stages, modules_parts, setting_in, pcds_from, pcds_stages, one_described, one_parts, module_parts, values_from, commands_in, values_stages}
+use Rattle.build_rules.specs.ModuleTrees.{round_stages, choice_round, choice_after, most_rounds, choice_given, choice_stages, linked_stages, described_stages, modules_parts, setting_in, pcds_from, pcds_stages, one_described, module_parts, commands_in, values_stages}
 use Rattle.build_rules.specs.Rules.{rank_of}
 use Rattle.build_rules.specs.Fits.{fits}
 

@@ -1,17 +1,15 @@
 -- The values of the steps of libraries and PCDs in a world: the instances of modules and what they have
 -- called (EDK II DSC, INF and Build specifications, library classes), and the values of PCDs (EDK II
 -- Build specification, PCD values), from the documents of the world.
-use Rattle.std.specs.Prelude.{◌≡◌, ℕ, zero, suc, List, [], ◌∷◌, map, Result, Ok, Err}
+use Rattle.std.specs.Prelude.{◌≡◌, ℕ, zero, suc, List, [], ◌∷◌, map, Result}
 use Rattle.build_base.specs.First.{and_then, all_ok}
 use Rattle.build_base.specs.World.{World, field}
 use Rattle.build_base.specs.declared.fault.Fault.{Fault}
 use Rattle.doc_types.specs.declared.choice.Choice.{Choice}
 use Rattle.doc_types.specs.declared.choice.Module.{Module}
-use Rattle.doc_types.specs.declared.flash.FlashDoc.{FlashDoc}
 use Rattle.doc_types.specs.declared.module.InfDoc.{InfDoc}
 use Rattle.doc_types.specs.declared.parts.ModuleParts.{ModuleParts}
 use Rattle.doc_types.specs.declared.parts.Package.{Package}
-use Rattle.doc_types.specs.declared.pcd.PcdSet.{PcdSet}
 use Rattle.doc_types.specs.declared.platform.PlatformDoc.{PlatformDoc}
 use Rattle.doc_types.specs.declared.values.Values.{Values}
 use Rattle.library_choice.specs.Choices.{choice}
@@ -21,7 +19,6 @@ use Rattle.step_pack.specs.declared.key.Key.TheVariants as key
 use Rattle.step_pack.specs.declared.out.Out.TheVariants as out
 use Rattle.module_steps.specs.declared.parts.Described.{Described}
 use Rattle.module_steps.specs.declared.parts.Linked.{Linked}
-use Rattle.module_steps.specs.declared.settings.Setting.{Setting}
 use Rattle.module_steps.specs.Choices.{alone, behind}
 use Rattle.module_steps.specs.Parts.{held_package, linked, linked_module, described, parts}
 use Rattle.module_steps.specs.Pcds.{pcds_given, values_given}

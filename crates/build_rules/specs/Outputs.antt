@@ -21,6 +21,8 @@ use Rattle.step_pack.specs.declared.out.Output.{Output}
 use Rattle.step_engine.specs.declared.talk.Answer.{Answer}
 use Rattle.text_steps.specs.Stems.{stem_of}
 use Rattle.build_rules.specs.Defines.{or_default}
+use Rattle.build_rules.specs.Wanted.{is_marked}
+use Rattle.build_rules.specs.declared.wanted.Wanted.{Wanted}
 
 -- the path of a file in a folder; the folders and names of a build can be joined
 unfoldable pub path_below : List ℕ → List ℕ → Result (List ℕ) Fault
@@ -37,16 +39,23 @@ abbrev pub image_output : List ℕ → List ℕ → List ℕ → Key → Result 
 image_output folder name extension from =
     and_then (path_below folder (codes "FV/" ++ map to_ascii_uppercase name ++ extension)) (λ path. Ok (record { path = path; from = from; part = 0 }))
 
--- the files of volumes, whose numbers begin with this one
-unfoldable pub volume_outputs : List ℕ → ℕ → List VolumePlan → Result (List Output) Fault
-volume_outputs folder n [] = Ok []
-volume_outputs folder n (plan ∷ plans) =
-    and_then (image_output folder plan.head.name (codes ".Fv") (key.Volume n)) (λ output. with_front (output ∷ []) (volume_outputs folder (n + 1) plans))
+abbrev pub image_where : Bool → List ℕ → List ℕ → List ℕ → Key → Result (List Output) Fault
+image_where true folder name extension from =
+    and_then (image_output folder name extension from) (λ output. Ok (output ∷ []))
+image_where false folder name extension from = Ok []
 
-unfoldable pub device_outputs : List ℕ → ℕ → List DevicePlan → Result (List Output) Fault
-device_outputs folder n [] = Ok []
-device_outputs folder n (plan ∷ plans) =
-    and_then (image_output folder plan.name (codes ".fd") (key.Device n)) (λ output. with_front (output ∷ []) (device_outputs folder (n + 1) plans))
+-- the files of the volumes that are marked, whose numbers begin with this one
+unfoldable pub volume_outputs : List ℕ → List Bool → ℕ → List VolumePlan → Result (List Output) Fault
+volume_outputs folder marks n [] = Ok []
+volume_outputs folder marks n (plan ∷ plans) =
+    and_then (image_where (is_marked marks n) folder plan.head.name (codes ".Fv") (key.Volume n))
+    (λ outputs. with_front outputs (volume_outputs folder marks (n + 1) plans))
+
+unfoldable pub device_outputs : List ℕ → List Bool → ℕ → List DevicePlan → Result (List Output) Fault
+device_outputs folder marks n [] = Ok []
+device_outputs folder marks n (plan ∷ plans) =
+    and_then (image_where (is_marked marks n) folder plan.name (codes ".fd") (key.Device n))
+    (λ outputs. with_front outputs (device_outputs folder marks (n + 1) plans))
 
 -- The files of a module stand below ARCH/<INF file without its extension>.
 unfoldable pub module_folder : List ℕ → Module → Result (List ℕ) Fault
@@ -125,10 +134,10 @@ abbrev pub report_output : Option (List ℕ) → List Output
 report_output None = []
 report_output (Some path) = record { path = path; from = key.Report; part = 0 } ∷ []
 
--- Module by module its files, whose answers stand behind the first; volumes by their numbers; devices as they stand in
--- the flash description; last the report.
-unfoldable pub outputs_of : List ℕ → List Module → FlashDoc → Option (List ℕ) → List (Answer Out) → Result (List Output) Fault
-outputs_of folder modules flash report given =
+-- Module by module its files, whose answers stand behind the first; of the images that are wanted the volumes by their numbers, and
+-- the devices as they stand in the flash description; last the report.
+unfoldable pub outputs_of : List ℕ → List Module → FlashDoc → Wanted → Option (List ℕ) → List (Answer Out) → Result (List Output) Fault
+outputs_of folder modules flash wanted report given =
     and_then (modules_outputs folder given 1 modules) (λ texts.
-    and_then (with_front texts (volume_outputs folder 0 flash.volumes)) (λ volumes.
-    and_then (with_front volumes (device_outputs folder 0 flash.devices)) (λ images. Ok (images ++ report_output report))))
+    and_then (with_front texts (volume_outputs folder wanted.volumes 0 flash.volumes)) (λ volumes.
+    and_then (with_front volumes (device_outputs folder wanted.devices 0 flash.devices)) (λ images. Ok (images ++ report_output report))))

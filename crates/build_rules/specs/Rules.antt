@@ -77,13 +77,11 @@ is_empty text = length text == 0
 abbrev pub is_path_or_empty : List ℕ → Bool
 is_path_or_empty text = if is_empty text then true else is_some (path_field text)
 
--- The field 0 of a job names a file, and so do 7 and 9 where they aren't empty. Images can't be asked
--- for yet.
+-- the field 0 of a job names a file, and so do 7 and 9 where they aren't empty
 abbrev pub is_job : List (List ℕ) → Bool
 is_job fields =
     is_some (path_field (slice_index_or fields 0 []))
-    && (is_path_or_empty (slice_index_or fields 7 [])
-    && (is_empty (slice_index_or fields 8 []) && is_path_or_empty (slice_index_or fields 9 [])))
+    && (is_path_or_empty (slice_index_or fields 7 []) && is_path_or_empty (slice_index_or fields 9 []))
 
 abbrev pub edk : Staged Key Out
 edk = record { stages = stages_of; rank = rank_of; most = most_of; fits = fits; is_job = is_job }

@@ -1,6 +1,6 @@
 -- The bounds of the steps of texts, dependency expressions and the report: what they ask is of lower rank, and how many
 -- batches they ask.
-use Rattle.std.proofs.Common.{ℕ, ◌<◌, arith, List, [], ◌∷◌, All}
+use Rattle.std.proofs.Common.{arith, List, [], ◌∷◌, All}
 use Rattle.std.specs.List.{flat_map}
 use Rattle.std.proofs.lemmas.List.Elements.{All-nil, All-cons, All-append}
 use Rattle.step_engine.specs.declared.talk.Ask.TheVariants as ask

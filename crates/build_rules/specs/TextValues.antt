@@ -1,6 +1,6 @@
 -- The values of the steps of texts, dependency expressions and the report in a world (EDK II Build specification, AutoGen
 -- files and build report; UEFI PI specification, volumes 1 and 2), from the documents and the values of the world.
-use Rattle.std.specs.Prelude.{◌≡◌, ℕ, List, map, Option, Result, Ok}
+use Rattle.std.specs.Prelude.{◌≡◌, ℕ, List, map, Option, Result}
 use Rattle.build_base.specs.First.{and_then, all_ok}
 use Rattle.build_base.specs.World.{World, field}
 use Rattle.build_base.specs.declared.fault.Fault.{Fault}

@@ -41,6 +41,8 @@ use Rattle.image_steps.specs.Devices.{device_given}
 use Rattle.build_rules.specs.AllTree.{build_asks}
 use Rattle.build_rules.specs.ImageTrees.{volume_at, item_at, device_at}
 use Rattle.build_rules.specs.Outputs.{output_folder, outputs_of}
+use Rattle.build_rules.specs.Wanted.{wanted_of}
+use Rattle.build_rules.specs.declared.wanted.Wanted.{Wanted}
 use Rattle.step_pack.specs.declared.key.Key.TheVariants as key
 use Rattle.step_pack.specs.declared.out.Out.TheVariants as out
 use Rattle.build_rules.specs.Defines.{macros_of_job}
@@ -123,21 +125,24 @@ regions_value w plan =
 unfoldable pub device_value : World → ℕ → Result (List ℕ) Fault
 device_value w d = and_then (flash_value w) (λ flash. and_then (device_at flash d) (regions_value w))
 
-abbrev pub files_value : World → List ℕ → List Module → FlashDoc → Option (List ℕ) → Result (List Output) Fault
-files_value w folder modules flash report =
+abbrev pub files_value : World → List ℕ → List Module → FlashDoc → Wanted → Option (List ℕ) → Result (List Output) Fault
+files_value w folder modules flash wanted report =
     if_shaped (are_few (length flash.volumes) && are_few (length flash.devices))
-    (by_answers w (build_asks modules flash report) (outputs_of folder modules flash report))
+    (by_answers w (build_asks modules flash wanted report) (outputs_of folder modules flash wanted report))
 
--- The files of the build: each module's, each volume's, each device's, and last the report. The first
--- fault is one of the rows of dynamic PCDs; module by module of its description, its texts or its
--- expression; of a volume, of a device, or of the report.
+abbrev pub wanted_value : World → List ℕ → List Module → FlashDoc → Result (List Output) Fault
+wanted_value w folder modules flash =
+    and_then (wanted_of flash (field w 8)) (λ wanted. files_value w folder modules flash wanted (flash_file None (field w 9)))
+
+-- The files of the build: each module's, each volume's and each device's that is wanted, and last the report. The first
+-- fault is that the words name an image that there isn't; then one of the rows of dynamic PCDs; module by module of its
+-- description, its texts or its expression; of a volume, of a device, or of the report.
 unfoldable pub all_value : World → Result (List Output) Fault
 all_value w =
     and_then (platform_value w) (λ platform.
     and_then (flash_value w) (λ flash.
     and_then (output_folder platform.output (field w 2) (field w 3)) (λ folder.
-    and_then (built_modules platform (field w 1)) (λ modules.
-    files_value w folder modules flash (flash_file None (field w 9))))))
+    and_then (built_modules platform (field w 1)) (λ modules. wanted_value w folder modules flash))))
 
 -- the step of a document gives its value
 abbrev pub GivesPackage : World → List ℕ → Type 0

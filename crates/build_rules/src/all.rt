@@ -2,12 +2,13 @@
 ghost use Rattle.std.specs.Prelude.{◌≡◌, ◌++◌, ◌∷◌, [], ◌<◌, length, IfOk, OnOk};
 ghost use Rattle.build_stages.specs.Gives.{GivesIn};
 ghost use Rattle.build_rules.specs.Rules.{Comes};
-ghost use Rattle.build_rules.specs.AllTree.{steps_from, report_part, build_asks, folder_in, modules_in, report_in, files_stages, all_stages};
+ghost use Rattle.build_rules.specs.AllTree.{step_where, steps_from, report_part, build_asks, folder_in, modules_in, wanted_in, report_in, files_stages, all_stages};
 
 use crate::documents::{flash_named, platform_in};
 use crate::images::flash_in;
 use crate::outputs::{output_folder, outputs_of};
 use crate::shapes::EdkRules;
+use crate::wanted::{Wanted, is_marked, wanted_of};
 use build_base::{Path, Permit, Rows, WantOfMemory};
 use build_stages::{Given, Known, Stop, gather};
 use doc_types::choice::Module;
@@ -21,32 +22,58 @@ use step_engine::Ask;
 use step_pack::{Key, Out};
 use text_steps::push_module_asks;
 
-// Appends a step for each volume.
+fn push_volume(asks: &mut Rows<Ask<Key>>, is_wanted: bool, number: u32) -> Result<(), WantOfMemory>
+    ensures { OnOk result (asks.new ≡ asks.old ++ step_where is_wanted (Key.Volume number)) }
+{
+    if is_wanted {
+        asks.push(Ask::Part(Key::Volume(number)))?;
+    }
+    Ok(())
+}
+
+fn push_device(asks: &mut Rows<Ask<Key>>, is_wanted: bool, number: u32) -> Result<(), WantOfMemory>
+    ensures { OnOk result (asks.new ≡ asks.old ++ step_where is_wanted (Key.Device number)) }
+{
+    if is_wanted {
+        asks.push(Ask::Part(Key::Device(number)))?;
+    }
+    Ok(())
+}
+
+// Appends a step for each volume that is marked.
 #[tactic(auto, unfolding(crate::specs::AllTree::steps_from))]
-fn push_volumes(asks: &mut Rows<Ask<Key>>, plans: &[VolumePlan]) -> Result<(), WantOfMemory>
+fn push_volumes(
+    asks: &mut Rows<Ask<Key>>,
+    marks: &[bool],
+    plans: &[VolumePlan],
+) -> Result<(), WantOfMemory>
     requires { length plans.now < 65536 }
-    ensures { OnOk result (asks.new ≡ asks.old ++ steps_from Key.Volume 0 plans.now) }
+    ensures { OnOk result (asks.new ≡ asks.old ++ steps_from Key.Volume marks.now 0 plans.now) }
 {
     let mut number: u32 = 0;
     let mut left = plans;
     while let [_plan, rest @ ..] = left {
-        asks.push(Ask::Part(Key::Volume(number)))?;
+        push_volume(asks, is_marked(marks, number), number)?;
         number += 1;
         left = rest;
     }
     Ok(())
 }
 
-// Appends a step for each device.
+// Appends a step for each device that is marked.
 #[tactic(auto, unfolding(crate::specs::AllTree::steps_from))]
-fn push_devices(asks: &mut Rows<Ask<Key>>, plans: &[DevicePlan]) -> Result<(), WantOfMemory>
+fn push_devices(
+    asks: &mut Rows<Ask<Key>>,
+    marks: &[bool],
+    plans: &[DevicePlan],
+) -> Result<(), WantOfMemory>
     requires { length plans.now < 65536 }
-    ensures { OnOk result (asks.new ≡ asks.old ++ steps_from Key.Device 0 plans.now) }
+    ensures { OnOk result (asks.new ≡ asks.old ++ steps_from Key.Device marks.now 0 plans.now) }
 {
     let mut number: u32 = 0;
     let mut left = plans;
     while let [_plan, rest @ ..] = left {
-        asks.push(Ask::Part(Key::Device(number)))?;
+        push_device(asks, is_marked(marks, number), number)?;
         number += 1;
         left = rest;
     }
@@ -63,22 +90,23 @@ fn push_report(asks: &mut Rows<Ask<Key>>, report: &Option<Path>) -> Result<(), W
     }
 }
 
-// The rows of dynamic PCDs, each module, all volumes by their numbers, all devices, and then the report.
+// The rows of dynamic PCDs, each module, the volumes that are wanted by their numbers, the devices, and then the report.
 fn build_asks(
     alloc: Global,
     modules: &[Module],
     flash: &FlashDoc,
+    wanted: &Wanted,
     report: &Option<Path>,
 ) -> Result<Rows<Ask<Key>>, WantOfMemory>
     requires volumes { length flash.now.volumes < 65536 }
     requires devices { length flash.now.devices < 65536 }
-    ensures { IfOk result (λ asks. asks ≡ build_asks modules.now flash.now report.now) }
+    ensures { IfOk result (λ asks. asks ≡ build_asks modules.now flash.now wanted.now report.now) }
 {
     let mut asks = Rows::new(alloc);
     asks.push(Ask::Part(Key::PlatformPcds))?;
     push_module_asks(alloc, &mut asks, modules)?;
-    push_volumes(&mut asks, flash.volumes.items())?;
-    push_devices(&mut asks, flash.devices.items())?;
+    push_volumes(&mut asks, wanted.volumes.items(), flash.volumes.items())?;
+    push_devices(&mut asks, wanted.devices.items(), flash.devices.items())?;
     push_report(&mut asks, report)?;
     Ok(asks)
 }
@@ -106,6 +134,14 @@ fn modules_in(
     built_modules(alloc, platform, arches.bytes())
 }
 
+// The images that the words want.
+fn wanted_in(alloc: Global, flash: &FlashDoc, given: &Given<'_, Out>) -> Result<Wanted, Stop<Key>>
+    ensures { GivesIn (λ wanted. wanted) result (wanted_in flash.now given.now) }
+{
+    let text = given.field(6)?;
+    wanted_of(alloc, flash, text.bytes())
+}
+
 // The file of the report, if one is wanted.
 fn report_in(alloc: Global, given: &Given<'_, Out>) -> Result<Option<Path>, Stop<Key>>
     ensures { GivesIn (λ report. report) result (report_in given.now) }
@@ -122,15 +158,16 @@ fn files(
     folder: &Path,
     modules: &[Module],
     flash: &FlashDoc,
+    wanted: &Wanted,
     report: &Option<Path>,
     permit: Permit,
 ) -> Result<Out, Stop<Key>>
-    ensures { Comes known.now (files_stages folder.now modules.now flash.now report.now) result }
+    ensures { Comes known.now (files_stages folder.now modules.now flash.now wanted.now report.now) result }
 {
     if are_few(flash.volumes.items().len()) && are_few(flash.devices.items().len()) {
-        let asks = build_asks(alloc, modules, flash, report)?;
+        let asks = build_asks(alloc, modules, flash, wanted, report)?;
         let (given, _permit) = gather(alloc, &EdkRules, known, asks.items(), permit)?;
-        let outputs = outputs_of(alloc, folder, modules, flash, report, &given)?;
+        let outputs = outputs_of(alloc, folder, modules, flash, wanted, report, &given)?;
         return Ok(Out::All(outputs));
     }
     Err(Stop::Misfit)
@@ -155,6 +192,7 @@ pub fn all(alloc: Global, known: &Known<'_, Key, Out>, permit: Permit) -> Result
     let flash = flash_in(&given, 1)?;
     let folder = folder_in(alloc, platform, &given)?;
     let modules = modules_in(alloc, platform, &given)?;
+    let wanted = wanted_in(alloc, flash, &given)?;
     let report = report_in(alloc, &given)?;
     files(
         alloc,
@@ -162,6 +200,7 @@ pub fn all(alloc: Global, known: &Known<'_, Key, Out>, permit: Permit) -> Result
         &folder,
         modules.items(),
         flash,
+        &wanted,
         &report,
         permit,
     )

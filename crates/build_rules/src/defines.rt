@@ -52,7 +52,8 @@ fn each_macro(alloc: Global, texts: &[&[u8]]) -> Result<Rows<Macro>, WantOfMemor
     Ok(macros)
 }
 
-fn cut_at_feeds(alloc: Global, texts: &[u8]) -> Result<Vec<&[u8]>, AllocError>
+/// The texts that line feeds join.
+pub fn cut_at_feeds(alloc: Global, texts: &[u8]) -> Result<Vec<&[u8]>, AllocError>
     ensures { IfOk result (λ parts. shown parts.items ≡ slice_split (λ b. b == 10) texts.now) }
 {
     texts.split(|byte| *byte == b'\n').collect(alloc)

@@ -2,7 +2,7 @@
 ghost use Rattle.std.specs.Prelude.{◌≡◌, [], slice_index_or};
 ghost use Rattle.std.specs.Option.{is_some};
 ghost use Rattle.build_base.specs.Path.{path_field};
-ghost use Rattle.build_rules.specs.Rules.{is_empty, is_path_or_empty, is_job};
+ghost use Rattle.build_rules.specs.Rules.{is_path_or_empty, is_job};
 
 use build_base::path::is_path;
 use build_base::{Rows, Text};
@@ -31,13 +31,11 @@ fn is_path_or_empty(text: &[u8]) -> bool
     is_path_field(text)
 }
 
-/// Whether fields are in their form: 0 names a file, and so do 7 and 9 where they aren't empty. Images,
-/// 8, can't be asked for yet.
+/// Whether fields are in their form: 0 names a file, and so do 7 and 9 where they aren't empty.
 pub fn is_job(fields: &Rows<Text>) -> bool
     ensures { result ≡ is_job fields.now }
 {
     is_path_field(field(fields, 0))
         && is_path_or_empty(field(fields, 7))
-        && field(fields, 8).is_empty()
         && is_path_or_empty(field(fields, 9))
 }

@@ -12,6 +12,7 @@ pub mod outputs;
 pub mod rules;
 pub mod shapes;
 pub mod texts;
+pub mod wanted;
 
 pub use job::is_job;
 pub use rules::EdkRules;

@@ -5,9 +5,10 @@ ghost use Rattle.build_stages.specs.Gives.{GivesIn};
 ghost use Rattle.build_base.specs.First.{with_front};
 ghost use Rattle.step_pack.specs.declared.key.Key.TheVariants as key;
 ghost use Rattle.build_rules.specs.Defines.{or_default};
-ghost use Rattle.build_rules.specs.Outputs.{path_below, output_folder, image_output, volume_outputs, device_outputs, module_folder, file_output, c_output, h_output, code_outputs, depex_outputs, module_outputs, base_of_out, base_at, has_texts, texts_at, has_bytes, bytes_at, named_at, outputs_at, modules_outputs, report_output, outputs_of};
+ghost use Rattle.build_rules.specs.Outputs.{path_below, output_folder, image_output, image_where, volume_outputs, device_outputs, module_folder, file_output, c_output, h_output, code_outputs, depex_outputs, module_outputs, base_of_out, base_at, has_texts, texts_at, has_bytes, bytes_at, named_at, outputs_at, modules_outputs, report_output, outputs_of};
 
 use crate::defines::or_default;
+use crate::wanted::{Wanted, is_marked};
 use build_base::path::path_field;
 use build_base::{Path, Rows, Same, WantOfMemory};
 use build_stages::{Given, Stop};
@@ -108,48 +109,86 @@ fn image_output(
     })
 }
 
-// Appends the files of volumes to those of the modules.
+// The file of a volume that is wanted.
+fn volume_where(
+    alloc: Global,
+    is_wanted: bool,
+    folder: &Path,
+    plan: &VolumePlan,
+    number: u32,
+) -> Result<Rows<Output>, Stop<Key>>
+    ensures { GivesIn (λ outputs. outputs) result (image_where is_wanted folder.now plan.now.head.name (codes ".Fv") (Key.Volume number)) }
+{
+    let mut outputs = Rows::new(alloc);
+    if is_wanted {
+        let name = plan.head.name.bytes();
+        let output = image_output(alloc, folder, name, b".Fv".as_slice(), Key::Volume(number))?;
+        outputs.push(output)?;
+    }
+    Ok(outputs)
+}
+
+// The file of a device that is wanted.
+fn device_where(
+    alloc: Global,
+    is_wanted: bool,
+    folder: &Path,
+    plan: &DevicePlan,
+    number: u32,
+) -> Result<Rows<Output>, Stop<Key>>
+    ensures { GivesIn (λ outputs. outputs) result (image_where is_wanted folder.now plan.now.name (codes ".fd") (Key.Device number)) }
+{
+    let mut outputs = Rows::new(alloc);
+    if is_wanted {
+        let name = plan.name.bytes();
+        let output = image_output(alloc, folder, name, b".fd".as_slice(), Key::Device(number))?;
+        outputs.push(output)?;
+    }
+    Ok(outputs)
+}
+
+// Appends the files of the volumes that are marked to those of the modules.
 #[tactic(auto, unfolding(crate::specs::Outputs::volume_outputs))]
 fn push_volumes(
     alloc: Global,
     folder: &Path,
+    marks: &[bool],
     plans: &[VolumePlan],
     texts: Rows<Output>,
 ) -> Result<Rows<Output>, Stop<Key>>
     requires { length plans.now < 65536 }
-    ensures { GivesIn (λ outputs. outputs) result (with_front texts (volume_outputs folder.now 0 plans.now)) }
+    ensures { GivesIn (λ outputs. outputs) result (with_front texts (volume_outputs folder.now marks.now 0 plans.now)) }
 {
     let mut outputs = texts;
     let mut number: u32 = 0;
     let mut left = plans;
     while let [plan, rest @ ..] = left {
-        let name = plan.head.name.bytes();
-        let output = image_output(alloc, folder, name, b".Fv".as_slice(), Key::Volume(number))?;
-        outputs.push(output)?;
+        let more = volume_where(alloc, is_marked(marks, number), folder, plan, number)?;
+        append(alloc, &mut outputs, more.items())?;
         number += 1;
         left = rest;
     }
     Ok(outputs)
 }
 
-// Appends the files of devices to those of the volumes.
+// Appends the files of the devices that are marked to those of the volumes.
 #[tactic(auto, unfolding(crate::specs::Outputs::device_outputs))]
 fn push_devices(
     alloc: Global,
     folder: &Path,
+    marks: &[bool],
     plans: &[DevicePlan],
     volumes: Rows<Output>,
 ) -> Result<Rows<Output>, Stop<Key>>
     requires { length plans.now < 65536 }
-    ensures { GivesIn (λ outputs. outputs) result (with_front volumes (device_outputs folder.now 0 plans.now)) }
+    ensures { GivesIn (λ outputs. outputs) result (with_front volumes (device_outputs folder.now marks.now 0 plans.now)) }
 {
     let mut outputs = volumes;
     let mut number: u32 = 0;
     let mut left = plans;
     while let [plan, rest @ ..] = left {
-        let name = plan.name.bytes();
-        let output = image_output(alloc, folder, name, b".fd".as_slice(), Key::Device(number))?;
-        outputs.push(output)?;
+        let more = device_where(alloc, is_marked(marks, number), folder, plan, number)?;
+        append(alloc, &mut outputs, more.items())?;
         number += 1;
         left = rest;
     }
@@ -411,23 +450,26 @@ fn push_report(
     }
 }
 
-/// The files of a build: those of each module, volumes by their numbers, devices, and last the report.
+/// The files of a build: those of each module, the volumes that are wanted by their numbers, the devices, and last the report.
 #[tactic(auto, unfolding(crate::specs::Outputs::outputs_of))]
 pub fn outputs_of(
     alloc: Global,
     folder: &Path,
     modules: &[Module],
     flash: &FlashDoc,
+    wanted: &Wanted,
     report: &Option<Path>,
     given: &Given<'_, Out>,
 ) -> Result<Rows<Output>, Stop<Key>>
     requires volumes { length flash.now.volumes < 65536 }
     requires devices { length flash.now.devices < 65536 }
-    ensures { GivesIn (λ outputs. outputs) result (outputs_of folder.now modules.now flash.now report.now given.now) }
+    ensures { GivesIn (λ outputs. outputs) result (outputs_of folder.now modules.now flash.now wanted.now report.now given.now) }
 {
     let texts = modules_outputs(alloc, folder, modules, given)?;
-    let volumes = push_volumes(alloc, folder, flash.volumes.items(), texts)?;
-    let mut outputs = push_devices(alloc, folder, flash.devices.items(), volumes)?;
+    let marks = wanted.volumes.items();
+    let volumes = push_volumes(alloc, folder, marks, flash.volumes.items(), texts)?;
+    let marks = wanted.devices.items();
+    let mut outputs = push_devices(alloc, folder, marks, flash.devices.items(), volumes)?;
     push_report(alloc, &mut outputs, report)?;
     Ok(outputs)
 }

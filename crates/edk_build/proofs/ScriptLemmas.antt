@@ -9,7 +9,7 @@ use Rattle.macro_conditions.specs.Macros.{same_text}
 use Rattle.meta_lexer.specs.Lines.{Piece, is_plain, pieces_from, without_return}
 use Rattle.meta_lexer.specs.Parts.{words_of}
 use Rattle.edk_build.specs.Script.{put_of, drop_of, build_of, order_of, content_of, content_in, script_line, lines_at, with_content, line_content, lines_among, script_of, HasJob, HaveJobs}
-use Rattle.edk_build.specs.Words.{job_of_words}
+use Rattle.build_words.specs.Jobs.{words_job}
 use Rattle.edk_build.proofs.WordLemmas.{is_job_of}
 use Rattle.build_words.specs.declared.job.Job.{Job}
 use Rattle.edk_build.specs.declared.script.Order.{Order}
@@ -46,7 +46,7 @@ unfolding lines_among
 lines_end lines pieces whole i e =
     ap Some (sym (append-nil lines)) ∙ ap (λ z. option_map (λ more. lines ++ more) (lines_among z)) (sym e) ∙ i
 
-build_has : (words : List (List ℕ)) (z : Option Job) (o : Order) → job_of_words words ≡ z → option_map order.Build z ≡ Some o → HasJob o
+build_has : (words : List (List ℕ)) (z : Option Job) (o : Order) → words_job words ≡ z → option_map order.Build z ≡ Some o → HasJob o
 build_has words None o e h = absurd cc
 build_has words (Some job) o e h =
     let same : order.Build job ≡ o = cc h in subst HasJob same (is_job_of words job e)
@@ -62,20 +62,20 @@ drop_has None o h = absurd cc
 
 order_has : (words : List (List ℕ)) (o : Order) → order_of words ≡ Some o → HasJob o
 unfolding order_of
-order_has [] o h = build_has [] (job_of_words []) o refl h
-order_has (name ∷ []) o h = build_has (name ∷ []) (job_of_words (name ∷ [])) o refl h
+order_has [] o h = build_has [] (words_job []) o refl h
+order_has (name ∷ []) o h = build_has (name ∷ []) (words_job (name ∷ [])) o refl h
 order_has (name ∷ path ∷ []) o h =
     elim (same_text name (codes "drop")) as (λ b. cond b (drop_of (path_field path)) (build_of (name ∷ path ∷ [])) ≡ Some o → HasJob o) [
       | true ↦ λ e. drop_has (path_field path) o e
-      | false ↦ λ e. build_has (name ∷ path ∷ []) (job_of_words (name ∷ path ∷ [])) o refl e
+      | false ↦ λ e. build_has (name ∷ path ∷ []) (words_job (name ∷ path ∷ [])) o refl e
     ] h
 order_has (name ∷ path ∷ from ∷ []) o h =
     elim (same_text name (codes "put")) as (λ b. cond b (put_of (path_field path) (path_field from)) (build_of (name ∷ path ∷ from ∷ [])) ≡ Some o → HasJob o) [
       | true ↦ λ e. put_has (path_field path) (path_field from) o e
-      | false ↦ λ e. build_has (name ∷ path ∷ from ∷ []) (job_of_words (name ∷ path ∷ from ∷ [])) o refl e
+      | false ↦ λ e. build_has (name ∷ path ∷ from ∷ []) (words_job (name ∷ path ∷ from ∷ [])) o refl e
     ] h
 order_has (name ∷ path ∷ from ∷ word ∷ words) o h =
-    build_has (name ∷ path ∷ from ∷ word ∷ words) (job_of_words (name ∷ path ∷ from ∷ word ∷ words)) o refl h
+    build_has (name ∷ path ∷ from ∷ word ∷ words) (words_job (name ∷ path ∷ from ∷ word ∷ words)) o refl h
 
 some_has : (z : Option Order) (content : Option Order) → ((o : Order) → z ≡ Some o → HasJob o) → option_map Some z ≡ Some content → IfSome content HasJob
 some_has None content f h = absurd cc

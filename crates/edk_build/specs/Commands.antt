@@ -3,13 +3,13 @@ use Rattle.std.specs.Prelude.{ℕ, List, [], ◌∷◌, Option, Some, codes, if�
 use Rattle.std.specs.Option.{option_map}
 use Rattle.build_base.specs.Path.{path_field}
 use Rattle.macro_conditions.specs.Macros.{same_text}
-use Rattle.edk_build.specs.Words.{job_of_words}
 use Rattle.edk_build.specs.declared.command.Command.{Command}
 use Rattle.edk_build.specs.declared.command.Command.TheVariants.{Build, Replay}
+use Rattle.build_words.specs.Jobs.{words_job}
 use Rattle.build_words.specs.declared.job.Job.{Job}
 
 abbrev pub build_from : List (List ℕ) → Option Command
-build_from words = option_map Build (job_of_words words)
+build_from words = option_map Build (words_job words)
 
 abbrev pub replay_from : Option (List ℕ) → Option Command
 replay_from path = option_map Replay path

@@ -1,5 +1,4 @@
 pub mod FilePair
-pub mod Words
 pub mod Commands
 pub mod Script
 pub mod Contents

@@ -8,7 +8,7 @@ use Rattle.meta_lexer.specs.Lines.{Piece, is_plain, pieces_from, without_return}
 use Rattle.meta_lexer.specs.Parts.{words_of}
 use Rattle.build_rules.specs.Rules.{is_job}
 use Rattle.build_words.specs.Fields.{job_fields}
-use Rattle.edk_build.specs.Words.{job_of_words}
+use Rattle.build_words.specs.Jobs.{words_job}
 use Rattle.edk_build.specs.declared.script.Order.{Order}
 use Rattle.edk_build.specs.declared.script.Order.TheVariants.{Put, Drop, Build}
 use Rattle.edk_build.specs.declared.script.ScriptLine.{ScriptLine}
@@ -21,7 +21,7 @@ abbrev pub drop_of : Option (List ℕ) → Option Order
 drop_of path = option_map Drop path
 
 abbrev pub build_of : List (List ℕ) → Option Order
-build_of words = option_map Build (job_of_words words)
+build_of words = option_map Build (words_job words)
 
 -- the order of some words: `drop PATH`, `put PATH FROM`, or the words of a build
 unfoldable pub order_of : List (List ℕ) → Option Order

@@ -4,11 +4,10 @@ ghost use Rattle.build_base.specs.Path.{path_field};
 ghost use Rattle.meta_lexer.specs.Lines.{piece_of};
 ghost use Rattle.edk_build.specs.Script.{put_of, drop_of, build_of, order_of, content_of, content_in, line_content, lines_at, script_of};
 
-use crate::words::job_of_words;
 use build_base::path::path_field;
 use build_base::{Path, Rows, Text, WantOfMemory};
-use build_words::Job;
 use build_words::checks::has_plain_bytes_alone;
+use build_words::{Job, words_job};
 use meta_lexer::line::{cut, is_end, without_line_end};
 use meta_lexer::parts::words;
 use std::alloc::Global;
@@ -79,7 +78,7 @@ fn build_of(alloc: Global, words: &[Text]) -> Result<Option<Order>, WantOfMemory
     ensures { IfOk result (λ order. order ≡ build_of words.now) }
 {
     let strings = strings_of(alloc, words)?;
-    match job_of_words(alloc, strings.as_slice())? {
+    match words_job(alloc, strings.as_slice())? {
         Some(job) => Ok(Some(Order::Build(job))),
         None => Ok(None),
     }
