@@ -15,7 +15,7 @@ names =
     (121, codes "IncludeAbsent") ∷ (122, codes "IncludeTooDeep") ∷ (123, codes "IncludeLoop") ∷
     (124, codes "BadExpression") ∷ (125, codes "ValueRange") ∷ (126, codes "ZeroDivisor") ∷
     (127, codes "UndefinedMacro") ∷ (128, codes "TooManyMacros") ∷ (129, codes "BadDirective") ∷
-    (131, codes "ScriptAbsent") ∷ (132, codes "FromAbsent") ∷ (199, codes "NotBuilt") ∷
+    (131, codes "ScriptAbsent") ∷ (132, codes "FromAbsent") ∷
     (201, codes "MissingKey") ∷ (202, codes "BadGuid") ∷ (203, codes "BadPcdLine") ∷
     (204, codes "RepeatedName") ∷ (205, codes "BadToken") ∷ (206, codes "UnknownSection") ∷
     (211, codes "MissingKey") ∷ (212, codes "BadGuid") ∷ (213, codes "BadType") ∷

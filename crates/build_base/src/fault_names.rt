@@ -3,7 +3,7 @@ ghost use Rattle.std.specs.Prelude.{◌≡◌, map};
 ghost use Rattle.std.specs.Option.{option_map};
 ghost use Rattle.build_base.specs.FaultNames.{named, fault_name};
 
-const NAMES: [(u16, &str); 112] = [
+const NAMES: [(u16, &str); 111] = [
     (101, "BadPath"),
     (102, "FileTooLong"),
     (103, "FileAbsent"),
@@ -24,7 +24,6 @@ const NAMES: [(u16, &str); 112] = [
     (129, "BadDirective"),
     (131, "ScriptAbsent"),
     (132, "FromAbsent"),
-    (199, "NotBuilt"),
     (201, "MissingKey"),
     (202, "BadGuid"),
     (203, "BadPcdLine"),

@@ -1,5 +1,5 @@
 //! Paths of the workspace.
-ghost use Rattle.std.specs.Prelude.{◌≡◌, ◌≤◌, ◌<◌, ◌+◌, ◌-◌, ◌∷◌, ◌++◌, length, get_or, IfOk, OnOk};
+ghost use Rattle.std.specs.Prelude.{◌≡◌, ◌≤◌, ◌<◌, ◌+◌, ◌-◌, ◌∷◌, ◌++◌, length, get_or, IfOk, OnOk, MatchOption, true, false};
 ghost use Rattle.std.specs.Prelude.{◌==◌};
 ghost use Rattle.std.specs.List.{list_all, position, position_or_len};
 ghost use Rattle.std.proofs.Common.{rules};
@@ -114,6 +114,17 @@ impl Path {
         match Text::of(alloc, text) {
             Ok(text) => Ok(Path { text }),
             Err(_) => Err(PathRefusal::WantOfMemory),
+        }
+    }
+
+    /// The path that a text is, of any length.
+    pub fn of_text(text: Text) -> Option<Path>
+        ensures { MatchOption result (is_path text ≡ false) (λ p. (p ≡ text) × (is_path text ≡ true)) }
+    {
+        if is_path(text.bytes()) {
+            Some(Path { text })
+        } else {
+            None
         }
     }
 

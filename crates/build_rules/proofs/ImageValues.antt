@@ -20,6 +20,7 @@ use Rattle.doc_types.specs.declared.flash.FlashDoc.{FlashDoc}
 use Rattle.doc_types.specs.declared.platform.PlatformDoc.{PlatformDoc}
 use Rattle.doc_types.specs.declared.volume.Item.{Item}
 use Rattle.doc_types.specs.declared.volume.Item.TheVariants as item
+use Rattle.doc_types.specs.declared.volume.InfLine.{InfLine}
 use Rattle.doc_types.specs.declared.volume_head.VolumeHead.{VolumeHead}
 use Rattle.flash_document.specs.Flash.{flash_of}
 use Rattle.doc_types.specs.declared.choice.Module.{Module}
@@ -33,16 +34,20 @@ use Rattle.image_steps.specs.Asks.{file_asks, sections_below, item_asks, region_
 use Rattle.image_steps.specs.Files.{file_given}
 use Rattle.image_steps.specs.Volumes.{volume_given}
 use Rattle.image_steps.specs.Devices.{device_given}
+use Rattle.module_images.specs.Apriori.{apriori_given}
+use Rattle.module_images.specs.Asks.{line_asks, members_asks, plan_asks}
+use Rattle.module_images.specs.Files.{module_given}
+use Rattle.module_images.specs.Modules.{plan_given}
 use Rattle.build_rules.specs.AllTree.{all_asks, build_asks, report_named, all_given, all_stages, files_stages}
 use Rattle.build_rules.specs.Wanted.{wanted_of}
 use Rattle.build_rules.specs.declared.wanted.Wanted.{Wanted}
 use Rattle.build_rules.specs.Fits.{fits}
-use Rattle.build_rules.specs.ImageTrees.{flash_in, volume_at, item_at, device_at, item_stages, file_stages, volume_stages, device_stages}
+use Rattle.build_rules.specs.ImageTrees.{flash_in, volume_at, item_at, device_at, sections_stages, module_stages, item_stages, file_stages, volume_stages, device_stages}
 use Rattle.build_rules.specs.Outputs.{output_folder, outputs_of}
 use Rattle.build_rules.specs.Rules.{edk, is_path_or_empty, value_in}
 use Rattle.build_rules.specs.RulesBounds.{edk_is_bounded}
 use Rattle.build_rules.specs.Trees.{EdkStages, given_as, some_path, path_named, flash_named, flash_asks, flash_from, flash_given, flash_stages}
-use Rattle.build_rules.specs.Values.{job_macros, platform_value, flash_file, flash_of_file, flash_value, answers_in, fault_asked, by_answers, if_shaped, item_value, file_value, planned_value, volume_value, regions_value, device_value, files_value, wanted_value, all_value}
+use Rattle.build_rules.specs.Values.{job_macros, platform_value, flash_file, flash_of_file, flash_value, answers_in, fault_asked, by_answers, if_shaped, sections_value, module_file, item_value, file_value, planned_value, volume_value, regions_value, device_value, files_value, wanted_value, all_value}
 use Rattle.build_rules.proofs.KindLemmas.{stage_run}
 use Rattle.build_rules.proofs.ValueLemmas.{document_run, path_some, platform_is}
 
@@ -145,12 +150,25 @@ after_flash w e variant next f h =
     ∙ then_same (flash_value w) (λ flash. gives w (next flash)) (λ flash. given_as variant (f flash)) h
     ∙ given_then variant (flash_value w) f
 
+-- a stage, whose answers give what the next one begins with
+or_then : {A B : Type 0} (variant : B → Out) (q : Option Fault) (r : Result A Fault) (f : A → Result B Fault) → or_fault q (given_as variant (and_then r f)) ≡ given_as variant (and_then (or_fault q r) f)
+or_then variant (Some fault) r f = refl
+or_then variant None r f = refl
+
+module_run : (w : World) (flash : FlashDoc) (head : VolumeHead) (line : InfLine) → gives w (module_stages flash head line) ≡ given_as out.File (module_file w flash head line)
+module_run w flash head line =
+    stage_run w (line_asks line) (λ given. attempt (plan_given flash line given) (sections_stages head))
+    ∙ ap (λ (r : Result Out Fault). or_fault (fault_asked w (line_asks line)) r)
+    (step_run w out.File (plan_given flash line (answers_in w (line_asks line))) (sections_stages head) (sections_value w head) (λ plan. last_run w out.File (plan_asks plan) (module_given head plan)))
+    ∙ or_then out.File (fault_asked w (line_asks line)) (plan_given flash line (answers_in w (line_asks line))) (sections_value w head)
+
 item_run : (w : World) (v : ℕ) (flash : FlashDoc) (head : VolumeHead) (it : Item) → gives w (item_stages v flash head it) ≡ given_as out.File (item_value w v flash head it)
 item_run w v flash head (item.File plan) =
     when_run w out.File (sections_below v plan.sections) _ (by_answers w (file_asks plan) (file_given flash head plan))
     (last_run w out.File (file_asks plan) (file_given flash head plan))
-item_run w v flash head (item.Apriori at pei members) = refl
-item_run w v flash head (item.Inf line) = refl
+item_run w v flash head (item.Apriori at pei members) =
+    last_run w out.File (members_asks members) (apriori_given head at pei members)
+item_run w v flash head (item.Inf line) = module_run w flash head line
 
 file_run : (w : World) (v i : ℕ) → IsWorld (meaning_of key_cmp edk) w → gives w (file_stages v i) ≡ given_as out.File (file_value w v i)
 unfolding file_value

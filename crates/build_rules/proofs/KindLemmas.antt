@@ -44,6 +44,9 @@ use Rattle.image_steps.specs.Asks.{sections_below, regions_below, are_few}
 use Rattle.image_steps.specs.Files.{file_given}
 use Rattle.image_steps.specs.Volumes.{volume_given}
 use Rattle.image_steps.specs.Devices.{device_given}
+use Rattle.module_images.specs.Apriori.{apriori_given}
+use Rattle.module_images.specs.Files.{module_given}
+use Rattle.module_images.specs.Modules.{plan_given}
 use Rattle.build_rules.specs.AllTree.{folder_in, modules_in, wanted_in, report_in}
 use Rattle.build_rules.specs.ModuleTrees.{round_stages, choice_round, choice_after, most_rounds, modules_parts, setting_in, module_parts, commands_in}
 use Rattle.build_rules.specs.Outputs.{outputs_of}
@@ -93,8 +96,9 @@ flash_kind platform fixed (Some path) = document_kind 3 out.Flash (λ x. refl) f
 item_kind : (v : ℕ) (flash : FlashDoc) (head : VolumeHead) (it : Item) → AreOfKind 8 (item_stages v flash head it)
 item_kind v flash head (item.File plan) =
     when_kind 8 (sections_below v plan.sections) _ (λ given. given_kind 8 out.File (λ x. refl) (file_given flash head plan given))
-item_kind v flash head (item.Apriori at pei members) = tt
-item_kind v flash head (item.Inf line) = tt
+item_kind v flash head (item.Apriori at pei members) = λ given. given_kind 8 out.File (λ x. refl) (apriori_given head at pei members given)
+item_kind v flash head (item.Inf line) =
+    λ given. attempt_kind 8 (plan_given flash line given) _ (λ plan. λ answers. given_kind 8 out.File (λ x. refl) (module_given head plan answers))
 
 round_kind : (m : Module) (platform : PlatformDoc) (infs : List InfDoc) (w : List (List ℕ)) (next : List InfDoc → EdkStages) → ((more : List InfDoc) → AreOfKind 4 (next more)) → AreOfKind 4 (choice_round m platform infs w next)
 round_kind m platform infs [] next h = given_kind 4 out.Choice (λ x. refl) (choice m platform infs)

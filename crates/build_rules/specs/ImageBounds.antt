@@ -15,6 +15,9 @@ use Rattle.doc_types.specs.declared.flash.RegionKind.{RegionKind}
 use Rattle.doc_types.specs.declared.flash.RegionKind.TheVariants as kind
 use Rattle.doc_types.specs.declared.volume.Item.{Item}
 use Rattle.doc_types.specs.declared.volume.Item.TheVariants as item
+use Rattle.doc_types.specs.declared.volume.InfLine.{InfLine}
+use Rattle.doc_types.specs.declared.volume.Member.{Member}
+use Rattle.doc_types.specs.declared.volume.Member.TheVariants as member
 use Rattle.doc_types.specs.declared.volume.SectionPlan.{SectionPlan}
 use Rattle.doc_types.specs.declared.volume.SectionSource.{SectionSource}
 use Rattle.doc_types.specs.declared.volume.SectionSource.TheVariants as source
@@ -25,6 +28,9 @@ use Rattle.step_pack.specs.declared.key.Key.TheVariants as key
 use Rattle.std.proofs.Common.{Option, Some, None}
 use Rattle.image_steps.specs.Asks.{source_file, source_volume, section_files, section_volumes, body_asks, source_below, sections_below, is_apriori, files_where, kind_asks, region_asks, kind_below, regions_below, are_few}
 use Rattle.text_steps.specs.Asks.{built_asks, build_module_asks}
+use Rattle.module_images.specs.declared.plans.ModulePlan.{ModulePlan}
+use Rattle.module_images.specs.Asks.{line_asks, member_asks, members_asks, is_path_of, source_file as filled_file, section_files as filled_files, takes_depex, plan_asks}
+use Rattle.module_images.specs.Modules.{plan_given}
 use Rattle.build_rules.specs.Trees.{platform_in}
 use Rattle.build_rules.specs.ImageTrees.{flash_in, volume_at, item_at, device_at, item_stages, file_stages, plan_stages, volume_stages, device_stages}
 use Rattle.build_rules.specs.AllTree.{step_where, steps_from, folder_in, modules_in, wanted_in, report_in, image_asks, report_part, files_stages, all_stages}
@@ -64,11 +70,55 @@ body_lower v sections (Some path) e = all_one (IsLower rank_of (8 + 2 * v)) (ask
 body_lower v sections None e =
     All-append (IsLower rank_of (8 + 2 * v)) (section_files sections) (section_volumes sections) (files_lower (8 + 2 * v) sections) (volumes_lower v sections e)
 
+line_lower : (v : ℕ) (line : InfLine) → All (IsLower rank_of (8 + 2 * v)) (line_asks line)
+line_lower v line =
+    All-cons (IsLower rank_of (8 + 2 * v)) (ask.Part key.Platform) (ask.Part (key.Inf line.inf) ∷ ask.Field 1 ∷ ask.Field 2 ∷ ask.Field 3 ∷ []) (omega arith)
+    (All-cons (IsLower rank_of (8 + 2 * v)) (ask.Part (key.Inf line.inf)) (ask.Field 1 ∷ ask.Field 2 ∷ ask.Field 3 ∷ []) (omega arith)
+    (All-cons (IsLower rank_of (8 + 2 * v)) (ask.Field 1) (ask.Field 2 ∷ ask.Field 3 ∷ []) tt
+    (all_two (IsLower rank_of (8 + 2 * v)) (ask.Field 2) (ask.Field 3) tt tt)))
+
+member_lower : (v : ℕ) (m : Member) → All (IsLower rank_of (8 + 2 * v)) (member_asks m)
+member_lower v (member.Inf line) = line_lower v line
+member_lower v (member.File name) = All-nil (IsLower rank_of (8 + 2 * v))
+
+members_lower : (v : ℕ) (members : List Member) → All (IsLower rank_of (8 + 2 * v)) (members_asks members)
+members_lower v [] = All-nil (IsLower rank_of (8 + 2 * v))
+members_lower v (m ∷ members) =
+    All-append (IsLower rank_of (8 + 2 * v)) (member_asks m) (members_asks members) (member_lower v m) (members_lower v members)
+
+path_lower : (b : Bool) (v : ℕ) (path : List ℕ) → All (IsLower rank_of (8 + 2 * v)) (cond b [] (ask.File path ∷ []))
+path_lower true v path = All-nil (IsLower rank_of (8 + 2 * v))
+path_lower false v path = all_one (IsLower rank_of (8 + 2 * v)) (ask.File path) tt
+
+filled_lower : (v : ℕ) (depex : List ℕ) (s : SectionSource) → All (IsLower rank_of (8 + 2 * v)) (filled_file depex s)
+filled_lower v depex (source.Tree path) = path_lower (is_path_of depex path) v path
+filled_lower v depex (source.Template text) = All-nil (IsLower rank_of (8 + 2 * v))
+filled_lower v depex (source.Volume n) = All-nil (IsLower rank_of (8 + 2 * v))
+filled_lower v depex (source.Words text) = All-nil (IsLower rank_of (8 + 2 * v))
+filled_lower v depex (source.Refused text) = All-nil (IsLower rank_of (8 + 2 * v))
+
+filled_files_lower : (v : ℕ) (depex : List ℕ) (sections : List SectionPlan) → All (IsLower rank_of (8 + 2 * v)) (filled_files depex sections)
+filled_files_lower v depex [] = All-nil (IsLower rank_of (8 + 2 * v))
+filled_files_lower v depex (s ∷ sections) =
+    All-append (IsLower rank_of (8 + 2 * v)) (filled_file depex s.source) (filled_files depex sections) (filled_lower v depex s.source) (filled_files_lower v depex sections)
+
+depex_part_lower : (b : Bool) (v : ℕ) (m : Module) → All (IsLower rank_of (8 + 2 * v)) (cond b (ask.Part (key.Depex m) ∷ []) [])
+depex_part_lower true v m = all_one (IsLower rank_of (8 + 2 * v)) (ask.Part (key.Depex m)) (omega arith)
+depex_part_lower false v m = All-nil (IsLower rank_of (8 + 2 * v))
+
+plan_asks_lower : (v : ℕ) (plan : ModulePlan) → All (IsLower rank_of (8 + 2 * v)) (plan_asks plan)
+plan_asks_lower v plan =
+    All-append (IsLower rank_of (8 + 2 * v)) (filled_files plan.depex plan.file.sections) (cond (takes_depex plan.depex plan.file.sections) (ask.Part (key.Depex plan.«module») ∷ []) [])
+    (filled_files_lower v plan.depex plan.file.sections) (depex_part_lower (takes_depex plan.depex plan.file.sections) v plan.«module»)
+
 item_lower : (v : ℕ) (flash : FlashDoc) (head : VolumeHead) (i : Item) → AreLower rank_of (8 + 2 * v) (item_stages v flash head i)
 item_lower v flash head (item.File plan) =
     when_lower rank_of (8 + 2 * v) (sections_below v plan.sections) _ (λ e. (body_lower v plan.sections plan.whole e, λ given. tt))
-item_lower v flash head (item.Apriori at pei members) = tt
-item_lower v flash head (item.Inf line) = tt
+item_lower v flash head (item.Apriori at pei members) = (members_lower v members, λ given. tt)
+item_lower v flash head (item.Inf line) = (
+  line_lower v line,
+  λ given. attempt_lower rank_of (8 + 2 * v) (plan_given flash line given) _ (λ plan. (plan_asks_lower v plan, λ answers. tt)),
+)
 
 pub file_lower : (v i : ℕ) → AreLower rank_of (8 + 2 * v) (file_stages v i)
 file_lower v i = (
@@ -77,17 +127,20 @@ file_lower v i = (
       attempt_lower rank_of (8 + 2 * v) (item_at flash plan i) _ (λ it. item_lower v flash plan.head it))),
 )
 
-item_within : (v : ℕ) (flash : FlashDoc) (head : VolumeHead) (i : Item) → IsWithin fits 1 (item_stages v flash head i)
+item_within : (v : ℕ) (flash : FlashDoc) (head : VolumeHead) (i : Item) → IsWithin fits 2 (item_stages v flash head i)
 item_within v flash head (item.File plan) =
-    when_within fits 1 (sections_below v plan.sections) _ (omega arith, λ given fit. tt)
-item_within v flash head (item.Apriori at pei members) = tt
-item_within v flash head (item.Inf line) = tt
+    when_within fits 2 (sections_below v plan.sections) _ (omega arith, λ given fit. tt)
+item_within v flash head (item.Apriori at pei members) = (omega arith, λ given fit. tt)
+item_within v flash head (item.Inf line) = (
+  omega arith,
+  λ given fit. attempt_within fits 1 (plan_given flash line given) _ (λ plan. (omega arith, λ answers fit_too. tt)),
+)
 
-pub file_within : (v i : ℕ) → IsWithin fits 2 (file_stages v i)
+pub file_within : (v i : ℕ) → IsWithin fits 3 (file_stages v i)
 file_within v i = (
   omega arith,
-  λ given fit. attempt_within fits 1 (flash_in given 0) _ (λ flash. attempt_within fits 1 (volume_at flash v) _ (λ plan.
-      attempt_within fits 1 (item_at flash plan i) _ (λ it. item_within v flash plan.head it))),
+  λ given fit. attempt_within fits 2 (flash_in given 0) _ (λ flash. attempt_within fits 2 (volume_at flash v) _ (λ plan.
+      attempt_within fits 2 (item_at flash plan i) _ (λ it. item_within v flash plan.head it))),
 )
 
 chosen_lower : (b : Bool) (v n : ℕ) (rest : List (Ask Key)) → All (IsLower rank_of (9 + 2 * v)) rest

@@ -1,15 +1,18 @@
 -- What the steps of files, volumes and devices ask, stage by stage, and what comes of the answers; the
 -- rule is this project's own.
-use Rattle.std.specs.Prelude.{ℕ, List, [], ◌∷◌, length, Option, Some, None, Result, Ok, Err, slice_get}
+use Rattle.std.specs.Prelude.{ℕ, Bool, List, [], ◌∷◌, length, Option, Some, None, Result, Ok, Err, slice_get}
 use Rattle.build_base.specs.First.{and_then}
 use Rattle.build_base.specs.FaultText.{fault_of}
 use Rattle.build_base.specs.declared.fault.Fault.{Fault}
+use Rattle.build_base.specs.declared.fault.Place.{Place}
 use Rattle.step_engine.specs.declared.talk.Ask.TheVariants as ask
 use Rattle.step_engine.specs.declared.talk.Answer.{Answer}
 use Rattle.doc_types.specs.declared.flash.DevicePlan.{DevicePlan}
 use Rattle.doc_types.specs.declared.flash.FlashDoc.{FlashDoc}
 use Rattle.doc_types.specs.declared.volume.Item.{Item}
 use Rattle.doc_types.specs.declared.volume.Item.TheVariants as item
+use Rattle.doc_types.specs.declared.volume.InfLine.{InfLine}
+use Rattle.doc_types.specs.declared.volume.Member.{Member}
 use Rattle.doc_types.specs.declared.volume.VolumePlan.{VolumePlan}
 use Rattle.doc_types.specs.declared.volume_head.VolumeHead.{VolumeHead}
 use Rattle.build_stages.specs.Stages.{end, stage, misfit}
@@ -18,9 +21,14 @@ use Rattle.step_pack.specs.declared.key.Key.TheVariants as key
 use Rattle.step_pack.specs.declared.out.Out.{Out}
 use Rattle.step_pack.specs.declared.out.Out.TheVariants as out
 use Rattle.image_steps.specs.Asks.{file_asks, sections_below, item_asks, region_asks, regions_below, are_few}
-use Rattle.image_steps.specs.Files.{file_given, unbuilt}
+use Rattle.image_steps.specs.Files.{file_given}
 use Rattle.image_steps.specs.Volumes.{volume_given}
 use Rattle.image_steps.specs.Devices.{device_given}
+use Rattle.module_images.specs.declared.plans.ModulePlan.{ModulePlan}
+use Rattle.module_images.specs.Apriori.{apriori_given}
+use Rattle.module_images.specs.Asks.{line_asks, members_asks, plan_asks}
+use Rattle.module_images.specs.Files.{module_given}
+use Rattle.module_images.specs.Modules.{plan_given}
 use Rattle.build_rules.specs.Trees.{EdkStages, given_as}
 
 abbrev pub flash_of_out : Out → Result FlashDoc Fault
@@ -45,13 +53,30 @@ item_at flash plan i = numbered flash (slice_get plan.items i)
 abbrev pub device_at : FlashDoc → ℕ → Result DevicePlan Fault
 device_at flash d = numbered flash (slice_get flash.devices d)
 
--- a statement of a volume with this number and head; modules are not made yet
+-- what the sections of a module's file hold, and then the file
+abbrev pub sections_stages : VolumeHead → ModulePlan → EdkStages
+sections_stages head plan =
+    stage (plan_asks plan) (λ given. end (given_as out.File (module_given head plan given)))
+
+abbrev pub module_from : FlashDoc → VolumeHead → InfLine → List (Answer Out) → EdkStages
+module_from flash head line given = attempt (plan_given flash line given) (sections_stages head)
+
+-- the module of an INF statement, and then its file
+abbrev pub module_stages : FlashDoc → VolumeHead → InfLine → EdkStages
+module_stages flash head line = stage (line_asks line) (module_from flash head line)
+
+-- the modules of an a priori file, and then the file
+abbrev pub apriori_stages : VolumeHead → Place → Bool → List Member → EdkStages
+apriori_stages head at pei members =
+    stage (members_asks members) (λ given. end (given_as out.File (apriori_given head at pei members given)))
+
+-- a statement of a volume with this number and head
 abbrev pub item_stages : ℕ → FlashDoc → VolumeHead → Item → EdkStages
 item_stages v flash head (item.File plan) =
     when (sections_below v plan.sections)
     (stage (file_asks plan) (λ given. end (given_as out.File (file_given flash head plan given))))
-item_stages v flash head (item.Apriori at pei members) = end (Err (unbuilt at))
-item_stages v flash head (item.Inf line) = end (Err (unbuilt line.at))
+item_stages v flash head (item.Apriori at pei members) = apriori_stages head at pei members
+item_stages v flash head (item.Inf line) = module_stages flash head line
 
 abbrev pub file_from : ℕ → ℕ → List (Answer Out) → EdkStages
 file_from v i given =

@@ -26,6 +26,7 @@ use Rattle.doc_types.specs.declared.flash.FlashDoc.{FlashDoc}
 use Rattle.doc_types.specs.declared.image.FileImage.{FileImage}
 use Rattle.doc_types.specs.declared.volume.Item.{Item}
 use Rattle.doc_types.specs.declared.volume.Item.TheVariants as item
+use Rattle.doc_types.specs.declared.volume.InfLine.{InfLine}
 use Rattle.doc_types.specs.declared.volume.VolumePlan.{VolumePlan}
 use Rattle.doc_types.specs.declared.volume_head.VolumeHead.{VolumeHead}
 use Rattle.flash_document.specs.Flash.{flash_of}
@@ -35,9 +36,14 @@ use Rattle.step_pack.specs.declared.key.Key.{Key}
 use Rattle.step_pack.specs.declared.out.Out.{Out}
 use Rattle.step_pack.specs.declared.out.Output.{Output}
 use Rattle.image_steps.specs.Asks.{file_asks, sections_below, item_asks, region_asks, regions_below, are_few}
-use Rattle.image_steps.specs.Files.{file_given, unbuilt}
+use Rattle.image_steps.specs.Files.{file_given}
 use Rattle.image_steps.specs.Volumes.{volume_given}
 use Rattle.image_steps.specs.Devices.{device_given}
+use Rattle.module_images.specs.declared.plans.ModulePlan.{ModulePlan}
+use Rattle.module_images.specs.Apriori.{apriori_given}
+use Rattle.module_images.specs.Asks.{line_asks, members_asks, plan_asks}
+use Rattle.module_images.specs.Files.{module_given}
+use Rattle.module_images.specs.Modules.{plan_given}
 use Rattle.build_rules.specs.AllTree.{build_asks}
 use Rattle.build_rules.specs.ImageTrees.{volume_at, item_at, device_at}
 use Rattle.build_rules.specs.Outputs.{output_folder, outputs_of}
@@ -96,11 +102,21 @@ abbrev pub if_shaped : {A : Type 0} → Bool → Result A Fault → Result A Fau
 if_shaped true r = r
 if_shaped false r = Err misfit
 
+-- the file of a module, by its plan
+abbrev pub sections_value : World → VolumeHead → ModulePlan → Result FileImage Fault
+sections_value w head plan = by_answers w (plan_asks plan) (module_given head plan)
+
+-- the file of the module of an INF statement
+abbrev pub module_file : World → FlashDoc → VolumeHead → InfLine → Result FileImage Fault
+module_file w flash head line =
+    and_then (by_answers w (line_asks line) (plan_given flash line)) (sections_value w head)
+
 abbrev pub item_value : World → ℕ → FlashDoc → VolumeHead → Item → Result FileImage Fault
 item_value w v flash head (item.File plan) =
     if_shaped (sections_below v plan.sections) (by_answers w (file_asks plan) (file_given flash head plan))
-item_value w v flash head (item.Apriori at pei members) = Err (unbuilt at)
-item_value w v flash head (item.Inf line) = Err (unbuilt line.at)
+item_value w v flash head (item.Apriori at pei members) =
+    by_answers w (members_asks members) (apriori_given head at pei members)
+item_value w v flash head (item.Inf line) = module_file w flash head line
 
 -- the file of item i of volume v
 unfoldable pub file_value : World → ℕ → ℕ → Result FileImage Fault

@@ -4,17 +4,20 @@ ghost use Rattle.std.specs.Option.{option_copied};
 ghost use Rattle.build_base.specs.FaultText.{fault_of};
 ghost use Rattle.build_stages.specs.Gives.{GivesIn};
 ghost use Rattle.build_rules.specs.Rules.{Comes};
-ghost use Rattle.build_rules.specs.ImageTrees.{flash_of_out, flash_in, numbered, volume_at, item_at, device_at, item_stages, file_stages, plan_stages, volume_stages, regions_stages, device_stages};
+ghost use Rattle.build_rules.specs.ImageTrees.{flash_of_out, flash_in, numbered, volume_at, item_at, device_at, sections_stages, module_from, module_stages, apriori_stages, item_stages, file_stages, plan_stages, volume_stages, regions_stages, device_stages};
 
 use crate::shapes::EdkRules;
-use build_base::{Permit, Refusal, refuse};
+use build_base::{Permit, Place, Refusal, refuse};
 use build_stages::{Given, Known, Stop, gather};
 use doc_types::flash::{DevicePlan, FlashDoc};
-use doc_types::volume::{FilePlan, Item, VolumePlan};
+use doc_types::volume::{FilePlan, InfLine, Item, Member, VolumePlan};
 use doc_types::volume_head::VolumeHead;
 use image_steps::{
     are_few, device_given, file_asks, file_given, item_asks, region_asks, regions_below,
-    sections_below, unbuilt, volume_given,
+    sections_below, volume_given,
+};
+use module_images::{
+    ModulePlan, apriori_given, line_asks, members_asks, module_given, plan_asks, plan_given,
 };
 use shared_value::Shared;
 use std::alloc::Global;
@@ -112,6 +115,70 @@ fn statement(
     Ok(Out::File(file_given(alloc, permit, flash, head, plan, &given)?))
 }
 
+// The file of a module, by its plan.
+fn module_sections(
+    alloc: Global,
+    known: &Known<'_, Key, Out>,
+    head: &VolumeHead,
+    plan: &ModulePlan,
+    permit: Permit,
+) -> Result<Out, Stop<Key>>
+    ensures { Comes known.now (sections_stages head.now plan.now) result }
+{
+    let asks = plan_asks(alloc, plan)?;
+    let (given, permit) = gather(alloc, &EdkRules, known, asks.items(), permit)?;
+    Ok(Out::File(module_given(alloc, permit, head, plan, &given)?))
+}
+
+// The module of an INF statement by the answers, and then its file.
+fn module_from(
+    alloc: Global,
+    known: &Known<'_, Key, Out>,
+    flash: &FlashDoc,
+    head: &VolumeHead,
+    line: &InfLine,
+    given: &Given<'_, Out>,
+    permit: Permit,
+) -> Result<Out, Stop<Key>>
+    ensures { Comes known.now (module_from flash.now head.now line.now given.now) result }
+{
+    let plan = plan_given(alloc, flash, line, given)?;
+    module_sections(alloc, known, head, &plan, permit)
+}
+
+// The file of the module of an INF statement.
+fn module_file(
+    alloc: Global,
+    known: &Known<'_, Key, Out>,
+    flash: &FlashDoc,
+    head: &VolumeHead,
+    line: &InfLine,
+    permit: Permit,
+) -> Result<Out, Stop<Key>>
+    ensures { Comes known.now (module_stages flash.now head.now line.now) result }
+{
+    let asks = line_asks(alloc, line)?;
+    let (given, permit) = gather(alloc, &EdkRules, known, asks.items(), permit)?;
+    module_from(alloc, known, flash, head, line, &given, permit)
+}
+
+// The a priori file of a statement.
+fn apriori_file(
+    alloc: Global,
+    known: &Known<'_, Key, Out>,
+    head: &VolumeHead,
+    at: &Place,
+    pei: bool,
+    members: &[Member],
+    permit: Permit,
+) -> Result<Out, Stop<Key>>
+    ensures { Comes known.now (apriori_stages head.now at.now pei members.now) result }
+{
+    let asks = members_asks(alloc, members)?;
+    let (given, permit) = gather(alloc, &EdkRules, known, asks.items(), permit)?;
+    Ok(Out::File(apriori_given(alloc, permit, head, at, pei, members, &given)?))
+}
+
 // The file of an item of a volume.
 fn item_file(
     alloc: Global,
@@ -126,8 +193,10 @@ fn item_file(
 {
     match item {
         Item::File(plan) => statement(alloc, known, volume, flash, head, plan, permit),
-        Item::Apriori { at, .. } => Err(Stop::from(unbuilt(alloc, at))),
-        Item::Inf(line) => Err(Stop::from(unbuilt(alloc, &line.at))),
+        Item::Apriori { at, pei, members } => {
+            apriori_file(alloc, known, head, at, *pei, members.items(), permit)
+        }
+        Item::Inf(line) => module_file(alloc, known, flash, head, line, permit),
     }
 }
 

@@ -1,2 +1,3 @@
 pub mod EntryLemmas
 pub mod FrontLemmas
+pub mod GuidMarkLemmas

@@ -17,6 +17,7 @@ use Rattle.doc_types.specs.declared.module.Named.{Named}
 use Rattle.doc_types.specs.declared.parts.ModuleParts.{ModuleParts}
 use Rattle.doc_types.specs.declared.parts.Package.{Package}
 use Rattle.pcd_resolve.specs.Listing.{packages_of}
+use Rattle.pcd_resolve.specs.Marks.{with_marks}
 use Rattle.pcd_resolve.specs.Names.{serves}
 
 -- A line of the package of a path.
@@ -79,3 +80,7 @@ module_guids parts = all_of (map (inf_guids parts.«module».arch (package_lines
 unfoldable pub by_name : List Found → List Found
 by_name [] = []
 by_name (line ∷ lines) = insert_entry (slice_cmp nat_cmp) (by_name lines) line.0 line.1
+
+-- marks with the names of an INF's lines
+abbrev pub with_guids : List Bool → InfDoc → List Bool
+with_guids marks inf = with_marks marks (map (λ named. named.name) inf.guids)

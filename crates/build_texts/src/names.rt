@@ -1,11 +1,13 @@
 //! The GUIDs that the names of a module's INF files stand for.
-ghost use Rattle.std.specs.Prelude.{◌≡◌, ◌++◌, List, OnOk, IfOk, map};
+ghost use Rattle.std.specs.Prelude.{◌≡◌, ◌++◌, true, List, OnOk, IfOk, fold, map};
+ghost use Rattle.std.specs.List.{All};
 ghost use Rattle.std.specs.BTreeMap.{insert_entry};
 ghost use Rattle.std.specs.Cmp.Lexicographic.{slice_cmp};
 ghost use Rattle.std.specs.Ordering.{nat_cmp};
 ghost use Rattle.build_base.specs.Answer.{AnswersAs};
-ghost use Rattle.build_texts.specs.Named.{Declared, all_of, by_name, declared_name, found, inf_guids, line_guids, module_guids, package_lines};
-ghost use Rattle.pcd_resolve.specs.Groups.{by_bytes, Grouped};
+ghost use Rattle.build_texts.specs.Named.{Declared, all_of, by_name, declared_name, found, inf_guids, line_guids, module_guids, with_guids};
+ghost use Rattle.pcd_resolve.specs.Groups.{by_bytes, GroupedAt};
+ghost use Rattle.pcd_resolve.specs.Marks.{is_kept, with_marks};
 ghost use Rattle.build_texts.specs.Views.{declared_view, entry_view, given, seen};
 
 use crate::packages::{DeclaredGuid, first_guid, lines_by_name};
@@ -15,6 +17,7 @@ use doc_types::module::{InfDoc, Named};
 use doc_types::parts::ModuleParts;
 use indexmap::IndexMap;
 use pcd_resolve::groups::group;
+use pcd_resolve::marks::{mark, no_marks};
 use pcd_resolve::names::serves;
 use pcd_resolve::packages::packages_of;
 use std::alloc::Global;
@@ -53,11 +56,13 @@ fn key_of(alloc: Global, named: &Named) -> Result<Vec<u8>, WantOfMemory>
 fn line_guid<'a>(
     alloc: Global,
     arch: Arch,
+    marks: &[bool],
     table: &IndexMap<Vec<u8>, Vec<DeclaredGuid<'_>>>,
     paths: &[&[u8]],
     named: &'a Named,
 ) -> Result<Option<FoundGuid<'a>>, Refusal>
-    ensures { (lines : List Declared) → Grouped declared_view declared_name lines table.now → AnswersAs given result (line_guids arch lines (map (λ p. p.now) paths.now) named.now) }
+    requires kept { is_kept marks.now named.now.name ≡ true }
+    ensures { (lines : List Declared) → GroupedAt marks.now declared_view declared_name lines table.now → AnswersAs given result (line_guids arch lines (map (λ p. p.now) paths.now) named.now) }
 {
     if !serves(named.arch, arch) {
         return Ok(None);
@@ -84,15 +89,17 @@ fn put_found<'a>(
 fn lines_guids<'a>(
     alloc: Global,
     arch: Arch,
+    marks: &[bool],
     table: &IndexMap<Vec<u8>, Vec<DeclaredGuid<'_>>>,
     paths: &[&[u8]],
     names: &'a [Named],
 ) -> Result<Vec<FoundGuid<'a>>, Refusal>
-    ensures { (lines : List Declared) → Grouped declared_view declared_name lines table.now → AnswersAs (λ v. seen v.items) result (all_of (map (line_guids arch lines (map (λ p. p.now) paths.now)) names.now)) }
+    requires kept { All (λ n. is_kept marks.now n.name ≡ true) names.now }
+    ensures { (lines : List Declared) → GroupedAt marks.now declared_view declared_name lines table.now → AnswersAs (λ v. seen v.items) result (all_of (map (line_guids arch lines (map (λ p. p.now) paths.now)) names.now)) }
 {
     let mut guids = Vec::new(alloc);
     for named in names {
-        let found = line_guid(alloc, arch, table, paths, named)?;
+        let found = line_guid(alloc, arch, marks, table, paths, named)?;
         put_found(&mut guids, found)?;
     }
     Ok(guids)
@@ -102,13 +109,22 @@ fn lines_guids<'a>(
 fn inf_guids<'a>(
     alloc: Global,
     arch: Arch,
+    marks: &[bool],
     table: &IndexMap<Vec<u8>, Vec<DeclaredGuid<'_>>>,
     inf: &'a InfDoc,
 ) -> Result<Vec<FoundGuid<'a>>, Refusal>
-    ensures { (lines : List Declared) → Grouped declared_view declared_name lines table.now → AnswersAs (λ v. seen v.items) result (inf_guids arch lines inf.now) }
+    requires kept { All (λ n. is_kept marks.now n.name ≡ true) inf.now.guids }
+    ensures { (lines : List Declared) → GroupedAt marks.now declared_view declared_name lines table.now → AnswersAs (λ v. seen v.items) result (inf_guids arch lines inf.now) }
 {
     let paths = packages_of(alloc, arch, inf)?;
-    lines_guids(alloc, arch, table, paths.as_slice(), inf.guids.items())
+    lines_guids(
+        alloc,
+        arch,
+        marks,
+        table,
+        paths.as_slice(),
+        inf.guids.items(),
+    )
 }
 
 fn append<'a>(guids: &mut Vec<FoundGuid<'a>>, more: &[FoundGuid<'a>]) -> Result<(), WantOfMemory>
@@ -127,17 +143,48 @@ fn append<'a>(guids: &mut Vec<FoundGuid<'a>>, more: &[FoundGuid<'a>]) -> Result<
 fn infs_guids<'a>(
     alloc: Global,
     arch: Arch,
+    marks: &[bool],
     table: &IndexMap<Vec<u8>, Vec<DeclaredGuid<'_>>>,
     infs: &'a [InfDoc],
 ) -> Result<Vec<FoundGuid<'a>>, Refusal>
-    ensures { (lines : List Declared) → Grouped declared_view declared_name lines table.now → AnswersAs (λ v. seen v.items) result (all_of (map (inf_guids arch lines) infs.now)) }
+    requires kept { All (λ inf. All (λ n. is_kept marks.now n.name ≡ true) inf.guids) infs.now }
+    ensures { (lines : List Declared) → GroupedAt marks.now declared_view declared_name lines table.now → AnswersAs (λ v. seen v.items) result (all_of (map (inf_guids arch lines) infs.now)) }
 {
     let mut guids = Vec::new(alloc);
     for inf in infs {
-        let more = inf_guids(alloc, arch, table, inf)?;
+        let more = inf_guids(alloc, arch, marks, table, inf)?;
         append(&mut guids, more.as_slice())?;
     }
     Ok(guids)
+}
+
+fn mark_guids(marks: &mut Vec<bool>, names: &[Named])
+    ensures { marks.new.items ≡ with_marks marks.old.items (map (λ n. n.name) names.now) }
+{
+    let mut left = names;
+    while let [named, rest @ ..] = left {
+        mark(marks, named.name.bytes());
+        left = rest;
+    }
+}
+
+fn mark_infs(marks: &mut Vec<bool>, infs: &[InfDoc])
+    ensures { marks.new.items ≡ fold with_guids marks.old.items infs.now }
+{
+    let mut left = infs;
+    while let [inf, rest @ ..] = left {
+        mark_guids(marks, inf.guids.items());
+        left = rest;
+    }
+}
+
+// Marks with the names of all lines.
+fn guid_marks(alloc: Global, infs: &[InfDoc]) -> Result<Vec<bool>, WantOfMemory>
+    ensures { IfOk result (λ marks. All (λ inf. All (λ n. is_kept marks.items n.name ≡ true) inf.guids) infs.now) }
+{
+    let mut marks = no_marks(alloc)?;
+    mark_infs(&mut marks, infs);
+    Ok(marks)
 }
 
 /// What the INF files of a module name, file by file and line by line, or the first fault.
@@ -148,8 +195,15 @@ pub fn module_guids<'a>(
 ) -> Result<Vec<FoundGuid<'a>>, Refusal>
     ensures { AnswersAs (λ v. seen v.items) result (module_guids parts.now) }
 {
-    let table = lines_by_name(alloc, parts.decs.items())?;
-    infs_guids(alloc, parts.module.arch, &table, parts.infs.items())
+    let marks = guid_marks(alloc, parts.infs.items())?;
+    let table = lines_by_name(alloc, marks.as_slice(), parts.decs.items())?;
+    infs_guids(
+        alloc,
+        parts.module.arch,
+        marks.as_slice(),
+        &table,
+        parts.infs.items(),
+    )
 }
 
 fn insert(

@@ -1,9 +1,9 @@
-//! The packages of a module, and the lines by which they declare the names of GUIDs.
+//! The packages of a module, and the lines by which they declare the names of GUIDs, where these are marked.
 ghost use Rattle.std.specs.Prelude.{◌≡◌, ◌++◌, ◌∷◌, [], List, map, IfOk, OnOk};
 ghost use Rattle.std.specs.List.{flat_map};
 ghost use Rattle.build_texts.specs.Named.{Declared, declared_name, first_guid, guid_from, is_from, line_from, package_lines};
 ghost use Rattle.build_texts.specs.Views.{declared_view};
-ghost use Rattle.pcd_resolve.specs.Groups.{Grouped};
+ghost use Rattle.pcd_resolve.specs.Groups.{GroupedAt};
 
 use build_base::{Guid, Path, WantOfMemory};
 use doc_types::arch::Arch;
@@ -11,6 +11,7 @@ use doc_types::depex::NamedGuid;
 use doc_types::parts::Package;
 use indexmap::IndexMap;
 use pcd_resolve::groups::add;
+use pcd_resolve::marks::is_kept;
 use pcd_resolve::names::serves;
 use std::alloc::Global;
 
@@ -23,12 +24,16 @@ pub struct DeclaredGuid<'a> {
 
 fn add_line<'a>(
     alloc: Global,
+    marks: &[bool],
     table: &mut IndexMap<Vec<u8>, Vec<DeclaredGuid<'a>>>,
     from: &'a Path,
     line: &'a NamedGuid,
 ) -> Result<(), WantOfMemory>
-    ensures { (xs : List Declared) → Grouped declared_view declared_name xs table.old → OnOk result (Grouped declared_view declared_name (xs ++ line_from from.now line.now ∷ []) table.new) }
+    ensures { (xs : List Declared) → GroupedAt marks.now declared_view declared_name xs table.old → OnOk result (GroupedAt marks.now declared_view declared_name (xs ++ line_from from.now line.now ∷ []) table.new) }
 {
+    if !is_kept(marks, line.name.bytes()) {
+        return Ok(());
+    }
     let name = Vec::from_slice(alloc, line.name.bytes())?;
     add(alloc, table, name, DeclaredGuid { from, line })?;
     Ok(())
@@ -36,52 +41,62 @@ fn add_line<'a>(
 
 fn add_lines<'a>(
     alloc: Global,
+    marks: &[bool],
     table: &mut IndexMap<Vec<u8>, Vec<DeclaredGuid<'a>>>,
     from: &'a Path,
     lines: &'a [NamedGuid],
 ) -> Result<(), WantOfMemory>
-    ensures { (xs : List Declared) → Grouped declared_view declared_name xs table.old → OnOk result (Grouped declared_view declared_name (xs ++ map (line_from from.now) lines.now) table.new) }
+    ensures { (xs : List Declared) → GroupedAt marks.now declared_view declared_name xs table.old → OnOk result (GroupedAt marks.now declared_view declared_name (xs ++ map (line_from from.now) lines.now) table.new) }
 {
     for line in lines {
-        add_line(alloc, table, from, line)?;
+        add_line(alloc, marks, table, from, line)?;
     }
     Ok(())
 }
 
 fn add_package<'a>(
     alloc: Global,
+    marks: &[bool],
     table: &mut IndexMap<Vec<u8>, Vec<DeclaredGuid<'a>>>,
     held: &'a Package,
 ) -> Result<(), WantOfMemory>
-    ensures { (xs : List Declared) → Grouped declared_view declared_name xs table.old → OnOk result (Grouped declared_view declared_name (xs ++ map (line_from held.now.path) held.now.doc.guids) table.new) }
+    ensures { (xs : List Declared) → GroupedAt marks.now declared_view declared_name xs table.old → OnOk result (GroupedAt marks.now declared_view declared_name (xs ++ map (line_from held.now.path) held.now.doc.guids) table.new) }
 {
-    add_lines(alloc, table, &held.path, held.doc.value().guids.items())?;
+    add_lines(
+        alloc,
+        marks,
+        table,
+        &held.path,
+        held.doc.value().guids.items(),
+    )?;
     Ok(())
 }
 
 fn add_packages<'a>(
     alloc: Global,
+    marks: &[bool],
     table: &mut IndexMap<Vec<u8>, Vec<DeclaredGuid<'a>>>,
     decs: &'a [Package],
 ) -> Result<(), WantOfMemory>
-    ensures { (xs : List Declared) → Grouped declared_view declared_name xs table.old → OnOk result (Grouped declared_view declared_name (xs ++ flat_map (λ held. map (line_from held.path) held.doc.guids) decs.now) table.new) }
+    ensures { (xs : List Declared) → GroupedAt marks.now declared_view declared_name xs table.old → OnOk result (GroupedAt marks.now declared_view declared_name (xs ++ flat_map (λ held. map (line_from held.path) held.doc.guids) decs.now) table.new) }
 {
     for held in decs {
-        add_package(alloc, table, held)?;
+        add_package(alloc, marks, table, held)?;
     }
     Ok(())
 }
 
-/// The lines of packages by the names that they declare.
+/// The lines of packages by the names that they declare, where these are marked.
 #[tactic(auto, unfolding(crate::specs::Named::package_lines))]
 pub fn lines_by_name<'a>(
     alloc: Global,
+    marks: &[bool],
     decs: &'a [Package],
 ) -> Result<IndexMap<Vec<u8>, Vec<DeclaredGuid<'a>>>, WantOfMemory>
-    ensures { IfOk result (λ table. Grouped declared_view declared_name (package_lines decs.now) table) }
+    ensures { IfOk result (λ table. GroupedAt marks.now declared_view declared_name (package_lines decs.now) table) }
 {
     let mut table = IndexMap::new(alloc);
-    add_packages(alloc, &mut table, decs)?;
+    add_packages(alloc, marks, &mut table, decs)?;
     Ok(table)
 }
 

@@ -1,8 +1,9 @@
-//! Calls of what makes headers, files and volumes.
+//! Calls of what makes headers, files and volumes, and of what reads images.
 #![tactic(auto)]
 
 mod files;
 mod headers;
+mod reading;
 mod volumes;
 mod words;
 
@@ -15,6 +16,16 @@ pub fn call(page: &mut Page, files: &[Output], name: &str, path: &str) -> Result
         "section_alignment" => headers::call_section_alignment(page, files, path)?,
         "file_of" => files::call_file_of(page, files, path)?,
         "compose" => volumes::call_compose(page, files, path)?,
+        _ => return call_reader(page, files, name, path),
+    }
+    Ok(true)
+}
+
+fn call_reader(page: &mut Page, files: &[Output], name: &str, path: &str) -> Result<bool, Stop> {
+    match name {
+        "list_text" => reading::call_list_text(page, files, path)?,
+        "find_volume" => reading::call_find_volume(page, files, path)?,
+        "read_volume" => reading::call_read_volume(page, files, path)?,
         _ => return Ok(false),
     }
     Ok(true)

@@ -2,7 +2,6 @@ pub mod Least
 pub mod Reading
 pub mod ValueFields
 pub mod SegmentNames
-pub mod Unbuilt
 pub mod Values
 pub mod Forms
 pub mod Gathering

@@ -11,7 +11,6 @@ pub mod meaning;
 pub mod missing;
 pub mod reader;
 pub mod segment_name;
-pub mod unbuilt;
 pub mod value_fields;
 pub mod values;
 pub mod whole;

@@ -4,7 +4,7 @@ use Rattle.std.specs.Result.{IsErrAnd}
 use Rattle.std.proofs.lemmas.List.{append_cancel_left}
 use Rattle.build_base.specs.World.{World}
 use Rattle.step_engine.specs.Build.{Setting, IsHere, Ran, RanAll}
-use Rattle.step_engine.specs.Build.{IsBuilt as IsBrought}
+use Rattle.step_engine.specs.Build.{IsBuilt as IsBuiltBy}
 use Rattle.step_engine.specs.Needed.{IsLeft, IsNeededCount, IsNeededEntry, IsOtherEntry, IsStep}
 use Rattle.step_engine.specs.declared.talk.Entry.{Entry}
 use Rattle.step_engine.specs.declared.talk.Outcome.{Outcome}
@@ -16,7 +16,7 @@ use Rattle.build_rules.specs.Rules.{value_in}
 use Rattle.build_base.specs.Outside.{Emission}
 use Rattle.build_base.specs.Spelling.{Spelled, SpelledCut}
 use Rattle.step_pack.specs.Keys.{key_cmp}
-use Rattle.edk_build.specs.Building.{means, AgreesOnGood, IsCounted, IsBuilt, IsCutShort, Leaves}
+use Rattle.edk_build.specs.Building.{means, AgreesOnGood, IsBrought, IsCounted, IsBuilt, IsCutShort}
 use Rattle.edk_build.specs.Emitting.{emitted, status_of}
 use Rattle.edk_build.specs.Outcome.{files_by}
 use Rattle.edk_build.specs.declared.label.Label.{Label}
@@ -55,18 +55,10 @@ counted w s book book' needed h m ran all n =
       all = n;
     }
 
--- what the engine brought, as a build has it
-pub record Brought (w : World) (s : Setting Key Out) (book book' : List Key) (result : Outcome Out) (cache : List (Entry Key Out)) (steps reused : ℕ) : Type 0 where
-  pub needed : ℕ
-  pub value : result ≡ value_in w key.All
-  pub agrees : AgreesOnGood result (value_in w) cache
-  pub counted : IsCounted w s.old steps needed
-  pub reuses : reused ≡ needed - steps
-  pub leaves : Leaves w s.old cache
-
+-- what the engine promises, as a build has it
 pub brought : (w : World) (s : Setting Key Out) (book book' : List Key) (result : Outcome Out) (cache : List (Entry Key Out)) (needed steps reused : ℕ)
-    → IsHere s w → s.means ≡ means → IsBrought key_cmp means w s.old key.All result cache needed → Ran s key.All book book' → RanAll s key.All book book'
-    → steps ≡ length book' - length book → reused ≡ needed - steps → Brought w s book book' result cache steps reused
+    → IsHere s w → s.means ≡ means → IsBuiltBy key_cmp means w s.old key.All result cache needed → Ran s key.All book book' → RanAll s key.All book book'
+    → steps ≡ length book' - length book → reused ≡ needed - steps → IsBrought w s.old result cache steps reused
 brought w s book book' result cache needed steps reused h m b ran all n r = record {
   needed = needed;
   value = b.value;
@@ -76,10 +68,10 @@ brought w s book book' result cache needed steps reused h m b ran all n r = reco
   leaves = record { left = b.left; only = b.only; full = b.full };
 }
 
-pub built : (w : World) (s : Setting Key Out) (book book' : List Key) (result : Outcome Out) (cache : List (Entry Key Out)) (steps reused : ℕ) (label : Label) (status : Status) (a b : Option (List Emission))
-    → Brought w s book book' result cache steps reused → status ≡ status_of (files_by (value_in w) result)
-    → Spelled a b (emitted label (files_by (value_in w) result) steps reused) → IsBuilt w s.old label status a b
-built w s book book' result cache steps reused label status a b x e t = record {
+pub built : (w : World) (old : List (Entry Key Out)) (result : Outcome Out) (cache : List (Entry Key Out)) (steps reused : ℕ) (label : Label) (status : Status) (a b : Option (List Emission))
+    → IsBrought w old result cache steps reused → status ≡ status_of (files_by (value_in w) result)
+    → Spelled a b (emitted label (files_by (value_in w) result) steps reused) → IsBuilt w old label status a b
+built w old result cache steps reused label status a b x e t = record {
   steps = steps;
   needed = x.needed;
   counted = x.counted;
@@ -87,10 +79,10 @@ built w s book book' result cache steps reused label status a b x e t = record {
   written = rw (← x.value, ← x.reuses) t;
 }
 
-pub cut_short : (w : World) (s : Setting Key Out) (book book' : List Key) (result : Outcome Out) (cache : List (Entry Key Out)) (steps reused : ℕ) (label : Label) (a b : Option (List Emission))
-    → Brought w s book book' result cache steps reused
-    → SpelledCut a b (emitted label (files_by (value_in w) result) steps reused) → IsCutShort w s.old label a b
-cut_short w s book book' result cache steps reused label a b x t = record {
+pub cut_short : (w : World) (old : List (Entry Key Out)) (result : Outcome Out) (cache : List (Entry Key Out)) (steps reused : ℕ) (label : Label) (a b : Option (List Emission))
+    → IsBrought w old result cache steps reused
+    → SpelledCut a b (emitted label (files_by (value_in w) result) steps reused) → IsCutShort w old label a b
+cut_short w old result cache steps reused label a b x t = record {
   steps = steps;
   needed = x.needed;
   counted = x.counted;

@@ -2,5 +2,10 @@ pub mod WordLemmas
 pub mod BuildLemmas
 pub mod MadeLemmas
 pub mod RunLemmas
+pub mod KeptLemmas
+pub mod LawLemmas
+pub mod StoreLemmas
 pub mod ReplayLemmas
 pub mod ScriptLemmas
+pub mod SelftestLemmas
+pub mod CompleteLemmas

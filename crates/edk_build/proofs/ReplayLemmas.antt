@@ -39,7 +39,7 @@ use Rattle.edk_build.specs.declared.status.Status.TheVariants as status
 use Rattle.edk_build.specs.declared.stop.Stop.{Stop}
 use Rattle.edk_build.specs.declared.stop.Stop.TheVariants as stop
 
-grew_nothing : (old new : Option (List Emission)) → new ≡ old → Grew old new []
+pub grew_nothing : (old new : Option (List Emission)) → new ≡ old → Grew old new []
 grew_nothing old None e = tt
 grew_nothing old (Some now) e = (now, sym e, sym (append-nil now))
 
@@ -85,7 +85,7 @@ pub record SoFar (held : Option Files) (lines left : List ScriptLine) (stand : S
   pub jobs : HaveJobs left
   pub sound : AreSound means stand.cache
 
-none_sound : (cache : List (Entry Key Out)) → cache ≡ [] → AreSound means cache
+pub none_sound : (cache : List (Entry Key Out)) → cache ≡ [] → AreSound means cache
 none_sound cache e = subst (AreSound means) (sym e) (λ k x h. absurd (omega arith))
 
 pub so_far_begun : (held : Option Files) (lines : List ScriptLine) (stand : Stand) (a : List Key) (old : Option (List Emission)) → stand ≡ start → HaveJobs lines
@@ -118,7 +118,7 @@ so_far_more held lines line left stand a now next b old mid new f w sound = reco
 cut_after : (a b c : Option (List Emission)) (xs ys : List Output) → Spelled a b xs → SpelledCut b c ys → SpelledCut a c (xs ++ ys)
 cut_after a b c xs ys s t = subst (λ z. SpelledCut a c (xs ++ z)) (append-nil ys) (SpelledCut-then a b c xs ys [] s t)
 
-written_after : (s : Status) (a b c : Option (List Emission)) (xs ys : List Output) → Spelled a b xs → Written s b c ys → Written s a c (xs ++ ys)
+pub written_after : (s : Status) (a b c : Option (List Emission)) (xs ys : List Output) → Spelled a b xs → Written s b c ys → Written s a c (xs ++ ys)
 written_after status.WriteFault a b c xs ys s t = cut_after a b c xs ys s t
 written_after status.Done a b c xs ys s t = Spelled-then a b c xs ys s t
 written_after status.FileFault a b c xs ys s t = Spelled-then a b c xs ys s t

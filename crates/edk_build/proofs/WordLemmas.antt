@@ -15,7 +15,9 @@ use Rattle.build_words.specs.declared.job.Images.{Images}
 use Rattle.build_words.specs.declared.job.Job.{Job}
 use Rattle.build_words.specs.declared.job.Names.{Names}
 use Rattle.build_words.specs.declared.job.Settings.{Settings}
-use Rattle.edk_build.specs.Commands.{build_from, replay_from, command_of}
+use Rattle.selftest_tree.specs.Count.{count_of}
+use Rattle.edk_build.specs.Commands.{build_from, replay_from, selftest_from, volinfo_from, command_of}
+use Rattle.edk_build.specs.declared.command.Command.{Command}
 use Rattle.edk_build.specs.declared.command.Command.TheVariants as command
 
 -- what a field names as a path is one
@@ -106,14 +108,37 @@ no_replay : (path : Option (List ℕ)) (job : Job) → replay_from path ≡ Some
 no_replay None job h = absurd cc
 no_replay (Some path) job h = absurd cc
 
+no_selftest : (count : Option ℕ) (job : Job) → selftest_from count ≡ Some (command.Build job) → ⊥
+no_selftest None job h = absurd cc
+no_selftest (Some n) job h = absurd cc
+
+no_volinfo : (path : Option (List ℕ)) (job : Job) → volinfo_from path ≡ Some (command.Build job) → ⊥
+no_volinfo None job h = absurd cc
+no_volinfo (Some path) job h = absurd cc
+
+-- words that are no build's go before others
+others : (b : Bool) (one rest : Option Command) (job : Job) → (one ≡ Some (command.Build job) → ⊥) → (rest ≡ Some (command.Build job) → is_job (job_fields job) ≡ true)
+    → cond b one rest ≡ Some (command.Build job) → is_job (job_fields job) ≡ true
+others true one rest job none build h = absurd (none h)
+others false one rest job none build h = build h
+
+two_words : (name word : List ℕ) (job : Job)
+    → cond (same_text name (codes "selftest")) (selftest_from (count_of word)) (cond (same_text name (codes "volinfo")) (volinfo_from (path_field word)) (build_from (name ∷ word ∷ []))) ≡ Some (command.Build job)
+    → is_job (job_fields job) ≡ true
+two_words name word job =
+    others (same_text name (codes "selftest")) (selftest_from (count_of word)) (cond (same_text name (codes "volinfo")) (volinfo_from (path_field word)) (build_from (name ∷ word ∷ []))) job
+    (no_selftest (count_of word) job)
+    (others (same_text name (codes "volinfo")) (volinfo_from (path_field word)) (build_from (name ∷ word ∷ [])) job
+    (no_volinfo (path_field word) job)
+    (build_job_of (name ∷ word ∷ []) (words_job (name ∷ word ∷ [])) job refl))
+
 -- the same of what all words are
 pub is_command_job : (words : List (List ℕ)) (job : Job) → command_of words ≡ Some (command.Build job) → is_job (job_fields job) ≡ true
 unfolding command_of
 is_command_job [] job e = build_job_of [] (words_job []) job refl e
 is_command_job (name ∷ []) job e = build_job_of (name ∷ []) (words_job (name ∷ [])) job refl e
-is_command_job (name ∷ path ∷ []) job e =
-    elim (same_text name (codes "replay")) as (λ b. cond b (replay_from (path_field path)) (build_from (name ∷ path ∷ [])) ≡ Some (command.Build job) → is_job (job_fields job) ≡ true) [
-      | true ↦ λ h. absurd (no_replay (path_field path) job h)
-      | false ↦ λ h. build_job_of (name ∷ path ∷ []) (words_job (name ∷ path ∷ [])) job refl h
-    ] e
+is_command_job (name ∷ word ∷ []) job e =
+    others (same_text name (codes "replay")) (replay_from (path_field word))
+    (cond (same_text name (codes "selftest")) (selftest_from (count_of word)) (cond (same_text name (codes "volinfo")) (volinfo_from (path_field word)) (build_from (name ∷ word ∷ [])))) job
+    (no_replay (path_field word) job) (two_words name word job) e
 is_command_job (name ∷ path ∷ word ∷ words) job e = build_job_of (name ∷ path ∷ word ∷ words) (words_job (name ∷ path ∷ word ∷ words)) job refl e

@@ -15,7 +15,7 @@ use Rattle.step_pack.specs.Keys.{key_cmp}
 use Rattle.step_pack.specs.declared.key.Key.{Key}
 use Rattle.step_pack.specs.declared.key.Key.TheVariants as key
 use Rattle.step_pack.specs.declared.out.Out.{Out}
-use Rattle.build_rules.specs.Rules.{edk}
+use Rattle.build_rules.specs.Rules.{edk, value_in}
 use Rattle.edk_build.specs.Outcome.{outcome}
 use Rattle.edk_build.specs.Emitting.{emitted, status_of}
 use Rattle.edk_build.specs.declared.label.Label.{Label}
@@ -73,3 +73,12 @@ pub record Leaves (w : World) (old new : List (Entry Key Out)) : Type 0 where
   pub left : IsLeft means w old key.All new
   pub only : (other : List (Entry Key Out)) → AreInOrder key_cmp other → IsLeft means w old key.All other → other ≡ new
   pub full : IsFull means w key.All new
+
+-- what the engine brought in a world: the top step's value, the cache that is left, and how many steps ran and were reused
+pub record IsBrought (w : World) (old : List (Entry Key Out)) (result : Outcome Out) (left : List (Entry Key Out)) (steps reused : ℕ) : Type 0 where
+  pub needed : ℕ
+  pub value : result ≡ value_in w key.All
+  pub agrees : AgreesOnGood result (value_in w) left
+  pub counted : IsCounted w old steps needed
+  pub reuses : reused ≡ needed - steps
+  pub leaves : Leaves w old left

@@ -223,6 +223,8 @@ HasNoFault files at lines = (line : ScriptLine) → Contains lines line → orde
 abbrev pub IsUsage : Option Files → Option Command → Type 0
 IsUsage held None = Unit {0}
 IsUsage held (Some (command.Build job)) = ⊥
+IsUsage held (Some (command.Selftest n)) = ⊥
+IsUsage held (Some (command.Volinfo at)) = ⊥
 IsUsage held (Some (command.Replay at)) = IfSome held (λ files. IsMisspelt (got_of file_limit (files at)))
 
 -- Where the script is in the grammar, no line has a fault and no object failed, the replay is done or memory was wanting.

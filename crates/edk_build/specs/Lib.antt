@@ -9,4 +9,9 @@ pub mod Made
 pub mod Run
 pub mod Statuses
 pub mod Stops
+pub mod Kept
+pub mod KeptBuild
+pub mod KeptRuns
 pub mod History
+pub mod Selftest
+pub mod Volinfo

@@ -1,4 +1,4 @@
--- What a run of the words `build ..` does: it starts with no cache.
+-- What a run of the words `build ..` does.
 use Rattle.std.specs.Prelude.{◌≡◌, ◌⊎◌, None, false, IsOk}
 use Rattle.build_base.specs.Outside.{Files}
 use Rattle.build_base.specs.World.{World}

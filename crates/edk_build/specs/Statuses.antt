@@ -22,6 +22,13 @@ OnUnwritten ReadFault P = P
 OnUnwritten WantOfMemory P = P
 OnUnwritten _ P = Unit {0}
 
+-- where nothing was stored
+abbrev pub OnUnkept : Status → Type 0 → Type 0
+OnUnkept Usage P = P
+OnUnkept ReadFault P = P
+OnUnkept WantOfMemory P = P
+OnUnkept _ P = Unit {0}
+
 abbrev pub OnUsage : Status → Type 0 → Type 0
 OnUsage Usage P = P
 OnUsage _ P = Unit {0}

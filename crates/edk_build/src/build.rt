@@ -3,13 +3,13 @@ ghost use Rattle.std.specs.Prelude.{◌≡◌, ◌≤◌, ◌-◌, true, length,
 ghost use Rattle.build_base.specs.Outside.{Rose};
 ghost use Rattle.build_base.specs.Spelling.{Spelled, SpelledCut};
 ghost use Rattle.build_base.specs.World.{World};
-ghost use Rattle.step_engine.specs.Build.{setting, IsHere, Ran, RanAll, HasRead};
+ghost use Rattle.step_engine.specs.Build.{setting, IsEntryOf, IsHere, Ran, RanAll, HasRead};
 ghost use Rattle.step_engine.specs.Edits.{over};
 ghost use Rattle.step_engine.specs.Entries.{AreSound};
 ghost use Rattle.step_engine.specs.declared.talk.Outcome.{Outcome};
 ghost use Rattle.step_pack.specs.declared.key.Key.TheVariants.{All};
 ghost use Rattle.build_rules.specs.Rules.{is_job};
-ghost use Rattle.edk_build.specs.Building.{means, AgreesOnGood, IsBuilt, IsCutShort, IsOwn, Leaves, result_status};
+ghost use Rattle.edk_build.specs.Building.{means, AgreesOnGood, IsBrought, IsBuilt, IsCutShort, IsOwn, Leaves, result_status};
 ghost use Rattle.edk_build.specs.Emitting.{status_of, emitted};
 ghost use Rattle.edk_build.specs.Outcome.{files_by};
 ghost use Rattle.edk_build.specs.Stops.{IfReadFault, IfWriteFault, IfUnwritten};
@@ -63,6 +63,78 @@ fn emit<S: Sink>(
     }
 }
 
+/// What a build made before its first emission: its outcome, the cache that it leaves, and how many steps
+/// ran and were reused.
+#[derive(Drop)]
+pub struct Brought {
+    pub given: Outcome<Out>,
+    pub cache: Cache<Key, Out>,
+    pub steps: u64,
+    pub reused: u64,
+}
+
+/// Brings what these fields of a job ask for, over edits of the tree's files, from the cache that the last
+/// build left, which is dropped where the build stops.
+pub fn bring_all<H: Threads + Sync, T: Tree, G: Gate>(
+    rt: &H,
+    alloc: Global,
+    fields: &Rows<Text>,
+    workers: u32,
+    cache: Cache<Key, Out>,
+    tree: &mut T,
+    edits: &Edits,
+    gate: &G,
+    book: &mut Book<Key>,
+) -> Result<Brought, Stop>
+    requires job { is_job fields.now ≡ true }
+    requires some { 1 ≤ workers }
+    requires most { workers ≤ 64 }
+
+    // Where the tree tells what it holds and the cache is sound.
+    ensures brought { IfOk result (λ b. (w : World) → IsHere (setting means (over edits.now (T.held tree.old)) fields.now cache) w →
+        IsBrought w cache b.given b.cache b.steps b.reused) }
+
+    // For any tree.
+    ensures sound { AreSound means cache → IfOk result (λ b. AreSound means b.cache) }
+    ensures own { IfOk result (λ b. IsEntryOf All b.given b.cache) }
+    ensures held { T.held tree.new ≡ T.held tree.old }
+    ensures tree_count { OnOk result (T.faults tree.new ≡ T.faults tree.old) }
+    ensures read_fault { IfReadFault result (Rose (T.faults tree.old) (T.faults tree.new)) }
+    ensures no_write { IfWriteFault result ⊥ }
+
+    // Each step once, and only where wanted.
+    ensures ran { Ran (setting means (over edits.now (T.held tree.old)) fields.now cache) All book.old book.new }
+    ensures all { OnOk result (RanAll (setting means (over edits.now (T.held tree.old)) fields.now cache) All book.old book.new) }
+    ensures read { HasRead (setting means (over edits.now (T.held tree.old)) fields.now cache) All (T.reads tree.old) (T.reads tree.new) }
+{
+    let before = book.ran().len() as u64;
+    let brought = match bring_over(
+        rt,
+        alloc,
+        &EdkRules,
+        Key::All,
+        fields,
+        cache,
+        tree,
+        edits,
+        book,
+        workers,
+        gate,
+    ) {
+        Ok(brought) => brought,
+        Err(EngineRefusal::ReadFault) => return Err(Stop::ReadFault),
+        Err(EngineRefusal::WantOfMemory) => return Err(Stop::WantOfMemory),
+    };
+    let steps = (book.ran().len() as u64).saturating_sub(before);
+    let reused = brought.needed.saturating_sub(steps);
+    Ok(Brought {
+        given: brought.result,
+        cache: brought.cache,
+        steps,
+        reused,
+    })
+}
+
 /// Builds what these fields of a job ask for, over edits of the tree's files, from the cache that the
 /// last build left, which is dropped where the build stops.
 ///
@@ -106,33 +178,14 @@ pub fn build<H: Threads + Sync, T: Tree, S: Sink, G: Gate>(
     ensures all { OnOk result (RanAll (setting means (over edits.now (T.held tree.old)) fields.now cache) All book.old book.new) }
     ensures read { HasRead (setting means (over edits.now (T.held tree.old)) fields.now cache) All (T.reads tree.old) (T.reads tree.new) }
 {
-    let before = book.ran().len() as u64;
-    let brought = match bring_over(
-        rt,
-        alloc,
-        &EdkRules,
-        Key::All,
-        fields,
-        cache,
-        tree,
-        edits,
-        book,
-        workers,
-        gate,
-    ) {
-        Ok(brought) => brought,
-        Err(EngineRefusal::ReadFault) => return Err(Stop::ReadFault),
-        Err(EngineRefusal::WantOfMemory) => return Err(Stop::WantOfMemory),
-    };
-    let steps = (book.ran().len() as u64).saturating_sub(before);
-    let reused = brought.needed.saturating_sub(steps);
+    let brought = bring_all(rt, alloc, fields, workers, cache, tree, edits, gate, book)?;
     let status = emit(
         alloc,
         label,
-        &brought.result,
+        &brought.given,
         &brought.cache,
-        steps,
-        reused,
+        brought.steps,
+        brought.reused,
         sink,
     )?;
     Ok(Built {

@@ -2,9 +2,11 @@
 use build_base::Path;
 use build_words::Job;
 
-/// A build, or a replay of a script.
+/// A build, a replay of a script, a selftest with so many modules, or the listing of an image.
 #[derive(Debug, Drop)]
 pub enum Command {
     Build(Job),
     Replay(Path),
+    Selftest(u64),
+    Volinfo(Path),
 }

@@ -1,11 +1,11 @@
 //! What stands ready before the first emission.
 ghost use Rattle.std.specs.Prelude.{◌≡◌, ◌++◌, ◌∷◌, [], map, IfOk, IfSome, Contains};
-ghost use Rattle.build_base.specs.Outside.{Cause};
+ghost use Rattle.build_base.specs.Outside.{Cause, Emits};
 ghost use Rattle.build_base.specs.Spelling.{Writes, text};
 ghost use Rattle.build_base.specs.declared.outside.Target.{Target};
 ghost use Rattle.build_base.specs.declared.outside.Target.TheVariants.{Out as ToOut};
 ghost use Rattle.edk_build.specs.Building.{Agrees, AgreesOnGood, result_status};
-ghost use Rattle.edk_build.specs.Emitting.{below, labelled, outputs_of, status_of, emitted};
+ghost use Rattle.edk_build.specs.Emitting.{below, labelled, outputs_of, status_of, summary, emitted};
 ghost use Rattle.edk_build.specs.FilePair.{output_of};
 ghost use Rattle.edk_build.specs.Made.{made_status, made_outputs, ready_outputs, IsMade, IsReady};
 ghost use Rattle.step_engine.specs.declared.talk.Outcome.{Outcome};
@@ -141,7 +141,10 @@ pub fn make_ready<'a>(
 ) -> Result<Ready<'a>, WantOfMemory>
     ensures ready { (value : Key → Outcome Out) → AgreesOnGood given.now value cache.now →
         IfOk result (λ r. IsReady r label.now (files_by value given.now) steps reused) }
+    ensures made { (value : Key → Outcome Out) → AgreesOnGood given.now value cache.now →
+        IfOk result (λ r. IsMade r.made label.now (files_by value given.now)) }
     ensures own { IfOk result (λ r. made_status r.made ≡ result_status given.now) }
+    ensures line { IfOk result (λ r. r.summary ≡ summary label.now (result_status given.now) steps reused) }
 {
     let made = make(alloc, label, given, cache)?;
     let summary = summary(alloc, label, made.status(), steps, reused)?;
@@ -199,5 +202,21 @@ impl Ready<'_> {
             return Err(failed);
         }
         Ok(())
+    }
+
+    /// Writes all but the summary, without taking memory.
+    pub fn write_outputs<S: Sink>(&self, sink: &mut S) -> Result<(), SinkFailed>
+        ensures written { Writes (S.written sink.old) (S.written sink.new) (made_outputs self.now.made) result }
+        ensures cause { Cause (S.faults sink.old) (S.faults sink.new) result }
+    {
+        self.made.write(sink)
+    }
+
+    /// Writes the summary, without taking memory.
+    pub fn write_summary<S: Sink>(&self, sink: &mut S) -> Result<(), SinkFailed>
+        ensures written { Emits (S.written sink.old) (S.written sink.new) ToOut self.now.summary result }
+        ensures cause { Cause (S.faults sink.old) (S.faults sink.new) result }
+    {
+        sink.emit(&Target::Out, self.summary.bytes())
     }
 }

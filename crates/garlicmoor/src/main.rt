@@ -10,7 +10,7 @@ use build_base::Book;
 use build_base::disk_sink::DiskSink;
 use build_base::disk_tree::DiskTree;
 use build_base::open_gate::OpenGate;
-use build_base::sure_keeper::SureKeeper;
+use cache_keepers::DiskKeeper;
 use edk_build::{Status, run};
 use std::process::ExitCode;
 use std::rt::Runtime;
@@ -42,10 +42,7 @@ fn status_of<H: Runtime + AllocGlobal + Threads + Sync + Copy>(rt: &H, words: &[
     ensures grammar { OnBuild result (IsSome (command_of (map string_bytes words.now))) }
 {
     let alloc = rt.alloc();
-    let mut keeper = match SureKeeper::new(alloc, None, 0) {
-        Ok(keeper) => keeper,
-        Err(_) => return Status::WantOfMemory,
-    };
+    let mut keeper = DiskKeeper::new(*rt);
     let mut tree = DiskTree::new(*rt);
     let mut sink = DiskSink::new(*rt);
     let mut book = Book::new(alloc);
@@ -65,6 +62,16 @@ fn tell<H: Runtime>(rt: &H, text: &str) {
     let _ = rt.eprintln(text);
 }
 
+// What goes to standard error at the end, where the run itself told nothing there.
+fn text_of(status: Status) -> Option<&'static str> {
+    match status {
+        Status::ReadFault => Some("read fault"),
+        Status::WriteFault => Some("write fault"),
+        Status::WantOfMemory => Some("want of memory"),
+        Status::Done | Status::FileFault | Status::Usage => None,
+    }
+}
+
 fn main(rt: HostRuntime) -> ExitCode {
     let status = match words_of(&rt) {
         Ok(words) => status_of(&rt, words.as_slice()),
@@ -76,11 +83,8 @@ fn main(rt: HostRuntime) -> ExitCode {
             status
         }
     };
-    match status {
-        Status::ReadFault => tell(&rt, "read fault"),
-        Status::WriteFault => tell(&rt, "write fault"),
-        Status::WantOfMemory => tell(&rt, "want of memory"),
-        Status::Done | Status::FileFault | Status::Usage => {}
+    if let Some(text) = text_of(status) {
+        tell(&rt, text);
     }
     ExitCode::from(status as u8)
 }

@@ -1,7 +1,9 @@
-//! The adapters of the disk, in a folder of their own.
+//! The adapters of the disk, in a folder of their own; what the program answers.
+use crate::text_of;
 use build_base::disk_sink::DiskSink;
 use build_base::disk_tree::DiskTree;
 use build_base::{Got, Path, PathRefusal, Sink, Target, Tree, WantOfMemory};
+use edk_build::Status;
 use std::alloc::Global;
 use std::fs;
 use std::test::Fail;
@@ -95,5 +97,34 @@ fn files_are_read(rt: HostRuntime) -> Result<(), Fail> {
     assert!(rt; seen(&mut tree, &file, 3) == Given::TooLong);
     assert!(rt; seen(&mut tree, &folder, 4) == Given::Absent);
     fs::remove_dir_all(&rt, "disk_read")?;
+    Ok(())
+}
+
+fn tells(status: Status, text: &str) -> bool {
+    match text_of(status) {
+        Some(told) => told == text,
+        None => text.is_empty(),
+    }
+}
+
+#[test]
+fn each_status_has_its_text(rt: HostRuntime) -> Result<(), Fail> {
+    assert!(rt; tells(Status::Done, ""));
+    assert!(rt; tells(Status::FileFault, ""));
+    assert!(rt; tells(Status::Usage, ""));
+    assert!(rt; tells(Status::ReadFault, "read fault"));
+    assert!(rt; tells(Status::WriteFault, "write fault"));
+    assert!(rt; tells(Status::WantOfMemory, "want of memory"));
+    Ok(())
+}
+
+#[test]
+fn each_status_has_its_number(rt: HostRuntime) -> Result<(), Fail> {
+    assert_eq!(rt; Status::Done as u8, 0);
+    assert_eq!(rt; Status::FileFault as u8, 1);
+    assert_eq!(rt; Status::Usage as u8, 2);
+    assert_eq!(rt; Status::ReadFault as u8, 3);
+    assert_eq!(rt; Status::WriteFault as u8, 4);
+    assert_eq!(rt; Status::WantOfMemory as u8, 5);
     Ok(())
 }

@@ -1,10 +1,8 @@
 -- The file of a FILE statement, by the answers of its step (UEFI PI specification, volume 3, section
 -- 3.2.3; EDK II FDF specification, FILE statements).
-use Rattle.std.specs.Prelude.{ℕ, List, [], Option, Some, None, Result, Ok, Err}
+use Rattle.std.specs.Prelude.{ℕ, List, Option, Some, None, Result, Ok, Err}
 use Rattle.build_base.specs.declared.fault.Fault.{Fault}
-use Rattle.build_base.specs.declared.fault.Place.{Place}
 use Rattle.build_base.specs.declared.guid.Guid.{Guid}
-use Rattle.build_base.specs.FaultText.{fault_of}
 use Rattle.build_base.specs.First.{and_then}
 use Rattle.build_stages.specs.Stages.{misfit}
 use Rattle.step_engine.specs.declared.talk.Answer.{Answer}
@@ -21,10 +19,6 @@ use Rattle.ffs_sections.specs.File.{file_of}
 use Rattle.step_pack.specs.declared.out.Out.{Out}
 use Rattle.image_steps.specs.Contents.{file_absent, file_content}
 use Rattle.image_steps.specs.Parts.{files_checked, parts_from, file_count}
-
--- a form that no step makes yet
-abbrev pub unbuilt : Place → Fault
-unbuilt at = fault_of 199 at []
 
 -- a file's own alignment; sections alone have that of their volume or of their content
 abbrev pub file_align : Align → ℕ

@@ -1,5 +1,5 @@
 -- A volume by the answers of its step (UEFI PI specification, volume 3, section 3).
-use Rattle.std.specs.Prelude.{ℕ, ◌&&◌, ◌==◌, ◌%◌, Bool, true, nat_le, is_some, List, map, drop, Option, Some, None, Result, Ok, Err, if◌then◌else◌}
+use Rattle.std.specs.Prelude.{ℕ, ◌&&◌, ◌==◌, ◌%◌, Bool, true, nat_le, List, map, drop, Option, Some, None, Result, Ok, Err, if◌then◌else◌}
 use Rattle.std.specs.List.{list_all, list_any}
 use Rattle.build_base.specs.declared.fault.Fault.{Fault}
 use Rattle.build_base.specs.First.{and_then, all_ok}
@@ -13,7 +13,6 @@ use Rattle.build_stages.specs.Stages.{misfit}
 use Rattle.build_stages.specs.Writing.{part_of, part_at}
 use Rattle.step_pack.specs.declared.out.Out.{Out}
 use Rattle.step_pack.specs.declared.out.Out.TheVariants as out
-use Rattle.image_steps.specs.Files.{unbuilt}
 
 -- a stated length is a whole number of blocks and at most 256M
 abbrev pub size_fits : ℕ → Option ℕ → Bool
@@ -47,10 +46,6 @@ unfoldable pub composed : VolumeHead → List FileImage → Result (List ℕ) Fa
 composed head files =
     if head_fits head && list_all is_stated files then volume_of head files else Err misfit
 
--- modules that are to stand at a base of the volume's own: no step makes that yet
-abbrev pub is_forced : VolumeHead → Bool
-is_forced head = head.force && is_some head.base
-
 -- the volume of a head, whose files the answers are
 unfoldable pub volume_given : VolumeHead → List (Answer Out) → Result (List ℕ) Fault
-volume_given head given = if is_forced head then Err (unbuilt head.at) else and_then (images_from given 0) (composed head)
+volume_given head given = and_then (images_from given 0) (composed head)

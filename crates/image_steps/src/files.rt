@@ -1,14 +1,14 @@
 //! The file of a FILE statement, by the answers of its step.
-ghost use Rattle.std.specs.Prelude.{◌≡◌, IfOk, Some};
-ghost use Rattle.build_base.specs.Answer.{Answers, Finds};
+ghost use Rattle.std.specs.Prelude.{◌≡◌, IfOk};
+ghost use Rattle.build_base.specs.Answer.{Answers};
 ghost use Rattle.build_stages.specs.Gives.{GivesIn};
 ghost use Rattle.ffs_sections.specs.Sections.{HaveGuids};
-ghost use Rattle.image_steps.specs.Files.{unbuilt, file_align, body_given, file_name, image_plan, file_given};
+ghost use Rattle.image_steps.specs.Files.{file_align, body_given, file_name, image_plan, file_given};
 ghost use Rattle.ffs_sections.specs.File.{file_of};
 
 use crate::contents::whole_content;
 use crate::parts::{file_count, files_checked, parts};
-use build_base::{Guid, Permit, Place, Refusal, Same, Text, WantOfMemory, refuse};
+use build_base::{Guid, Permit, Refusal, Same, Text, WantOfMemory};
 use build_stages::{Given, Stop};
 use doc_types::flash::FlashDoc;
 use doc_types::image::{Body, FileImage, ImagePlan};
@@ -18,14 +18,8 @@ use ffs_sections::file_of;
 use std::alloc::Global;
 use step_pack::{Key, Out};
 
-/// The refusal of a form that no step makes yet.
-pub fn unbuilt(alloc: Global, at: &Place) -> Refusal
-    ensures { Finds result (Some (unbuilt at.now)) }
-{
-    refuse(alloc, 199, at, b"".as_slice())
-}
-
-fn file_align(align: Align) -> u32
+/// An alignment that is stated in bytes, else 1.
+pub fn file_align(align: Align) -> u32
     ensures { result ≡ file_align align }
 {
     match align {
@@ -88,7 +82,8 @@ fn image_plan(
     })
 }
 
-fn image(
+/// The file of a plan with this name and body, in a volume with this head.
+pub fn image(
     alloc: Global,
     permit: Permit,
     head: &VolumeHead,

@@ -10,5 +10,5 @@ pub mod volumes;
 
 pub use asks::{are_few, file_asks, item_asks, region_asks, regions_below, sections_below};
 pub use devices::device_given;
-pub use files::{file_given, unbuilt};
+pub use files::file_given;
 pub use volumes::volume_given;

@@ -89,7 +89,8 @@ fn pe_code(fault: PeFault) -> u16
     }
 }
 
-fn pe_fault(alloc: Global, path: &Path, file: &[u8], fault: PeFault) -> Refusal
+/// The refusal of a file that a TE image, or an alignment, can't be taken of.
+pub fn pe_fault(alloc: Global, path: &Path, file: &[u8], fault: PeFault) -> Refusal
     ensures { Finds result (Some (pe_fault path.now file.now fault)) }
 {
     match pe_detail(alloc, file, fault) {
@@ -138,7 +139,8 @@ fn te_shaped(alloc: Global, path: &Path, file: &[u8]) -> Result<Shaped, Refusal>
     }
 }
 
-fn file_shaped(alloc: Global, kind: u8, path: &Path, file: &[u8]) -> Result<Shaped, Refusal>
+/// The content of a section of this kind that is made of a file: of a TE section its TE image.
+pub fn file_shaped(alloc: Global, kind: u8, path: &Path, file: &[u8]) -> Result<Shaped, Refusal>
     ensures { Answers result (file_shaped kind path.now file.now) }
 {
     if kind == EFI_SECTION_TE {
@@ -273,7 +275,8 @@ fn without_guid(guid: Option<Guid>) -> Result<Option<Guid>, Stop<Key>>
     }
 }
 
-fn header_guid(kind: u8, guid: Option<Guid>) -> Result<Option<Guid>, Stop<Key>>
+/// The GUID of a section's header, which a SUBTYPE_GUID section has, and no other.
+pub fn header_guid(kind: u8, guid: Option<Guid>) -> Result<Option<Guid>, Stop<Key>>
     ensures value { GivesIn (λ guid. guid) result (header_guid kind guid) }
     ensures shape { IfOk result (λ guid. is_some guid ≡ (kind == EFI_SECTION_FREEFORM_SUBTYPE_GUID)) }
 {

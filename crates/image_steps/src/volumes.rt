@@ -5,9 +5,8 @@ ghost use Rattle.build_base.specs.Answer.{AnswersAs};
 ghost use Rattle.build_stages.specs.Gives.{GivesIn};
 ghost use Rattle.fv_compose.specs.Files.{AreAligned};
 ghost use Rattle.fv_compose.specs.Volume.{HasShape, volume_of};
-ghost use Rattle.image_steps.specs.Volumes.{head_fits, is_stated, file_in, image_at, images_from, composed, is_forced, volume_given};
+ghost use Rattle.image_steps.specs.Volumes.{head_fits, is_stated, file_in, image_at, images_from, composed, volume_given};
 
-use crate::files::unbuilt;
 use build_base::{Image, Permit, Refusal, Rows, Same};
 use build_stages::{Given, Stop};
 use doc_types::image::FileImage;
@@ -111,12 +110,6 @@ fn composed(
     Err(Stop::Misfit)
 }
 
-fn is_forced(head: &VolumeHead) -> bool
-    ensures { result ≡ is_forced head.now }
-{
-    head.force && head.base.is_some()
-}
-
 /// The volume of a head, whose files the answers are, in their order.
 #[tactic(auto, unfolding(crate::specs::Volumes::volume_given))]
 pub fn volume_given(
@@ -127,9 +120,6 @@ pub fn volume_given(
 ) -> Result<Image, Stop<Key>>
     ensures { GivesIn (λ image. image) result (volume_given head.now given.now) }
 {
-    if is_forced(head) {
-        return Err(Stop::from(unbuilt(alloc, &head.at)));
-    }
     let files = images(alloc, given)?;
     composed(alloc, permit, head, &files)
 }

@@ -100,10 +100,15 @@ set_of at text = set_by at text (position (λ byte. byte == 61) text)
 unfoldable pub commands_of : Place → List ℕ → Result (List PcdSet) Fault
 commands_of at text = all_ok (map (set_of at) (listed text))
 
+-- the architectures that are built, by those of the words
+unfoldable pub arches_built : PlatformDoc → List ℕ → Result (List Arch) Fault
+arches_built platform arches =
+    and_then (arches_in (listed arches)) (λ named. Ok (built_arches named platform.arches))
+
 -- the modules of a build, by the words' architectures
 unfoldable pub built_modules : PlatformDoc → List ℕ → Result (List Module) Fault
 built_modules platform arches =
-    and_then (arches_in (listed arches)) (λ named. Ok (modules_of (built_arches named platform.arches) platform.components))
+    and_then (arches_built platform arches) (λ built. Ok (modules_of built platform.components))
 
 -- both checks of the words, that of the SKU before that of the architectures
 abbrev pub words_checked : PlatformDoc → List (List ℕ) → List (List ℕ) → Option Fault

@@ -7,7 +7,7 @@ ghost use Rattle.build_base.specs.First.{all_ok};
 ghost use Rattle.meta_lexer.specs.Faults.{first_fault};
 ghost use Rattle.build_stages.specs.Gives.{GivesIn};
 ghost use Rattle.build_stages.specs.Known.{shown};
-ghost use Rattle.module_steps.specs.Settings.{listed, one_arch, arch_in, arches_in, same_arch, has_arch, put_arch, each_once, built_arches, module_of, module_where, modules_for, modules_of, is_supported, arch_unsupported, skus_fault, named_skus, set_named, set_by, set_of, commands_of, built_modules, words_checked, setting_by, setting_of};
+ghost use Rattle.module_steps.specs.Settings.{listed, one_arch, arch_in, arches_in, same_arch, has_arch, put_arch, each_once, built_arches, module_of, module_where, modules_for, modules_of, is_supported, arch_unsupported, skus_fault, named_skus, set_named, set_by, set_of, commands_of, arches_built, built_modules, words_checked, setting_by, setting_of};
 
 use crate::parts::each_text;
 use build_base::{Place, Refusal, Rows, Same, Text, WantOfMemory, refuse};
@@ -286,6 +286,20 @@ pub fn commands_of(alloc: Global, at: &Place, text: &[u8]) -> Result<Rows<PcdSet
     sets_of(alloc, at, texts.items())
 }
 
+/// The architectures that are built, by those of the words.
+#[tactic(auto, unfolding(crate::specs::Settings::arches_built))]
+pub fn arches_built(
+    alloc: Global,
+    platform: &PlatformDoc,
+    arches: &[u8],
+) -> Result<Rows<Arch>, Stop<Key>>
+    ensures { GivesIn (λ arches. arches) result (arches_built platform.now arches.now) }
+{
+    let texts = listed(alloc, arches)?;
+    let named = arches_in(alloc, texts.items())?;
+    Ok(built_arches(alloc, named.items(), platform.arches.items())?)
+}
+
 /// The modules of a build, by the words' architectures.
 #[tactic(auto, unfolding(crate::specs::Settings::built_modules))]
 pub fn built_modules(
@@ -295,9 +309,7 @@ pub fn built_modules(
 ) -> Result<Rows<Module>, Stop<Key>>
     ensures { GivesIn (λ modules. modules) result (built_modules platform.now arches.now) }
 {
-    let texts = listed(alloc, arches)?;
-    let named = arches_in(alloc, texts.items())?;
-    let built = built_arches(alloc, named.items(), platform.arches.items())?;
+    let built = arches_built(alloc, platform, arches)?;
     Ok(modules_of(alloc, built.items(), platform.components.items())?)
 }
 

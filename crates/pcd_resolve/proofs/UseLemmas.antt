@@ -1,4 +1,4 @@
--- Uses by modules that are held in tables.
+-- The names of uses by modules.
 use Rattle.std.proofs.Common.{◌≡◌, ◌∙◌, ◌+◌, ◌<◌, ◌++◌, map, List, ℕ, length, drop, get_or, sym, ap}
 use Rattle.std.specs.Prelude.{fold}
 use Rattle.std.specs.List.{flat_map}
@@ -9,15 +9,9 @@ use Rattle.std.specs.Cmp.Lexicographic.{slice_cmp}
 use Rattle.std.specs.Ordering.{nat_cmp}
 use Rattle.build_base.proofs.Steps.{head_drop}
 use Rattle.doc_types.specs.declared.parts.ModuleParts.{ModuleParts}
-use Rattle.std.proofs.lemmas.List.Folds.{flat_map-map}
-use Rattle.pcd_resolve.specs.declared.packages.ModuleTables.{ModuleTables}
-use Rattle.pcd_resolve.specs.Listing.{Use, uses_in, uses_of_module}
+use Rattle.pcd_resolve.specs.Listing.{Use, uses_of_module}
 use Rattle.pcd_resolve.specs.Names.{dotted}
 use Rattle.pcd_resolve.specs.Rows.{with_names}
-
-pub uses_mapped : (modules : List ModuleTables) → flat_map (λ t. uses_of_module t.parts.now) modules ≡ uses_in (map (λ t. t.parts.now) modules)
-unfolding uses_in
-uses_mapped modules = sym (flat_map-map uses_of_module (λ t. t.parts.now) modules)
 
 with_both : (names : List (List ℕ)) (us vs : List Use) → with_names names (us ++ vs) ≡ with_names (with_names names us) vs
 with_both names us vs =

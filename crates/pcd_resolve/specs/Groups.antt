@@ -1,11 +1,12 @@
 -- Tables of items by their names.
-use Rattle.std.specs.Prelude.{◌≡◌, ℕ, Bool, nat_eq, List, [], map, filter, Option, Some, None}
+use Rattle.std.specs.Prelude.{◌≡◌, ℕ, Bool, true, nat_eq, List, [], map, filter, Option, Some, None}
 use Rattle.std.specs.Cmp.Lexicographic.{pointwise, slice_cmp}
 use Rattle.std.specs.Ordering.{nat_cmp}
 use Rattle.std.specs.declared.cmp.Ordering.{Ordering}
 use Rattle.std.specs.Global.{Vec}
 use Rattle.std.specs.HashMap.{HashMap, get}
 use Rattle.std.specs.Str.{bytes_eq}
+use Rattle.pcd_resolve.specs.Marks.{is_kept}
 
 abbrev pub same_key : Vec ℕ → Vec ℕ → Bool
 same_key x y = pointwise nat_eq x.items y.items
@@ -25,3 +26,8 @@ group table key = items_of (get same_key table key)
 -- A table has at each name the items of the list that have the name, in their order.
 abbrev pub Grouped : {V X S : Type 0} → (V → X) → (X → List ℕ) → List X → HashMap (Vec ℕ) (Vec V) S → Type 0
 Grouped view name xs table = (key : Vec ℕ) → map view (group table key) ≡ filter (λ x. bytes_eq (name x) key.items) xs
+
+-- The same at each name that is kept.
+abbrev pub GroupedAt : {V X S : Type 0} → List Bool → (V → X) → (X → List ℕ) → List X → HashMap (Vec ℕ) (Vec V) S → Type 0
+GroupedAt marks view name xs table =
+    (key : Vec ℕ) → is_kept marks key.items ≡ true → map view (group table key) ≡ filter (λ x. bytes_eq (name x) key.items) xs

@@ -1,11 +1,13 @@
 -- The names of the lines of tables, and what the tables of a module hold.
-use Rattle.std.specs.Prelude.{◌≡◌, ℕ, List, Option, map}
+use Rattle.std.specs.Prelude.{◌≡◌, ℕ, Bool, true, List, Option, map}
+use Rattle.std.specs.List.{All}
 use Rattle.doc_types.specs.declared.pcd.PcdSet.{PcdSet}
 use Rattle.doc_types.specs.declared.platform.Component.{Component}
 use Rattle.doc_types.specs.declared.platform.PcdLine.{PcdLine}
 use Rattle.doc_types.specs.declared.values.PcdRow.{PcdRow}
 use Rattle.pcd_resolve.specs.declared.packages.ModuleTables.{ModuleTables}
-use Rattle.pcd_resolve.specs.Groups.{Grouped}
+use Rattle.pcd_resolve.specs.Groups.{GroupedAt}
+use Rattle.pcd_resolve.specs.Marks.{is_kept}
 use Rattle.pcd_resolve.specs.Names.{dotted}
 use Rattle.pcd_resolve.specs.Listing.{Declared, Use, Stated, arch_of, package_lines, packages_in}
 use Rattle.pcd_resolve.specs.Views.{declared_view}
@@ -28,7 +30,11 @@ declared_name d = dotted d.line.pcd
 abbrev pub at_home : Option Component → PcdLine → Stated
 at_home home line = record { home = home; line = line }
 
--- the tables of a module hold what its parts say
+-- the tables of a module hold what its parts say of marked names
 pub record IsTabled (tables : ModuleTables) : Type 0 where
   pub packages : map (λ p. p.now) tables.packages.items ≡ packages_in (arch_of tables.parts.now) tables.parts.now.infs
-  pub declared : Grouped declared_view declared_name (package_lines tables.parts.now.decs) tables.declared
+  pub declared : GroupedAt tables.marks.items declared_view declared_name (package_lines tables.parts.now.decs) tables.declared
+
+-- all names are marked
+abbrev pub AllKept : List Bool → List (List ℕ) → Type 0
+AllKept marks names = All (λ n. is_kept marks n ≡ true) names

@@ -337,8 +337,9 @@ fn kind_faults(
     Ok(())
 }
 
+/// Refuses a PCD by its first fault.
 #[tactic(auto, unfolding(crate::specs::Faults::pcd_fault))]
-fn pcd_faults(
+pub fn pcd_faults(
     alloc: Global,
     pcd: &[u8],
     uses: &[UseLine<'_>],

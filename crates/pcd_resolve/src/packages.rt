@@ -1,9 +1,9 @@
 //! The packages of a module, and the lines by which they declare a PCD.
-ghost use Rattle.std.specs.Prelude.{◌≡◌, ◌++◌, ◌∷◌, [], map, filter, fold, IfOk, OnOk};
+ghost use Rattle.std.specs.Prelude.{◌≡◌, ◌++◌, ◌∷◌, [], true, map, filter, fold, IfOk, OnOk};
 ghost use Rattle.std.specs.List.{flat_map, list_any};
 ghost use Rattle.std.specs.Str.{bytes_eq};
-ghost use Rattle.pcd_resolve.specs.Groups.{Grouped};
 ghost use Rattle.pcd_resolve.specs.Listing.{by_packages, declared_in, declared_for, is_from, of_package, package_lines, packages_in, packages_of, put_once};
+ghost use Rattle.pcd_resolve.specs.Marks.{is_kept};
 ghost use Rattle.pcd_resolve.specs.Names.{serves};
 ghost use Rattle.pcd_resolve.specs.Tables.{declared_name, IsTabled};
 ghost use Rattle.pcd_resolve.specs.Views.{declared_view};
@@ -21,11 +21,12 @@ use indexmap::IndexMap;
 use std::alloc::Global;
 
 /// A module, the packages that its INFs name for its architecture, each once, and the lines of its packages by the
-/// names of their PCDs.
+/// names of their PCDs, where these are marked.
 #[derive(Drop)]
 pub struct ModuleTables<'a> {
     pub parts: &'a ModuleParts,
     pub packages: Vec<&'a [u8]>,
+    pub marks: Vec<bool>,
     pub declared: IndexMap<Vec<u8>, Vec<DeclaredLine<'a>>>,
 }
 
@@ -189,19 +190,22 @@ fn by_packages<'a>(
     Ok(found)
 }
 
-/// The tables of a module.
+/// The tables of a module, with the lines of marked names.
 pub fn tables_of<'a>(
     alloc: Global,
     parts: &'a ModuleParts,
+    marks: Vec<bool>,
 ) -> Result<ModuleTables<'a>, WantOfMemory>
     ensures parts { IfOk result (λ t. t.parts.now ≡ parts.now) }
+    ensures marks { IfOk result (λ t. t.marks.items ≡ marks.items) }
     ensures tabled { IfOk result (λ t. IsTabled t) }
 {
     let packages = packages_in(alloc, parts.module.arch, parts.infs.items())?;
-    let declared = declared_by_name(alloc, parts.decs.items())?;
+    let declared = declared_by_name(alloc, marks.as_slice(), parts.decs.items())?;
     Ok(ModuleTables {
         parts,
         packages,
+        marks,
         declared,
     })
 }
@@ -213,7 +217,8 @@ pub fn declared_in<'a>(
     tables: &ModuleTables<'a>,
     pcd: &Vec<u8>,
 ) -> Result<Vec<&'a DecPcd>, WantOfMemory>
-    requires { IsTabled tables.now }
+    requires tabled { IsTabled tables.now }
+    requires kept { is_kept tables.now.marks.items pcd.now.items ≡ true }
     ensures { IfOk result (λ v. map (λ l. l.now) v.items ≡ declared_in tables.now.parts.now pcd.now.items) }
 {
     by_packages(
@@ -232,7 +237,8 @@ pub fn declared_for<'a>(
     inf: &InfDoc,
     pcd: &Vec<u8>,
 ) -> Result<Vec<&'a DecPcd>, WantOfMemory>
-    requires { IsTabled tables.now }
+    requires tabled { IsTabled tables.now }
+    requires kept { is_kept tables.now.marks.items pcd.now.items ≡ true }
     ensures { IfOk result (λ v. map (λ l. l.now) v.items ≡ declared_for tables.now.parts.now inf.now pcd.now.items) }
 {
     let own = packages_of(alloc, tables.parts.module.arch, inf)?;

@@ -1,14 +1,16 @@
 //! The values of a module.
-ghost use Rattle.std.specs.Prelude.{◌≡◌, ◌++◌, map, IfOk, OnOk};
+ghost use Rattle.std.specs.Prelude.{◌≡◌, ◌++◌, true, map, IfOk, OnOk};
 ghost use Rattle.build_base.specs.Answer.{Answers};
-ghost use Rattle.pcd_resolve.specs.Groups.{Grouped};
+ghost use Rattle.pcd_resolve.specs.Groups.{Grouped, GroupedAt};
 ghost use Rattle.pcd_resolve.specs.Listing.{stated_in, uses_of_module};
+ghost use Rattle.pcd_resolve.specs.Marks.{is_kept};
 ghost use Rattle.pcd_resolve.specs.Rows.{all_rows, module_values, names_of, rows_in, sets_in};
-ghost use Rattle.pcd_resolve.specs.Tables.{IsTabled, row_name, set_name, stated_name, use_name};
+ghost use Rattle.pcd_resolve.specs.Tables.{AllKept, IsTabled, row_name, set_name, stated_name, use_name};
 ghost use Rattle.pcd_resolve.specs.Views.{stated_view, use_view};
 
 use crate::groups::group;
 use crate::listing::{StatedLine, UseLine};
+use crate::marks::marks_of;
 use crate::packages::{ModuleTables, declared_in, tables_of};
 use crate::rows::rows_of;
 use crate::sorted::names_of_module;
@@ -35,9 +37,10 @@ fn rows_at<'a>(
     requires tabled { IsTabled tables.now }
     requires parts { tables.now.parts.now ≡ ask.now.parts }
     requires uses { Grouped use_view use_name (uses_of_module ask.now.parts) uses.now }
-    requires lines { Grouped stated_view stated_name (stated_in ask.now.platform) lines.now }
-    requires sets { Grouped (λ s. s.now) set_name (sets_in ask.now) sets.now }
-    requires dynamic { Grouped (λ r. r.now) row_name ask.now.dynamic.rows dynamic.now }
+    requires lines { GroupedAt tables.now.marks.items stated_view stated_name (stated_in ask.now.platform) lines.now }
+    requires sets { GroupedAt tables.now.marks.items (λ s. s.now) set_name (sets_in ask.now) sets.now }
+    requires dynamic { GroupedAt tables.now.marks.items (λ r. r.now) row_name ask.now.dynamic.rows dynamic.now }
+    requires kept { is_kept tables.now.marks.items pcd.now.items ≡ true }
     ensures { Answers result (rows_in ask.now (uses_of_module ask.now.parts) (stated_in ask.now.platform) pcd.now.items) }
 {
     let declared = declared_in(alloc, tables, pcd)?;
@@ -79,9 +82,10 @@ fn all_rows<'a>(
     requires tabled { IsTabled tables.now }
     requires parts { tables.now.parts.now ≡ ask.now.parts }
     requires uses { Grouped use_view use_name (uses_of_module ask.now.parts) uses.now }
-    requires lines { Grouped stated_view stated_name (stated_in ask.now.platform) lines.now }
-    requires sets { Grouped (λ s. s.now) set_name (sets_in ask.now) sets.now }
-    requires dynamic { Grouped (λ r. r.now) row_name ask.now.dynamic.rows dynamic.now }
+    requires lines { GroupedAt tables.now.marks.items stated_view stated_name (stated_in ask.now.platform) lines.now }
+    requires sets { GroupedAt tables.now.marks.items (λ s. s.now) set_name (sets_in ask.now) sets.now }
+    requires dynamic { GroupedAt tables.now.marks.items (λ r. r.now) row_name ask.now.dynamic.rows dynamic.now }
+    requires kept { AllKept tables.now.marks.items (map (λ n. n.items) names.now) }
     ensures { Answers result (all_rows (map (rows_in ask.now (uses_of_module ask.now.parts) (stated_in ask.now.platform)) (map (λ n. n.items) names.now))) }
 {
     let mut rows = Rows::new(alloc);
@@ -94,11 +98,17 @@ fn all_rows<'a>(
 
 fn sets_of_ask<'a>(
     alloc: Global,
+    marks: &[bool],
     ask: &'a ModuleAsk,
 ) -> Result<IndexMap<Vec<u8>, Vec<&'a PcdSet>>, WantOfMemory>
-    ensures { IfOk result (λ table. Grouped (λ s. s.now) set_name (sets_in ask.now) table) }
+    ensures { IfOk result (λ table. GroupedAt marks.now (λ s. s.now) set_name (sets_in ask.now) table) }
 {
-    sets_by_name(alloc, ask.commands.items(), ask.flash.value().sets.items())
+    sets_by_name(
+        alloc,
+        marks,
+        ask.commands.items(),
+        ask.flash.value().sets.items(),
+    )
 }
 
 fn rows_by_tables<'a>(
@@ -111,11 +121,13 @@ fn rows_by_tables<'a>(
     requires tabled { IsTabled tables.now }
     requires parts { tables.now.parts.now ≡ ask.now.parts }
     requires uses { Grouped use_view use_name (uses_of_module ask.now.parts) uses.now }
+    requires kept { AllKept tables.now.marks.items (map (λ n. n.items) names.now) }
     ensures { Answers result (all_rows (map (rows_in ask.now (uses_of_module ask.now.parts) (stated_in ask.now.platform)) (map (λ n. n.items) names.now))) }
 {
-    let lines = lines_by_name(alloc, ask.platform.value())?;
-    let sets = sets_of_ask(alloc, ask)?;
-    let dynamic = rows_by_name(alloc, ask.dynamic.value().rows.items())?;
+    let marks = tables.marks.as_slice();
+    let lines = lines_by_name(alloc, marks, ask.platform.value())?;
+    let sets = sets_of_ask(alloc, marks, ask)?;
+    let dynamic = rows_by_name(alloc, marks, ask.dynamic.value().rows.items())?;
     all_rows(alloc, ask, names, tables, uses, &lines, &sets, &dynamic)
 }
 
@@ -123,7 +135,8 @@ fn values_of(alloc: Global, ask: &ModuleAsk) -> Result<Rows<PcdRow>, Refusal>
     ensures { Answers result (all_rows (map (rows_in ask.now (uses_of_module ask.now.parts) (stated_in ask.now.platform)) (names_of (uses_of_module ask.now.parts)))) }
 {
     let names = names_of_module(alloc, &ask.parts)?;
-    let tables = tables_of(alloc, &ask.parts)?;
+    let marks = marks_of(alloc, &ask.parts, names.as_slice())?;
+    let tables = tables_of(alloc, &ask.parts, marks)?;
     let uses = uses_by_name(alloc, &tables)?;
     rows_by_tables(alloc, ask, names.as_slice(), &tables, &uses)
 }

@@ -1,17 +1,18 @@
-//! Tables of lines by the names of their PCDs.
+//! Tables of lines by the names of their PCDs, where these are marked.
 ghost use Rattle.std.specs.Prelude.{◌≡◌, ◌++◌, ◌∷◌, [], ℕ, List, Option, Some, None, map, filter, IfOk, OnOk};
 ghost use Rattle.std.specs.List.{flat_map};
 ghost use Rattle.std.specs.Option.{option_map};
 ghost use Rattle.doc_types.specs.declared.platform.Component.{Component as Home};
 ghost use Rattle.doc_types.specs.declared.pcd.PcdSet.{PcdSet as Set};
 ghost use Rattle.doc_types.specs.declared.values.PcdRow.{PcdRow as Row};
-ghost use Rattle.pcd_resolve.specs.Groups.{Grouped};
+ghost use Rattle.pcd_resolve.specs.Groups.{Grouped, GroupedAt};
 ghost use Rattle.pcd_resolve.specs.Listing.{Declared, Stated, line_from, package_lines, stated_in};
 ghost use Rattle.pcd_resolve.specs.Tables.{declared_name, stated_name, set_name, row_name, at_home};
 ghost use Rattle.pcd_resolve.specs.Views.{declared_view, stated_view};
 
 use crate::groups::add;
 use crate::listing::{DeclaredLine, StatedLine};
+use crate::marks::may_be_kept;
 use crate::names::dotted;
 use build_base::{Path, WantOfMemory};
 use doc_types::package::DecPcd;
@@ -24,12 +25,16 @@ use std::alloc::Global;
 
 fn add_line<'a>(
     alloc: Global,
+    marks: &[bool],
     table: &mut IndexMap<Vec<u8>, Vec<StatedLine<'a>>>,
     home: Option<&'a Component>,
     line: &'a PcdLine,
 ) -> Result<(), WantOfMemory>
-    ensures { (xs : List Stated) → Grouped stated_view stated_name xs table.old → OnOk result (Grouped stated_view stated_name (xs ++ at_home (option_map (λ h. h.now) home.entry) line.now ∷ []) table.new) }
+    ensures { (xs : List Stated) → GroupedAt marks.now stated_view stated_name xs table.old → OnOk result (GroupedAt marks.now stated_view stated_name (xs ++ at_home (option_map (λ h. h.now) home.entry) line.now ∷ []) table.new) }
 {
+    if !may_be_kept(marks, &line.pcd) {
+        return Ok(());
+    }
     let name = dotted(alloc, &line.pcd)?;
     add(alloc, table, name, StatedLine { home, line })?;
     Ok(())
@@ -37,49 +42,56 @@ fn add_line<'a>(
 
 fn add_lines<'a>(
     alloc: Global,
+    marks: &[bool],
     table: &mut IndexMap<Vec<u8>, Vec<StatedLine<'a>>>,
     home: Option<&'a Component>,
     lines: &'a [PcdLine],
 ) -> Result<(), WantOfMemory>
-    ensures { (xs : List Stated) → Grouped stated_view stated_name xs table.old → OnOk result (Grouped stated_view stated_name (xs ++ map (at_home (option_map (λ h. h.now) home.entry)) lines.now) table.new) }
+    ensures { (xs : List Stated) → GroupedAt marks.now stated_view stated_name xs table.old → OnOk result (GroupedAt marks.now stated_view stated_name (xs ++ map (at_home (option_map (λ h. h.now) home.entry)) lines.now) table.new) }
 {
     for line in lines {
-        add_line(alloc, table, home, line)?;
+        add_line(alloc, marks, table, home, line)?;
     }
     Ok(())
 }
 
 fn add_component<'a>(
     alloc: Global,
+    marks: &[bool],
     table: &mut IndexMap<Vec<u8>, Vec<StatedLine<'a>>>,
     one: &'a Component,
 ) -> Result<(), WantOfMemory>
-    ensures { (xs : List Stated) → Grouped stated_view stated_name xs table.old → OnOk result (Grouped stated_view stated_name (xs ++ map (at_home (Some one.now)) one.now.pcds) table.new) }
+    ensures { (xs : List Stated) → GroupedAt marks.now stated_view stated_name xs table.old → OnOk result (GroupedAt marks.now stated_view stated_name (xs ++ map (at_home (Some one.now)) one.now.pcds) table.new) }
 {
-    add_lines(alloc, table, Some(one), one.pcds.items())?;
+    add_lines(alloc, marks, table, Some(one), one.pcds.items())?;
     Ok(())
 }
 
 fn add_components<'a>(
     alloc: Global,
+    marks: &[bool],
     table: &mut IndexMap<Vec<u8>, Vec<StatedLine<'a>>>,
     homes: &'a [Component],
 ) -> Result<(), WantOfMemory>
-    ensures { (xs : List Stated) → Grouped stated_view stated_name xs table.old → OnOk result (Grouped stated_view stated_name (xs ++ flat_map (λ one. map (at_home (Some one)) one.pcds) homes.now) table.new) }
+    ensures { (xs : List Stated) → GroupedAt marks.now stated_view stated_name xs table.old → OnOk result (GroupedAt marks.now stated_view stated_name (xs ++ flat_map (λ one. map (at_home (Some one)) one.pcds) homes.now) table.new) }
 {
     for one in homes {
-        add_component(alloc, table, one)?;
+        add_component(alloc, marks, table, one)?;
     }
     Ok(())
 }
 
 fn add_set<'a>(
     alloc: Global,
+    marks: &[bool],
     table: &mut IndexMap<Vec<u8>, Vec<&'a PcdSet>>,
     set: &'a PcdSet,
 ) -> Result<(), WantOfMemory>
-    ensures { (xs : List Set) → Grouped (λ s. s.now) set_name xs table.old → OnOk result (Grouped (λ s. s.now) set_name (xs ++ set.now ∷ []) table.new) }
+    ensures { (xs : List Set) → GroupedAt marks.now (λ s. s.now) set_name xs table.old → OnOk result (GroupedAt marks.now (λ s. s.now) set_name (xs ++ set.now ∷ []) table.new) }
 {
+    if !may_be_kept(marks, &set.pcd) {
+        return Ok(());
+    }
     let name = dotted(alloc, &set.pcd)?;
     add(alloc, table, name, set)?;
     Ok(())
@@ -87,24 +99,29 @@ fn add_set<'a>(
 
 fn add_sets<'a>(
     alloc: Global,
+    marks: &[bool],
     table: &mut IndexMap<Vec<u8>, Vec<&'a PcdSet>>,
     sets: &'a [PcdSet],
 ) -> Result<(), WantOfMemory>
-    ensures { (xs : List Set) → Grouped (λ s. s.now) set_name xs table.old → OnOk result (Grouped (λ s. s.now) set_name (xs ++ map (λ s. s) sets.now) table.new) }
+    ensures { (xs : List Set) → GroupedAt marks.now (λ s. s.now) set_name xs table.old → OnOk result (GroupedAt marks.now (λ s. s.now) set_name (xs ++ map (λ s. s) sets.now) table.new) }
 {
     for set in sets {
-        add_set(alloc, table, set)?;
+        add_set(alloc, marks, table, set)?;
     }
     Ok(())
 }
 
 fn add_row<'a>(
     alloc: Global,
+    marks: &[bool],
     table: &mut IndexMap<Vec<u8>, Vec<&'a PcdRow>>,
     row: &'a PcdRow,
 ) -> Result<(), WantOfMemory>
-    ensures { (xs : List Row) → Grouped (λ r. r.now) row_name xs table.old → OnOk result (Grouped (λ r. r.now) row_name (xs ++ row.now ∷ []) table.new) }
+    ensures { (xs : List Row) → GroupedAt marks.now (λ r. r.now) row_name xs table.old → OnOk result (GroupedAt marks.now (λ r. r.now) row_name (xs ++ row.now ∷ []) table.new) }
 {
+    if !may_be_kept(marks, &row.pcd) {
+        return Ok(());
+    }
     let name = dotted(alloc, &row.pcd)?;
     add(alloc, table, name, row)?;
     Ok(())
@@ -112,25 +129,30 @@ fn add_row<'a>(
 
 fn add_rows<'a>(
     alloc: Global,
+    marks: &[bool],
     table: &mut IndexMap<Vec<u8>, Vec<&'a PcdRow>>,
     rows: &'a [PcdRow],
 ) -> Result<(), WantOfMemory>
-    ensures { (xs : List Row) → Grouped (λ r. r.now) row_name xs table.old → OnOk result (Grouped (λ r. r.now) row_name (xs ++ map (λ r. r) rows.now) table.new) }
+    ensures { (xs : List Row) → GroupedAt marks.now (λ r. r.now) row_name xs table.old → OnOk result (GroupedAt marks.now (λ r. r.now) row_name (xs ++ map (λ r. r) rows.now) table.new) }
 {
     for row in rows {
-        add_row(alloc, table, row)?;
+        add_row(alloc, marks, table, row)?;
     }
     Ok(())
 }
 
 fn add_declared<'a>(
     alloc: Global,
+    marks: &[bool],
     table: &mut IndexMap<Vec<u8>, Vec<DeclaredLine<'a>>>,
     from: &'a Path,
     line: &'a DecPcd,
 ) -> Result<(), WantOfMemory>
-    ensures { (xs : List Declared) → Grouped declared_view declared_name xs table.old → OnOk result (Grouped declared_view declared_name (xs ++ line_from from.now line.now ∷ []) table.new) }
+    ensures { (xs : List Declared) → GroupedAt marks.now declared_view declared_name xs table.old → OnOk result (GroupedAt marks.now declared_view declared_name (xs ++ line_from from.now line.now ∷ []) table.new) }
 {
+    if !may_be_kept(marks, &line.pcd) {
+        return Ok(());
+    }
     let name = dotted(alloc, &line.pcd)?;
     add(alloc, table, name, DeclaredLine { from, line })?;
     Ok(())
@@ -138,101 +160,141 @@ fn add_declared<'a>(
 
 fn add_declarations<'a>(
     alloc: Global,
+    marks: &[bool],
     table: &mut IndexMap<Vec<u8>, Vec<DeclaredLine<'a>>>,
     from: &'a Path,
     lines: &'a [DecPcd],
 ) -> Result<(), WantOfMemory>
-    ensures { (xs : List Declared) → Grouped declared_view declared_name xs table.old → OnOk result (Grouped declared_view declared_name (xs ++ map (line_from from.now) lines.now) table.new) }
+    ensures { (xs : List Declared) → GroupedAt marks.now declared_view declared_name xs table.old → OnOk result (GroupedAt marks.now declared_view declared_name (xs ++ map (line_from from.now) lines.now) table.new) }
 {
     for line in lines {
-        add_declared(alloc, table, from, line)?;
+        add_declared(alloc, marks, table, from, line)?;
     }
     Ok(())
 }
 
 fn add_package<'a>(
     alloc: Global,
+    marks: &[bool],
     table: &mut IndexMap<Vec<u8>, Vec<DeclaredLine<'a>>>,
     held: &'a Package,
 ) -> Result<(), WantOfMemory>
-    ensures { (xs : List Declared) → Grouped declared_view declared_name xs table.old → OnOk result (Grouped declared_view declared_name (xs ++ map (line_from held.now.path) held.now.doc.pcds) table.new) }
+    ensures { (xs : List Declared) → GroupedAt marks.now declared_view declared_name xs table.old → OnOk result (GroupedAt marks.now declared_view declared_name (xs ++ map (line_from held.now.path) held.now.doc.pcds) table.new) }
 {
-    add_declarations(alloc, table, &held.path, held.doc.value().pcds.items())?;
+    add_declarations(
+        alloc,
+        marks,
+        table,
+        &held.path,
+        held.doc.value().pcds.items(),
+    )?;
     Ok(())
 }
 
 fn add_packages<'a>(
     alloc: Global,
+    marks: &[bool],
     table: &mut IndexMap<Vec<u8>, Vec<DeclaredLine<'a>>>,
     decs: &'a [Package],
 ) -> Result<(), WantOfMemory>
-    ensures { (xs : List Declared) → Grouped declared_view declared_name xs table.old → OnOk result (Grouped declared_view declared_name (xs ++ flat_map (λ held. map (line_from held.path) held.doc.pcds) decs.now) table.new) }
+    ensures { (xs : List Declared) → GroupedAt marks.now declared_view declared_name xs table.old → OnOk result (GroupedAt marks.now declared_view declared_name (xs ++ flat_map (λ held. map (line_from held.path) held.doc.pcds) decs.now) table.new) }
 {
     for held in decs {
-        add_package(alloc, table, held)?;
+        add_package(alloc, marks, table, held)?;
     }
     Ok(())
 }
 
-/// The lines of packages by the names of their PCDs.
+/// The lines of packages by the names of their PCDs, where these are marked.
 #[tactic(auto, unfolding(crate::specs::Listing::package_lines))]
 pub fn declared_by_name<'a>(
     alloc: Global,
+    marks: &[bool],
     decs: &'a [Package],
 ) -> Result<IndexMap<Vec<u8>, Vec<DeclaredLine<'a>>>, WantOfMemory>
-    ensures { IfOk result (λ table. Grouped declared_view declared_name (package_lines decs.now) table) }
+    ensures { IfOk result (λ table. GroupedAt marks.now declared_view declared_name (package_lines decs.now) table) }
 {
     let mut table = IndexMap::new(alloc);
-    add_packages(alloc, &mut table, decs)?;
+    add_packages(alloc, marks, &mut table, decs)?;
     Ok(table)
 }
 
 fn lines_of<'a>(
     alloc: Global,
+    marks: &[bool],
     lines: &'a [PcdLine],
     homes: &'a [Component],
 ) -> Result<IndexMap<Vec<u8>, Vec<StatedLine<'a>>>, WantOfMemory>
-    ensures { IfOk result (λ table. Grouped stated_view stated_name (map (at_home None) lines.now ++ flat_map (λ one. map (at_home (Some one)) one.pcds) homes.now) table) }
+    ensures { IfOk result (λ table. GroupedAt marks.now stated_view stated_name (map (at_home None) lines.now ++ flat_map (λ one. map (at_home (Some one)) one.pcds) homes.now) table) }
 {
     let mut table = IndexMap::new(alloc);
-    add_lines(alloc, &mut table, None, lines)?;
-    add_components(alloc, &mut table, homes)?;
+    add_lines(alloc, marks, &mut table, None, lines)?;
+    add_components(alloc, marks, &mut table, homes)?;
     Ok(table)
 }
 
-/// The platform's lines by their names.
+/// The platform's lines by their names, where these are marked.
 #[tactic(auto, unfolding(crate::specs::Listing::stated_in))]
 pub fn lines_by_name<'a>(
+    alloc: Global,
+    marks: &[bool],
+    platform: &'a PlatformDoc,
+) -> Result<IndexMap<Vec<u8>, Vec<StatedLine<'a>>>, WantOfMemory>
+    ensures { IfOk result (λ table. GroupedAt marks.now stated_view stated_name (stated_in platform.now) table) }
+{
+    lines_of(
+        alloc,
+        marks,
+        platform.pcds.items(),
+        platform.components.items(),
+    )
+}
+
+/// All of the platform's lines by their names.
+pub fn all_lines<'a>(
     alloc: Global,
     platform: &'a PlatformDoc,
 ) -> Result<IndexMap<Vec<u8>, Vec<StatedLine<'a>>>, WantOfMemory>
     ensures { IfOk result (λ table. Grouped stated_view stated_name (stated_in platform.now) table) }
 {
-    lines_of(alloc, platform.pcds.items(), platform.components.items())
+    lines_by_name(alloc, &[], platform)
 }
 
-/// The sets of two lists by their names.
+/// The sets of two lists by their names, where these are marked.
 pub fn sets_by_name<'a>(
+    alloc: Global,
+    marks: &[bool],
+    words: &'a [PcdSet],
+    sets: &'a [PcdSet],
+) -> Result<IndexMap<Vec<u8>, Vec<&'a PcdSet>>, WantOfMemory>
+    ensures { IfOk result (λ table. GroupedAt marks.now (λ s. s.now) set_name (words.now ++ sets.now) table) }
+{
+    let mut table = IndexMap::new(alloc);
+    add_sets(alloc, marks, &mut table, words)?;
+    add_sets(alloc, marks, &mut table, sets)?;
+    Ok(table)
+}
+
+/// All of the sets of two lists by their names.
+pub fn all_sets<'a>(
     alloc: Global,
     words: &'a [PcdSet],
     sets: &'a [PcdSet],
 ) -> Result<IndexMap<Vec<u8>, Vec<&'a PcdSet>>, WantOfMemory>
     ensures { IfOk result (λ table. Grouped (λ s. s.now) set_name (words.now ++ sets.now) table) }
 {
-    let mut table = IndexMap::new(alloc);
-    add_sets(alloc, &mut table, words)?;
-    add_sets(alloc, &mut table, sets)?;
-    Ok(table)
+    sets_by_name(alloc, &[], words, sets)
 }
 
-/// Rows by their names.
+/// Rows by their names, where these are marked.
 pub fn rows_by_name<'a>(
     alloc: Global,
+    marks: &[bool],
     rows: &'a [PcdRow],
 ) -> Result<IndexMap<Vec<u8>, Vec<&'a PcdRow>>, WantOfMemory>
-    ensures { IfOk result (λ table. Grouped (λ r. r.now) row_name rows.now table) }
+    ensures { IfOk result (λ table. GroupedAt marks.now (λ r. r.now) row_name rows.now table) }
 {
     let mut table = IndexMap::new(alloc);
-    add_rows(alloc, &mut table, rows)?;
+    add_rows(alloc, marks, &mut table, rows)?;
     Ok(table)
 }

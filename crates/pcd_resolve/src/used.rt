@@ -1,17 +1,20 @@
 //! Uses by the names of their PCDs, with the lines that declare these.
-ghost use Rattle.std.specs.Prelude.{◌≡◌, ◌++◌, ◌∷◌, [], List, map, IfOk, OnOk};
-ghost use Rattle.std.specs.List.{All, flat_map};
+ghost use Rattle.std.specs.Prelude.{◌≡◌, ◌++◌, ◌∷◌, [], true, List, map, IfOk, OnOk};
+ghost use Rattle.std.specs.List.{flat_map};
 ghost use Rattle.pcd_resolve.specs.Groups.{Grouped};
 ghost use Rattle.pcd_resolve.specs.Listing.{Use, uses_in, uses_of_module};
-ghost use Rattle.pcd_resolve.specs.Tables.{IsTabled, use_name};
+ghost use Rattle.pcd_resolve.specs.Marks.{is_kept};
+ghost use Rattle.pcd_resolve.specs.Tables.{AllKept, IsTabled, use_name};
 ghost use Rattle.pcd_resolve.specs.Views.{at_view, use_view};
 
 use crate::groups::add;
 use crate::listing::{UseAt, UseLine};
+use crate::marks::marks_of;
 use crate::names::dotted;
-use crate::packages::{ModuleTables, declared_for, declared_in};
+use crate::packages::{ModuleTables, declared_for, declared_in, tables_of};
 use crate::uses::uses_of_module;
 use build_base::WantOfMemory;
+use doc_types::parts::ModuleParts;
 use indexmap::IndexMap;
 use std::alloc::Global;
 
@@ -24,6 +27,7 @@ fn use_of<'a>(
 ) -> Result<UseLine<'a>, WantOfMemory>
     requires tabled { IsTabled tables.now }
     requires name { name.now.items ≡ use_name (at_view tables.now.parts.now at.now) }
+    requires kept { is_kept tables.now.marks.items name.now.items ≡ true }
     ensures { IfOk result (λ used. use_view used ≡ at_view tables.now.parts.now at.now) }
 {
     let own = declared_for(alloc, tables, at.inf, name)?;
@@ -53,7 +57,8 @@ fn add_use<'a>(
     tables: &ModuleTables<'a>,
     at: &UseAt<'a>,
 ) -> Result<(), WantOfMemory>
-    requires { IsTabled tables.now }
+    requires tabled { IsTabled tables.now }
+    requires kept { is_kept tables.now.marks.items (use_name (at_view tables.now.parts.now at.now)) ≡ true }
     ensures { (xs : List Use) → Grouped use_view use_name xs table.old → OnOk result (Grouped use_view use_name (xs ++ at_view tables.now.parts.now at.now ∷ []) table.new) }
 {
     let name = name_of(alloc, tables, at)?;
@@ -68,7 +73,8 @@ fn add_uses<'a>(
     tables: &ModuleTables<'a>,
     uses: &[UseAt<'a>],
 ) -> Result<(), WantOfMemory>
-    requires { IsTabled tables.now }
+    requires tabled { IsTabled tables.now }
+    requires kept { AllKept tables.now.marks.items (map use_name (map (at_view tables.now.parts.now) uses.now)) }
     ensures { (xs : List Use) → Grouped use_view use_name xs table.old → OnOk result (Grouped use_view use_name (xs ++ map (at_view tables.now.parts.now) uses.now) table.new) }
 {
     for at in uses {
@@ -82,7 +88,8 @@ fn add_module<'a>(
     table: &mut IndexMap<Vec<u8>, Vec<UseLine<'a>>>,
     tables: &ModuleTables<'a>,
 ) -> Result<(), WantOfMemory>
-    requires { IsTabled tables.now }
+    requires tabled { IsTabled tables.now }
+    requires kept { AllKept tables.now.marks.items (map use_name (uses_of_module tables.now.parts.now)) }
     ensures { (xs : List Use) → Grouped use_view use_name xs table.old → OnOk result (Grouped use_view use_name (xs ++ uses_of_module tables.now.parts.now) table.new) }
 {
     let uses = uses_of_module(alloc, tables.parts)?;
@@ -90,16 +97,29 @@ fn add_module<'a>(
     Ok(())
 }
 
+// The uses by one module more, by tables that hold what it uses.
+fn add_parts<'a>(
+    alloc: Global,
+    table: &mut IndexMap<Vec<u8>, Vec<UseLine<'a>>>,
+    parts: &'a ModuleParts,
+) -> Result<(), WantOfMemory>
+    ensures { (xs : List Use) → Grouped use_view use_name xs table.old → OnOk result (Grouped use_view use_name (xs ++ uses_of_module parts.now) table.new) }
+{
+    let marks = marks_of(alloc, parts, &[])?;
+    let tables = tables_of(alloc, parts, marks)?;
+    add_module(alloc, table, &tables)?;
+    Ok(())
+}
+
 fn add_modules<'a>(
     alloc: Global,
     table: &mut IndexMap<Vec<u8>, Vec<UseLine<'a>>>,
-    modules: &[ModuleTables<'a>],
+    modules: &'a [ModuleParts],
 ) -> Result<(), WantOfMemory>
-    requires { All IsTabled modules.now }
-    ensures { (xs : List Use) → Grouped use_view use_name xs table.old → OnOk result (Grouped use_view use_name (xs ++ flat_map (λ t. uses_of_module t.parts.now) modules.now) table.new) }
+    ensures { (xs : List Use) → Grouped use_view use_name xs table.old → OnOk result (Grouped use_view use_name (xs ++ flat_map uses_of_module modules.now) table.new) }
 {
-    for tables in modules {
-        add_module(alloc, table, tables)?;
+    for parts in modules {
+        add_parts(alloc, table, parts)?;
     }
     Ok(())
 }
@@ -109,7 +129,8 @@ pub fn uses_by_name<'a>(
     alloc: Global,
     tables: &ModuleTables<'a>,
 ) -> Result<IndexMap<Vec<u8>, Vec<UseLine<'a>>>, WantOfMemory>
-    requires { IsTabled tables.now }
+    requires tabled { IsTabled tables.now }
+    requires kept { AllKept tables.now.marks.items (map use_name (uses_of_module tables.now.parts.now)) }
     ensures { IfOk result (λ table. Grouped use_view use_name (uses_of_module tables.now.parts.now) table) }
 {
     let mut table = IndexMap::new(alloc);
@@ -117,13 +138,12 @@ pub fn uses_by_name<'a>(
     Ok(table)
 }
 
-/// The uses by modules by their names.
+/// The uses by modules by their names. The tables of a module are let go before those of the next one are made.
 pub fn all_uses_by_name<'a>(
     alloc: Global,
-    modules: &[ModuleTables<'a>],
+    modules: &'a [ModuleParts],
 ) -> Result<IndexMap<Vec<u8>, Vec<UseLine<'a>>>, WantOfMemory>
-    requires { All IsTabled modules.now }
-    ensures { IfOk result (λ table. Grouped use_view use_name (uses_in (map (λ t. t.parts.now) modules.now)) table) }
+    ensures { IfOk result (λ table. Grouped use_view use_name (uses_in modules.now) table) }
 {
     let mut table = IndexMap::new(alloc);
     add_modules(alloc, &mut table, modules)?;

@@ -89,8 +89,8 @@ impl<K: StepKey, O: Drop> Cache<K, O> {
         Cache { store, agrees }
     }
 
-    // Whether all answers to one part are known to be the same.
-    pub(crate) fn agrees(&self) -> bool
+    /// Whether all answers to one part are known to be the same.
+    pub fn agrees(&self) -> bool
         ensures { result ≡ true → Agree self.now }
     {
         self.agrees

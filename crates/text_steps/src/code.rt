@@ -35,9 +35,9 @@ fn component_of<'a>(module: &Module, components: &'a [Component]) -> Option<&'a 
     None
 }
 
-// The GUID that the module's component states.
+/// The GUID that the module's component states.
 #[tactic(auto, unfolding(crate::specs::Code::stated_guid))]
-fn stated_guid(platform: &PlatformDoc, module: &Module) -> Option<Guid>
+pub fn stated_guid(platform: &PlatformDoc, module: &Module) -> Option<Guid>
     ensures { result ≡ stated_guid platform.now «module».now }
 {
     match component_of(module, platform.components.items()) {

@@ -8,7 +8,7 @@ pub mod report;
 pub mod stems;
 
 pub use asks::{push_module_asks, report_asks};
-pub use code::code_given;
+pub use code::{code_given, stated_guid};
 pub use depex::depex_given;
 pub use report::{Heading, heading_of, report_given, report_modules};
 pub use stems::stem_of;

@@ -1,8 +1,8 @@
 use Rattle.std.proofs.Common.{map}
 use Rattle.build_texts.specs.Named.{declared_name, line_from}
 use Rattle.build_texts.specs.Views.{declared_view}
-use Rattle.pcd_resolve.proofs.GroupLemmas.{grown_by_some}
+use Rattle.pcd_resolve.proofs.GroupLemmas.{kept_by_some}
 use Rattle.build_texts.proofs.packages.add_packages.Goals as goal
 
 pub loop-held-preserved : goal.loop-held-preserved
-loop-held-preserved c = λ xs h. grown_by_some declared_view declared_name (λ held. map (line_from held.path) held.doc.guids) xs c.args.decs.now c.loop-held.held-index _ c.add_package.new.table c.loop-held-test.true c.held-item.is (c.in_ok-add_package.ensures _ (c.loop-held.invariant xs h))
+loop-held-preserved c = λ xs h. kept_by_some c.args.marks.now declared_view declared_name (λ held. map (line_from held.path) held.doc.guids) xs c.args.decs.now c.loop-held.held-index _ c.add_package.new.table c.loop-held-test.true c.held-item.is (c.in_ok-add_package.ensures _ (c.loop-held.invariant xs h))

@@ -1,11 +1,11 @@
 use Rattle.std.proofs.Common.{◌++◌, List, map, take}
 use Rattle.std.specs.List.{flat_map}
-use Rattle.pcd_resolve.specs.Groups.{Grouped}
+use Rattle.pcd_resolve.specs.Groups.{GroupedAt}
 use Rattle.build_texts.specs.Named.{Declared, declared_name, line_from}
 use Rattle.build_texts.specs.Views.{declared_view}
 use Rattle.build_texts.proofs.packages.add_packages.Given as goal
 
 abbrev pub invariant-loop-held : goal.invariant-loop-held
 invariant-loop-held l =
-    (xs : List Declared) → Grouped declared_view declared_name xs l.fn.table
-    → Grouped declared_view declared_name (xs ++ flat_map (λ held. map (line_from held.path) held.doc.guids) (take l.held-index l.decs)) l.table
+    (xs : List Declared) → GroupedAt l.marks declared_view declared_name xs l.fn.table
+    → GroupedAt l.marks declared_view declared_name (xs ++ flat_map (λ held. map (line_from held.path) held.doc.guids) (take l.held-index l.decs)) l.table

@@ -1,9 +1,9 @@
 use Rattle.std.proofs.Common.{[]}
 use Rattle.build_texts.specs.Named.{declared_name, package_lines}
 use Rattle.build_texts.specs.Views.{declared_view}
-use Rattle.pcd_resolve.proofs.GroupLemmas.{grouped_none}
+use Rattle.pcd_resolve.proofs.GroupLemmas.{kept_none}
 use Rattle.build_texts.proofs.packages.lines_by_name.Goals as goal
 
 pub returns : goal.returns
 unfolding package_lines
-returns c = c.in_ok-add_packages.ensures [] (grouped_none declared_view declared_name c.new-table.result c.new-table.ensures.empty)
+returns c = c.in_ok-add_packages.ensures [] (kept_none c.args.marks.now declared_view declared_name c.new-table.result c.new-table.ensures.empty)

@@ -5,7 +5,7 @@ use Rattle.pcd_resolve.specs.Platform.{rows_at}
 use Rattle.pcd_resolve.specs.Rows.{all_rows}
 use Rattle.pcd_resolve.proofs.platform.all_rows.Given as goal
 
-abbrev pub invariant-loop-pcd : goal.invariant-loop-pcd
-invariant-loop-pcd l =
-    with_front l.rows (all_rows (map (rows_at l.ask (uses_in l.ask.modules) (stated_in l.ask.platform)) (map (λ n. n.items) (drop l.pcd-index l.names))))
-    ≡ all_rows (map (rows_at l.ask (uses_in l.ask.modules) (stated_in l.ask.platform)) (map (λ n. n.items) l.names))
+abbrev pub invariant-loop-sought : goal.invariant-loop-sought
+invariant-loop-sought l =
+    with_front l.rows (all_rows (map (rows_at l.ask (uses_in l.ask.modules) (stated_in l.ask.platform)) (map (λ s. s.name.now.items) (drop l.sought-index l.all))))
+    ≡ all_rows (map (rows_at l.ask (uses_in l.ask.modules) (stated_in l.ask.platform)) (map (λ s. s.name.now.items) l.all))

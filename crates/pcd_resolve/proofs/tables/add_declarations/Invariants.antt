@@ -1,5 +1,5 @@
 use Rattle.std.proofs.Common.{◌++◌, List, map, take}
-use Rattle.pcd_resolve.specs.Groups.{Grouped}
+use Rattle.pcd_resolve.specs.Groups.{GroupedAt}
 use Rattle.pcd_resolve.specs.Listing.{Declared, line_from}
 use Rattle.pcd_resolve.specs.Tables.{declared_name}
 use Rattle.pcd_resolve.specs.Views.{declared_view}
@@ -7,5 +7,5 @@ use Rattle.pcd_resolve.proofs.tables.add_declarations.Given as goal
 
 abbrev pub invariant-loop-line : goal.invariant-loop-line
 invariant-loop-line l =
-    (xs : List Declared) → Grouped declared_view declared_name xs l.fn.table
-    → Grouped declared_view declared_name (xs ++ map (line_from l.from) (take l.line-index l.lines)) l.table
+    (xs : List Declared) → GroupedAt l.marks declared_view declared_name xs l.fn.table
+    → GroupedAt l.marks declared_view declared_name (xs ++ map (line_from l.from) (take l.line-index l.lines)) l.table

@@ -4,5 +4,5 @@ use Rattle.pcd_resolve.specs.Views.{use_view}
 use Rattle.pcd_resolve.proofs.GroupLemmas.{grown_by_some}
 use Rattle.pcd_resolve.proofs.used.add_modules.Goals as goal
 
-pub loop-tables-preserved : goal.loop-tables-preserved
-loop-tables-preserved c = λ xs h. grown_by_some use_view use_name (λ t. uses_of_module t.parts.now) xs c.args.modules.now c.loop-tables.tables-index _ c.add_module.new.table c.loop-tables-test.true c.tables-item.is (c.in_ok-add_module.ensures _ (c.loop-tables.invariant xs h))
+pub loop-parts-preserved : goal.loop-parts-preserved
+loop-parts-preserved c = λ xs h. grown_by_some use_view use_name uses_of_module xs c.args.modules.now c.loop-parts.parts-index _ c.add_parts.new.table c.loop-parts-test.true c.parts-item.is (c.in_ok-add_parts.ensures _ (c.loop-parts.invariant xs h))

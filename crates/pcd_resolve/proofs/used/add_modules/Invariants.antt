@@ -6,7 +6,7 @@ use Rattle.pcd_resolve.specs.Tables.{use_name}
 use Rattle.pcd_resolve.specs.Views.{use_view}
 use Rattle.pcd_resolve.proofs.used.add_modules.Given as goal
 
-abbrev pub invariant-loop-tables : goal.invariant-loop-tables
-invariant-loop-tables l =
+abbrev pub invariant-loop-parts : goal.invariant-loop-parts
+invariant-loop-parts l =
     (xs : List Use) → Grouped use_view use_name xs l.fn.table
-    → Grouped use_view use_name (xs ++ flat_map (λ t. uses_of_module t.parts.now) (take l.tables-index l.modules)) l.table
+    → Grouped use_view use_name (xs ++ flat_map uses_of_module (take l.parts-index l.modules)) l.table

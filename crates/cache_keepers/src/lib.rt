@@ -1,0 +1,11 @@
+//! Keepers of the text of a cache: in memory, with calls that fail, and on the disk.
+#![tactic(auto)]
+
+pub mod disk_keeper;
+pub mod memory_keeper;
+
+pub use disk_keeper::DiskKeeper;
+pub use memory_keeper::{KeeperFail, Left, MemoryKeeper};
+
+#[cfg(test)]
+mod tests;

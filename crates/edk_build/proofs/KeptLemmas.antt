@@ -1,0 +1,253 @@
+-- From what was brought, written and stored to what a build has done that keeps its cache.
+use Rattle.std.proofs.Common.{◌≡◌, ◌⊎◌, inl, inr, refl, sym, ap, ◌∙◌, ℕ, ◌-◌, List, [], ◌∷◌, ◌++◌, append-nil, arith, Option, None, Some, Result, Ok, Err, subst, true}
+use Rattle.std.specs.Prelude.{IfOk, IsOk, OnOk}
+use Rattle.std.specs.Option.{IfSome}
+use Rattle.build_base.proofs.OptionLemmas.{some_then}
+use Rattle.build_base.proofs.SpellingLemmas.{SpellsCut-append, SpellsCut-more}
+use Rattle.build_base.specs.Keeping.{Stores}
+use Rattle.build_base.specs.Outside.{Emission, Files}
+use Rattle.build_base.specs.Spelling.{Output, text, Spells, SpellsCut, Spelled, SpelledCut}
+use Rattle.build_base.specs.World.{World}
+use Rattle.build_base.specs.declared.fault.Fault.{Fault}
+use Rattle.build_base.specs.declared.outside.KeeperFailed.TheVariants.{Failed}
+use Rattle.build_base.specs.declared.outside.Target.TheVariants.{Out as ToOut}
+use Rattle.build_rules.specs.Rules.{is_job, value_in}
+use Rattle.build_words.specs.Fields.{job_fields}
+use Rattle.build_words.specs.declared.job.Job.{Job}
+use Rattle.step_cache.proofs.CacheLemmas.{same_cache}
+use Rattle.step_cache.proofs.TextLemmas.{cut_text}
+use Rattle.step_cache.specs.CacheText.{IsCacheText}
+use Rattle.step_engine.specs.Build.{setting, IsEntryOf, IsHere}
+use Rattle.step_engine.specs.Edits.{over}
+use Rattle.step_engine.specs.Entries.{AreSound}
+use Rattle.step_engine.specs.declared.edits.Edit.{Edit}
+use Rattle.step_engine.specs.declared.talk.Entry.{Entry}
+use Rattle.step_engine.specs.declared.talk.Outcome.{Outcome}
+use Rattle.step_engine.specs.declared.talk.Outcome.TheVariants.{Good, Bad}
+use Rattle.step_pack.specs.declared.key.Key.{Key}
+use Rattle.step_pack.specs.declared.key.Key.TheVariants as key
+use Rattle.step_pack.specs.declared.out.Out.{Out}
+use Rattle.edk_build.proofs.BuildLemmas.{built, cut_short}
+use Rattle.edk_build.proofs.RunLemmas.{told_over}
+use Rattle.edk_build.specs.Building.{means, IsBrought, IsBuilt, IsCutShort, Leaves, result_status}
+use Rattle.edk_build.specs.Emitting.{emitted, outputs_of, status_of, summary}
+use Rattle.edk_build.specs.FilePair.{FilePair}
+use Rattle.edk_build.specs.Kept.{IsSoundKept, OfKept, StandsFor, StaysSound}
+use Rattle.edk_build.specs.KeptBuild.{Told, told, AsMade, Makes, WroteAll, HasFailed, HasEnded, HasStopped, Comes}
+use Rattle.edk_build.specs.Outcome.{outcome, files_by}
+use Rattle.edk_build.specs.Run.{IsComplete, plain, world_of}
+use Rattle.edk_build.specs.Statuses.{OnEnd, OnReadFault, OnUnwritten, OnUsage, OnWriteFault}
+use Rattle.edk_build.specs.Stops.{IfWriteFault}
+use Rattle.edk_build.specs.declared.status.Status.{Status}
+use Rattle.edk_build.specs.declared.status.Status.TheVariants.{Done, FileFault, Usage, ReadFault, WriteFault, WantOfMemory}
+use Rattle.edk_build.specs.declared.stop.Stop.{Stop}
+use Rattle.edk_build.specs.declared.stop.Stop.TheVariants as stop
+
+same_status : (value : Key → Outcome Out) (given : Outcome Out) → status_of (files_by value given) ≡ result_status given
+same_status value (Good given) = refl
+same_status value (Bad fault) = refl
+
+-- what is made is what a build emits whose steps have these values
+all_emitted : (w : World) (cache left : List (Entry Key Out)) (given : Outcome Out) (steps reused : ℕ) (outputs : List Output) (line stored : List ℕ)
+    → Makes given left steps reused outputs line stored → IsBrought w cache given left steps reused
+    → outputs ++ text ToOut line ∷ [] ≡ emitted plain (files_by (value_in w) given) steps reused
+all_emitted w cache left given steps reused outputs line stored m b =
+    ap (λ z. z ++ text ToOut line ∷ []) (m.outputs_are (value_in w) b.agrees)
+    ∙ ap (λ z. outputs_of plain (files_by (value_in w) given) ++ text ToOut z ∷ []) (m.line_is ∙ ap (λ s. summary plain s steps reused) (sym (same_status (value_in w) given)))
+
+keeps_all : (old new : Option (Option (List ℕ))) (bytes : List ℕ) → Stores old new bytes (Ok tt) → IfSome new (λ kept. kept ≡ Some bytes)
+keeps_all old None bytes s = tt
+keeps_all old (Some new) bytes s = s
+
+ended : (held : Option Files) (job : Job) (cache left : List (Entry Key Out)) (given : Outcome Out) (steps reused : ℕ) (status : Status) (old new : Told)
+    → AsMade given left steps reused (λ outputs line stored. WroteAll outputs line stored old new) → status ≡ result_status given → IsEntryOf key.All given left
+    → (AreSound means cache → AreSound means left) → IfSome held (λ files. AreSound means cache → IsBrought (world_of files job) cache given left steps reused)
+    → HasEnded held job cache status old new
+ended held job cache left given steps reused status old new m e entry sound b = record {
+  left = left;
+  stored = m.2;
+  stored_is = m.3.stored_is;
+  kept = keeps_all old.kept new.kept m.2 m.4.kept;
+  own = (given, entry, e);
+  sound = sound;
+  built =
+      some_then held (λ files. AreSound means cache → IsBrought (world_of files job) cache given left steps reused)
+      (λ files. AreSound means cache → IsBuilt (world_of files job) cache plain status old.written new.written) b
+      (λ files f s.
+      let w : World = world_of files job in
+      built w cache given left steps reused plain status old.written new.written (f s) (e ∙ sym (same_status (value_in w) given))
+      (subst (λ z. Spelled old.written new.written z) (all_emitted w cache left given steps reused m.0 m.1 m.2 m.3 (f s)) m.4.written));
+  leaves =
+      some_then held (λ files. AreSound means cache → IsBrought (world_of files job) cache given left steps reused)
+      (λ files. AreSound means cache → Leaves (world_of files job) cache left) b (λ files f s. (f s).leaves);
+}
+
+pub ended_by : (r : Result Status Stop) (held : Option Files) (job : Job) (cache left : List (Entry Key Out)) (given : Outcome Out) (steps reused : ℕ) (old new : Told)
+    → OnOk r (AsMade given left steps reused (λ outputs line stored. WroteAll outputs line stored old new)) → IfOk r (λ s. s ≡ result_status given) → IsEntryOf key.All given left
+    → (AreSound means cache → AreSound means left) → IfSome held (λ files. AreSound means cache → IsBrought (world_of files job) cache given left steps reused)
+    → IfOk r (λ s. HasEnded held job cache s old new)
+ended_by (Ok s) held job cache left given steps reused old new m e entry sound b = ended held job cache left given steps reused s old new m e entry sound b
+ended_by (Err e) held job cache left given steps reused old new m f entry sound b = tt
+
+-- all of the first outputs are a cut of more
+spells_cut : (xs ys : List Output) (es : List Emission) → Spells xs es → SpellsCut (xs ++ ys) es
+spells_cut [] [] es s = s
+spells_cut [] (y ∷ ys) es s = inl s
+spells_cut (x ∷ xs) ys es s = inr (inr (s.0, s.1, s.2, s.3, spells_cut xs ys s.1 s.4))
+
+failed_cut : (outputs : List Output) (line stored : List ℕ) (old new : Told) → HasFailed outputs line stored old new
+    → SpelledCut old.written new.written (outputs ++ text ToOut line ∷ [])
+failed_cut outputs line stored old new (inl f) =
+    (f.written.0, SpellsCut-more outputs (text ToOut line ∷ []) f.written.0 f.written.1, f.written.2)
+failed_cut outputs line stored old new (inr (inl f)) =
+    (f.written.0, spells_cut outputs (text ToOut line ∷ []) f.written.0 f.written.1, f.written.2)
+failed_cut outputs line stored old new (inr (inr f)) =
+    let w = f.written in (
+      w.0 ++ (ToOut, w.1) ∷ [],
+      SpellsCut-append outputs (text ToOut line ∷ []) w.0 ((ToOut, w.1) ∷ []) w.3 (inr (inl (text ToOut w.1, (refl, (w.2, w.4)), refl))),
+      w.5,
+    )
+
+comes : (w : World) (cache left : List (Entry Key Out)) (given : Outcome Out) (steps reused : ℕ) (outputs : List Output) (line stored : List ℕ)
+    → Makes given left steps reused outputs line stored → IsBrought w cache given left steps reused → Comes w cache outputs line left
+comes w cache left given steps reused outputs line stored m b = record {
+  steps = steps;
+  needed = b.needed;
+  counted = b.counted;
+  outputs_are = m.outputs_are (value_in w) b.agrees ∙ ap (λ r. outputs_of plain (files_by (value_in w) r)) b.value;
+  line_is =
+      m.line_is ∙ ap (λ s. summary plain s steps reused) (sym (same_status (value_in w) given) ∙ ap (λ r. status_of (files_by (value_in w) r)) b.value)
+      ∙ ap (λ n. summary plain (status_of (outcome w)) steps n) b.reuses;
+  leaves = b.leaves;
+}
+
+stopped : (held : Option Files) (job : Job) (cache left : List (Entry Key Out)) (given : Outcome Out) (steps reused : ℕ) (old new : Told)
+    → AsMade given left steps reused (λ outputs line stored. HasFailed outputs line stored old new)
+    → (AreSound means cache → AreSound means left) → IfSome held (λ files. AreSound means cache → IsBrought (world_of files job) cache given left steps reused)
+    → HasStopped held job cache old new
+stopped held job cache left given steps reused old new m sound b = record {
+  outputs = m.0;
+  line = m.1;
+  left = left;
+  stored = m.2;
+  stored_is = m.3.stored_is;
+  failed = m.4;
+  sound = sound;
+  comes =
+      some_then held (λ files. AreSound means cache → IsBrought (world_of files job) cache given left steps reused)
+      (λ files. AreSound means cache → Comes (world_of files job) cache m.0 m.1 left) b
+      (λ files f s. comes (world_of files job) cache left given steps reused m.0 m.1 m.2 m.3 (f s));
+  cut =
+      some_then held (λ files. AreSound means cache → IsBrought (world_of files job) cache given left steps reused)
+      (λ files. AreSound means cache → IsCutShort (world_of files job) cache plain old.written new.written) b
+      (λ files f s.
+      let w : World = world_of files job in
+      cut_short w cache given left steps reused plain old.written new.written (f s)
+      (subst (λ z. SpelledCut old.written new.written z) (all_emitted w cache left given steps reused m.0 m.1 m.2 m.3 (f s)) (failed_cut m.0 m.1 m.2 old new m.4)));
+}
+
+pub stopped_by : (r : Result Status Stop) (held : Option Files) (job : Job) (cache left : List (Entry Key Out)) (given : Outcome Out) (steps reused : ℕ) (old new : Told)
+    → IfWriteFault r (AsMade given left steps reused (λ outputs line stored. HasFailed outputs line stored old new))
+    → (AreSound means cache → AreSound means left) → IfSome held (λ files. AreSound means cache → IsBrought (world_of files job) cache given left steps reused)
+    → IfWriteFault r (HasStopped held job cache old new)
+stopped_by (Ok s) held job cache left given steps reused old new m sound b = tt
+stopped_by (Err stop.ReadFault) held job cache left given steps reused old new m sound b = tt
+stopped_by (Err stop.WantOfMemory) held job cache left given steps reused old new m sound b = tt
+stopped_by (Err stop.WriteFault) held job cache left given steps reused old new m sound b = stopped held job cache left given steps reused old new m sound b
+
+-- where there are no edits, and the fields are those of the job
+pub told_brought : (held : Option Files) (es : List Edit) (job : Job) (f : List (List ℕ)) (cache left : List (Entry Key Out)) (given : Outcome Out) (steps reused : ℕ)
+    → is_job (job_fields job) ≡ true → es ≡ [] → f ≡ job_fields job
+    → ((w : World) → IsHere (setting means (over es held) f cache) w → IsBrought w cache given left steps reused)
+    → IfSome held (λ files. AreSound means cache → IsBrought (world_of files job) cache given left steps reused)
+told_brought None es job f cache left given steps reused j n e b = tt
+told_brought (Some files) es job f cache left given steps reused j n e b = λ s.
+    b (world_of files job) (record { told = told_over (Some files) es n; fields = sym e; world = j; sound = s })
+
+no_fault : (r : Result (List FilePair) Fault) → IsOk r → FileFault ≡ status_of r → ⊥
+no_fault (Ok files) o e = absurd cc
+no_fault (Err fault) o e = absurd cc
+
+-- a load changes neither what is kept nor the count
+pub loaded_ended : (held : Option Files) (job : Job) (cache : List (Entry Key Out)) (status : Status) (written : Option (List Emission)) (kept kept' : Option (Option (List ℕ))) (sink count count' : ℕ) (new : Told)
+    → kept' ≡ kept → count' ≡ count → HasEnded held job cache status (told written kept' sink count') new → HasEnded held job cache status (told written kept sink count) new
+loaded_ended held job cache status written kept kept' sink count count' new e f h =
+    subst (λ n. HasEnded held job cache status (told written kept sink n) new) f (subst (λ k. HasEnded held job cache status (told written k sink count') new) e h)
+
+pub on_ok : {A E : Type 0} (r : Result A E) (P : Type 0) → P → OnOk r P
+on_ok (Ok x) P p = p
+on_ok (Err x) P p = tt
+
+-- where no object failed, and what is kept is sound
+pub completes : (status : Status) (held : Option Files) (job : Job) (kept : Option (Option (List ℕ))) (old new : Told) (T K S : Type 0)
+    → OnEnd status (OfKept kept (λ cache. HasEnded held job cache status old new)) → OnReadFault status (T ⊎ K) → OnWriteFault status (S ⊎ K) → OnUsage status ⊥
+    → IfSome held (λ files. IfSome kept (λ there. IsSoundKept there → IsComplete (world_of files job) (T ⊎ K) S status))
+completes status None job kept old new T K S ends read write usage = tt
+completes status (Some files) job None old new T K S ends read write usage = tt
+completes Done (Some files) job (Some there) old new T K S ends read write usage = λ s o t f. inl refl
+completes FileFault (Some files) job (Some there) old new T K S ends read write usage = λ s o t f.
+    absurd (no_fault (outcome (world_of files job)) o ((ends.2.built (s ends.0 ends.1)).ends))
+completes Usage (Some files) job (Some there) old new T K S ends read write usage = absurd usage
+completes ReadFault (Some files) job (Some there) old new T K S ends read write usage = λ s o t f. absurd (t read)
+completes WriteFault (Some files) job (Some there) old new T K S ends read (inl failed) usage = λ s o t f. absurd (f failed)
+completes WriteFault (Some files) job (Some there) old new T K S ends read (inr failed) usage = λ s o t f. absurd (t (inr failed))
+completes WantOfMemory (Some files) job (Some there) old new T K S ends read write usage = λ s o t f. inr refl
+
+pub empty_sound : AreSound means []
+empty_sound k x h = absurd (omega arith)
+
+-- the text of a sound cache stands for no other
+sound_text : (left : List (Entry Key Out)) (stored : List ℕ) → IsCacheText left stored → AreSound means left → IsSoundKept (Some stored)
+sound_text left stored t s cache (inl h) = subst (AreSound means) (same_cache left cache stored t h) s
+sound_text left stored t s cache (inr h) = absurd (h.0 left t)
+
+-- a prefix of it is the whole or no text
+pub sound_prefix : (left : List (Entry Key Out)) (front rest : List ℕ) → IsCacheText left (front ++ rest) → AreSound means left → IsSoundKept (Some front)
+sound_prefix left front rest t s cache (inl h) =
+    let e : front ++ rest ≡ front = ap (λ z. front ++ z) (cut_text cache left front rest h t) ∙ append-nil front in
+    subst (AreSound means) (same_cache left cache front (subst (λ z. IsCacheText left z) e t) h) s
+sound_prefix left front rest t s cache (inr h) = subst (AreSound means) (sym h.1) empty_sound
+
+pub same_sound : (old new : Option (Option (List ℕ))) → new ≡ old → StaysSound old new
+same_sound None new e = tt
+same_sound (Some before) None e = tt
+same_sound (Some before) (Some now) e = λ s. let same : before ≡ now = cc in subst IsSoundKept same s
+
+stored_sound : (old new : Option (Option (List ℕ))) (cache left : List (Entry Key Out)) (stored : List ℕ) → IfSome old (λ kept. StandsFor kept cache) → IsCacheText left stored
+    → (AreSound means cache → AreSound means left) → IfSome new (λ kept. kept ≡ Some stored) → StaysSound old new
+stored_sound None new cache left stored stands t s e = tt
+stored_sound (Some before) None cache left stored stands t s e = tt
+stored_sound (Some before) (Some now) cache left stored stands t s e = λ b. subst IsSoundKept (sym e) (sound_text left stored t (s (b cache stands)))
+
+left_sound : (old new : Option (Option (List ℕ))) (cache left : List (Entry Key Out)) (stored : List ℕ) → IfSome old (λ kept. StandsFor kept cache) → IsCacheText left stored
+    → (AreSound means cache → AreSound means left) → Stores old new stored (Err Failed) → StaysSound old new
+left_sound None new cache left stored stands t s f = tt
+left_sound (Some before) None cache left stored stands t s f = tt
+left_sound (Some before) (Some now) cache left stored stands t s (was, is, inl e) = λ b.
+    let same : was ≡ before = cc in subst IsSoundKept (sym (e ∙ same)) b
+left_sound (Some before) (Some now) cache left stored stands t s (was, is, inr (inl e)) = λ b.
+    subst IsSoundKept (sym e) (λ c n. subst (AreSound means) (sym n) empty_sound)
+left_sound (Some before) (Some now) cache left stored stands t s (was, is, inr (inr p)) = λ b.
+    subst IsSoundKept (sym p.3) (sound_prefix left p.0 p.1 (subst (λ z. IsCacheText left z) p.2 t) (s (b cache stands)))
+
+failed_sound : (old new : Told) (cache left : List (Entry Key Out)) (outputs : List Output) (line stored : List ℕ) → IfSome old.kept (λ kept. StandsFor kept cache) → IsCacheText left stored
+    → (AreSound means cache → AreSound means left) → HasFailed outputs line stored old new → StaysSound old.kept new.kept
+failed_sound old new cache left outputs line stored stands t s (inl f) = same_sound old.kept new.kept f.kept
+failed_sound old new cache left outputs line stored stands t s (inr (inl f)) = left_sound old.kept new.kept cache left stored stands t s f.kept
+failed_sound old new cache left outputs line stored stands t s (inr (inr f)) =
+    stored_sound old.kept new.kept cache left stored stands t s (keeps_all old.kept new.kept stored f.kept)
+
+ended_sound : (held : Option Files) (job : Job) (status : Status) (old new : Told) → OfKept old.kept (λ cache. HasEnded held job cache status old new) → StaysSound old.kept new.kept
+ended_sound held job status old new e = stored_sound old.kept new.kept e.0 e.2.left e.2.stored e.1 e.2.stored_is e.2.sound e.2.kept
+
+-- soundness outlives each build, however it ends
+pub stays : (status : Status) (held : Option Files) (job : Job) (old new : Told) → OnEnd status (OfKept old.kept (λ cache. HasEnded held job cache status old new))
+    → OnWriteFault status (OfKept old.kept (λ cache. HasStopped held job cache old new)) → OnUnwritten status (new.kept ≡ old.kept) → OnUsage status ⊥
+    → StaysSound old.kept new.kept
+stays Done held job old new ends stops same usage = ended_sound held job Done old new ends
+stays FileFault held job old new ends stops same usage = ended_sound held job FileFault old new ends
+stays Usage held job old new ends stops same usage = absurd usage
+stays ReadFault held job old new ends stops same usage = same_sound old.kept new.kept same
+stays WantOfMemory held job old new ends stops same usage = same_sound old.kept new.kept same
+stays WriteFault held job old new ends stops same usage =
+    failed_sound old new stops.0 stops.2.left stops.2.outputs stops.2.line stops.2.stored stops.1 stops.2.stored_is stops.2.sound stops.2.failed

@@ -1,0 +1,273 @@
+//! One build from the cache that is kept, and what is kept after it.
+ghost use Rattle.std.specs.Prelude.{◌≡◌, ◌⊎◌, true, Some, IfOk, OnOk, IfSome};
+ghost use Rattle.build_base.specs.Outside.{Rose};
+ghost use Rattle.build_rules.specs.Rules.{is_job};
+ghost use Rattle.build_words.specs.Fields.{job_fields};
+ghost use Rattle.step_engine.specs.Build.{setting, Ran, RanAll, HasRead};
+ghost use Rattle.step_pack.specs.declared.key.Key.TheVariants.{All};
+ghost use Rattle.edk_build.specs.Building.{means, result_status};
+ghost use Rattle.edk_build.specs.Kept.{IsSoundKept, OfKept, StandsFor, StaysSound};
+ghost use Rattle.edk_build.specs.Run.{IsComplete, world_of};
+ghost use Rattle.edk_build.specs.KeptBuild.{AsMade, HasEnded, HasFailed, HasStopped, WroteAll, told};
+ghost use Rattle.edk_build.specs.Made.{made_outputs};
+ghost use Rattle.edk_build.specs.Statuses.{OnEnd, OnReadFault, OnUnwritten, OnUsage, OnWriteFault};
+ghost use Rattle.edk_build.specs.Stops.{IfReadFault, IfUnwritten, IfWriteFault};
+
+use crate::build::{Brought, bring_all};
+use crate::label::Label;
+use crate::made::{Ready, make_ready};
+use crate::status::Status;
+use crate::stop::Stop;
+use build_base::{Book, Gate, Keeper, KeeperFailed, Sink, Text, Tree, WantOfMemory};
+use build_words::{Job, job_fields};
+use std::alloc::Global;
+use std::thread::Threads;
+use step_cache::{pack, unpack};
+use step_engine::{Cache, Edits};
+use step_pack::{Key, Out};
+
+// The cache that bytes stand for.
+fn cache_in(alloc: Global, bytes: &[u8]) -> Result<Cache<Key, Out>, WantOfMemory>
+    ensures { IfOk result (λ cache. StandsFor (Some bytes.now) cache) }
+{
+    match unpack(alloc, bytes)? {
+        Some(cache) => Ok(cache),
+        None => Ok(Cache::new(alloc)),
+    }
+}
+
+// The cache that is kept.
+fn load_cache<K: Keeper>(alloc: Global, keeper: &mut K) -> Result<Cache<Key, Out>, Stop>
+    ensures stands { IfOk result (λ cache. IfSome (K.kept keeper.old) (λ kept. StandsFor kept cache)) }
+    ensures kept { K.kept keeper.new ≡ K.kept keeper.old }
+    ensures count { OnOk result (K.faults keeper.new ≡ K.faults keeper.old) }
+    ensures read_fault { IfReadFault result (Rose (K.faults keeper.old) (K.faults keeper.new)) }
+    ensures no_write { IfWriteFault result ⊥ }
+{
+    match keeper.load() {
+        Ok(None) => Ok(Cache::new(alloc)),
+        Ok(Some(text)) => match cache_in(alloc, text.bytes()) {
+            Ok(cache) => Ok(cache),
+            Err(_) => Err(Stop::WantOfMemory),
+        },
+        Err(KeeperFailed::Failed) => Err(Stop::ReadFault),
+        Err(KeeperFailed::WantOfMemory) => Err(Stop::WantOfMemory),
+    }
+}
+
+// Writes what stands ready, and stores the text before the summary, without taking memory.
+fn write_kept<S: Sink, K: Keeper>(
+    ready: &Ready<'_>,
+    text: &Text,
+    sink: &mut S,
+    keeper: &mut K,
+) -> Result<(), Stop>
+    ensures all { OnOk result (WroteAll (made_outputs ready.now.made) ready.now.summary text.now
+        (told (S.written sink.old) (K.kept keeper.old) (S.faults sink.old) (K.faults keeper.old))
+        (told (S.written sink.new) (K.kept keeper.new) (S.faults sink.new) (K.faults keeper.new))) }
+    ensures failed { IfWriteFault result (HasFailed (made_outputs ready.now.made) ready.now.summary text.now
+        (told (S.written sink.old) (K.kept keeper.old) (S.faults sink.old) (K.faults keeper.old))
+        (told (S.written sink.new) (K.kept keeper.new) (S.faults sink.new) (K.faults keeper.new))) }
+    ensures sink_count { OnOk result (S.faults sink.new ≡ S.faults sink.old) }
+    ensures keeper_count { OnOk result (K.faults keeper.new ≡ K.faults keeper.old) }
+    ensures write_fault { IfWriteFault result (Rose (S.faults sink.old) (S.faults sink.new) ⊎ Rose (K.faults keeper.old) (K.faults keeper.new)) }
+    ensures no_other { IfUnwritten result ⊥ }
+{
+    if ready.write_outputs(sink).is_err() {
+        return Err(Stop::WriteFault);
+    }
+    if keeper.store(text.bytes()).is_err() {
+        return Err(Stop::WriteFault);
+    }
+    if ready.write_summary(sink).is_err() {
+        return Err(Stop::WriteFault);
+    }
+    Ok(())
+}
+
+// Writes what a build made, and stores the text of the cache that it leaves. All memory is taken before
+// the first emission.
+fn emit_kept<S: Sink, K: Keeper>(
+    alloc: Global,
+    brought: &Brought,
+    sink: &mut S,
+    keeper: &mut K,
+) -> Result<Status, Stop>
+    ensures all { OnOk result (AsMade brought.now.given brought.now.cache brought.now.steps brought.now.reused (λ outputs line stored. WroteAll outputs line stored
+        (told (S.written sink.old) (K.kept keeper.old) (S.faults sink.old) (K.faults keeper.old))
+        (told (S.written sink.new) (K.kept keeper.new) (S.faults sink.new) (K.faults keeper.new)))) }
+    ensures failed { IfWriteFault result (AsMade brought.now.given brought.now.cache brought.now.steps brought.now.reused (λ outputs line stored. HasFailed outputs line stored
+        (told (S.written sink.old) (K.kept keeper.old) (S.faults sink.old) (K.faults keeper.old))
+        (told (S.written sink.new) (K.kept keeper.new) (S.faults sink.new) (K.faults keeper.new)))) }
+    ensures status { IfOk result (λ s. s ≡ result_status brought.now.given) }
+    ensures sink_count { OnOk result (S.faults sink.new ≡ S.faults sink.old) }
+    ensures keeper_count { OnOk result (K.faults keeper.new ≡ K.faults keeper.old) }
+    ensures write_fault { IfWriteFault result (Rose (S.faults sink.old) (S.faults sink.new) ⊎ Rose (K.faults keeper.old) (K.faults keeper.new)) }
+    ensures no_read { IfReadFault result ⊥ }
+    ensures unwritten { IfUnwritten result (S.written sink.new ≡ S.written sink.old) }
+    ensures kept { IfUnwritten result (K.kept keeper.new ≡ K.kept keeper.old) }
+{
+    let label = Label {
+        folder: None,
+        tells_status: false,
+    };
+    let Ok(text) = pack(alloc, &brought.cache) else {
+        return Err(Stop::WantOfMemory);
+    };
+    let Ok(ready) = make_ready(
+        alloc,
+        &label,
+        &brought.given,
+        &brought.cache,
+        brought.steps,
+        brought.reused,
+    ) else {
+        return Err(Stop::WantOfMemory);
+    };
+    match write_kept(&ready, &text, sink, keeper) {
+        Ok(()) => Ok(ready.status()),
+        Err(stop) => Err(stop),
+    }
+}
+
+// Builds what a job asks for from a cache, and keeps the one that it leaves.
+fn build_from<H: Threads + Sync, T: Tree, S: Sink, K: Keeper, G: Gate>(
+    rt: &H,
+    alloc: Global,
+    job: &Job,
+    cache: Cache<Key, Out>,
+    tree: &mut T,
+    sink: &mut S,
+    keeper: &mut K,
+    gate: &G,
+    book: &mut Book<Key>,
+) -> Result<Status, Stop>
+    requires job { is_job (job_fields job.now) ≡ true }
+    ensures ended { IfOk result (λ s. HasEnded (T.held tree.old) job.now cache s
+        (told (S.written sink.old) (K.kept keeper.old) (S.faults sink.old) (K.faults keeper.old))
+        (told (S.written sink.new) (K.kept keeper.new) (S.faults sink.new) (K.faults keeper.new))) }
+    ensures stopped { IfWriteFault result (HasStopped (T.held tree.old) job.now cache
+        (told (S.written sink.old) (K.kept keeper.old) (S.faults sink.old) (K.faults keeper.old))
+        (told (S.written sink.new) (K.kept keeper.new) (S.faults sink.new) (K.faults keeper.new))) }
+    ensures kept { IfUnwritten result (K.kept keeper.new ≡ K.kept keeper.old) }
+    ensures unwritten { IfUnwritten result (S.written sink.new ≡ S.written sink.old) }
+    ensures held { T.held tree.new ≡ T.held tree.old }
+    ensures tree_count { OnOk result (T.faults tree.new ≡ T.faults tree.old) }
+    ensures sink_count { OnOk result (S.faults sink.new ≡ S.faults sink.old) }
+    ensures keeper_count { OnOk result (K.faults keeper.new ≡ K.faults keeper.old) }
+    ensures read_fault { IfReadFault result (Rose (T.faults tree.old) (T.faults tree.new)) }
+    ensures write_fault { IfWriteFault result (Rose (S.faults sink.old) (S.faults sink.new) ⊎ Rose (K.faults keeper.old) (K.faults keeper.new)) }
+    ensures ran { Ran (setting means (T.held tree.old) (job_fields job.now) cache) All book.old book.new }
+    ensures all { OnOk result (RanAll (setting means (T.held tree.old) (job_fields job.now) cache) All book.old book.new) }
+    ensures read { HasRead (setting means (T.held tree.old) (job_fields job.now) cache) All (T.reads tree.old) (T.reads tree.new) }
+{
+    let Ok(fields) = job_fields(alloc, job) else {
+        return Err(Stop::WantOfMemory);
+    };
+    let edits = Edits::new(alloc);
+    let workers = job.workers.number();
+    let brought = match bring_all(rt, alloc, &fields, workers, cache, tree, &edits, gate, book) {
+        Ok(brought) => brought,
+        Err(stop) => return Err(stop),
+    };
+    emit_kept(alloc, &brought, sink, keeper)
+}
+
+// Builds from the cache that is kept.
+fn build_loaded<H: Threads + Sync, T: Tree, S: Sink, K: Keeper, G: Gate>(
+    rt: &H,
+    alloc: Global,
+    job: &Job,
+    tree: &mut T,
+    sink: &mut S,
+    keeper: &mut K,
+    gate: &G,
+    book: &mut Book<Key>,
+) -> Status
+    requires job { is_job (job_fields job.now) ≡ true }
+
+    // Where it wrote.
+    ensures ended { OnEnd result (OfKept (K.kept keeper.old) (λ cache. HasEnded (T.held tree.old) job.now cache result
+        (told (S.written sink.old) (K.kept keeper.old) (S.faults sink.old) (K.faults keeper.old))
+        (told (S.written sink.new) (K.kept keeper.new) (S.faults sink.new) (K.faults keeper.new)))) }
+    ensures stopped { OnWriteFault result (OfKept (K.kept keeper.old) (λ cache. HasStopped (T.held tree.old) job.now cache
+        (told (S.written sink.old) (K.kept keeper.old) (S.faults sink.old) (K.faults keeper.old))
+        (told (S.written sink.new) (K.kept keeper.new) (S.faults sink.new) (K.faults keeper.new)))) }
+
+    // Where it didn't.
+    ensures kept { OnUnwritten result (K.kept keeper.new ≡ K.kept keeper.old) }
+    ensures unwritten { OnUnwritten result (S.written sink.new ≡ S.written sink.old) }
+    ensures no_usage { OnUsage result ⊥ }
+
+    // The objects.
+    ensures held { T.held tree.new ≡ T.held tree.old }
+    ensures tree_count { OnEnd result (T.faults tree.new ≡ T.faults tree.old) }
+    ensures sink_count { OnEnd result (S.faults sink.new ≡ S.faults sink.old) }
+    ensures keeper_count { OnEnd result (K.faults keeper.new ≡ K.faults keeper.old) }
+    ensures read_fault { OnReadFault result (Rose (T.faults tree.old) (T.faults tree.new) ⊎ Rose (K.faults keeper.old) (K.faults keeper.new)) }
+    ensures write_fault { OnWriteFault result (Rose (S.faults sink.old) (S.faults sink.new) ⊎ Rose (K.faults keeper.old) (K.faults keeper.new)) }
+
+    // Each step once, and only where wanted.
+    ensures ran { (book.new ≡ book.old) ⊎ OfKept (K.kept keeper.old) (λ cache. Ran (setting means (T.held tree.old) (job_fields job.now) cache) All book.old book.new) }
+    ensures all { OnEnd result (OfKept (K.kept keeper.old) (λ cache. RanAll (setting means (T.held tree.old) (job_fields job.now) cache) All book.old book.new)) }
+    ensures read { (T.reads tree.new ≡ T.reads tree.old) ⊎ OfKept (K.kept keeper.old) (λ cache. HasRead (setting means (T.held tree.old) (job_fields job.now) cache) All (T.reads tree.old) (T.reads tree.new)) }
+{
+    let cache = match load_cache(alloc, keeper) {
+        Ok(cache) => cache,
+        Err(stop) => return stop.status(),
+    };
+    match build_from(rt, alloc, job, cache, tree, sink, keeper, gate, book) {
+        Ok(status) => status,
+        Err(stop) => stop.status(),
+    }
+}
+
+/// Builds what a job asks for from the cache that is kept, which it loads first, and keeps the one that it
+/// leaves: the text of that is stored after the outputs and before the summary.
+///
+/// All is read, and all memory is taken, before the first emission.
+pub fn build_kept<H: Threads + Sync, T: Tree, S: Sink, K: Keeper, G: Gate>(
+    rt: &H,
+    alloc: Global,
+    job: &Job,
+    tree: &mut T,
+    sink: &mut S,
+    keeper: &mut K,
+    gate: &G,
+    book: &mut Book<Key>,
+) -> Status
+    requires job { is_job (job_fields job.now) ≡ true }
+
+    // Where it wrote.
+    ensures ended { OnEnd result (OfKept (K.kept keeper.old) (λ cache. HasEnded (T.held tree.old) job.now cache result
+        (told (S.written sink.old) (K.kept keeper.old) (S.faults sink.old) (K.faults keeper.old))
+        (told (S.written sink.new) (K.kept keeper.new) (S.faults sink.new) (K.faults keeper.new)))) }
+    ensures stopped { OnWriteFault result (OfKept (K.kept keeper.old) (λ cache. HasStopped (T.held tree.old) job.now cache
+        (told (S.written sink.old) (K.kept keeper.old) (S.faults sink.old) (K.faults keeper.old))
+        (told (S.written sink.new) (K.kept keeper.new) (S.faults sink.new) (K.faults keeper.new)))) }
+
+    // Where it didn't.
+    ensures kept { OnUnwritten result (K.kept keeper.new ≡ K.kept keeper.old) }
+    ensures unwritten { OnUnwritten result (S.written sink.new ≡ S.written sink.old) }
+    ensures no_usage { OnUsage result ⊥ }
+
+    // The objects.
+    ensures held { T.held tree.new ≡ T.held tree.old }
+    ensures tree_count { OnEnd result (T.faults tree.new ≡ T.faults tree.old) }
+    ensures sink_count { OnEnd result (S.faults sink.new ≡ S.faults sink.old) }
+    ensures keeper_count { OnEnd result (K.faults keeper.new ≡ K.faults keeper.old) }
+    ensures read_fault { OnReadFault result (Rose (T.faults tree.old) (T.faults tree.new) ⊎ Rose (K.faults keeper.old) (K.faults keeper.new)) }
+    ensures write_fault { OnWriteFault result (Rose (S.faults sink.old) (S.faults sink.new) ⊎ Rose (K.faults keeper.old) (K.faults keeper.new)) }
+
+    // Each step once, and only where wanted.
+    ensures ran { (book.new ≡ book.old) ⊎ OfKept (K.kept keeper.old) (λ cache. Ran (setting means (T.held tree.old) (job_fields job.now) cache) All book.old book.new) }
+    ensures all { OnEnd result (OfKept (K.kept keeper.old) (λ cache. RanAll (setting means (T.held tree.old) (job_fields job.now) cache) All book.old book.new)) }
+    ensures read { (T.reads tree.new ≡ T.reads tree.old) ⊎ OfKept (K.kept keeper.old) (λ cache. HasRead (setting means (T.held tree.old) (job_fields job.now) cache) All (T.reads tree.old) (T.reads tree.new)) }
+
+    // Where what is kept is sound.
+    ensures complete { IfSome (T.held tree.old) (λ files. IfSome (K.kept keeper.old) (λ kept. IsSoundKept kept →
+        IsComplete (world_of files job.now) (Rose (T.faults tree.old) (T.faults tree.new) ⊎ Rose (K.faults keeper.old) (K.faults keeper.new)) (Rose (S.faults sink.old) (S.faults sink.new)) result)) }
+    ensures stays_sound { StaysSound (K.kept keeper.old) (K.kept keeper.new) }
+{
+    build_loaded(rt, alloc, job, tree, sink, keeper, gate, book)
+}

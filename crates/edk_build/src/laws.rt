@@ -1,0 +1,26 @@
+//! Laws of what is kept.
+ghost use Rattle.std.specs.Prelude.{◌≡◌, ◌++◌, ℕ, List, Option, Some, None};
+ghost use Rattle.step_cache.specs.CacheText.{IsCacheText};
+ghost use Rattle.step_engine.specs.Entries.{AreSound};
+ghost use Rattle.step_engine.specs.declared.talk.Entry.{Entry as EntryOf};
+ghost use Rattle.step_pack.specs.declared.key.Key.{Key as KeyOf};
+ghost use Rattle.step_pack.specs.declared.out.Out.{Out as OutOf};
+ghost use Rattle.edk_build.specs.Building.{means};
+ghost use Rattle.edk_build.specs.Kept.{IsNoText, IsSoundKept, StandsFor};
+ghost use Rattle.edk_build.specs.KeptRuns.{AreRight, BuildRun, Follow};
+
+/// What is kept stands for one cache. Nothing, no cache's text, the text of a sound cache and each prefix of it
+/// stand for none that isn't sound.
+pub fn kept_is_one()
+    ensures one { (kept : Option (List ℕ)) (a b : List (EntryOf KeyOf OutOf)) → StandsFor kept a → StandsFor kept b → a ≡ b }
+    ensures nothing { IsSoundKept None }
+    ensures no_text { (bytes : List ℕ) → IsNoText bytes → IsSoundKept (Some bytes) }
+    ensures prefix { (cache : List (EntryOf KeyOf OutOf)) (front rest : List ℕ) → IsCacheText cache (front ++ rest) → AreSound means cache → IsSoundKept (Some front) }
+{}
+
+/// Runs of `build` with edits between them, each of which begins with what the one before it kept, write what the
+/// definitions give for their words and the files of their moments, where the first begins with what stands for no
+/// unsound cache.
+pub fn runs_are_right()
+    ensures { (kept : Option (List ℕ)) (runs : List BuildRun) → IsSoundKept kept → Follow kept runs → AreRight runs }
+{}

@@ -1,0 +1,5 @@
+//! Builds of the whole program, on threads that a gate holds.
+#![tactic(auto)]
+
+#[cfg(test)]
+mod tests;

@@ -1,0 +1,99 @@
+//! A build by two workers, of which one is held until the other has begun; all objects stand in memory and never fail.
+use build_base::memory_sink::{Kind, Room, Seen};
+use build_base::sure_keeper::SureKeeper;
+use build_base::{Book, Gate};
+use edk_build::{Status, run};
+use selftest_tree::selftest_files;
+use std::alloc::{AllocError, Global};
+use std::sync::atomic::{AtomicU64, Ordering};
+use std::test::Fail;
+use std::thread::Threads;
+use sure_objects::{SureSink, SureTree};
+
+// Holds piece 0 of each wave of two or more until another piece of that wave has entered, or for so many turns.
+#[derive(Drop)]
+struct HeldGate {
+    others: AtomicU64,
+    met: AtomicU64,
+    missed: AtomicU64,
+}
+
+impl HeldGate {
+    fn new() -> HeldGate {
+        HeldGate {
+            others: AtomicU64::new(0),
+            met: AtomicU64::new(0),
+            missed: AtomicU64::new(0),
+        }
+    }
+}
+
+impl Gate for HeldGate {
+    fn enter(&self, wave: u64, piece: u64, pieces: u64) {
+        if piece > 0 {
+            self.others.store(wave.saturating_add(1), Ordering::SeqCst);
+            return;
+        }
+        if pieces < 2 {
+            return;
+        }
+        for _turn in 0..100_000_000 {
+            if self.others.load(Ordering::SeqCst) > wave {
+                self.met.fetch_add(1, Ordering::SeqCst);
+                return;
+            }
+        }
+        self.missed.fetch_add(1, Ordering::SeqCst);
+    }
+}
+
+fn words_of(alloc: Global) -> Result<Vec<String>, AllocError> {
+    let mut words = Vec::new(alloc);
+    for word in ["build", "-p", "T.dsc", "-n", "2"] {
+        words.push(String::from_str(alloc, word)?)?;
+    }
+    Ok(words)
+}
+
+// The emission of a summary.
+fn is_summary(seen: Option<Seen<'_>>, summary: &[u8]) -> bool {
+    match seen {
+        Some(seen) => seen.kind == Kind::Out && seen.bytes == summary,
+        None => false,
+    }
+}
+
+// Builds three modules with two workers behind this gate. Whether all steps ran, and the summary says so.
+fn builds_all<H: Threads + Sync, G: Gate>(rt: &H, alloc: Global, gate: &G) -> Result<bool, Fail> {
+    let mut tree = SureTree::new(alloc, selftest_files(alloc, 3)?);
+    let room = Room {
+        calls: 64,
+        bytes: 0x10_0000,
+    };
+    let mut sink = SureSink::new(alloc, room)?;
+    let mut keeper = SureKeeper::new(alloc, None, 0)?;
+    let mut book = Book::new(alloc);
+    let words = words_of(alloc)?;
+    let status = run(
+        rt,
+        alloc,
+        words.as_slice(),
+        &mut tree,
+        &mut sink,
+        &mut keeper,
+        gate,
+        &mut book,
+    );
+    let last = sink.emissions().saturating_sub(1);
+    let told = is_summary(sink.emission(last), b"25 steps, 0 reused\n");
+    Ok(status == Status::Done && book.ran().len() == 25 && told)
+}
+
+#[test]
+fn the_pieces_of_a_wave_run_beside_each_other(rt: HostRuntime) -> Result<(), Fail> {
+    let gate = HeldGate::new();
+    assert!(rt; builds_all(&rt, rt.alloc(), &gate)?);
+    assert!(rt; gate.met.load(Ordering::SeqCst) > 0);
+    assert_eq!(rt; gate.missed.load(Ordering::SeqCst), 0);
+    Ok(())
+}

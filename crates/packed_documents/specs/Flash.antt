@@ -1,0 +1,69 @@
+-- The spelling of flash descriptions: the fields of a record in order, and an enum as the number of the variant, in the order of declaration, and its fields. The rule is this project's own.
+use Rattle.std.specs.Prelude.{◌≡◌, ◌⊎◌, ℕ, List, refl}
+use Rattle.std.proofs.Common.{inl, inr}
+use Rattle.build_base.specs.declared.fault.Place.{Place}
+use Rattle.doc_types.specs.declared.flash.DevicePlan.{DevicePlan}
+use Rattle.doc_types.specs.declared.flash.FlashDoc.{FlashDoc}
+use Rattle.doc_types.specs.declared.flash.Region.{Region}
+use Rattle.doc_types.specs.declared.flash.RegionKind.{RegionKind}
+use Rattle.doc_types.specs.declared.flash.RegionKind.TheVariants as region_kind
+use Rattle.packed_values.specs.Form.{Form}
+use Rattle.packed_values.specs.Plain.{byte_form, number_form, text_form, path_form}
+use Rattle.packed_values.specs.Base.{place_form}
+use Rattle.packed_values.specs.Parts.{form_by, pair_form, rows_form}
+use Rattle.packed_values.specs.Arms.{arm, last_arm, tagged_form, unit_form}
+use Rattle.packed_documents.specs.Pcds.{pcd_set_form}
+use Rattle.packed_documents.specs.Volume.{rule_doc_form, volume_plan_form}
+
+abbrev pub RegionKindParts : Type 0
+RegionKindParts = (Unit {0}) ⊎ ((List ℕ) ⊎ ((List ℕ) ⊎ ℕ))
+
+abbrev pub region_kind_parts : RegionKind → RegionKindParts
+region_kind_parts region_kind.Empty = inl tt
+region_kind_parts (region_kind.Bytes text) = inr (inl text)
+region_kind_parts (region_kind.Tree path) = inr (inr (inl path))
+region_kind_parts (region_kind.Volume number) = inr (inr (inr number))
+
+abbrev pub region_kind_of : RegionKindParts → RegionKind
+region_kind_of (inl _) = region_kind.Empty
+region_kind_of (inr (inl text)) = region_kind.Bytes text
+region_kind_of (inr (inr (inl path))) = region_kind.Tree path
+region_kind_of (inr (inr (inr number))) = region_kind.Volume number
+
+pub region_kind_back : (x : RegionKind) → region_kind_of (region_kind_parts x) ≡ x
+region_kind_back region_kind.Empty = refl
+region_kind_back (region_kind.Bytes text) = refl
+region_kind_back (region_kind.Tree path) = refl
+region_kind_back (region_kind.Volume number) = refl
+
+unfoldable pub region_kind_form : Form RegionKind
+region_kind_form = form_by region_kind_parts region_kind_of region_kind_back (tagged_form (arm unit_form (arm text_form (arm path_form (last_arm (number_form 4))))))
+
+unfoldable pub region_form : Form Region
+region_form = form_by (λ x. (x.at, (x.offset, (x.size, x.kind))))
+    (λ p. record { at = p.0; offset = p.1.0; size = p.1.1.0; kind = p.1.1.1 }) (λ x. refl)
+    (pair_form place_form (pair_form (number_form 8) (pair_form (number_form 8) region_kind_form)))
+
+abbrev pub device_plan_first : DevicePlan → Place × ((List ℕ) × ℕ)
+device_plan_first x = (x.at, (x.name, x.base))
+
+unfoldable pub device_plan_first_form : Form (Place × ((List ℕ) × ℕ))
+device_plan_first_form = pair_form place_form (pair_form text_form (number_form 8))
+
+abbrev pub device_plan_second : DevicePlan → ℕ × (ℕ × (List Region))
+device_plan_second x = (x.size, (x.erase, x.regions))
+
+unfoldable pub device_plan_second_form : Form (ℕ × (ℕ × (List Region)))
+device_plan_second_form = pair_form (number_form 8) (pair_form byte_form (rows_form region_form))
+
+abbrev pub device_plan_of : ((Place × ((List ℕ) × ℕ))) × ((ℕ × (ℕ × (List Region)))) → DevicePlan
+device_plan_of p = record { at = p.0.0; name = p.0.1.0; base = p.0.1.1; size = p.1.0; erase = p.1.1.0; regions = p.1.1.1 }
+
+unfoldable pub device_plan_form : Form DevicePlan
+device_plan_form = form_by (λ x. (device_plan_first x, device_plan_second x)) device_plan_of (λ x. refl)
+    (pair_form device_plan_first_form device_plan_second_form)
+
+unfoldable pub flash_doc_form : Form FlashDoc
+flash_doc_form = form_by (λ x. (x.at, (x.sets, (x.devices, (x.volumes, x.rule_list)))))
+    (λ p. record { at = p.0; sets = p.1.0; devices = p.1.1.0; volumes = p.1.1.1.0; rule_list = p.1.1.1.1 }) (λ x. refl)
+    (pair_form place_form (pair_form (rows_form pcd_set_form) (pair_form (rows_form device_plan_form) (pair_form (rows_form volume_plan_form) (rows_form rule_doc_form)))))

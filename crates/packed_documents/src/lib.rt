@@ -1,0 +1,11 @@
+//! The documents and what is made from them as bytes, with one spelling each.
+#![tactic(auto)]
+
+pub mod flash;
+pub mod made;
+pub mod module;
+pub mod package;
+pub mod pcds;
+pub mod platform;
+pub mod volume;
+pub mod words;

@@ -1,0 +1,519 @@
+//! Volumes as a flash description states them.
+ghost use Rattle.std.specs.Prelude.{◌≡◌, ◌++◌, OnOk};
+ghost use Rattle.packed_values.specs.Form.{IsPut, IsRead, IsUnread};
+ghost use Rattle.packed_documents.specs.Volume.{align_form, file_plan_first, file_plan_first_form, file_plan_form, file_plan_of, file_plan_second, file_plan_second_form, inf_line_first, inf_line_first_form, inf_line_form, inf_line_of, inf_line_second, inf_line_second_form, item_form, member_form, rule_doc_form, section_plan_first, section_plan_first_form, section_plan_form, section_plan_of, section_plan_second, section_plan_second_form, section_source_form, volume_head_first, volume_head_first_form, volume_head_form, volume_head_of, volume_head_second, volume_head_second_form, volume_head_third, volume_head_third_form, volume_plan_form};
+
+use crate::words::{ArchForm, ModuleTypeForm};
+use build_base::{Guid, Path, Place, Rows, Text, WantOfMemory};
+use doc_types::volume::{
+    Align, FilePlan, InfLine, Item, Member, RuleDoc, SectionPlan, SectionSource, VolumePlan,
+};
+use doc_types::volume_head::VolumeHead;
+use packed_values::plain::put_byte;
+use packed_values::{Input, Packed, all_put, all_taken};
+use std::alloc::Global;
+
+/// How a value of `Align` is spelled.
+pub struct AlignForm;
+
+impl Packed for AlignForm {
+    type Value = Align;
+
+    ghost form = { align_form };
+
+    #[tactic(auto, unfolding(crate::specs::Volume::align_form, packed_values::specs::Arms::tagged_form, packed_values::specs::Arms::arm, packed_values::specs::Arms::last_arm, packed_values::specs::Arms::unit_form, packed_values::specs::Plain::byte_form))]
+    fn put(value: &Align, out: &mut Vec<u8>) -> Result<(), WantOfMemory> {
+        match value {
+            Align::Unset => put_byte(0, out),
+            Align::Auto => put_byte(1, out),
+            Align::Bytes(bytes) => {
+                put_byte(2, out)?;
+                u32::put(bytes, out)
+            }
+        }
+    }
+
+    #[tactic(auto, unfolding(crate::specs::Volume::align_form, packed_values::specs::Arms::tagged_form, packed_values::specs::Arms::arm, packed_values::specs::Arms::last_arm, packed_values::specs::Arms::unit_form, packed_values::specs::Plain::byte_form))]
+    fn take(alloc: Global, input: &mut Input) -> Result<Option<Align>, WantOfMemory> {
+        match input.byte() {
+            Some(0) => Ok(Some(Align::Unset)),
+            Some(1) => Ok(Some(Align::Auto)),
+            Some(2) => match u32::take(alloc, input)? {
+                None => Ok(None),
+                Some(bytes) => Ok(Some(Align::Bytes(bytes))),
+            },
+            _ => Ok(None),
+        }
+    }
+}
+
+/// How a value of `SectionSource` is spelled.
+pub struct SectionSourceForm;
+
+impl Packed for SectionSourceForm {
+    type Value = SectionSource;
+
+    ghost form = { section_source_form };
+
+    #[tactic(auto, unfolding(crate::specs::Volume::section_source_form, packed_values::specs::Arms::tagged_form, packed_values::specs::Arms::arm, packed_values::specs::Arms::last_arm, packed_values::specs::Plain::byte_form))]
+    fn put(value: &SectionSource, out: &mut Vec<u8>) -> Result<(), WantOfMemory> {
+        match value {
+            SectionSource::Tree(path) => {
+                put_byte(0, out)?;
+                Path::put(path, out)
+            }
+            SectionSource::Template(text) => {
+                put_byte(1, out)?;
+                Text::put(text, out)
+            }
+            SectionSource::Volume(number) => {
+                put_byte(2, out)?;
+                u32::put(number, out)
+            }
+            SectionSource::Words(text) => {
+                put_byte(3, out)?;
+                Text::put(text, out)
+            }
+            SectionSource::Refused(text) => {
+                put_byte(4, out)?;
+                Text::put(text, out)
+            }
+        }
+    }
+
+    #[tactic(auto, unfolding(crate::specs::Volume::section_source_form, packed_values::specs::Arms::tagged_form, packed_values::specs::Arms::arm, packed_values::specs::Arms::last_arm, packed_values::specs::Plain::byte_form))]
+    fn take(alloc: Global, input: &mut Input) -> Result<Option<SectionSource>, WantOfMemory> {
+        match input.byte() {
+            Some(0) => match Path::take(alloc, input)? {
+                None => Ok(None),
+                Some(path) => Ok(Some(SectionSource::Tree(path))),
+            },
+            Some(1) => match Text::take(alloc, input)? {
+                None => Ok(None),
+                Some(text) => Ok(Some(SectionSource::Template(text))),
+            },
+            Some(2) => match u32::take(alloc, input)? {
+                None => Ok(None),
+                Some(number) => Ok(Some(SectionSource::Volume(number))),
+            },
+            Some(3) => match Text::take(alloc, input)? {
+                None => Ok(None),
+                Some(text) => Ok(Some(SectionSource::Words(text))),
+            },
+            Some(4) => match Text::take(alloc, input)? {
+                None => Ok(None),
+                Some(text) => Ok(Some(SectionSource::Refused(text))),
+            },
+            _ => Ok(None),
+        }
+    }
+}
+
+/// How a value of `SectionPlan` is spelled.
+pub struct SectionPlanForm;
+
+type SectionPlanFirst = (Place, (u8, (bool, AlignForm)));
+
+type SectionPlanSecond = (u16, (Option<Guid>, SectionSourceForm));
+
+// Adds its fields from `at` on.
+#[tactic(auto, unfolding(crate::specs::Volume::section_plan_first_form, packed_values::specs::Parts::pair_form))]
+fn put_section_plan_first(value: &SectionPlan, out: &mut Vec<u8>) -> Result<(), WantOfMemory>
+    ensures { OnOk result (IsPut section_plan_first_form out.old.items (section_plan_first value.now) out.new.items) }
+{
+    all_put!(value, out; at: Place, kind: u8, optional: bool, align: AlignForm)
+}
+
+// Adds its fields from `number` on.
+#[tactic(auto, unfolding(crate::specs::Volume::section_plan_second_form, packed_values::specs::Parts::pair_form))]
+fn put_section_plan_second(value: &SectionPlan, out: &mut Vec<u8>) -> Result<(), WantOfMemory>
+    ensures { OnOk result (IsPut section_plan_second_form out.old.items (section_plan_second value.now) out.new.items) }
+{
+    all_put!(value, out; number: u16, guid: Option<Guid>, source: SectionSourceForm)
+}
+
+// The record of all its fields.
+fn join_section_plan(
+    first: <SectionPlanFirst as Packed>::Value,
+    second: <SectionPlanSecond as Packed>::Value,
+) -> SectionPlan
+    ensures { result ≡ section_plan_of (first, second) }
+{
+    let (at, first_1) = first;
+    let (kind, first_2) = first_1;
+    let (optional, align) = first_2;
+    let (number, second_1) = second;
+    let (guid, source) = second_1;
+    SectionPlan {
+        at,
+        kind,
+        optional,
+        align,
+        number,
+        guid,
+        source,
+    }
+}
+
+impl Packed for SectionPlanForm {
+    type Value = SectionPlan;
+
+    ghost form = { section_plan_form };
+
+    #[tactic(auto, unfolding(crate::specs::Volume::section_plan_form, packed_values::specs::Parts::pair_form))]
+    fn put(value: &SectionPlan, out: &mut Vec<u8>) -> Result<(), WantOfMemory> {
+        put_section_plan_first(value, out)?;
+        put_section_plan_second(value, out)?;
+        Ok(())
+    }
+
+    #[tactic(auto, unfolding(crate::specs::Volume::section_plan_form, crate::specs::Volume::section_plan_first_form, crate::specs::Volume::section_plan_second_form), using(packed_values::proofs::WhereLemmas::unread_by))]
+    fn take(alloc: Global, input: &mut Input) -> Result<Option<SectionPlan>, WantOfMemory> {
+        match <(SectionPlanFirst, SectionPlanSecond)>::take(alloc, input)? {
+            None => Ok(None),
+            Some((first, second)) => Ok(Some(join_section_plan(first, second))),
+        }
+    }
+}
+
+/// How a value of `FilePlan` is spelled.
+pub struct FilePlanForm;
+
+type FilePlanFirst = (Place, (u8, (Option<Guid>, bool)));
+
+type FilePlanSecond = (bool, (AlignForm, (Option<Path>, Rows<SectionPlanForm>)));
+
+// Adds its fields from `at` on.
+#[tactic(auto, unfolding(crate::specs::Volume::file_plan_first_form, packed_values::specs::Parts::pair_form))]
+fn put_file_plan_first(value: &FilePlan, out: &mut Vec<u8>) -> Result<(), WantOfMemory>
+    ensures { OnOk result (IsPut file_plan_first_form out.old.items (file_plan_first value.now) out.new.items) }
+{
+    all_put!(value, out; at: Place, file_type: u8, guid: Option<Guid>, fixed: bool)
+}
+
+// Adds its fields from `checksum` on.
+#[tactic(auto, unfolding(crate::specs::Volume::file_plan_second_form, packed_values::specs::Parts::pair_form))]
+fn put_file_plan_second(value: &FilePlan, out: &mut Vec<u8>) -> Result<(), WantOfMemory>
+    ensures { OnOk result (IsPut file_plan_second_form out.old.items (file_plan_second value.now) out.new.items) }
+{
+    all_put!(value, out; checksum: bool, align: AlignForm, whole: Option<Path>, sections: Rows<SectionPlanForm>)
+}
+
+// The record of all its fields.
+fn join_file_plan(
+    first: <FilePlanFirst as Packed>::Value,
+    second: <FilePlanSecond as Packed>::Value,
+) -> FilePlan
+    ensures { result ≡ file_plan_of (first, second) }
+{
+    let (at, first_1) = first;
+    let (file_type, first_2) = first_1;
+    let (guid, fixed) = first_2;
+    let (checksum, second_1) = second;
+    let (align, second_2) = second_1;
+    let (whole, sections) = second_2;
+    FilePlan {
+        at,
+        file_type,
+        guid,
+        fixed,
+        checksum,
+        align,
+        whole,
+        sections,
+    }
+}
+
+impl Packed for FilePlanForm {
+    type Value = FilePlan;
+
+    ghost form = { file_plan_form };
+
+    #[tactic(auto, unfolding(crate::specs::Volume::file_plan_form, packed_values::specs::Parts::pair_form))]
+    fn put(value: &FilePlan, out: &mut Vec<u8>) -> Result<(), WantOfMemory> {
+        put_file_plan_first(value, out)?;
+        put_file_plan_second(value, out)?;
+        Ok(())
+    }
+
+    #[tactic(auto, unfolding(crate::specs::Volume::file_plan_form, crate::specs::Volume::file_plan_first_form, crate::specs::Volume::file_plan_second_form), using(packed_values::proofs::WhereLemmas::unread_by))]
+    fn take(alloc: Global, input: &mut Input) -> Result<Option<FilePlan>, WantOfMemory> {
+        match <(FilePlanFirst, FilePlanSecond)>::take(alloc, input)? {
+            None => Ok(None),
+            Some((first, second)) => Ok(Some(join_file_plan(first, second))),
+        }
+    }
+}
+
+/// How a value of `InfLine` is spelled.
+pub struct InfLineForm;
+
+type InfLineFirst = (Place, (Path, Option<ArchForm>));
+
+type InfLineSecond = (Text, (Option<Text>, Option<Text>));
+
+// Adds its fields from `at` on.
+#[tactic(auto, unfolding(crate::specs::Volume::inf_line_first_form, packed_values::specs::Parts::pair_form))]
+fn put_inf_line_first(value: &InfLine, out: &mut Vec<u8>) -> Result<(), WantOfMemory>
+    ensures { OnOk result (IsPut inf_line_first_form out.old.items (inf_line_first value.now) out.new.items) }
+{
+    all_put!(value, out; at: Place, inf: Path, arch: Option<ArchForm>)
+}
+
+// Adds its fields from `template` on.
+#[tactic(auto, unfolding(crate::specs::Volume::inf_line_second_form, packed_values::specs::Parts::pair_form))]
+fn put_inf_line_second(value: &InfLine, out: &mut Vec<u8>) -> Result<(), WantOfMemory>
+    ensures { OnOk result (IsPut inf_line_second_form out.old.items (inf_line_second value.now) out.new.items) }
+{
+    all_put!(value, out; template: Text, version: Option<Text>, ui: Option<Text>)
+}
+
+// The record of all its fields.
+fn join_inf_line(
+    first: <InfLineFirst as Packed>::Value,
+    second: <InfLineSecond as Packed>::Value,
+) -> InfLine
+    ensures { result ≡ inf_line_of (first, second) }
+{
+    let (at, first_1) = first;
+    let (inf, arch) = first_1;
+    let (template, second_1) = second;
+    let (version, ui) = second_1;
+    InfLine {
+        at,
+        inf,
+        arch,
+        template,
+        version,
+        ui,
+    }
+}
+
+impl Packed for InfLineForm {
+    type Value = InfLine;
+
+    ghost form = { inf_line_form };
+
+    #[tactic(auto, unfolding(crate::specs::Volume::inf_line_form, packed_values::specs::Parts::pair_form))]
+    fn put(value: &InfLine, out: &mut Vec<u8>) -> Result<(), WantOfMemory> {
+        put_inf_line_first(value, out)?;
+        put_inf_line_second(value, out)?;
+        Ok(())
+    }
+
+    #[tactic(auto, unfolding(crate::specs::Volume::inf_line_form, crate::specs::Volume::inf_line_first_form, crate::specs::Volume::inf_line_second_form), using(packed_values::proofs::WhereLemmas::unread_by))]
+    fn take(alloc: Global, input: &mut Input) -> Result<Option<InfLine>, WantOfMemory> {
+        match <(InfLineFirst, InfLineSecond)>::take(alloc, input)? {
+            None => Ok(None),
+            Some((first, second)) => Ok(Some(join_inf_line(first, second))),
+        }
+    }
+}
+
+/// How a value of `Member` is spelled.
+pub struct MemberForm;
+
+impl Packed for MemberForm {
+    type Value = Member;
+
+    ghost form = { member_form };
+
+    #[tactic(auto, unfolding(crate::specs::Volume::member_form, packed_values::specs::Arms::tagged_form, packed_values::specs::Arms::arm, packed_values::specs::Arms::last_arm, packed_values::specs::Plain::byte_form))]
+    fn put(value: &Member, out: &mut Vec<u8>) -> Result<(), WantOfMemory> {
+        match value {
+            Member::Inf(line) => {
+                put_byte(0, out)?;
+                InfLineForm::put(line, out)
+            }
+            Member::File(guid) => {
+                put_byte(1, out)?;
+                Guid::put(guid, out)
+            }
+        }
+    }
+
+    #[tactic(auto, unfolding(crate::specs::Volume::member_form, packed_values::specs::Arms::tagged_form, packed_values::specs::Arms::arm, packed_values::specs::Arms::last_arm, packed_values::specs::Plain::byte_form))]
+    fn take(alloc: Global, input: &mut Input) -> Result<Option<Member>, WantOfMemory> {
+        match input.byte() {
+            Some(0) => match InfLineForm::take(alloc, input)? {
+                None => Ok(None),
+                Some(line) => Ok(Some(Member::Inf(line))),
+            },
+            Some(1) => match Guid::take(alloc, input)? {
+                None => Ok(None),
+                Some(guid) => Ok(Some(Member::File(guid))),
+            },
+            _ => Ok(None),
+        }
+    }
+}
+
+/// How a value of `Item` is spelled.
+pub struct ItemForm;
+
+impl Packed for ItemForm {
+    type Value = Item;
+
+    ghost form = { item_form };
+
+    #[tactic(auto, unfolding(crate::specs::Volume::item_form, packed_values::specs::Arms::tagged_form, packed_values::specs::Arms::arm, packed_values::specs::Arms::last_arm, packed_values::specs::Plain::byte_form, packed_values::specs::Parts::pair_form))]
+    fn put(value: &Item, out: &mut Vec<u8>) -> Result<(), WantOfMemory> {
+        match value {
+            Item::Apriori { at, pei, members } => {
+                put_byte(0, out)?;
+                Place::put(at, out)?;
+                bool::put(pei, out)?;
+                <Rows<MemberForm>>::put(members, out)
+            }
+            Item::File(file) => {
+                put_byte(1, out)?;
+                FilePlanForm::put(file, out)
+            }
+            Item::Inf(line) => {
+                put_byte(2, out)?;
+                InfLineForm::put(line, out)
+            }
+        }
+    }
+
+    #[tactic(auto, unfolding(crate::specs::Volume::item_form, packed_values::specs::Arms::tagged_form, packed_values::specs::Arms::arm, packed_values::specs::Arms::last_arm, packed_values::specs::Plain::byte_form))]
+    fn take(alloc: Global, input: &mut Input) -> Result<Option<Item>, WantOfMemory> {
+        match input.byte() {
+            Some(0) => match <(Place, (bool, Rows<MemberForm>))>::take(alloc, input)? {
+                None => Ok(None),
+                Some((at, (pei, members))) => Ok(Some(Item::Apriori { at, pei, members })),
+            },
+            Some(1) => match FilePlanForm::take(alloc, input)? {
+                None => Ok(None),
+                Some(file) => Ok(Some(Item::File(file))),
+            },
+            Some(2) => match InfLineForm::take(alloc, input)? {
+                None => Ok(None),
+                Some(line) => Ok(Some(Item::Inf(line))),
+            },
+            _ => Ok(None),
+        }
+    }
+}
+
+/// How a value of `RuleDoc` is spelled.
+pub struct RuleDocForm;
+
+impl Packed for RuleDocForm {
+    type Value = RuleDoc;
+
+    ghost form = { rule_doc_form };
+
+    #[tactic(auto, unfolding(crate::specs::Volume::rule_doc_form, packed_values::specs::Parts::pair_form))]
+    fn put(value: &RuleDoc, out: &mut Vec<u8>) -> Result<(), WantOfMemory> {
+        all_put!(value, out; at: Place, arch: ArchForm, module_type: ModuleTypeForm, template: Text, file: FilePlanForm)
+    }
+
+    #[tactic(auto, unfolding(crate::specs::Volume::rule_doc_form), using(packed_values::proofs::WhereLemmas::unread_by))]
+    fn take(alloc: Global, input: &mut Input) -> Result<Option<RuleDoc>, WantOfMemory> {
+        all_taken!(RuleDoc, alloc, input; at: Place, arch: ArchForm, module_type: ModuleTypeForm, template: Text, file: FilePlanForm)
+    }
+}
+
+/// How a value of `VolumeHead` is spelled.
+pub struct VolumeHeadForm;
+
+type VolumeHeadFirst = (Place, (Text, (u32, u8)));
+
+type VolumeHeadSecond = (u64, (Option<u64>, Option<Guid>));
+
+type VolumeHeadThird = (Option<u64>, (bool, bool));
+
+// Adds its fields from `at` on.
+#[tactic(auto, unfolding(crate::specs::Volume::volume_head_first_form, packed_values::specs::Parts::pair_form))]
+fn put_volume_head_first(value: &VolumeHead, out: &mut Vec<u8>) -> Result<(), WantOfMemory>
+    ensures { OnOk result (IsPut volume_head_first_form out.old.items (volume_head_first value.now) out.new.items) }
+{
+    all_put!(value, out; at: Place, name: Text, attributes: u32, erase: u8)
+}
+
+// Adds its fields from `block_size` on.
+#[tactic(auto, unfolding(crate::specs::Volume::volume_head_second_form, packed_values::specs::Parts::pair_form))]
+fn put_volume_head_second(value: &VolumeHead, out: &mut Vec<u8>) -> Result<(), WantOfMemory>
+    ensures { OnOk result (IsPut volume_head_second_form out.old.items (volume_head_second value.now) out.new.items) }
+{
+    all_put!(value, out; block_size: u64, size: Option<u64>, name_guid: Option<Guid>)
+}
+
+// Adds its fields from `base` on.
+#[tactic(auto, unfolding(crate::specs::Volume::volume_head_third_form, packed_values::specs::Parts::pair_form))]
+fn put_volume_head_third(value: &VolumeHead, out: &mut Vec<u8>) -> Result<(), WantOfMemory>
+    ensures { OnOk result (IsPut volume_head_third_form out.old.items (volume_head_third value.now) out.new.items) }
+{
+    all_put!(value, out; base: Option<u64>, force: bool, ffs3: bool)
+}
+
+// The record of all its fields.
+fn join_volume_head(
+    first: <VolumeHeadFirst as Packed>::Value,
+    second: <VolumeHeadSecond as Packed>::Value,
+    third: <VolumeHeadThird as Packed>::Value,
+) -> VolumeHead
+    ensures { result ≡ volume_head_of (first, (second, third)) }
+{
+    let (at, first_1) = first;
+    let (name, first_2) = first_1;
+    let (attributes, erase) = first_2;
+    let (block_size, second_1) = second;
+    let (size, name_guid) = second_1;
+    let (base, third_1) = third;
+    let (force, ffs3) = third_1;
+    VolumeHead {
+        at,
+        name,
+        attributes,
+        erase,
+        block_size,
+        size,
+        name_guid,
+        base,
+        force,
+        ffs3,
+    }
+}
+
+impl Packed for VolumeHeadForm {
+    type Value = VolumeHead;
+
+    ghost form = { volume_head_form };
+
+    #[tactic(auto, unfolding(crate::specs::Volume::volume_head_form, packed_values::specs::Parts::pair_form))]
+    fn put(value: &VolumeHead, out: &mut Vec<u8>) -> Result<(), WantOfMemory> {
+        put_volume_head_first(value, out)?;
+        put_volume_head_second(value, out)?;
+        put_volume_head_third(value, out)?;
+        Ok(())
+    }
+
+    #[tactic(auto, unfolding(crate::specs::Volume::volume_head_form, crate::specs::Volume::volume_head_first_form, crate::specs::Volume::volume_head_second_form, crate::specs::Volume::volume_head_third_form), using(packed_values::proofs::WhereLemmas::unread_by))]
+    fn take(alloc: Global, input: &mut Input) -> Result<Option<VolumeHead>, WantOfMemory> {
+        match <(VolumeHeadFirst, (VolumeHeadSecond, VolumeHeadThird))>::take(alloc, input)? {
+            None => Ok(None),
+            Some((first, (second, third))) => Ok(Some(join_volume_head(first, second, third))),
+        }
+    }
+}
+
+/// How a value of `VolumePlan` is spelled.
+pub struct VolumePlanForm;
+
+impl Packed for VolumePlanForm {
+    type Value = VolumePlan;
+
+    ghost form = { volume_plan_form };
+
+    #[tactic(auto, unfolding(crate::specs::Volume::volume_plan_form, packed_values::specs::Parts::pair_form))]
+    fn put(value: &VolumePlan, out: &mut Vec<u8>) -> Result<(), WantOfMemory> {
+        all_put!(value, out; head: VolumeHeadForm, items: Rows<ItemForm>)
+    }
+
+    #[tactic(auto, unfolding(crate::specs::Volume::volume_plan_form), using(packed_values::proofs::WhereLemmas::unread_by))]
+    fn take(alloc: Global, input: &mut Input) -> Result<Option<VolumePlan>, WantOfMemory> {
+        all_taken!(VolumePlan, alloc, input; head: VolumeHeadForm, items: Rows<ItemForm>)
+    }
+}

@@ -1,0 +1,5 @@
+pub mod Form
+pub mod Plain
+pub mod Parts
+pub mod Arms
+pub mod Base

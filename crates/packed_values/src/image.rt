@@ -1,0 +1,51 @@
+//! Images, which are spelled as texts.
+ghost use Rattle.std.specs.Prelude.{◌≡◌, ◌++◌, ◌<◌, ◌^◌, length, OnOk, IfOk};
+ghost use Rattle.packed_values.specs.Form.{IsPut, IsRead, IsUnread};
+ghost use Rattle.packed_values.specs.Plain.{text_form};
+
+use crate::bytes::take_bytes;
+use crate::input::Input;
+use crate::packed::Packed;
+use build_base::{Image, Rows, Run, Text, WantOfMemory};
+use std::alloc::Global;
+
+// Adds the bytes of an image.
+fn put_pieces(image: &Image, out: &mut Vec<u8>) -> Result<(), WantOfMemory>
+    ensures { OnOk result (out.new.items ≡ out.old.items ++ image.now) }
+{
+    let mut pieces = image.pieces();
+    while let Some(piece) = pieces.next() {
+        out.extend_from_slice(piece)?;
+    }
+    Ok(())
+}
+
+// The image of these bytes.
+#[tactic(auto, unfolding(build_base::specs::Runs::runs_bytes, build_base::specs::Runs::are_blank))]
+fn image_of(alloc: Global, bytes: &[u8]) -> Result<Image, WantOfMemory>
+    ensures { IfOk result (λ image. image ≡ bytes.now) }
+{
+    let text = Text::of(alloc, bytes)?;
+    let mut runs = Rows::new(alloc);
+    runs.push(Run::Bytes(text))?;
+    Ok(Image::of_runs(runs))
+}
+
+impl Packed for Image {
+    type Value = Image;
+
+    ghost form = { text_form };
+
+    #[tactic(auto, unfolding(crate::specs::Plain::text_form, crate::specs::Plain::number_form))]
+    fn put(value: &Image, out: &mut Vec<u8>) -> Result<(), WantOfMemory> {
+        u64::put(&value.length(), out)?;
+        put_pieces(value, out)
+    }
+
+    fn take(alloc: Global, input: &mut Input) -> Result<Option<Image>, WantOfMemory> {
+        match take_bytes(alloc, input)? {
+            None => Ok(None),
+            Some(bytes) => Ok(Some(image_of(alloc, bytes)?)),
+        }
+    }
+}

@@ -1,0 +1,9 @@
+use Rattle.std.proofs.Common.{◌≡◌, ◌<◌, fold, drop}
+use Rattle.pcd_resolve.specs.Marks.{step}
+use Rattle.pcd_resolve.proofs.marks.place_in.Given as goal
+
+abbrev pub invariant-loop-byte : goal.invariant-loop-byte
+invariant-loop-byte l = record {
+  below : l.place < 16384;
+  left : fold step l.place (drop l.byte-index l.tail) ≡ fold step 0 l.tail;
+}

@@ -1,0 +1,30 @@
+-- Names of which a table has the lines, by marks at places that names come to. Two names may come to one place, so a table may
+-- have lines that nothing asks for.
+use Rattle.std.specs.Prelude.{ℕ, ◌+◌, ◌-◌, ◌*◌, ◌%◌, Bool, true, List, length, drop, fold, set, slice_get, Option, Some, None}
+
+-- the last bytes of a name
+abbrev pub tail_of : List ℕ → List ℕ
+tail_of name = drop (length name - 8) name
+
+abbrev pub step : ℕ → ℕ → ℕ
+step place byte = (place * 31 + byte) % 16384
+
+-- the place to which a name comes, by its last bytes
+unfoldable pub place_of : List ℕ → ℕ
+place_of name = fold step 0 (tail_of name)
+
+-- a place that isn't among the marks counts as marked
+abbrev pub mark_of : Option Bool → Bool
+mark_of None = true
+mark_of (Some mark) = mark
+
+abbrev pub is_kept : List Bool → List ℕ → Bool
+is_kept marks name = mark_of (slice_get marks (place_of name))
+
+-- with one name more
+abbrev pub with_mark : List Bool → List ℕ → List Bool
+with_mark marks name = set marks (place_of name) true
+
+-- with the names of a list
+abbrev pub with_marks : List Bool → List (List ℕ) → List Bool
+with_marks marks names = fold with_mark marks names

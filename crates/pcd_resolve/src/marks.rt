@@ -1,0 +1,138 @@
+//! The names of which a table has the lines. A table of all lines of a package, made anew for each module, would cost
+//! far more than the lines that the module asks for: so the names that are asked for are marked, and a line without a
+//! mark is passed by.
+ghost use Rattle.std.specs.Prelude.{◌≡◌, false, fold, length, map, OnOk, IfOk};
+ghost use Rattle.pcd_resolve.specs.Listing.{uses_of_module};
+ghost use Rattle.pcd_resolve.specs.Marks.{is_kept, place_of, step, with_mark, with_marks};
+ghost use Rattle.pcd_resolve.specs.Names.{dotted};
+ghost use Rattle.pcd_resolve.specs.Tables.{use_name, AllKept};
+ghost use Rattle.pcd_resolve.specs.Views.{at_view};
+
+use crate::listing::UseAt;
+use crate::names::dotted;
+use crate::uses::uses_of_module;
+use build_base::WantOfMemory;
+use doc_types::parts::ModuleParts;
+use doc_types::pcd::PcdName;
+use std::alloc::Global;
+
+fn place_in(tail: &[u8]) -> usize
+    ensures { result ≡ fold step 0 tail.now }
+{
+    let mut place = 0;
+    for byte in tail {
+        place = (place * 31 + *byte as usize) % 16384;
+    }
+    place
+}
+
+#[tactic(auto, unfolding(crate::specs::Marks::place_of))]
+fn place_of(name: &[u8]) -> usize
+    ensures { result ≡ place_of name.now }
+{
+    place_in(&name[name.len().saturating_sub(8)..])
+}
+
+/// Marks where none is set.
+pub fn no_marks(alloc: Global) -> Result<Vec<bool>, WantOfMemory>
+    ensures { IfOk result (λ marks. length marks.items ≡ 16384) }
+{
+    let mut marks = Vec::new(alloc);
+    marks.resize(16384, false)?;
+    Ok(marks)
+}
+
+/// Marks a name.
+pub fn mark(marks: &mut Vec<bool>, name: &[u8])
+    ensures { marks.new.items ≡ with_mark marks.old.items name.now }
+{
+    let place = place_of(name);
+    if place < marks.len() {
+        marks[place] = true;
+    }
+}
+
+/// Whether a line of a name is wanted.
+pub fn is_kept(marks: &[bool], name: &[u8]) -> bool
+    ensures { result ≡ is_kept marks.now name.now }
+{
+    match marks.get(place_of(name)) {
+        Some(mark) => *mark,
+        None => true,
+    }
+}
+
+/// Whether lines of a PCD may be wanted, by the second part of its name alone; where it is short they may be.
+pub fn may_be_kept(marks: &[bool], pcd: &PcdName) -> bool
+    ensures { result ≡ false → is_kept marks.now (dotted pcd.now) ≡ false }
+{
+    let name = pcd.name.bytes();
+    if name.len() < 8 {
+        return true;
+    }
+    is_kept(marks, name)
+}
+
+/// Marks the names of a list.
+pub fn mark_names(marks: &mut Vec<bool>, names: &[Vec<u8>])
+    ensures { marks.new.items ≡ with_marks marks.old.items (map (λ n. n.items) names.now) }
+{
+    let mut left = names;
+    while let [name, rest @ ..] = left {
+        mark(marks, name.as_slice());
+        left = rest;
+    }
+}
+
+#[tactic(auto, unfolding(crate::specs::Listing::use_of))]
+fn mark_use(
+    alloc: Global,
+    marks: &mut Vec<bool>,
+    parts: &ModuleParts,
+    at: &UseAt<'_>,
+) -> Result<(), WantOfMemory>
+    ensures { OnOk result (marks.new.items ≡ with_mark marks.old.items (use_name (at_view parts.now at.now))) }
+{
+    let name = dotted(alloc, &at.line.pcd)?;
+    mark(marks, name.as_slice());
+    Ok(())
+}
+
+fn mark_each(
+    alloc: Global,
+    marks: &mut Vec<bool>,
+    parts: &ModuleParts,
+    uses: &[UseAt<'_>],
+) -> Result<(), WantOfMemory>
+    ensures { OnOk result (marks.new.items ≡ with_marks marks.old.items (map use_name (map (at_view parts.now) uses.now))) }
+{
+    let mut left = uses;
+    while let [at, rest @ ..] = left {
+        mark_use(alloc, marks, parts, at)?;
+        left = rest;
+    }
+    Ok(())
+}
+
+fn mark_uses(alloc: Global, marks: &mut Vec<bool>, parts: &ModuleParts) -> Result<(), WantOfMemory>
+    ensures { OnOk result (marks.new.items ≡ with_marks marks.old.items (map use_name (uses_of_module parts.now))) }
+{
+    let uses = uses_of_module(alloc, parts)?;
+    mark_each(alloc, marks, parts, uses.as_slice())?;
+    Ok(())
+}
+
+/// Marks with some names and those of a module's uses.
+pub fn marks_of(
+    alloc: Global,
+    parts: &ModuleParts,
+    names: &[Vec<u8>],
+) -> Result<Vec<bool>, WantOfMemory>
+    ensures names { IfOk result (λ marks. AllKept marks.items (map (λ n. n.items) names.now)) }
+    ensures uses { IfOk result (λ marks. AllKept marks.items (map use_name (uses_of_module parts.now))) }
+{
+    let mut marks = no_marks(alloc)?;
+    mark_names(&mut marks, names);
+    mark_uses(alloc, &mut marks, parts)?;
+    Ok(marks)
+}

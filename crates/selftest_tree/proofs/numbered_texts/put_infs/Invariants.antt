@@ -1,0 +1,9 @@
+use Rattle.std.proofs.Common.{◌-◌, ◌≤◌, ◌≡◌, ◌++◌}
+use Rattle.selftest_tree.specs.Texts.{for_each, inf_line}
+use Rattle.selftest_tree.proofs.numbered_texts.put_infs.Given as goal
+
+abbrev pub invariant-loop-k : goal.invariant-loop-k
+invariant-loop-k l = (l.k ≤ l.n) × (l.out.items ≡ l.fn.out.items ++ for_each inf_line l.k)
+
+abbrev pub decreases-loop-k : goal.decreases-loop-k
+decreases-loop-k l = l.n - l.k

@@ -1,0 +1,12 @@
+//! The workspace that `selftest` builds: a package, a platform, a flash description, and as many modules as are wanted.
+#![tactic(auto)]
+
+pub mod constant_texts;
+pub mod count;
+pub mod files;
+pub mod module;
+pub mod numbered_texts;
+
+pub use count::count_of;
+pub use files::selftest_files;
+pub use module::{edited_text, module_path};

@@ -1,0 +1,11 @@
+pub mod PoolLemmas
+pub mod NumberLemmas
+pub mod OnceLemmas
+pub mod UseLemmas
+pub mod GivenLemmas
+pub mod OrderLemmas
+pub mod PartLemmas
+pub mod TextLemmas
+pub mod CacheLemmas
+pub mod TableLemmas
+pub mod KnownLemmas

@@ -1,0 +1,87 @@
+-- The text of a cache: `EDKSTEPS`, the edition in four bytes, the length of the whole text in eight, the pool of the packed answers and
+-- results, and the entries in ascending order of their keys' packed forms, with numbers of the pool in place of answers and results. The
+-- rule is this project's own.
+use Rattle.std.specs.Prelude.{◌≡◌, ◌++◌, ◌+◌, ◌^◌, ◌&&◌, ℕ, Bool, true, List, [], ◌∷◌, length, map, codes, nat_lt}
+use Rattle.std.specs.List.{list_all, flat_map}
+use Rattle.packed_values.specs.Plain.{number_form}
+use Rattle.packed_outcomes.specs.Talk.{answer_form, outcome_form}
+use Rattle.step_engine.specs.Caches.{AreInOrder}
+use Rattle.step_engine.specs.declared.talk.Batch.{Batch}
+use Rattle.step_engine.specs.declared.talk.Entry.{Entry}
+use Rattle.step_engine.specs.declared.talk.Pair.{Pair}
+use Rattle.step_pack.specs.Keys.{key_cmp}
+use Rattle.step_pack.specs.declared.key.Key.{Key}
+use Rattle.step_pack.specs.declared.out.Out.{Out}
+use Rattle.step_cache.specs.Numbered.{pooled_form}
+use Rattle.step_cache.specs.Pools.{pool_of, number_in}
+use Rattle.step_cache.specs.declared.numbered.Asked.{Asked}
+use Rattle.step_cache.specs.declared.numbered.Numbered.{Numbered}
+use Rattle.step_cache.specs.declared.numbered.Pooled.{Pooled}
+
+-- the packed answers of an entry, in order, and its packed result
+abbrev pub pair_text : Pair Key Out → List ℕ
+pair_text pair = answer_form.spelling pair.answer
+
+abbrev pub pair_texts : Pair Key Out → List (List ℕ)
+pair_texts pair = pair_text pair ∷ []
+
+abbrev pub batch_texts : Batch Key Out → List (List ℕ)
+batch_texts batch = flat_map pair_texts batch.pairs
+
+abbrev pub entry_texts : Entry Key Out → List (List ℕ)
+entry_texts entry = flat_map batch_texts entry.talk.batches ++ outcome_form.spelling entry.result ∷ []
+
+abbrev pub cache_texts : List (Entry Key Out) → List (List ℕ)
+cache_texts entries = flat_map entry_texts entries
+
+-- an entry with the numbers of its texts
+abbrev pub numbered_pair : List (List ℕ) → Pair Key Out → Asked
+numbered_pair pool pair = record { ask = pair.ask; number = number_in pool (pair_text pair) }
+
+abbrev pub numbered_batch : List (List ℕ) → Batch Key Out → List Asked
+numbered_batch pool batch = map (numbered_pair pool) batch.pairs
+
+abbrev pub numbered : List (List ℕ) → Entry Key Out → Numbered
+numbered pool entry = record {
+  key = entry.key;
+  batches = map (numbered_batch pool) entry.talk.batches;
+  result = number_in pool (outcome_form.spelling entry.result);
+}
+
+unfoldable pub pooled : List (Entry Key Out) → Pooled
+pooled entries = record {
+  pool = pool_of (cache_texts entries);
+  entries = map (numbered (pool_of (cache_texts entries))) entries;
+}
+
+abbrev pub body_of : List (Entry Key Out) → List ℕ
+body_of entries = pooled_form.spelling (pooled entries)
+
+-- the edition of the text
+abbrev pub edition : ℕ
+edition = 2
+
+-- what stands before a body of so many bytes
+abbrev pub head_of : ℕ → List ℕ
+head_of count = codes "EDKSTEPS" ++ (number_form 4).spelling edition ++ (number_form 8).spelling (20 + count)
+
+unfoldable pub cache_text : List (Entry Key Out) → List ℕ
+cache_text entries = head_of (length (body_of entries)) ++ body_of entries
+
+-- the answers and the results are values
+abbrev pub pair_is_value : Pair Key Out → Bool
+pair_is_value pair = answer_form.is_value pair.answer
+
+abbrev pub batch_is_value : Batch Key Out → Bool
+batch_is_value batch = list_all pair_is_value batch.pairs
+
+abbrev pub entry_is_value : Entry Key Out → Bool
+entry_is_value entry = list_all batch_is_value entry.talk.batches && outcome_form.is_value entry.result
+
+-- the bytes are the text of a cache of these entries
+pub record IsCacheText (entries : List (Entry Key Out)) (bytes : List ℕ) : Type 0 where
+  pub order : AreInOrder key_cmp entries
+  pub answers : list_all entry_is_value entries ≡ true
+  pub parts : pooled_form.is_value (pooled entries) ≡ true
+  pub fits : nat_lt (length bytes) (256 ^ 8) ≡ true
+  pub text : bytes ≡ cache_text entries

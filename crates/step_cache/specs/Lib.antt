@@ -1,0 +1,6 @@
+pub mod Numbered
+pub mod Pools
+pub mod CacheText
+pub mod Decoding
+pub mod Checking
+pub mod Known

@@ -1,0 +1,15 @@
+//! The text of a cache: each answer once, and the entries with numbers in their place.
+#![tactic(auto)]
+
+mod checking;
+mod decoding;
+mod known;
+pub mod laws;
+pub mod numbered;
+mod pool;
+mod reading;
+mod text;
+mod writing;
+
+pub use reading::unpack;
+pub use writing::pack;

@@ -1,0 +1,8 @@
+//! A tree and a sink in memory that never fail.
+#![tactic(auto)]
+
+pub mod sure_sink;
+pub mod sure_tree;
+
+pub use sure_sink::SureSink;
+pub use sure_tree::SureTree;
