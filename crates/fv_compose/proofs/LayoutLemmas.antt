@@ -7,6 +7,7 @@ use Rattle.ffs_sections.specs.Alignment.{IsAlignment}
 use Rattle.fv_compose.specs.Files.{is_top, file_start, file_end, plain_files, end_of, AreAligned}
 use Rattle.fv_compose.specs.Place.{up}
 use Rattle.fv_compose.specs.Turns.{own_start, own_starts, next_end}
+use Rattle.fv_compose.specs.Places.{placed_at, placed_from}
 use Rattle.fv_compose.proofs.FileLemmas.{end_more, end_left, Spaced, spaced_start}
 
 pub starts_more : (at : ℕ) (files : List FileImage) (i : ℕ) (file : FileImage) → i < length files → file ≡ get_or files i file
@@ -17,6 +18,15 @@ starts_more at files i file h e = rw (drop_more files i file h, ← e) refl
 pub starts_all : (at : ℕ) (files : List FileImage) (i : ℕ) → length files ≤ i → own_starts at (drop i files) ≡ []
 unfolding own_starts
 starts_all at files i h = rw (drop_all i files h) refl
+
+pub placed_more : (size at : ℕ) (files : List FileImage) (i : ℕ) (file : FileImage) → i < length files → file ≡ get_or files i file
+    → placed_from size at (drop i files) ≡ placed_at size at file ∷ placed_from size (next_end at file) (drop (i + 1) files)
+unfolding placed_from
+placed_more size at files i file h e = rw (drop_more files i file h, ← e) refl
+
+pub placed_all : (size at : ℕ) (files : List FileImage) (i : ℕ) → length files ≤ i → placed_from size at (drop i files) ≡ []
+unfolding placed_from
+placed_all size at files i h = rw (drop_all i files h) refl
 
 -- what is left of the starts begins with that of the file
 pub record Here (starts : List ℕ) (at : ℕ) (files : List FileImage) (i : ℕ) (file : FileImage) : Type 0 where

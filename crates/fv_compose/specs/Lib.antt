@@ -4,3 +4,4 @@ pub mod Place
 pub mod Files
 pub mod Volume
 pub mod Turns
+pub mod Places

@@ -70,8 +70,12 @@ fn named(alloc: Global, code: u16, place: &Place, plan: &VolumeHead) -> Result<F
     })
 }
 
-// A top file after another.
-fn check_tops(alloc: Global, plan: &VolumeHead, files: &[FileImage]) -> Result<(), Refusal>
+/// A top file after another.
+pub(crate) fn check_tops(
+    alloc: Global,
+    plan: &VolumeHead,
+    files: &[FileImage],
+) -> Result<(), Refusal>
     ensures { Checks result (twice_fault plan.now files.now) }
 {
     let mut found = false;
@@ -121,8 +125,8 @@ fn check_top(
     }
 }
 
-// The first file that can't stand in its place in a volume of this length.
-fn check_places(
+/// The first file that can't stand in its place in a volume of this length.
+pub(crate) fn check_places(
     alloc: Global,
     plan: &VolumeHead,
     files: &[FileImage],

@@ -5,4 +5,11 @@ pub mod SectionLemmas
 pub mod FileLemmas
 pub mod ErasedLemmas
 pub mod HeldLemmas
+pub mod WalkLemmas
+pub mod FieldLemmas
+pub mod RowLemmas
+pub mod MadeLemmas
+pub mod ChainLemmas
+pub mod ReadHeadLemmas
+pub mod WrittenLemmas
 pub mod FoundLemmas

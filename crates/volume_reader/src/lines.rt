@@ -9,9 +9,9 @@ use build_base::{Guid, WantOfMemory};
 use std::alloc::Global;
 use uuid::Uuid;
 
-/// Adds a number in hexadecimal.
+/// Adds a number in hexadecimal, in capitals and without leading zeros.
 #[tactic(auto, unfolding(crate::specs::Lines::hex))]
-pub(crate) fn put_hex(alloc: Global, out: &mut Vec<u8>, n: u64) -> Result<(), WantOfMemory>
+pub fn put_hex(alloc: Global, out: &mut Vec<u8>, n: u64) -> Result<(), WantOfMemory>
     ensures { OnOk result (out.new.items ≡ out.old.items ++ hex n) }
 {
     let digits = format!(in alloc; "{n:X}")?;

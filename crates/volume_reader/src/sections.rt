@@ -166,7 +166,7 @@ fn follows(ffs3: bool, body: &[u8], at: u64) -> bool
 }
 
 /// The sections of a body that stands at a place of the volume; None where it is no list of sections.
-pub(crate) fn sections_of(
+pub fn sections_of(
     alloc: Global,
     ffs3: bool,
     place: u64,

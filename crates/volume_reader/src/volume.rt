@@ -1,7 +1,9 @@
 //! What a volume holds (UEFI PI specification, volume 3, sections 3.2.1 to 3.2.3).
-ghost use Rattle.std.specs.Prelude.{◌≤◌, IfOk, ◌≡◌, ◌-◌, IfErr, ◌<◌, ◌+◌, ◌^◌, IsTrue, length};
+ghost use Rattle.std.specs.Prelude.{◌≤◌, IfOk, ◌≡◌, ◌-◌, IfErr, ◌<◌, ◌+◌, ◌^◌, IsTrue, List, length};
+ghost use Rattle.doc_types.specs.declared.volume_head.VolumeHead.{VolumeHead};
 ghost use Rattle.volume_reader.specs.Head.{is_head};
 ghost use Rattle.volume_reader.specs.Volume.{held_from, volume_list, Reads, IsNear};
+ghost use Rattle.volume_reader.specs.Written.{Made, IsWritten, written_list};
 
 use crate::erased::erased_from;
 use crate::file::{is_file, listed_file, stated_size};
@@ -54,9 +56,9 @@ fn held_from(
     Ok(Held { files, free })
 }
 
-/// What the volume holds that some bytes begin with. A wrong file is named by its place in the volume.
+// What the volume holds that some bytes begin with.
 #[tactic(auto, unfolding(crate::specs::Volume::volume_list))]
-pub fn read_volume(alloc: Global, bytes: &[u8]) -> Result<VolumeList, ReadRefusal>
+fn read_list(alloc: Global, bytes: &[u8]) -> Result<VolumeList, ReadRefusal>
     requires { IsTrue (is_head bytes.now) }
     ensures value { Reads result (volume_list bytes.now) }
     ensures near { IfErr result IsNear }
@@ -79,4 +81,17 @@ pub fn read_volume(alloc: Global, bytes: &[u8]) -> Result<VolumeList, ReadRefusa
         files: held.files,
         free: held.free,
     })
+}
+
+/// What the volume holds that some bytes begin with. A wrong file is named by its place in the volume. A volume that
+/// is written reads back as its files and the pad files between them.
+pub fn read_volume(alloc: Global, bytes: &[u8]) -> Result<VolumeList, ReadRefusal>
+    requires { IsTrue (is_head bytes.now) }
+    ensures value { Reads result (volume_list bytes.now) }
+    ensures near { IfErr result IsNear }
+    ensures some { IfOk result (λ list. 0 < list.length) }
+    ensures inside { IfOk result (λ list. list.length ≤ length bytes.now) }
+    ensures written { (head : VolumeHead) (made : List Made) → IsWritten head made bytes.now → IfOk result (λ list. list ≡ written_list head made (length bytes.now)) }
+{
+    read_list(alloc, bytes)
 }
