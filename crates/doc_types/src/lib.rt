@@ -19,3 +19,4 @@ pub mod together;
 pub mod values;
 pub mod volume;
 pub mod volume_head;
+pub mod vpd;
