@@ -1,0 +1,5 @@
+pub mod BlockLemmas
+pub mod FileLemmas
+pub mod SameLemmas
+pub mod BodyLemmas
+pub mod VolumeLemmas
