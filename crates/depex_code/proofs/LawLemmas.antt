@@ -1,10 +1,10 @@
 -- Reading back what is compiled gives the tree that was compiled.
-use Rattle.std.proofs.Common.{◌≡◌, ⊎_elim, ℕ, ◌≤◌, cond, Bool, true, false, List, [], ◌∷◌, Option, Some, None, Result, Ok, Err, length, drop, option_map, refl, sym, ap, ◌∙◌, subst, arith}
+use Rattle.std.proofs.Common.{◌≡◌, ⊎_elim, ℕ, ◌≤◌, max, cond, Bool, true, false, List, [], ◌∷◌, Option, Some, None, Result, Ok, Err, length, drop, option_map, refl, sym, ap, ◌∙◌, subst, arith}
 use Rattle.std.proofs.lemmas.List.{same_from_push}
 use Rattle.build_base.specs.declared.fault.Fault.{Fault}
 use Rattle.doc_types.specs.declared.depex.DepexGroup.{DepexGroup}
 use Rattle.doc_types.specs.declared.module_type.ModuleType.{ModuleType}
-use Rattle.depex_code.specs.Tree.{Tree, sor, post, nest, opcodes, Plain, IsPlaced, bytes_of, IsForm, ReadBack}
+use Rattle.depex_code.specs.Tree.{Tree, sor, simplified, post, nest, opcodes, Plain, IsPlaced, bytes_of, IsForm, ReadBack}
 use Rattle.depex_code.specs.Postfix.{ready}
 use Rattle.depex_code.specs.Compiled.{around, groups_tree, has_depex, module_leave, has_front, map_ok, module_tree, compiled_tree, bytes_of_all, compiled}
 use Rattle.depex_code.specs.Law.{HaveGuids, ReadsBack}
@@ -12,6 +12,7 @@ use Rattle.depex_code.proofs.PostfixBodies.{body_runs, plain-placed, root, not-n
 use Rattle.depex_code.proofs.LimitLemmas.{AllWithin, groups-within}
 use Rattle.build_base.proofs.ResultLemmas.{ok_is, err_is_not}
 use Rattle.depex_code.proofs.PlainLemmas.{IsPlain, groups-plain}
+use Rattle.depex_code.proofs.SimpleLemmas.{simple-plain, simple-nest, simple-opcodes}
 
 -- One tree has these bytes.
 
@@ -58,17 +59,32 @@ around-placed false t p = plain-placed t p
 some-is : (x y : Tree) → Some x ≡ Some y → x ≡ y
 some-is x y e = cc
 
-around-form : (front : Bool) (w : Option Tree) (u : Tree) → AllWithin front w → IsPlain w → option_map (around front) w ≡ Some u → IsForm (bytes_of u) u
+-- a conjunction that is simplified stays within the limits
+around-shallow : (front : Bool) (t s : Tree) → nest s ≤ max (nest t) 2 → nest (around front t) ≤ 64 → nest (around front s) ≤ 64
+around-shallow true t s h k = omega (arith, h, k)
+around-shallow false t s h k = omega (arith, h, k)
+
+around-short : (front : Bool) (t s : Tree) → opcodes s ≤ opcodes t → opcodes (around front t) ≤ 4096 → opcodes (around front s) ≤ 4096
+around-short true t s h k = omega (arith, h, k)
+around-short false t s h k = omega (arith, h, k)
+
+around-form : (front : Bool) (w : Option Tree) (u : Tree) → AllWithin front w → IsPlain w → option_map (λ t. around front (simplified t)) w ≡ Some u → IsForm (bytes_of u) u
 around-form front None u a p e = absurd (cc)
 around-form front (Some t) u a p e =
-    let i : around front t ≡ u = some-is (around front t) u e in
-    subst (λ (v : Tree). IsForm (bytes_of v) v) i (record { spelled = refl; placed = around-placed front t p; shallow = a.shallow; short = a.short })
+    let i : around front (simplified t) ≡ u = some-is (around front (simplified t)) u e in
+    subst (λ (v : Tree). IsForm (bytes_of v) v) i (record {
+      spelled = refl;
+      placed = around-placed front (simplified t) (simple-plain t p);
+      shallow = around-shallow front t (simplified t) (simple-nest t) a.shallow;
+      short = around-short front t (simplified t) (simple-opcodes t) a.short;
+    })
 
-front-form : (front : Bool) (r : Result (Option Tree) Fault) (u : Tree) → ((w : Option Tree) → r ≡ Ok w → AllWithin front w × IsPlain w) → map_ok (option_map (around front)) r ≡ Ok (Some u) → IsForm (bytes_of u) u
+front-form : (front : Bool) (r : Result (Option Tree) Fault) (u : Tree)
+    → ((w : Option Tree) → r ≡ Ok w → AllWithin front w × IsPlain w) → map_ok (option_map (λ t. around front (simplified t))) r ≡ Ok (Some u) → IsForm (bytes_of u) u
 front-form front (Err f) u h e = absurd (err_is_not f (Some u) e)
-front-form front (Ok w) u h e = let k = h w refl in around-form front w u k.0 k.1 (ok_is (option_map (around front) w) (Some u) e)
+front-form front (Ok w) u h e = let k = h w refl in around-form front w u k.0 k.1 (ok_is (option_map (λ t. around front (simplified t)) w) (Some u) e)
 
-module-form : (t : ModuleType) (groups : List DepexGroup) (u : Tree) → HaveGuids groups → module_tree t groups ≡ Ok (Some u) → IsForm (bytes_of u) u
+module-form : (t : ModuleType) (groups : List DepexGroup) (u : Tree) → HaveGuids groups → module_tree simplified t groups ≡ Ok (Some u) → IsForm (bytes_of u) u
 unfolding module_tree
 module-form t groups u a e =
     front-form (has_front (module_leave t groups) groups) (groups_tree (has_front (module_leave t groups) groups) (module_leave t groups) None groups) u
@@ -77,7 +93,7 @@ module-form t groups u a e =
 compiled-form : (t : ModuleType) (groups : List DepexGroup) (u : Tree) → HaveGuids groups → compiled_tree t groups ≡ Ok (Some u) → IsForm (bytes_of u) u
 unfolding compiled_tree
 compiled-form t groups u a e = by_type (has_depex t) e where
-  by_type : (b : Bool) → cond b (module_tree t groups) (Ok None) ≡ Ok (Some u) → IsForm (bytes_of u) u
+  by_type : (b : Bool) → cond b (module_tree simplified t groups) (Ok None) ≡ Ok (Some u) → IsForm (bytes_of u) u
   by_type true x = module-form t groups u a x
   by_type false x = let n : None ≡ Some u = ok_is None (Some u) x in absurd (cc)
 

@@ -7,6 +7,7 @@ pub mod TermFinish
 pub mod TermTurns
 pub mod SizeLemmas
 pub mod PartLemmas
+pub mod SimpleLemmas
 pub mod JoinLoops
 pub mod JoinLemmas
 pub mod LimitLemmas

@@ -9,14 +9,15 @@ use Rattle.doc_types.specs.declared.depex.DepexPart.{DepexPart}
 use Rattle.doc_types.specs.declared.depex.DepexGroup.{DepexGroup}
 use Rattle.doc_types.specs.declared.module_type.ModuleType.{ModuleType}
 use Rattle.depex_code.specs.declared.leave.Leave.{Leave}
-use Rattle.depex_code.specs.Tree.{Tree, post, nest, opcodes}
-use Rattle.depex_code.specs.Sizes.{Size, size_of}
-use Rattle.depex_code.specs.SizedJoins.{groups_size, front_bytes, final_bytes}
+use Rattle.depex_code.specs.Tree.{Tree, simplified, post, nest, opcodes}
+use Rattle.depex_code.specs.Sizes.{Size, form_of, size_of}
+use Rattle.depex_code.specs.SizedJoins.{groups_size, front_bytes, simple_bytes, final_bytes}
 use Rattle.build_base.specs.FaultText.{fault_of}
 use Rattle.build_base.specs.First.{or_fault}
 use Rattle.depex_code.specs.Compiled.{limit_fault, part_tree, no_leave, joined_to, with_group, around, next_tree, parts_tree, groups_tree, has_depex, module_leave, has_front, module_tree, compiled_tree, bytes_of_all, compiled, map_ok}
 use Rattle.build_base.proofs.ResultLemmas.{as_err, ok_is, err_is_not}
-use Rattle.depex_code.proofs.SizeLemmas.{fits-bytes}
+use Rattle.depex_code.proofs.SizeLemmas.{fits-form}
+use Rattle.depex_code.proofs.SimpleLemmas.{simple-post}
 use Rattle.depex_code.proofs.JoinLemmas.{groups-sized}
 
 pub record Within (t : Tree) : Type 0 where
@@ -91,18 +92,25 @@ groups-within front leave w [] r a e = subst (λ (v : Option Tree). AllWithin fr
 groups-within front leave w (group ∷ groups) r a e =
     group_within front leave w group groups r (parts_tree front group.guids w leave None group.parts) a refl e (λ v b. groups-within front no_leave v groups r b)
 
-size-bytes : (t : Tree) → nest t ≤ 64 → opcodes t ≤ 4096 → (size_of t).bytes ≡ post t
+size-form : (t : Tree) → nest t ≤ 64 → opcodes t ≤ 4096 → (size_of t).form ≡ form_of t
 unfolding size_of
-size-bytes t d c = fits-bytes (nest t) (opcodes t) (post t) d c
+size-form t d c = fits-form (nest t) (opcodes t) (form_of t) d c
 
-front-post : (front : Bool) (t : Tree) → Within (around front t) → front_bytes front (size_of t).bytes ≡ post (around front t)
+simple-form : (front : Bool) (t : Tree) → Within (around front t) → (size_of t).form ≡ form_of t
+simple-form true t w = size-form t (omega (arith, w.shallow)) (omega (arith, w.short))
+simple-form false t w = size-form t w.shallow w.short
+
+front-post : (front : Bool) (t : Tree) → front_bytes front (post t) ≡ post (around front t)
 unfolding post
-front-post true t w = ap (λ l. 9 ∷ l) (size-bytes t (omega (arith, w.shallow)) (omega (arith, w.short)))
-front-post false t w = size-bytes t w.shallow w.short
+front-post true t = refl
+front-post false t = refl
 
-final-is : (front : Bool) (w : Option Tree) → AllWithin front w → final_bytes front (option_map size_of w) ≡ bytes_of_all (option_map (around front) w)
+final-is : (front : Bool) (w : Option Tree) → AllWithin front w → final_bytes front (option_map size_of w) ≡ bytes_of_all (option_map (λ t. around front (simplified t)) w)
 final-is front None a = refl
-final-is front (Some t) a = ap (λ l. l ++ 8 ∷ []) (front-post front t a)
+final-is front (Some t) a =
+    ap (λ x. front_bytes front (simple_bytes x) ++ 8 ∷ []) (simple-form front t a)
+    ∙ ap (λ l. front_bytes front l ++ 8 ∷ []) (simple-post t)
+    ∙ ap (λ l. l ++ 8 ∷ []) (front-post front (simplified t))
 
 -- the groups of a module, as the code has joined them
 abbrev module_size : ModuleType → List DepexGroup → Result (Option Size) Fault
@@ -110,7 +118,7 @@ module_size t groups = groups_size (has_front (module_leave t groups) groups) (m
 
 compiled-by : (t : ModuleType) (groups : List DepexGroup) (r : Result (Option Tree) Fault)
     → has_depex t ≡ true → groups_tree (has_front (module_leave t groups) groups) (module_leave t groups) None groups ≡ r
-    → compiled t groups ≡ map_ok bytes_of_all (map_ok (option_map (around (has_front (module_leave t groups) groups))) r)
+    → compiled t groups ≡ map_ok bytes_of_all (map_ok (option_map (λ w. around (has_front (module_leave t groups) groups) (simplified w))) r)
 unfolding compiled compiled_tree module_tree
 compiled-by t groups r h e = rw h (rw e refl)
 

@@ -1,5 +1,5 @@
 -- The machine does the same with sizes as with trees.
-use Rattle.std.proofs.Common.{◌≡◌, ℕ, ◌+◌, ◌≤◌, ◌&&◌, min, max, Bool, true, false, cond, nat_le, List, [], ◌∷◌, ◌++◌, Option, map, option_map, refl, sym, ap, ◌∙◌, arith}
+use Rattle.std.proofs.Common.{◌≡◌, ℕ, ◌+◌, ◌≤◌, ◌&&◌, min, max, Bool, true, false, cond, nat_le, List, [], ◌∷◌, Option, None, Some, map, option_map, refl, sym, ap, ◌∙◌, arith}
 use Rattle.std.proofs.lemmas.Bool.{le-leb, leb-true}
 use Rattle.build_base.specs.declared.guid.Guid.{Guid}
 use Rattle.depex_code.specs.declared.token.Token.{Token}
@@ -10,10 +10,10 @@ use Rattle.depex_code.specs.declared.token.Prefix.{Prefix}
 use Rattle.depex_code.specs.declared.token.Prefix.TheVariants.{Not, Sor}
 use Rattle.depex_code.specs.declared.token.Edge.{Edge}
 use Rattle.depex_code.specs.declared.token.Edge.TheVariants.{Before, After}
-use Rattle.depex_code.specs.Tree.{Tree, post, nest, opcodes}
+use Rattle.depex_code.specs.Tree.{Tree, neg, sor, post, nest, opcodes}
 use Rattle.depex_code.specs.Grammar.{prefix_tree, join_tree}
 use Rattle.depex_code.specs.Terms.{trees, Wait, group, front, left, State, wanting, pointing, holding, wrong, settle, closed, step, ended, is_right}
-use Rattle.depex_code.specs.Sizes.{Size, Reach, reach_of, join_reach, prefix_reach, fits, sized, size_of, sizes, join_size, prefix_size}
+use Rattle.depex_code.specs.Sizes.{Size, Reach, Form, no_form, form_of, join_form, prefix_form, reach_of, join_reach, prefix_reach, fits, sized, size_of, sizes, join_size, prefix_size}
 
 record_of : ℕ → ℕ → Reach
 record_of deep count = record { deep = deep; count = count }
@@ -21,8 +21,8 @@ record_of deep count = record { deep = deep; count = count }
 fits-low : (r : Reach) → r.deep ≤ 64 → r.count ≤ 4096 → fits r ≡ true
 fits-low r h k = ap (λ b. b && nat_le r.count 4096) (le-leb r.deep 64 h) ∙ le-leb r.count 4096 k
 
-pub fits-bytes : (d c : ℕ) (xs : List ℕ) → d ≤ 64 → c ≤ 4096 → cond (fits (reach_of d c)) xs [] ≡ xs
-fits-bytes d c xs h k = ap (λ b. cond b xs []) (fits-low (reach_of d c) (omega (arith, h)) (omega (arith, k)))
+pub fits-form : (d c : ℕ) (x : Form) → d ≤ 64 → c ≤ 4096 → cond (fits (reach_of d c)) x no_form ≡ x
+fits-form d c x h k = ap (λ b. cond b x no_form) (fits-low (reach_of d c) (omega (arith, h)) (omega (arith, k)))
 
 low-fits : (r : Reach) → fits r ≡ true → (r.deep ≤ 64) × (r.count ≤ 4096)
 low-fits r t = low (nat_le r.deep 64) refl where
@@ -30,23 +30,23 @@ low-fits r t = low (nat_le r.deep 64) refl where
   low true e = (leb-true r.deep 64 e, leb-true r.count 4096 (ap (λ b. b && nat_le r.count 4096) (sym e) ∙ t))
   low false e = let f : false ≡ true = ap (λ b. b && nat_le r.count 4096) (sym e) ∙ t in absurd (cc)
 
-bytes-same : (xs ys : List ℕ) (r : Reach) (b : Bool) → fits r ≡ b → (r.deep ≤ 64 → r.count ≤ 4096 → xs ≡ ys) → cond b xs [] ≡ cond b ys []
-bytes-same xs ys r true t same = let l = low-fits r t in same l.0 l.1
-bytes-same xs ys r false n same = refl
+form-same : (x y : Form) (r : Reach) (b : Bool) → fits r ≡ b → (r.deep ≤ 64 → r.count ≤ 4096 → x ≡ y) → cond b x no_form ≡ cond b y no_form
+form-same x y r true t same = let l = low-fits r t in same l.0 l.1
+form-same x y r false n same = refl
 
-made : Bool → List ℕ → Reach → Size
-made alone bytes reach = record { bytes = bytes; reach = reach; alone = alone }
+made : Bool → Form → Reach → Size
+made alone form reach = record { form = form; reach = reach; alone = alone }
 
-sized-made : (alone : Bool) (xs : List ℕ) (r : Reach) → sized alone xs r ≡ made alone (cond (fits r) xs []) r
+sized-made : (alone : Bool) (x : Form) (r : Reach) → sized alone x r ≡ made alone (cond (fits r) x no_form) r
 unfolding made
-sized-made alone xs r = refl
+sized-made alone x r = refl
 
-sized-same : (alone : Bool) (xs ys : List ℕ) (r s : Reach) → r ≡ s → (r.deep ≤ 64 → r.count ≤ 4096 → xs ≡ ys) → sized alone xs r ≡ sized alone ys s
-sized-same alone xs ys r s e same =
-    sized-made alone xs r
-    ∙ ap (λ z. made alone z r) (bytes-same xs ys r (fits r) refl same)
-    ∙ sym (sized-made alone ys r)
-    ∙ ap (sized alone ys) e
+sized-same : (alone : Bool) (x y : Form) (r s : Reach) → r ≡ s → (r.deep ≤ 64 → r.count ≤ 4096 → x ≡ y) → sized alone x r ≡ sized alone y s
+sized-same alone x y r s e same =
+    sized-made alone x r
+    ∙ ap (λ z. made alone z r) (form-same x y r (fits r) refl same)
+    ∙ sym (sized-made alone y r)
+    ∙ ap (sized alone y) e
 
 reach-same : (d e c f : ℕ) → min d 65 ≡ min e 65 → min c 4097 ≡ min f 4097 → reach_of d c ≡ reach_of e f
 unfolding record_of
@@ -61,29 +61,30 @@ join-reached d e c f = reach-same (max d (e + 1)) (max (min d 65) (min e 65 + 1)
 pub prefix-sized : (p : Prefix) (a : Tree) → size_of (prefix_tree p a) ≡ prefix_size p (size_of a)
 unfolding size_of post
 prefix-sized Not a =
-    sized-same false (post a ++ 5 ∷ []) (cond (fits (reach_of (nest a) (opcodes a))) (post a) [] ++ 5 ∷ []) (reach_of (nest a + 1) (opcodes a + 1)) (prefix_reach (reach_of (nest a) (opcodes a)))
-    (prefix-reached (nest a) (opcodes a)) (λ h k. ap (λ l. l ++ 5 ∷ []) (sym (fits-bytes (nest a) (opcodes a) (post a) (omega (arith, h)) (omega (arith, k)))))
+    sized-same false (form_of (neg a)) (prefix_form Not (cond (fits (reach_of (nest a) (opcodes a))) (form_of a) no_form)) (reach_of (nest a + 1) (opcodes a + 1)) (prefix_reach (reach_of (nest a) (opcodes a)))
+    (prefix-reached (nest a) (opcodes a)) (λ h k. ap (prefix_form Not) (sym (fits-form (nest a) (opcodes a) (form_of a) (omega (arith, h)) (omega (arith, k)))))
 prefix-sized Sor a =
-    sized-same false (9 ∷ post a) (9 ∷ cond (fits (reach_of (nest a) (opcodes a))) (post a) []) (reach_of (nest a + 1) (opcodes a + 1)) (prefix_reach (reach_of (nest a) (opcodes a)))
-    (prefix-reached (nest a) (opcodes a)) (λ h k. ap (λ l. 9 ∷ l) (sym (fits-bytes (nest a) (opcodes a) (post a) (omega (arith, h)) (omega (arith, k)))))
+    sized-same false (form_of (sor a)) (prefix_form Sor (cond (fits (reach_of (nest a) (opcodes a))) (form_of a) no_form)) (reach_of (nest a + 1) (opcodes a + 1)) (prefix_reach (reach_of (nest a) (opcodes a)))
+    (prefix-reached (nest a) (opcodes a)) (λ h k. ap (prefix_form Sor) (sym (fits-form (nest a) (opcodes a) (form_of a) (omega (arith, h)) (omega (arith, k)))))
 
-joined-sized : (code : ℕ) (xs ys : List ℕ) (d e c f : ℕ)
-    → sized false (xs ++ ys ++ code ∷ []) (reach_of (max d (e + 1)) (c + f + 1))
-    ≡ sized false (cond (fits (reach_of d c)) xs [] ++ cond (fits (reach_of e f)) ys [] ++ code ∷ []) (join_reach (reach_of d c) (reach_of e f))
-joined-sized code xs ys d e c f =
-    sized-same false (xs ++ ys ++ code ∷ []) (cond (fits (reach_of d c)) xs [] ++ cond (fits (reach_of e f)) ys [] ++ code ∷ []) (reach_of (max d (e + 1)) (c + f + 1)) (join_reach (reach_of d c) (reach_of e f))
+joined-sized : (op : Joiner) (x y : Form) (d e c f : ℕ)
+    → sized false (join_form op x y) (reach_of (max d (e + 1)) (c + f + 1))
+    ≡ sized false (join_form op (cond (fits (reach_of d c)) x no_form) (cond (fits (reach_of e f)) y no_form)) (join_reach (reach_of d c) (reach_of e f))
+joined-sized op x y d e c f =
+    sized-same false (join_form op x y) (join_form op (cond (fits (reach_of d c)) x no_form) (cond (fits (reach_of e f)) y no_form)) (reach_of (max d (e + 1)) (c + f + 1)) (join_reach (reach_of d c) (reach_of e f))
     (join-reached d e c f)
-    (λ h k. ap (λ l. l ++ ys ++ code ∷ []) (sym (fits-bytes d c xs (omega (arith, h)) (omega (arith, k))))
-    ∙ ap (λ l. cond (fits (reach_of d c)) xs [] ++ l ++ code ∷ []) (sym (fits-bytes e f ys (omega (arith, h)) (omega (arith, k)))))
+    (λ h k. ap (λ l. join_form op l y) (sym (fits-form d c x (omega (arith, h)) (omega (arith, k))))
+    ∙ ap (join_form op (cond (fits (reach_of d c)) x no_form)) (sym (fits-form e f y (omega (arith, h)) (omega (arith, k)))))
 
 pub join-sized : (op : Joiner) (a b : Tree) → size_of (join_tree op a b) ≡ join_size op (size_of a) (size_of b)
 unfolding size_of post
-join-sized And a b = joined-sized 3 (post a) (post b) (nest a) (nest b) (opcodes a) (opcodes b)
-join-sized Or a b = joined-sized 4 (post a) (post b) (nest a) (nest b) (opcodes a) (opcodes b)
+join-sized And a b = joined-sized And (form_of a) (form_of b) (nest a) (nest b) (opcodes a) (opcodes b)
+join-sized Or a b = joined-sized Or (form_of a) (form_of b) (nest a) (nest b) (opcodes a) (opcodes b)
 
 name-sized : (g : Option Guid) → sizes.name g ≡ size_of (trees.name g)
 unfolding size_of post
-name-sized g = refl
+name-sized None = refl
+name-sized (Some guid) = refl
 
 constant-sized : (b : Bool) → sizes.constant b ≡ size_of (trees.constant b)
 unfolding size_of post

@@ -16,7 +16,7 @@ use Rattle.depex_code.specs.declared.leave.Leave.{Leave}
 use Rattle.depex_code.specs.declared.token.Token.{Token}
 use Rattle.depex_code.specs.declared.token.Token.TheVariants as token
 use Rattle.depex_code.specs.declared.token.Prefix.TheVariants.{Sor}
-use Rattle.depex_code.specs.Tree.{Tree, both, sor, nest, opcodes, is_alone, bytes_of}
+use Rattle.depex_code.specs.Tree.{Tree, both, sor, nest, opcodes, is_alone, simplified, bytes_of}
 use Rattle.depex_code.specs.Terms.{expression, is_begun}
 use Rattle.depex_code.specs.Words.{token_of}
 
@@ -171,14 +171,15 @@ abbrev pub has_front : Leave → List DepexGroup → Bool
 has_front leave [] = false
 has_front leave (group ∷ groups) = leave.sor && first_has_sor group.parts
 
--- the tree of a module that has an expression
-unfoldable pub module_tree : ModuleType → List DepexGroup → Result (Option Tree) Fault
-module_tree t groups =
-    map_ok (option_map (around (has_front (module_leave t groups) groups))) (groups_tree (has_front (module_leave t groups) groups) (module_leave t groups) None groups)
+-- the tree of a module that has an expression, made by a function of the joined tree
+unfoldable pub module_tree : (Tree → Tree) → ModuleType → List DepexGroup → Result (Option Tree) Fault
+module_tree made t groups =
+    map_ok (option_map (λ w. around (has_front (module_leave t groups) groups) (made w)))
+    (groups_tree (has_front (module_leave t groups) groups) (module_leave t groups) None groups)
 
 -- The module's group first, then its libraries'. Other types have no expression, and no fault.
 unfoldable pub compiled_tree : ModuleType → List DepexGroup → Result (Option Tree) Fault
-compiled_tree t groups = if has_depex t then module_tree t groups else Ok None
+compiled_tree t groups = if has_depex t then module_tree simplified t groups else Ok None
 
 abbrev pub bytes_of_all : Option Tree → List ℕ
 bytes_of_all None = []
@@ -186,3 +187,11 @@ bytes_of_all (Some t) = bytes_of t
 
 unfoldable pub compiled : ModuleType → List DepexGroup → Result (List ℕ) Fault
 compiled t groups = map_ok bytes_of_all (compiled_tree t groups)
+
+-- Before conjunctions were simplified: the joined tree as it is.
+
+unfoldable pub joined_tree : ModuleType → List DepexGroup → Result (Option Tree) Fault
+joined_tree t groups = if has_depex t then module_tree (λ w. w) t groups else Ok None
+
+unfoldable pub joined_code : ModuleType → List DepexGroup → Result (List ℕ) Fault
+joined_code t groups = map_ok bytes_of_all (joined_tree t groups)

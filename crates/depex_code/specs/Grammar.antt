@@ -46,7 +46,11 @@ Binds (prefixed p t) = IsFactor t × Binds t
 Binds (joined l op r) = Binds l × IsFactor r × Binds r
 Binds (grouped t) = Binds t
 
--- the bytes of a name's GUID; a name without one has no tree in the end
+-- a name without a GUID has no tree in the end
+abbrev pub name_tree : Option Guid → Tree
+name_tree None = falsity
+name_tree (Some guid) = push guid.0
+
 abbrev pub guid_bytes : Option Guid → List ℕ
 guid_bytes None = []
 guid_bytes (Some guid) = guid.0
@@ -64,7 +68,7 @@ join_tree And a b = both a b
 join_tree Or a b = either a b
 
 abbrev pub meaning : Term → Tree
-meaning (named g) = push (guid_bytes g)
+meaning (named g) = name_tree g
 meaning (constant b) = if b then truth else falsity
 meaning (edged e g) = edge_tree e g
 meaning (prefixed p t) = prefix_tree p (meaning t)

@@ -2,6 +2,7 @@
 use Rattle.std.specs.Prelude.{◌≡◌, Bool, true, false, ℕ, List, [], ◌∷◌, Option, Some, None, Result, Ok, Err, map, reverse}
 use Rattle.std.specs.Option.{option_map}
 use Rattle.build_base.specs.declared.fault.Place.{Place}
+use Rattle.build_base.specs.declared.guid.Guid.{Guid}
 use Rattle.build_base.specs.declared.refusal.Refusal.{Refusal}
 use Rattle.build_base.specs.Answer.{Finds}
 use Rattle.depex_code.specs.declared.token.Token.{Token}
@@ -9,18 +10,25 @@ use Rattle.build_base.specs.FaultText.{fault_of}
 use Rattle.depex_code.specs.Compiled.{own_code, term_code}
 use Rattle.depex_code.specs.declared.measure.Measure.{Measure}
 use Rattle.depex_code.specs.declared.piece.Piece.{Piece}
+use Rattle.depex_code.specs.declared.piece.Code.{Code}
 use Rattle.depex_code.specs.declared.waiting.Waiting.{Waiting}
 use Rattle.depex_code.specs.declared.waiting.Waiting.TheVariants as waiting
 use Rattle.depex_code.specs.declared.waiting.Stage.{Stage}
 use Rattle.depex_code.specs.declared.waiting.Stage.TheVariants as stage
-use Rattle.depex_code.specs.Sizes.{Size, Reach}
+use Rattle.depex_code.specs.Sizes.{Size, Reach, Form}
 use Rattle.depex_code.specs.Terms.{Wait, group, front, left, State, wanting, pointing, holding, wrong, is_right}
 
 abbrev pub reach_view : Measure → Reach
 reach_view m = record { deep = m.deep; count = m.count }
 
+abbrev pub guids_view : List Guid → List (List ℕ)
+guids_view guids = map (λ g. g.0) guids
+
+abbrev pub form_view : Code → Form
+form_view code = record { bytes = code.bytes.items; guids = option_map (λ v. guids_view v.items) code.guids }
+
 abbrev pub piece_size : Piece → Size
-piece_size p = record { bytes = p.bytes.items; reach = reach_view p.measure; alone = p.alone }
+piece_size p = record { form = form_view p.code; reach = reach_view p.measure; alone = p.alone }
 
 abbrev pub wait_view : Waiting → Wait Size
 wait_view waiting.Group = group

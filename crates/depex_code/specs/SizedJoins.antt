@@ -1,5 +1,5 @@
 -- The joins of parts and groups, with sizes in place of trees.
-use Rattle.std.specs.Prelude.{Bool, ℕ, List, [], ◌∷◌, ◌++◌, Option, Some, None, Result, Ok, if◌then◌else◌}
+use Rattle.std.specs.Prelude.{Bool, ℕ, List, [], ◌∷◌, ◌++◌, Option, Some, None, Result, Ok, if◌then◌else◌, fold}
 use Rattle.std.specs.Option.{option_map}
 use Rattle.build_base.specs.declared.fault.Fault.{Fault}
 use Rattle.build_base.specs.declared.fault.Place.{Place}
@@ -12,7 +12,8 @@ use Rattle.depex_code.specs.declared.token.Joiner.TheVariants.{And}
 use Rattle.build_base.specs.FaultText.{fault_of}
 use Rattle.build_base.specs.First.{or_fault}
 use Rattle.depex_code.specs.Compiled.{over, part_tree, no_leave, map_ok}
-use Rattle.depex_code.specs.Sizes.{Reach, Size, join_reach, prefix_reach, join_size, size_of}
+use Rattle.depex_code.specs.Tree.{each_once}
+use Rattle.depex_code.specs.Sizes.{Reach, Form, Size, join_reach, prefix_reach, join_size, size_of}
 
 abbrev pub join_to_size : Option Size → Size → Size
 join_to_size None x = x
@@ -55,6 +56,25 @@ groups_size front leave whole (group ∷ groups) =
 abbrev pub front_bytes : Bool → List ℕ → List ℕ
 front_bytes front bytes = if front then 9 ∷ bytes else bytes
 
+-- the postfix form of a conjunction with one more GUID
+abbrev pub and_guid : List ℕ → List ℕ → List ℕ
+and_guid [] guid = 2 ∷ guid
+and_guid (b ∷ bs) guid = (b ∷ bs) ++ 2 ∷ guid ++ 3 ∷ []
+
+abbrev pub or_true : List ℕ → List ℕ
+or_true [] = 6 ∷ []
+or_true (b ∷ bs) = b ∷ bs
+
+abbrev pub and_bytes : List (List ℕ) → List ℕ
+and_bytes guids = or_true (fold and_guid [] (each_once guids))
+
+abbrev pub and_bytes_or : List ℕ → Option (List (List ℕ)) → List ℕ
+and_bytes_or bytes None = bytes
+and_bytes_or bytes (Some guids) = and_bytes guids
+
+abbrev pub simple_bytes : Form → List ℕ
+simple_bytes form = and_bytes_or form.bytes form.guids
+
 abbrev pub final_bytes : Bool → Option Size → List ℕ
 final_bytes front None = []
-final_bytes front (Some x) = front_bytes front x.bytes ++ 8 ∷ []
+final_bytes front (Some x) = front_bytes front (simple_bytes x.form) ++ 8 ∷ []

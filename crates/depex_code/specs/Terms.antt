@@ -8,8 +8,8 @@ use Rattle.depex_code.specs.declared.token.Token.TheVariants as token
 use Rattle.depex_code.specs.declared.token.Joiner.{Joiner}
 use Rattle.depex_code.specs.declared.token.Prefix.{Prefix}
 use Rattle.depex_code.specs.declared.token.Edge.{Edge}
-use Rattle.depex_code.specs.Tree.{Tree, push, truth, falsity}
-use Rattle.depex_code.specs.Grammar.{guid_bytes, edge_tree, prefix_tree, join_tree}
+use Rattle.depex_code.specs.Tree.{Tree, truth, falsity}
+use Rattle.depex_code.specs.Grammar.{name_tree, edge_tree, prefix_tree, join_tree}
 
 -- how values are made
 pub record Makes (V : Type 0) : Type 0 where
@@ -21,7 +21,7 @@ pub record Makes (V : Type 0) : Type 0 where
 
 abbrev pub trees : Makes Tree
 trees = record {
-  name = λ g. push (guid_bytes g);
+  name = name_tree;
   constant = λ b. if b then truth else falsity;
   edge = edge_tree;
   prefix = prefix_tree;

@@ -1,5 +1,7 @@
 -- Expressions as trees, their postfix form and their limits (UEFI PI specification, volumes 1 and 2).
-use Rattle.std.specs.Prelude.{◌≡◌, ℕ, ◌+◌, ◌≤◌, max, Bool, true, false, List, [], ◌∷◌, ◌++◌, Option, Some, None, length}
+use Rattle.std.specs.Prelude.{◌≡◌, ℕ, ◌+◌, ◌≤◌, max, Bool, true, false, if◌then◌else◌, List, [], ◌∷◌, ◌++◌, Option, Some, None, length, fold}
+use Rattle.std.specs.List.{list_any}
+use Rattle.std.specs.Str.{bytes_eq}
 use Rattle.doc_types.specs.declared.depex.Depex.{Depex, Push, And', Or', Not', True, False, Before, After, Sor'}
 
 -- a GUID is its sixteen bytes
@@ -72,6 +74,49 @@ is_alone falsity = false
 is_alone (before guid) = true
 is_alone (after guid) = true
 is_alone (sor a) = false
+
+-- Conjunctions.
+
+abbrev pub both_lists : Option (List (List ℕ)) → Option (List (List ℕ)) → Option (List (List ℕ))
+both_lists None y = None
+both_lists (Some xs) None = None
+both_lists (Some xs) (Some ys) = Some (xs ++ ys)
+
+-- the GUIDs from left to right of a tree that has nothing but And, Push and True; none of another tree
+abbrev pub conjuncts : Tree → Option (List (List ℕ))
+conjuncts (push guid) = Some (guid ∷ [])
+conjuncts (both a b) = both_lists (conjuncts a) (conjuncts b)
+conjuncts (either a b) = None
+conjuncts (neg a) = None
+conjuncts truth = Some []
+conjuncts falsity = None
+conjuncts (before guid) = None
+conjuncts (after guid) = None
+conjuncts (sor a) = None
+
+-- a GUID behind others, where it isn't among them
+abbrev pub with_guid : List (List ℕ) → List ℕ → List (List ℕ)
+with_guid guids guid = if list_any (bytes_eq guid) guids then guids else guids ++ guid ∷ []
+
+-- each GUID at its first place alone
+abbrev pub each_once : List (List ℕ) → List (List ℕ)
+each_once guids = fold with_guid [] guids
+
+abbrev pub and_push : Tree → List ℕ → Tree
+and_push t guid = both t (push guid)
+
+-- the GUIDs joined from the left by And, or True where there is none
+abbrev pub conjunction : List (List ℕ) → Tree
+conjunction [] = truth
+conjunction (guid ∷ guids) = fold and_push (push guid) guids
+
+abbrev pub conjunction_or : Tree → Option (List (List ℕ)) → Tree
+conjunction_or t None = t
+conjunction_or t (Some guids) = conjunction (each_once guids)
+
+-- a tree that has nothing but And, Push and True loses its repeats and its True
+unfoldable pub simplified : Tree → Tree
+simplified t = conjunction_or t (conjuncts t)
 
 -- no Sor within, and GUIDs of sixteen bytes
 abbrev pub Plain : Tree → Type 0

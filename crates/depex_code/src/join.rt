@@ -2,16 +2,17 @@
 ghost use Rattle.std.specs.Prelude.{◌≡◌, ◌++◌, ◌∷◌, [], Some, None, IfOk, option_map, if◌then◌else◌};
 ghost use Rattle.build_base.specs.First.{and_then};
 ghost use Rattle.build_base.specs.Answer.{AnswersAs, Checks};
-ghost use Rattle.depex_code.specs.Kept.{reach_view, piece_size};
+ghost use Rattle.depex_code.specs.Kept.{reach_view, form_view, piece_size};
 ghost use Rattle.depex_code.specs.Compiled.{over, no_leave};
-ghost use Rattle.depex_code.specs.SizedJoins.{join_to_size, join_to_reach, around_reach, with_group_size, reach_fault, next_piece, next_size, parts_size, groups_size, front_bytes, final_bytes};
+ghost use Rattle.depex_code.specs.SizedJoins.{join_to_size, join_to_reach, around_reach, with_group_size, reach_fault, next_piece, next_size, parts_size, groups_size, front_bytes, simple_bytes, final_bytes};
 
+use crate::conjunction::conjunction;
 use crate::leave::{Leave, NO_LEAVE};
 use crate::make::{joined, joined_measure, prefixed_measure, put};
 use crate::measure::Measure;
 use crate::opcode::{DEEPEST, END, MOST, SOR};
 use crate::part::part_piece;
-use crate::piece::Piece;
+use crate::piece::{Code, Piece};
 use crate::token::Joiner;
 use build_base::{Place, Refusal, Text, WantOfMemory, refuse};
 use doc_types::depex::{DepexGroup, DepexPart, NamedGuid};
@@ -200,12 +201,26 @@ fn ended_bytes(alloc: Global, front: bool, bytes: Vec<u8>) -> Result<Vec<u8>, Wa
     Ok(all)
 }
 
+// The bytes of the tree in which a conjunction has lost its repeats and its TRUE.
+fn simple_bytes(alloc: Global, code: Code) -> Result<Vec<u8>, WantOfMemory>
+    ensures { IfOk result (λ v. v.items ≡ simple_bytes (form_view code)) }
+{
+    let Code { bytes, guids } = code;
+    match guids {
+        None => Ok(bytes),
+        Some(guids) => conjunction(alloc, guids.as_slice()),
+    }
+}
+
 /// The bytes of an expression, with the SOR in front and END.
 pub fn final_bytes(alloc: Global, front: bool, whole: Option<Piece>) -> Result<Text, WantOfMemory>
     ensures { IfOk result (λ t. t ≡ final_bytes front (option_map piece_size whole)) }
 {
     match whole {
         None => Text::of(alloc, b""),
-        Some(piece) => Ok(Text::from_vec(ended_bytes(alloc, front, piece.bytes)?)),
+        Some(piece) => {
+            let bytes = simple_bytes(alloc, piece.code)?;
+            Ok(Text::from_vec(ended_bytes(alloc, front, bytes)?))
+        }
     }
 }

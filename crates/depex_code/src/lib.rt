@@ -2,6 +2,7 @@
 #![tactic(auto)]
 
 mod compiler;
+mod conjunction;
 mod held;
 mod join;
 mod law;

@@ -6,7 +6,7 @@ use Rattle.std.specs.Str.{bytes_eq}
 use Rattle.build_base.specs.First.{and_then}
 use Rattle.build_base.specs.declared.fault.Fault.{Fault}
 use Rattle.build_stages.specs.Stages.{misfit}
-use Rattle.depex_code.specs.Compiled.{compiled}
+use Rattle.depex_code.specs.Compiled.{compiled, joined_code}
 use Rattle.doc_types.specs.declared.arch.Arch.{Arch}
 use Rattle.doc_types.specs.declared.choice.Choice.{Choice}
 use Rattle.doc_types.specs.declared.depex.DepexGroup.{DepexGroup}
@@ -67,3 +67,9 @@ unfoldable pub depex_given : Choice → ModuleParts → Result (List ℕ) Fault
 depex_given choice parts =
     if choice.library then Ok []
     else and_then (own_type parts.infs) (λ kind. compiled kind (groups_of kind parts))
+
+-- the bytes before conjunctions were simplified
+unfoldable pub older_depex_given : Choice → ModuleParts → Result (List ℕ) Fault
+older_depex_given choice parts =
+    if choice.library then Ok []
+    else and_then (own_type parts.infs) (λ kind. joined_code kind (groups_of kind parts))
