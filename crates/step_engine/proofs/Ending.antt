@@ -1,5 +1,5 @@
 -- What a build leaves, over what holds when its key has its outcome.
-use Rattle.std.proofs.Common.{◌≡◌, ℕ, List, [], ◌∷◌, refl, sym, ap, ◌∙◌, subst, Contains, All, arith, inl, inr, ◌⊎◌, length, slice_get, Option, Some, None, IsPermutation}
+use Rattle.std.proofs.Common.{◌≡◌, ℕ, ◌+◌, List, [], ◌∷◌, refl, sym, ap, ◌∙◌, subst, Contains, All, arith, inl, inr, ◌⊎◌, length, length-append, slice_get, Option, Some, None, IsPermutation}
 use Rattle.std.proofs.lemmas.List.Elements.{All-nil, All-contains, All-weaker, All-contains_itself}
 use Rattle.std.proofs.lemmas.Option.{slice_get_read}
 use Rattle.std.specs.Cmp.{IsTotalOrder}
@@ -17,7 +17,7 @@ use Rattle.step_engine.specs.Engine.{State, state, AreKept}
 use Rattle.step_engine.specs.Agreeing.{HasTalkParts, Agree}
 use Rattle.step_engine.proofs.Talks.{valid_entry, same_entry, asked_in}
 use Rattle.step_engine.proofs.Moves.{none_in, one_in, has_key_grows}
-use Rattle.step_engine.proofs.Caches.{Contains-cons_cases, put_has, put_keeps, put_cases}
+use Rattle.step_engine.proofs.Caches.{Contains-cons_cases, put_has, put_keeps, put_cases, same_length}
 use Rattle.step_engine.proofs.Left.{keys, has_key, key_of, length_keys, keys_distinct, left_one, joined_sound}
 use Rattle.step_engine.specs.declared.talk.Outcome.TheVariants.{Good, Bad}
 use Rattle.step_engine.specs.declared.talk.Outcome.{Outcome}
@@ -169,6 +169,25 @@ end_of {K} {O} s top x z t u r cache b g same =
 -- the keys that ran
 pub end_all : {K O : Type 0} (s : Setting K O) (top : K) (x z : State K O) (u : Known K) (r : Outcome O) (cache : List (Entry K O)) (g : IsGoing s top x z u) → IsEnd s top (state cache z.learned z.ran z.reads) g.added r → RanAll s top x.ran z.ran
 end_all s top x z u r cache g d = (g.added, g.is, g.distinct, λ w i k t. all_ran s w i top (state cache z.learned z.ran z.reads) g.added r d k t)
+
+-- no key ran, and all that is left was handed in
+module _ {K O : Type 0} (s : Setting K O) (top : K) (x z : State K O) (u : Known K) (g : IsGoing s top x z u) (cmp : K → K → Ordering) (total : IsTotalOrder cmp) (made : List (Entry K O)) (same : AreSame z.fresh made) where
+  made_old : length z.ran ≡ length x.ran → (e : Entry K O) → Contains made e → Contains s.old e
+  made_old n e h = elim (g.sources e (same.from e h)) as (λ _. Contains s.old e) [
+    | inl l ↦ absurd (let all : length z.ran ≡ length x.ran + length g.added = ap length g.is ∙ length-append x.ran g.added in omega (arith, all, n, l.1))
+    | inr r ↦ r
+  ]
+
+  pub unchanged_good : AreInOrder cmp made → AreInOrder cmp s.old → (first : ℕ) → first ≡ length x.ran → (length z.ran ≡ first) × (length made ≡ length s.old) → made ≡ s.old
+  unchanged_good order sorted first is n = same_length cmp total made s.old order sorted (made_old (n.0 ∙ is)) n.1
+
+  pub unchanged_bad : (left : List (Entry K O)) → IsJoined made s.old left → AreInOrder cmp left → AreInOrder cmp s.old → (first : ℕ) → first ≡ length x.ran → (length z.ran ≡ first) × (length left ≡ length s.old) → left ≡ s.old
+  unchanged_bad left j order sorted first is n =
+      let inside : (e : Entry K O) → Contains left e → Contains s.old e = λ e h. (elim (j.only e h) as (λ _. Contains s.old e) [
+        | inl l ↦ made_old (n.0 ∙ is) e l
+        | inr r ↦ r.0
+      ]) in
+      same_length cmp total left s.old order sorted inside n.1
 
 pub end_joined : {K O : Type 0} (s : Setting K O) (top : K) (z : State K O) (added : List K) (r : Outcome O) (cache : List (Entry K O)) → IsEnd s top z added r → IsJoined z.fresh s.old cache → IsEntryOf top r cache
 end_joined s top z added r cache d j = (d.entry.0, j.grows d.entry.0 d.entry.1, d.entry.2, d.entry.3)

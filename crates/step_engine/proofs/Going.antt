@@ -1,5 +1,5 @@
 -- Each act of a build keeps what holds between its calls, whatever comes before and after it.
-use Rattle.std.proofs.Common.{◌≡◌, ℕ, ◌++◌, List, [], ◌∷◌, Option, Some, None, refl, sym, ap, ◌∙◌, subst, append_assoc, append-nil, Contains, inl, inr, length}
+use Rattle.std.proofs.Common.{◌≡◌, ℕ, ◌++◌, List, [], ◌∷◌, Option, Some, None, refl, sym, ap, ◌∙◌, subst, append_assoc, append-nil, Contains, inl, inr, ◌⊎◌, length}
 use Rattle.std.proofs.lemmas.List.Elements.{Contains-push_cases, Contains-append_cases, Contains-append_left, All-push, All-weaker}
 use Rattle.build_base.specs.World.{World}
 use Rattle.step_engine.specs.Entries.{IsSound, AreSound, IsValid}
@@ -41,6 +41,7 @@ going_none {K} {O} s top x t none blank =
       asked = λ w i p h. absurd (none_in p h);
       needed = λ w i e h. absurd (out e h);
       from = λ w i e h. absurd (out e h);
+      sources = λ e h. absurd (out e h);
       table = record {
         one = λ i e h. absurd (out e (get_in x.fresh i e h));
         started = λ k h. absurd (none_in k h);
@@ -71,6 +72,7 @@ module _ {K O : Type 0} (s : Setting K O) (top : K) (x y : State K O) (t u : Kno
     asked = g.asked;
     needed = g.needed;
     from = g.from;
+    sources = g.sources;
     table = table_checking t u k g.added y.fresh idle p g.table;
   }
 
@@ -91,12 +93,13 @@ module _ {K O : Type 0} (s : Setting K O) (top : K) (x y : State K O) (t u : Kno
     asked = g.asked;
     needed = g.needed;
     from = λ w i e h. (elim (g.from w i e h) as (λ _. IsFrom s w (g.added ++ k ∷ []) e.key) [ inl l ↦ inl (Contains-append_left g.added (k ∷ []) e.key l) | inr r ↦ inr r ]);
+    sources = λ e h. (elim (g.sources e h) as (λ _. Contains (g.added ++ k ∷ []) e.key ⊎ Contains s.old e) [ inl l ↦ inl (Contains-append_left g.added (k ∷ []) e.key l) | inr r ↦ inr r ]);
     table = table_running t u k g.added y.fresh idle p g.table;
   }
 
   -- an entry is made
-  going_made : (e : Entry K O) → (IsDone (t e.key) → ⊥) → IsPlaced e.key (Done (length y.fresh)) t u → IsWanted s top e.key → ((w : World) → IsHere s w → IsFrom s w g.added e.key) → IsGoing s top x (pushing e y) u
-  going_made e out p wanted from = record {
+  going_made : (e : Entry K O) → (IsDone (t e.key) → ⊥) → IsPlaced e.key (Done (length y.fresh)) t u → IsWanted s top e.key → ((w : World) → IsHere s w → IsFrom s w g.added e.key) → Contains g.added e.key ⊎ Contains s.old e → IsGoing s top x (pushing e y) u
+  going_made e out p wanted from source = record {
     added = g.added;
     is = g.is;
     distinct = g.distinct;
@@ -114,16 +117,20 @@ module _ {K O : Type 0} (s : Setting K O) (top : K) (x y : State K O) (t u : Kno
       | inl l ↦ g.from w i d l
       | inr q ↦ subst (λ (d : Entry K O). IsFrom s w g.added d.key) q (from w i)
     ]);
+    sources = λ d h. (elim (Contains-push_cases y.fresh e d h) as (λ _. Contains g.added d.key ⊎ Contains s.old d) [
+      | inl l ↦ g.sources d l
+      | inr q ↦ subst (λ (d : Entry K O). Contains g.added d.key ⊎ Contains s.old d) q source
+    ]);
     table = table_done t u e g.added y.fresh out p g.table;
   }
 
   -- the entry of a key that ran
   pub going_ran : (e : Entry K O) → IsPlaced e.key (Done (length y.fresh)) t u → IsWanted s top e.key → t e.key ≡ Some Running → IsGoing s top x (pushing e y) u
-  going_ran e p wanted here = going_made e (λ d. absurd (let a : Some Running ≡ Some (Done d.0) = sym here ∙ d.1 in cc)) p wanted (λ w i. inl (g.table.running e.key here))
+  going_ran e p wanted here = going_made e (λ d. absurd (let a : Some Running ≡ Some (Done d.0) = sym here ∙ d.1 in cc)) p wanted (λ w i. inl (g.table.running e.key here)) (inl (g.table.running e.key here))
 
   -- an old entry that is valid
   pub going_reused : (e : Entry K O) → IsPlaced e.key (Done (length y.fresh)) t u → IsWanted s top e.key → t e.key ≡ Some Checking → Contains s.old e → ((w : World) → IsHere s w → IsValid s.means w e) → IsGoing s top x (pushing e y) u
-  going_reused e p wanted here old valid = going_made e (λ d. absurd (let a : Some Checking ≡ Some (Done d.0) = sym here ∙ d.1 in cc)) p wanted (λ w i. inr (e, old, refl, valid w i))
+  going_reused e p wanted here old valid = going_made e (λ d. absurd (let a : Some Checking ≡ Some (Done d.0) = sym here ∙ d.1 in cc)) p wanted (λ w i. inr (e, old, refl, valid w i)) (inr old)
 
 -- files were read for a key that is needed
 module _ {K O : Type 0} (s : Setting K O) (top k : K) (x y : State K O) (t : Known K) (g : IsGoing s top x y t) (wanted : IsWanted s top k) (learned : Knowledge K) (reads : Option (List (List ℕ))) where
@@ -162,6 +169,7 @@ module _ {K O : Type 0} (s : Setting K O) (top k : K) (x y : State K O) (t : Kno
         ]);
         needed = g.needed;
         from = g.from;
+        sources = g.sources;
         table = g.table;
       }
 

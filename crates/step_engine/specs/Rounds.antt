@@ -1,5 +1,5 @@
 -- What holds between the calls of a build, in whatever order its keys are settled.
-use Rattle.std.specs.Prelude.{◌≡◌, ℕ, ◌++◌, List, Contains}
+use Rattle.std.specs.Prelude.{◌≡◌, ℕ, ◌++◌, ◌⊎◌, List, Contains}
 use Rattle.build_base.specs.World.{World}
 use Rattle.step_engine.specs.Needed.{IsNeeded, IsStale, AreDistinct}
 use Rattle.step_engine.specs.Build.{Setting, IsHere, IsEntryOf, Ran, HasRead, added_to}
@@ -18,6 +18,10 @@ pub record AreNoted {K O : Type 0} (s : Setting K O) (top : K) (x y : State K O)
   pub ran : Ran s top x.ran y.ran
   pub read : HasRead s top x.reads y.reads
 
+-- each entry is of one of the keys, or an old one
+abbrev pub AreFrom : {K O : Type 0} → List (Entry K O) → List K → List (Entry K O) → Type 0
+AreFrom {K} {O} old added fresh = (e : Entry K O) → Contains fresh e → Contains added e.key ⊎ Contains old e
+
 -- from the start of the build on, these keys ran and these paths were read; each entry made is of a needed key that ran or had a valid entry
 pub record IsGoing {K O : Type 0} (s : Setting K O) (top : K) (x y : State K O) (t : Known K) : Type 0 where
   pub added : List K
@@ -31,6 +35,7 @@ pub record IsGoing {K O : Type 0} (s : Setting K O) (top : K) (x y : State K O) 
   pub asked : (w : World) → IsHere s w → (p : List ℕ) → Contains paths p → IsPathAsked s.means w (top ∷ []) p
   pub needed : (w : World) → IsHere s w → (e : Entry K O) → Contains y.fresh e → IsNeeded s.means w top e.key
   pub from : (w : World) → IsHere s w → (e : Entry K O) → Contains y.fresh e → IsFrom s w added e.key
+  pub sources : AreFrom s.old added y.fresh
   pub table : IsTable t added y.fresh
 
 -- what a build has come to when its key has its outcome

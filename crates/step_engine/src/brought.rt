@@ -1,5 +1,5 @@
 //! A build: the outcome of a key, and the entries that serve the next build.
-ghost use Rattle.std.specs.Prelude.{◌≡◌, ◌≤◌, true, IfOk, OnOk, IsTrue, ◌↔◌};
+ghost use Rattle.std.specs.Prelude.{◌≡◌, ◌≤◌, true, length, IfOk, OnOk, IsTrue, ◌↔◌};
 ghost use Rattle.step_engine.specs.Edits.{over};
 ghost use Rattle.step_engine.specs.Entries.{AreSound};
 ghost use Rattle.step_engine.specs.Needed.{IsBad};
@@ -23,12 +23,14 @@ use build_base::text::{Text, WantOfMemory};
 use std::alloc::Global;
 use std::thread::Threads;
 
-/// What a build gives: the outcome of its key, the cache that it leaves, and how many keys it needed.
+/// What a build gives: the outcome of its key, the cache that it leaves, how many keys it needed, and
+/// whether it leaves the cache that it was handed.
 #[derive(Drop)]
 pub struct Brought<K: StepKey, O: Drop> {
     pub result: Outcome<O>,
     pub cache: Cache<K, O>,
     pub needed: u64,
+    pub unchanged: bool,
 }
 
 // Whether an outcome is a fault.
@@ -86,11 +88,30 @@ fn joined<K: StepKey, O: Same + Drop>(
     ensures sorted { IfOk result (AreInOrder K.cmp) }
 {
     let mut others = other_entries(alloc, old, &made)?;
+    if others.is_empty() {
+        return Ok(made);
+    }
     let mut all = made.into_entries();
     if all.append(&mut others).is_err() {
         return Err(WantOfMemory);
     }
     in_order(alloc, all, false)
+}
+
+// Whether no key was added to a book that had so many, and the one cache is as long as the other.
+fn is_idle<K: StepKey, O: Drop>(
+    old: &Cache<K, O>,
+    left: &Cache<K, O>,
+    first: usize,
+    book: &Book<K>,
+) -> bool
+    ensures idle { IsTrue result ↔ ((length book.now ≡ first) × (length left.now ≡ length old.now)) }
+    ensures sorted { AreInOrder K.cmp old.now }
+    ensures order { AreInOrder K.cmp left.now }
+{
+    let before = old.entries().len();
+    let after = left.entries().len();
+    book.ran().len() == first && after == before
 }
 
 /// The outcome of a key, from the entries that an earlier build left.
@@ -129,6 +150,10 @@ pub fn bring<H: Threads + Sync, R: Rules, T: Tree, G: Gate>(
 
     // Where the tree tells what it holds and the cache is sound.
     ensures built { IfOk result (λ b. Built R.Key.cmp (setting R.means (T.held tree.old) job.now cache) top b.result b.cache b.needed) }
+
+    // It leaves the cache as it was where it says so, which it does where nothing ran.
+    ensures unchanged { IfOk result (λ b. b.unchanged ≡ true → b.cache ≡ cache) }
+    ensures told { IfOk result (λ b. book.new ≡ book.old → b.cache ≡ cache → b.unchanged ≡ true) }
 {
     let edits = Edits::new(alloc);
     bring_over(
@@ -171,10 +196,15 @@ pub fn bring_over<H: Threads + Sync, R: Rules, T: Tree, G: Gate>(
 
     // Where the tree tells what it holds and the cache is sound.
     ensures built { IfOk result (λ b. Built R.Key.cmp (setting R.means (over edits.now (T.held tree.old)) job.now cache) top b.result b.cache b.needed) }
+
+    // It leaves the cache as it was where it says so, which it does where nothing ran.
+    ensures unchanged { IfOk result (λ b. b.unchanged ≡ true → b.cache ≡ cache) }
+    ensures told { IfOk result (λ b. book.new ≡ book.old → b.cache ≡ cache → b.unchanged ≡ true) }
 {
     let mut fresh = Vec::new(alloc);
     let mut places = Places::new(alloc);
     let mut learned = Learned::new(alloc);
+    let first = book.ran().len();
     let result = settle(
         rt,
         alloc,
@@ -194,16 +224,20 @@ pub fn bring_over<H: Threads + Sync, R: Rules, T: Tree, G: Gate>(
     let made = in_order(alloc, fresh, true)?;
     let needed = made.entries().len() as u64;
     if is_bad(&result) {
-        let cache = joined(alloc, &cache, made)?;
+        let left = joined(alloc, &cache, made)?;
+        let unchanged = is_idle(&cache, &left, first, book);
         return Ok(Brought {
             result,
-            cache,
+            cache: left,
             needed,
+            unchanged,
         });
     }
+    let unchanged = is_idle(&cache, &made, first, book);
     Ok(Brought {
         result,
         cache: made,
         needed,
+        unchanged,
     })
 }

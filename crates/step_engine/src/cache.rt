@@ -80,8 +80,8 @@ impl<K: StepKey, O: Drop> Cache<K, O> {
         store
     }
 
-    // The same entries, all of whose answers to one part may be known to be the same.
-    pub(crate) fn agreeing(self, agrees: bool) -> Cache<K, O>
+    /// The same entries, all of whose answers to one part may be known to be the same.
+    pub fn agreeing(self, agrees: bool) -> Cache<K, O>
         requires { agrees ≡ true → Agree self }
         ensures { result ≡ self }
     {

@@ -12,10 +12,10 @@ use crate::table::make_new;
 use crate::talk::Entry;
 use build_base::outside::Gate;
 use build_base::text::WantOfMemory;
+use drawn_waves::draw_wave;
 use shared_value::Shared;
 use std::alloc::Global;
 use std::thread::Threads;
-use wave_pool::run_wave;
 
 /// The turns of a wave, in its order. Waves that have turns are numbered.
 pub fn turns<H: Threads + Sync, R: Rules, G: Gate>(
@@ -45,7 +45,7 @@ pub fn turns<H: Threads + Sync, R: Rules, G: Gate>(
             Err(_) => Err(WantOfMemory),
         }
     };
-    run_wave(rt, alloc, runs, workers, gate, wave, &work)
+    draw_wave(rt, alloc, runs, workers, gate, wave, &work)
 }
 
 /// What a turn leaves: its asks wait, or its entry is made.

@@ -5,7 +5,7 @@ use Rattle.step_engine.specs.Edits.{over}
 use Rattle.step_engine.specs.Engine.{state}
 use Rattle.step_engine.specs.Reading.{knowledge}
 use Rattle.step_engine.specs.Table.{place_at}
-use Rattle.step_engine.proofs.Ending.{begun, ready_none, kept_none, one_each, end_of, end_all, end_joined, end_sound, end_joined_sound, built_good, built_bad}
+use Rattle.step_engine.proofs.Ending.{begun, ready_none, kept_none, one_each, end_of, end_all, end_joined, end_sound, end_joined_sound, built_good, built_bad, unchanged_good, unchanged_bad}
 use Rattle.step_engine.proofs.AgreeLemmas.{made_agree}
 use Rattle.step_engine.proofs.brought.bring_over.Goals as goal
 
@@ -54,15 +54,15 @@ returns-in_err-made-clause-read g c =
     let start = begun s c.args.top x g.R.Key.Ord.cmp c.new-places.result c.new-fresh.ensures.items c.new-places.ensures in
     let n = c.settle.ensures.notes x start in n.read
 
-pub returns-in_err-cache-clause-ran : goal.returns-in_err-cache-clause-ran
-returns-in_err-cache-clause-ran g c =
+pub returns-in_err-left-clause-ran : goal.returns-in_err-left-clause-ran
+returns-in_err-left-clause-ran g c =
     let s = setting g.R.Rules.means (over c.args.edits.now (g.T.Tree.held c.args.tree.now)) c.args.job.now c.args.cache in
     let x = state c.new-fresh.result.items (knowledge g.R.Key.Ord.cmp c.new-learned.result) c.args.book.now (g.T.Tree.reads c.args.tree.now) in
     let start = begun s c.args.top x g.R.Key.Ord.cmp c.new-places.result c.new-fresh.ensures.items c.new-places.ensures in
     let n = c.settle.ensures.notes x start in n.ran
 
-pub returns-in_err-cache-clause-read : goal.returns-in_err-cache-clause-read
-returns-in_err-cache-clause-read g c =
+pub returns-in_err-left-clause-read : goal.returns-in_err-left-clause-read
+returns-in_err-left-clause-read g c =
     let s = setting g.R.Rules.means (over c.args.edits.now (g.T.Tree.held c.args.tree.now)) c.args.job.now c.args.cache in
     let x = state c.new-fresh.result.items (knowledge g.R.Key.Ord.cmp c.new-learned.result) c.args.book.now (g.T.Tree.reads c.args.tree.now) in
     let start = begun s c.args.top x g.R.Key.Ord.cmp c.new-places.result c.new-fresh.ensures.items c.new-places.ensures in
@@ -156,7 +156,7 @@ returns-then-is_bad-clause-built g c =
     let e = end_of s c.args.top x z t u c.in_ok-result.result c.in_ok-made.made b on same in
     let y = state c.in_ok-made.made z.learned z.ran z.reads in
     let ord = g.met.R.Key.Ord g.world.𝓛 g.world.𝓜 g.world.𝓡 ((λ s x. x), (λ x. x), (λ x. x), λ x. x) in
-    built_bad s c.args.top y on.added c.in_ok-result.result e g.R.Key.Ord.cmp ord.total c.entries.ensures.sorted _ (ap length c.entries.ensures.all) (c.if-is_bad.ensures.0 refl) _ c.in_ok-cache.ensures.sorted c.in_ok-cache.ensures.joined
+    built_bad s c.args.top y on.added c.in_ok-result.result e g.R.Key.Ord.cmp ord.total c.entries.ensures.sorted _ (ap length c.entries.ensures.all) (c.if-is_bad.ensures.0 refl) _ c.in_ok-left.ensures.sorted c.in_ok-left.ensures.joined
 
 pub returns-clause-own : goal.returns-clause-own
 returns-clause-own g c =
@@ -186,7 +186,7 @@ returns-then-is_bad-clause-own g c =
     let same = c.in_ok-made.ensures.same (one_each u on.added z.fresh on.table) in
     let e = end_of s c.args.top x z t u c.in_ok-result.result c.in_ok-made.made b on same in
     let y = state c.in_ok-made.made z.learned z.ran z.reads in
-    end_joined s c.args.top y on.added c.in_ok-result.result _ e c.in_ok-cache.ensures.joined
+    end_joined s c.args.top y on.added c.in_ok-result.result _ e c.in_ok-left.ensures.joined
 
 pub returns-clause-sound : goal.returns-clause-sound
 returns-clause-sound g c =
@@ -216,4 +216,30 @@ returns-then-is_bad-clause-sound g c =
     let same = c.in_ok-made.ensures.same (one_each u on.added z.fresh on.table) in
     let e = end_of s c.args.top x z t u c.in_ok-result.result c.in_ok-made.made b on same in
     let y = state c.in_ok-made.made z.learned z.ran z.reads in
-    end_joined_sound s c.args.top y on.added c.in_ok-result.result _ e c.in_ok-cache.ensures.joined
+    end_joined_sound s c.args.top y on.added c.in_ok-result.result _ e c.in_ok-left.ensures.joined
+
+pub returns-clause-unchanged : goal.returns-clause-unchanged
+returns-clause-unchanged g c =
+    let s = setting g.R.Rules.means (over c.args.edits.now (g.T.Tree.held c.args.tree.now)) c.args.job.now c.args.cache in
+    let x = state c.new-fresh.result.items (knowledge g.R.Key.Ord.cmp c.new-learned.result) c.args.book.now (g.T.Tree.reads c.args.tree.now) in
+    let start = begun s c.args.top x g.R.Key.Ord.cmp c.new-places.result c.new-fresh.ensures.items c.new-places.ensures in
+    let z = state c.settle.new.fresh.items (knowledge g.R.Key.Ord.cmp c.settle.new.learned) c.settle.new.book (g.T.Tree.reads c.settle.new.tree) in
+    let u = place_at g.R.Key.Ord.cmp c.settle.new.places in
+    let b = c.in_ok-result.ensures.ok in
+    let on = b.going x start in
+    let same = c.in_ok-made.ensures.same (one_each u on.added z.fresh on.table) in
+    let ord = g.met.R.Key.Ord g.world.𝓛 g.world.𝓜 g.world.𝓡 ((λ s x. x), (λ x. x), (λ x. x), λ x. x) in
+    λ q. unchanged_good s c.args.top x z u on g.R.Key.Ord.cmp ord.total c.in_ok-made.made same c.is_idle-unchanged-2.ensures.order c.is_idle-unchanged-2.ensures.sorted _ (ap length c.ran-first.ensures) (c.is_idle-unchanged-2.ensures.idle.0 q)
+
+pub returns-then-is_bad-clause-unchanged : goal.returns-then-is_bad-clause-unchanged
+returns-then-is_bad-clause-unchanged g c =
+    let s = setting g.R.Rules.means (over c.args.edits.now (g.T.Tree.held c.args.tree.now)) c.args.job.now c.args.cache in
+    let x = state c.new-fresh.result.items (knowledge g.R.Key.Ord.cmp c.new-learned.result) c.args.book.now (g.T.Tree.reads c.args.tree.now) in
+    let start = begun s c.args.top x g.R.Key.Ord.cmp c.new-places.result c.new-fresh.ensures.items c.new-places.ensures in
+    let z = state c.settle.new.fresh.items (knowledge g.R.Key.Ord.cmp c.settle.new.learned) c.settle.new.book (g.T.Tree.reads c.settle.new.tree) in
+    let u = place_at g.R.Key.Ord.cmp c.settle.new.places in
+    let b = c.in_ok-result.ensures.ok in
+    let on = b.going x start in
+    let same = c.in_ok-made.ensures.same (one_each u on.added z.fresh on.table) in
+    let ord = g.met.R.Key.Ord g.world.𝓛 g.world.𝓜 g.world.𝓡 ((λ s x. x), (λ x. x), (λ x. x), λ x. x) in
+    λ q. unchanged_bad s c.args.top x z u on g.R.Key.Ord.cmp ord.total c.in_ok-made.made same c.in_ok-left.left c.in_ok-left.ensures.joined c.is_idle-unchanged.ensures.order c.is_idle-unchanged.ensures.sorted _ (ap length c.ran-first.ensures) (c.is_idle-unchanged.ensures.idle.0 q)

@@ -1,0 +1,24 @@
+-- One more turn, and the last draw.
+use Rattle.std.proofs.Common.{rules, arith, sym, ap, ◌∙◌, slice_get}
+use Rattle.drawn_waves.proofs.Turns.{nearer, goes_on, ends, all_at}
+use Rattle.drawn_waves.proofs.pieces.take_pieces.Goals as goal
+
+pub work_on-requires : goal.work_on-requires
+work_on-requires g c = let was = c.loop-item.invariant.1 in let there = sym c.draw_item-number.ensures.item ∙ c.in-Some.is in
+    all_at (λ item. g.F.Fn.pre c.args.work.now (item, tt)) _ _ _ c.requires.callable (ap (λ xs. slice_get xs c.draw_item-number.result.0) (sym was.items) ∙ there)
+
+pub overflow_add-next : goal.overflow_add-next
+overflow_add-next g c = let was = c.loop-item.invariant.1 in let there = sym c.draw_item-number.ensures.item ∙ c.in-Some.is in
+    let near = (nearer _ _ _ _ _ _ _ _ was _ c.requires.pieces there c.draw_item-number.ensures.greater).0 in let room = c.ranges.pieces.fits in record { fits = omega arith }
+
+pub loop-item-smaller : goal.loop-item-smaller
+loop-item-smaller g c = let was = c.loop-item.invariant.1 in let there = sym c.draw_item-number.ensures.item ∙ c.in-Some.is in
+    let near = nearer _ _ _ _ _ _ _ _ was _ c.requires.pieces there c.draw_item-number.ensures.greater in let low = near.0 in let past = near.1 in omega arith
+
+pub loop-item-preserved : goal.loop-item-preserved
+loop-item-preserved g c = let was = c.loop-item.invariant.1 in let there = sym c.draw_item-number.ensures.item ∙ c.in-Some.is in
+    (search rules, goes_on _ _ _ _ _ _ _ _ was _ _ _ c.draw_item-number.ensures.view c.requires.pieces there (search rules))
+
+pub returns-in-None-clause-numbers : goal.returns-in-None-clause-numbers
+returns-in-None-clause-numbers g c = let was = c.loop-item.invariant.1 in let same = c.hand_back.ensures in
+    rw same.1 (ends _ _ _ _ _ _ _ _ was c.hand_back.result.seat.seat.me.0 (ap (λ s. s.me.0) same.0 ∙ c.draw_item-number.ensures.view) c.requires.pieces (sym c.draw_item-number.ensures.item ∙ c.in-None.is))
