@@ -2,26 +2,32 @@
 ghost use Rattle.std.specs.Prelude.{◌≡◌, [], Some, IfSome, OnOk, OnErr};
 ghost use Rattle.build_base.specs.MemoryTree.{file_at, with_file, without_file};
 
-use build_base::memory_tree::{Held, MemoryTree};
+use crate::listed_tree::ListedTree;
+use crate::tabled_tree::TabledTree;
+use build_base::memory_tree::Held;
 use build_base::{Got, Path, Rows, Text, Tree, TreeFailed, WantOfMemory};
 use std::alloc::Global;
-use std::marker::Model;
 
-/// Files in memory, of which each call answers where there is memory. The first of two files of one path counts.
-#[derive(Drop)]
-pub struct SureTree {
-    tree: MemoryTree,
+pub enum Forms {
+    Listed(ListedTree),
+    Tabled(TabledTree),
 }
 
-impl Model for SureTree {
-    ghost use Rattle.std.specs.Prelude.{◌≡◌, []};
-    ghost use Rattle.build_base.specs.declared.memory_tree.MemoryTree.{MemoryTree as Kept};
+// Written out, so that a caller that lets a tree go has one call here and not a case for each variant.
+impl Drop for Forms {
+    fn drop(self) {
+        match self {
+            Forms::Listed(_tree) => {}
+            Forms::Tabled(_tree) => {}
+        }
+    }
+}
 
-    ghost Value = { Kept };
-
-    ghost view = { λ t. t.tree };
-
-    ghost invariant = { λ t. t.tree.fails ≡ [] };
+/// Files in memory, of which each call answers where there is memory. The first of two files of one path counts. A path is
+/// looked up in a table, where there was memory for one when the tree was made.
+#[derive(Drop)]
+pub struct SureTree {
+    form: Forms,
 }
 
 impl SureTree {
@@ -30,9 +36,11 @@ impl SureTree {
         ensures held { ⟦<SureTree as Tree>⟧.held result ≡ Some (file_at files) }
         ensures reads { ⟦<SureTree as Tree>⟧.reads result ≡ Some [] }
     {
-        SureTree {
-            tree: MemoryTree::new(alloc, files, Rows::new(alloc)),
-        }
+        let form = match TabledTree::of(alloc, files.items()) {
+            Ok(tree) => Forms::Tabled(tree),
+            Err(_) => Forms::Listed(ListedTree::new(alloc, files)),
+        };
+        SureTree { form }
     }
 
     /// Makes these bytes the file at the path.
@@ -42,7 +50,10 @@ impl SureTree {
         ensures err { OnErr result (⟦<SureTree as Tree>⟧.held self.new ≡ ⟦<SureTree as Tree>⟧.held self.old) }
         ensures reads { ⟦<SureTree as Tree>⟧.reads self.new ≡ ⟦<SureTree as Tree>⟧.reads self.old }
     {
-        self.tree.put(path, bytes)
+        match &mut self.form {
+            Forms::Listed(tree) => tree.put(path, bytes),
+            Forms::Tabled(tree) => tree.put(path, bytes),
+        }
     }
 
     /// Takes the file at the path out, if there is one.
@@ -51,28 +62,37 @@ impl SureTree {
             ⟦<SureTree as Tree>⟧.held self.new ≡ Some (without_file files path.now)) }
         ensures reads { ⟦<SureTree as Tree>⟧.reads self.new ≡ ⟦<SureTree as Tree>⟧.reads self.old }
     {
-        self.tree.drop_file(path);
+        match &mut self.form {
+            Forms::Listed(tree) => tree.drop_file(path),
+            Forms::Tabled(tree) => tree.drop_file(path),
+        }
     }
 
     /// The paths of the calls that answered, in order.
     pub fn reads(&self) -> &[Path]
         ensures { ⟦<SureTree as Tree>⟧.reads self.now ≡ Some result.now }
     {
-        self.tree.reads()
+        match &self.form {
+            Forms::Listed(tree) => tree.reads(),
+            Forms::Tabled(tree) => tree.reads(),
+        }
     }
 }
 
 impl Tree for SureTree {
     ghost use Rattle.std.specs.Prelude.{Some};
-    ghost use Rattle.build_base.specs.MemoryTree.{file_at};
+    ghost use Rattle.sure_objects.specs.Either.{held_of, reads_of};
 
-    ghost held = { λ t. Some (file_at t.files) };
+    ghost held = { λ t. Some (held_of t.form) };
 
-    ghost reads = { λ t. Some t.reads };
+    ghost reads = { λ t. Some (reads_of t.form) };
 
     ghost faults = { λ t. 0 };
 
     fn read(&mut self, path: &Path, limit: u64) -> Result<Got, TreeFailed> {
-        self.tree.read(path, limit)
+        match &mut self.form {
+            Forms::Listed(tree) => tree.read(path, limit),
+            Forms::Tabled(tree) => tree.read(path, limit),
+        }
     }
 }
