@@ -10,6 +10,8 @@ use Rattle.doc_types.specs.declared.pcd.PcdName.{PcdName}
 use Rattle.doc_types.specs.declared.values.PcdRow.{PcdRow}
 use Rattle.doc_types.specs.declared.texts.Texts.{Texts}
 use Rattle.doc_types.specs.declared.values.Values.{Values}
+use Rattle.doc_types.specs.declared.vpd.Vpd.{Vpd}
+use Rattle.doc_types.specs.declared.vpd.VpdPlace.{VpdPlace}
 use Rattle.packed_values.specs.Form.{Form}
 use Rattle.packed_values.specs.Plain.{byte_form, number_form, bool_form, text_form, path_form, guid_form}
 use Rattle.packed_values.specs.Base.{place_form}
@@ -65,3 +67,13 @@ unfoldable pub file_image_form : Form FileImage
 file_image_form = form_by (λ x. (x.at, (x.guid, (x.align, x.bytes))))
     (λ p. record { at = p.0; guid = p.1.0; align = p.1.1.0; bytes = p.1.1.1 }) (λ x. refl)
     (pair_form place_form (pair_form guid_form (pair_form (number_form 4) text_form)))
+
+unfoldable pub vpd_place_form : Form VpdPlace
+vpd_place_form = form_by (λ x. (x.pcd, (x.sku, (x.offset, x.size))))
+    (λ p. record { pcd = p.0; sku = p.1.0; offset = p.1.1.0; size = p.1.1.1 }) (λ x. refl)
+    (pair_form pcd_name_form (pair_form text_form (pair_form (number_form 4) (number_form 4))))
+
+unfoldable pub vpd_form : Form Vpd
+vpd_form = form_by (λ x. (x.image, (x.map, x.places)))
+    (λ p. record { image = p.0; map = p.1.0; places = p.1.1 }) (λ x. refl)
+    (pair_form text_form (pair_form text_form (rows_form vpd_place_form)))

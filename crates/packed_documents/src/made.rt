@@ -1,7 +1,7 @@
 //! What is chosen, resolved and made for modules.
 ghost use Rattle.std.specs.Prelude.{◌≡◌, ◌++◌, OnOk};
 ghost use Rattle.packed_values.specs.Form.{IsPut, IsRead, IsUnread};
-ghost use Rattle.packed_documents.specs.Made.{call_form, choice_form, file_image_form, module_form, pcd_row_first, pcd_row_first_form, pcd_row_form, pcd_row_of, pcd_row_second, pcd_row_second_form, texts_form, values_form};
+ghost use Rattle.packed_documents.specs.Made.{call_form, choice_form, file_image_form, module_form, pcd_row_first, pcd_row_first_form, pcd_row_form, pcd_row_of, pcd_row_second, pcd_row_second_form, texts_form, values_form, vpd_form, vpd_place_form};
 
 use crate::pcds::PcdNameForm;
 use crate::words::{ArchForm, DatumForm, KindForm};
@@ -10,6 +10,7 @@ use doc_types::choice::{Call, Choice, Module};
 use doc_types::image::FileImage;
 use doc_types::texts::Texts;
 use doc_types::values::{PcdRow, Values};
+use doc_types::vpd::{Vpd, VpdPlace};
 use packed_values::{Input, Packed, all_put, all_taken};
 use std::alloc::Global;
 
@@ -193,5 +194,43 @@ impl Packed for FileImageForm {
     #[tactic(auto, unfolding(crate::specs::Made::file_image_form), using(packed_values::proofs::WhereLemmas::unread_by))]
     fn take(alloc: Global, input: &mut Input) -> Result<Option<FileImage>, WantOfMemory> {
         all_taken!(FileImage, alloc, input; at: Place, guid: Guid, align: u32, bytes: Text)
+    }
+}
+
+/// How a value of `VpdPlace` is spelled.
+pub struct VpdPlaceForm;
+
+impl Packed for VpdPlaceForm {
+    type Value = VpdPlace;
+
+    ghost form = { vpd_place_form };
+
+    #[tactic(auto, unfolding(crate::specs::Made::vpd_place_form, packed_values::specs::Parts::pair_form))]
+    fn put(value: &VpdPlace, out: &mut Vec<u8>) -> Result<(), WantOfMemory> {
+        all_put!(value, out; pcd: PcdNameForm, sku: Text, offset: u32, size: u32)
+    }
+
+    #[tactic(auto, unfolding(crate::specs::Made::vpd_place_form), using(packed_values::proofs::WhereLemmas::unread_by))]
+    fn take(alloc: Global, input: &mut Input) -> Result<Option<VpdPlace>, WantOfMemory> {
+        all_taken!(VpdPlace, alloc, input; pcd: PcdNameForm, sku: Text, offset: u32, size: u32)
+    }
+}
+
+/// How a value of `Vpd` is spelled.
+pub struct VpdForm;
+
+impl Packed for VpdForm {
+    type Value = Vpd;
+
+    ghost form = { vpd_form };
+
+    #[tactic(auto, unfolding(crate::specs::Made::vpd_form, packed_values::specs::Parts::pair_form))]
+    fn put(value: &Vpd, out: &mut Vec<u8>) -> Result<(), WantOfMemory> {
+        all_put!(value, out; image: Text, map: Text, places: Rows<VpdPlaceForm>)
+    }
+
+    #[tactic(auto, unfolding(crate::specs::Made::vpd_form), using(packed_values::proofs::WhereLemmas::unread_by))]
+    fn take(alloc: Global, input: &mut Input) -> Result<Option<Vpd>, WantOfMemory> {
+        all_taken!(Vpd, alloc, input; image: Text, map: Text, places: Rows<VpdPlaceForm>)
     }
 }

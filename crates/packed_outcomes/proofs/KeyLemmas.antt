@@ -39,3 +39,5 @@ key_spelling (key.Volume v) = refl
 key_spelling (key.Device d) = refl
 key_spelling key.Report = refl
 key_spelling key.All = refl
+key_spelling key.Vpd = refl
+key_spelling (key.Based number) = refl

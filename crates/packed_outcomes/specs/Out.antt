@@ -9,6 +9,7 @@ use Rattle.doc_types.specs.declared.module.InfDoc.{InfDoc}
 use Rattle.doc_types.specs.declared.platform.PlatformDoc.{PlatformDoc}
 use Rattle.doc_types.specs.declared.texts.Texts.{Texts}
 use Rattle.doc_types.specs.declared.values.Values.{Values}
+use Rattle.doc_types.specs.declared.vpd.Vpd.{Vpd}
 use Rattle.step_pack.specs.declared.out.Out.{Out}
 use Rattle.step_pack.specs.declared.out.Output.{Output}
 use Rattle.step_pack.specs.declared.out.Out.TheVariants as out
@@ -17,7 +18,7 @@ use Rattle.packed_values.specs.Plain.{byte_form, text_form, path_form}
 use Rattle.packed_values.specs.Parts.{form_by, pair_form, option_form, rows_form}
 use Rattle.packed_values.specs.Arms.{arm, last_arm, tagged_form}
 use Rattle.packed_documents.specs.Flash.{flash_doc_form}
-use Rattle.packed_documents.specs.Made.{choice_form, file_image_form, texts_form, values_form}
+use Rattle.packed_documents.specs.Made.{choice_form, file_image_form, texts_form, values_form, vpd_form}
 use Rattle.packed_documents.specs.Module.{inf_doc_form}
 use Rattle.packed_documents.specs.Package.{dec_doc_form}
 use Rattle.packed_documents.specs.Platform.{platform_doc_form}
@@ -29,7 +30,7 @@ output_form = form_by (λ x. (x.path, (x.from, x.part)))
     (pair_form path_form (pair_form key_form byte_form))
 
 abbrev pub OutParts : Type 0
-OutParts = DecDoc ⊎ (InfDoc ⊎ (PlatformDoc ⊎ (FlashDoc ⊎ (Choice ⊎ (Values ⊎ ((Option Texts) ⊎ (List ℕ ⊎ (FileImage ⊎ (List ℕ ⊎ (List ℕ ⊎ (List ℕ ⊎ (List Output))))))))))))
+OutParts = DecDoc ⊎ (InfDoc ⊎ (PlatformDoc ⊎ (FlashDoc ⊎ (Choice ⊎ (Values ⊎ ((Option Texts) ⊎ (List ℕ ⊎ (FileImage ⊎ (List ℕ ⊎ (List ℕ ⊎ (List ℕ ⊎ (List Output ⊎ Vpd))))))))))))
 
 abbrev pub out_parts : Out → OutParts
 out_parts (out.Dec document) = inl document
@@ -44,7 +45,8 @@ out_parts (out.File file) = inr (inr (inr (inr (inr (inr (inr (inr (inl file))))
 out_parts (out.Volume image) = inr (inr (inr (inr (inr (inr (inr (inr (inr (inl image)))))))))
 out_parts (out.Device image) = inr (inr (inr (inr (inr (inr (inr (inr (inr (inr (inl image))))))))))
 out_parts (out.Report text) = inr (inr (inr (inr (inr (inr (inr (inr (inr (inr (inr (inl text)))))))))))
-out_parts (out.All outputs) = inr (inr (inr (inr (inr (inr (inr (inr (inr (inr (inr (inr outputs)))))))))))
+out_parts (out.All outputs) = inr (inr (inr (inr (inr (inr (inr (inr (inr (inr (inr (inr (inl outputs))))))))))))
+out_parts (out.Vpd image) = inr (inr (inr (inr (inr (inr (inr (inr (inr (inr (inr (inr (inr image))))))))))))
 
 abbrev pub out_of : OutParts → Out
 out_of (inl document) = out.Dec document
@@ -59,7 +61,8 @@ out_of (inr (inr (inr (inr (inr (inr (inr (inr (inl file))))))))) = out.File fil
 out_of (inr (inr (inr (inr (inr (inr (inr (inr (inr (inl image)))))))))) = out.Volume image
 out_of (inr (inr (inr (inr (inr (inr (inr (inr (inr (inr (inl image))))))))))) = out.Device image
 out_of (inr (inr (inr (inr (inr (inr (inr (inr (inr (inr (inr (inl text)))))))))))) = out.Report text
-out_of (inr (inr (inr (inr (inr (inr (inr (inr (inr (inr (inr (inr outputs)))))))))))) = out.All outputs
+out_of (inr (inr (inr (inr (inr (inr (inr (inr (inr (inr (inr (inr (inl outputs))))))))))))) = out.All outputs
+out_of (inr (inr (inr (inr (inr (inr (inr (inr (inr (inr (inr (inr (inr image))))))))))))) = out.Vpd image
 
 pub out_back : (x : Out) → out_of (out_parts x) ≡ x
 out_back (out.Dec document) = refl
@@ -75,6 +78,7 @@ out_back (out.Volume image) = refl
 out_back (out.Device image) = refl
 out_back (out.Report text) = refl
 out_back (out.All outputs) = refl
+out_back (out.Vpd image) = refl
 
 unfoldable pub out_form : Form Out
-out_form = form_by out_parts out_of out_back (tagged_form (arm dec_doc_form (arm inf_doc_form (arm platform_doc_form (arm flash_doc_form (arm choice_form (arm values_form (arm (option_form texts_form) (arm text_form (arm file_image_form (arm text_form (arm text_form (arm text_form (last_arm (rows_form output_form)))))))))))))))
+out_form = form_by out_parts out_of out_back (tagged_form (arm dec_doc_form (arm inf_doc_form (arm platform_doc_form (arm flash_doc_form (arm choice_form (arm values_form (arm (option_form texts_form) (arm text_form (arm file_image_form (arm text_form (arm text_form (arm text_form (arm (rows_form output_form) (last_arm vpd_form)))))))))))))))

@@ -63,6 +63,11 @@ impl Packed for KeyForm {
             }
             Key::Report => put_byte(12, out),
             Key::All => put_byte(13, out),
+            Key::Vpd => put_byte(14, out),
+            Key::Based(number) => {
+                put_byte(15, out)?;
+                u32::put(number, out)
+            }
         }
     }
 
@@ -110,6 +115,11 @@ impl Packed for KeyForm {
             },
             Some(12) => Ok(Some(Key::Report)),
             Some(13) => Ok(Some(Key::All)),
+            Some(14) => Ok(Some(Key::Vpd)),
+            Some(15) => match u32::take(alloc, input)? {
+                None => Ok(None),
+                Some(number) => Ok(Some(Key::Based(number))),
+            },
             _ => Ok(None),
         }
     }

@@ -6,7 +6,7 @@ ghost use Rattle.packed_outcomes.specs.Out.{out_form, output_form};
 use crate::key::KeyForm;
 use build_base::{Image, Path, Rows, Text, WantOfMemory};
 use packed_documents::flash::FlashDocForm;
-use packed_documents::made::{ChoiceForm, FileImageForm, TextsForm, ValuesForm};
+use packed_documents::made::{ChoiceForm, FileImageForm, TextsForm, ValuesForm, VpdForm};
 use packed_documents::module::InfDocForm;
 use packed_documents::package::DecDocForm;
 use packed_documents::platform::PlatformDocForm;
@@ -98,6 +98,10 @@ impl Packed for OutForm {
                 put_byte(12, out)?;
                 <Rows<OutputForm>>::put(outputs, out)
             }
+            Out::Vpd(image) => {
+                put_byte(13, out)?;
+                VpdForm::put(image, out)
+            }
         }
     }
 
@@ -155,6 +159,10 @@ impl Packed for OutForm {
             Some(12) => match <Rows<OutputForm>>::take(alloc, input)? {
                 None => Ok(None),
                 Some(outputs) => Ok(Some(Out::All(outputs))),
+            },
+            Some(13) => match VpdForm::take(alloc, input)? {
+                None => Ok(None),
+                Some(image) => Ok(Some(Out::Vpd(image))),
             },
             _ => Ok(None),
         }

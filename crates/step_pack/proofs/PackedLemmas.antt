@@ -70,6 +70,8 @@ one_variant (key.Volume v) arch q w j g h = one_number v w g h
 one_variant (key.Device v) arch q w j g h = one_number v w g h
 one_variant key.Report arch q w j g h = refl
 one_variant key.All arch q w j g h = refl
+one_variant key.Vpd arch q w j g h = refl
+one_variant (key.Based v) arch q w j g h = one_number v w g h
 
 fields_by_bytes : (a b : Key) → variant a ≡ variant b → HasNumbers a → HasNumbers b → text_cmp (packed_fields a) (packed_fields b) ≡ fields_cmp a b
 fields_by_bytes a b e g h =

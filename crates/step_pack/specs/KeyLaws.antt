@@ -58,7 +58,7 @@ key_at n arch path v i =
     slice_index_or (
     key.Dec path ∷ key.Inf path ∷ key.Platform ∷ key.Flash ∷ key.Choice (module_at arch path) ∷ key.PlatformPcds
     ∷ key.Values (module_at arch path) ∷ key.Code (module_at arch path) ∷ key.Depex (module_at arch path)
-    ∷ key.File v i ∷ key.Volume v ∷ key.Device v ∷ key.Report ∷ key.All ∷ []) n key.All
+    ∷ key.File v i ∷ key.Volume v ∷ key.Device v ∷ key.Report ∷ key.All ∷ key.Vpd ∷ key.Based v ∷ []) n key.All
 
 arch_back : (arch : Arch) → arch_at (arch_byte arch) ≡ arch
 arch_back Common = refl
@@ -88,6 +88,8 @@ key_back (key.Volume v) = refl
 key_back (key.Device d) = refl
 key_back key.Report = refl
 key_back key.All = refl
+key_back key.Vpd = refl
+key_back (key.Based v) = refl
 
 same_fields : (n m a b : ℕ) (p q : List ℕ) (v w i j : ℕ) → n ≡ m → a ≡ b → p ≡ q → v ≡ w → i ≡ j → key_at n a p v i ≡ key_at m b q w j
 same_fields n m a b p q v w i j e f g h l = rw (e, f, g, h, l) refl

@@ -38,6 +38,8 @@ variant (key.Volume v) = 10
 variant (key.Device d) = 11
 variant key.Report = 12
 variant key.All = 13
+variant key.Vpd = 14
+variant (key.Based v) = 15
 
 -- the fields of a key: one that it doesn't have is 0, or empty
 abbrev pub arch_of : Key → ℕ
@@ -60,6 +62,7 @@ abbrev pub first_of : Key → ℕ
 first_of (key.File v i) = v
 first_of (key.Volume v) = v
 first_of (key.Device d) = d
+first_of (key.Based v) = v
 first_of _ = 0
 
 abbrev pub second_of : Key → ℕ

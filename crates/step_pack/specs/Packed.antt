@@ -27,6 +27,7 @@ packed_fields (key.Depex m) = packed_module m
 packed_fields (key.File v i) = packed_number v ++ packed_number i
 packed_fields (key.Volume v) = packed_number v
 packed_fields (key.Device d) = packed_number d
+packed_fields (key.Based v) = packed_number v
 packed_fields _ = []
 
 unfoldable pub packed : Key → List ℕ
@@ -37,6 +38,7 @@ abbrev pub HasNumbers : Key → Type 0
 HasNumbers (key.File v i) = (v < 2 ^ 32) × (i < 2 ^ 32)
 HasNumbers (key.Volume v) = v < 2 ^ 32
 HasNumbers (key.Device d) = d < 2 ^ 32
+HasNumbers (key.Based v) = v < 2 ^ 32
 HasNumbers _ = Unit {0}
 
 -- their order is that of their packed forms, byte by byte

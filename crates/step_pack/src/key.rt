@@ -12,7 +12,8 @@ use doc_types::choice::Module;
 use std::alloc::Global;
 use std::cmp::Ordering;
 
-/// A step of a build. `File(v, i)` is item i of volume v; volumes, items and devices count from 0.
+/// A step of a build. `File(v, i)` is item i of volume v, `Based(v)` is volume v moved to its base; volumes, items and
+/// devices count from 0.
 #[derive(Debug, Drop)]
 pub enum Key {
     Dec(Path),
@@ -29,6 +30,8 @@ pub enum Key {
     Device(u32),
     Report,
     All,
+    Vpd,
+    Based(u32),
 }
 
 impl Key {
@@ -51,6 +54,8 @@ impl Key {
             Key::Device(_) => 11,
             Key::Report => 12,
             Key::All => 13,
+            Key::Vpd => 14,
+            Key::Based(_) => 15,
         }
     }
 
@@ -84,7 +89,8 @@ impl Key {
         ensures { result ≡ first_of self.now }
     {
         match self {
-            Key::File(number, _) | Key::Volume(number) | Key::Device(number) => *number,
+            Key::File(number, _) | Key::Volume(number) | Key::Device(number) | Key::Based(number) =>
+                *number,
             _ => 0,
         }
     }
@@ -160,6 +166,8 @@ impl Same for Key {
             Key::Device(number) => Ok(Key::Device(*number)),
             Key::Report => Ok(Key::Report),
             Key::All => Ok(Key::All),
+            Key::Vpd => Ok(Key::Vpd),
+            Key::Based(number) => Ok(Key::Based(*number)),
         }
     }
 

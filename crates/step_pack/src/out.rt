@@ -9,11 +9,12 @@ use doc_types::package::DecDoc;
 use doc_types::platform::PlatformDoc;
 use doc_types::texts::Texts;
 use doc_types::values::Values;
+use doc_types::vpd::Vpd;
 use shared_value::Shared;
 use std::alloc::Global;
 
 /// A file of the build, and the step that gives its bytes. `part` is 1 for the second of two texts,
-/// the header, else 0.
+/// the header or the map, else 0.
 #[derive(Debug, Drop)]
 pub struct Output {
     pub path: Path,
@@ -21,7 +22,8 @@ pub struct Output {
     pub part: u8,
 }
 
-/// What a step gives, by the kind of its key. What many steps read is shared. `PlatformPcds` gives `Values` too.
+/// What a step gives, by the kind of its key. What many steps read is shared. `PlatformPcds` gives `Values` too, and `Based`
+/// gives a `Volume`.
 #[derive(Debug, Drop)]
 pub enum Out {
     Dec(Shared<DecDoc>),
@@ -37,6 +39,7 @@ pub enum Out {
     Device(Image),
     Report(Text),
     All(Rows<Output>),
+    Vpd(Vpd),
 }
 
 impl Same for Output {
@@ -65,6 +68,7 @@ impl Same for Out {
             Out::Device(image) => Ok(Out::Device(image.copy(alloc)?)),
             Out::Report(text) => Ok(Out::Report(text.copy(alloc)?)),
             Out::All(outputs) => Ok(Out::All(outputs.copy(alloc)?)),
+            Out::Vpd(image) => Ok(Out::Vpd(image.copy(alloc)?)),
         }
     }
 
@@ -83,6 +87,7 @@ impl Same for Out {
             (Out::Device(ours), Out::Device(others)) => ours.same(others),
             (Out::Report(ours), Out::Report(others)) => ours.same(others),
             (Out::All(ours), Out::All(others)) => ours.same(others),
+            (Out::Vpd(ours), Out::Vpd(others)) => ours.same(others),
             _ => false,
         }
     }

@@ -47,8 +47,10 @@ pub fn pack_key(alloc: Global, key: &Key) -> Result<Text, WantOfMemory>
             push_number(&mut bytes, *volume)?;
             push_number(&mut bytes, *item)?;
         }
-        Key::Volume(number) | Key::Device(number) => push_number(&mut bytes, *number)?,
-        Key::Platform | Key::Flash | Key::PlatformPcds | Key::Report | Key::All => {}
+        Key::Volume(number) | Key::Device(number) | Key::Based(number) => {
+            push_number(&mut bytes, *number)?
+        }
+        Key::Platform | Key::Flash | Key::PlatformPcds | Key::Report | Key::All | Key::Vpd => {}
     }
     Ok(Text::from_vec(bytes))
 }
