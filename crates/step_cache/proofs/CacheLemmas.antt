@@ -15,7 +15,7 @@ use Rattle.step_engine.specs.declared.talk.Outcome.{Outcome}
 use Rattle.step_engine.specs.declared.talk.Pair.{Pair}
 use Rattle.step_pack.specs.declared.key.Key.{Key}
 use Rattle.step_pack.specs.declared.out.Out.{Out}
-use Rattle.step_cache.specs.CacheText.{pair_texts, batch_texts, entry_texts, cache_texts, numbered_pair, numbered_batch, numbered, pooled, pair_is_value, batch_is_value, entry_is_value, IsCacheText}
+use Rattle.step_cache.specs.CacheText.{pair_texts, batch_texts, entry_texts, cache_texts, numbered_pair, numbered_batch, numbered, pooled, pair_is_value, batch_is_value, entry_is_value, IsTextOf}
 use Rattle.step_cache.specs.Decoding.{HasTexts}
 use Rattle.step_cache.specs.Numbered.{pooled_form}
 use Rattle.step_cache.specs.Pools.{has_text, number_in, pool_of}
@@ -90,6 +90,6 @@ same_parts a b e va vb =
     apart_list pool (numbered pool) entry_is_value entry_texts (apart_entry pool) a b va vb
     (subst (λ (p : List (List ℕ)). HasTexts p (cache_texts a)) pools (all_there [] (cache_texts a))) (all_there [] (cache_texts b)) numbers
 
-pub same_cache : (a b : List (Entry Key Out)) (text : List ℕ) → IsCacheText a text → IsCacheText b text → a ≡ b
-same_cache a b text s t =
-    same_parts a b (spelled_once pooled_form (drop 20 text) (pooled a) (pooled b) (body_spelled a text s) (body_spelled b text t)) s.answers t.answers
+pub same_cache : (d e : ℕ) (a b : List (Entry Key Out)) (text : List ℕ) → IsTextOf d a text → IsTextOf e b text → a ≡ b
+same_cache d e a b text s t =
+    same_parts a b (spelled_once pooled_form (drop 20 text) (pooled a) (pooled b) (body_spelled d a text s) (body_spelled e b text t)) s.answers t.answers

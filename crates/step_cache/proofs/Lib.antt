@@ -9,3 +9,4 @@ pub mod TextLemmas
 pub mod CacheLemmas
 pub mod TableLemmas
 pub mod KnownLemmas
+pub mod AgreementLemmas

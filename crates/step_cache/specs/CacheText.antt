@@ -1,7 +1,7 @@
 -- The text of a cache: `EDKSTEPS`, the edition in four bytes, the length of the whole text in eight, the pool of the packed answers and
 -- results, and the entries in ascending order of their keys' packed forms, with numbers of the pool in place of answers and results. The
 -- rule is this project's own.
-use Rattle.std.specs.Prelude.{◌≡◌, ◌++◌, ◌+◌, ◌^◌, ◌&&◌, ℕ, Bool, true, List, [], ◌∷◌, length, map, codes, nat_lt}
+use Rattle.std.specs.Prelude.{◌≡◌, ◌++◌, ◌+◌, ◌^◌, ◌&&◌, ℕ, Bool, true, List, [], ◌∷◌, length, map, slice_index_or, codes, nat_lt, nat_le}
 use Rattle.std.specs.List.{list_all, flat_map}
 use Rattle.packed_values.specs.Plain.{number_form}
 use Rattle.packed_outcomes.specs.Talk.{answer_form, outcome_form}
@@ -57,16 +57,26 @@ pooled entries = record {
 abbrev pub body_of : List (Entry Key Out) → List ℕ
 body_of entries = pooled_form.spelling (pooled entries)
 
--- the edition of the text
-abbrev pub edition : ℕ
-edition = 2
+-- the edition of the texts that are written, and the oldest of those that are read
+abbrev pub newest : ℕ
+newest = 5
+
+abbrev pub oldest : ℕ
+oldest = 2
+
+abbrev pub is_edition : ℕ → Bool
+is_edition edition = nat_le oldest edition && nat_le edition newest
 
 -- what stands before a body of so many bytes
-abbrev pub head_of : ℕ → List ℕ
-head_of count = codes "EDKSTEPS" ++ (number_form 4).spelling edition ++ (number_form 8).spelling (20 + count)
+abbrev pub head_of : ℕ → ℕ → List ℕ
+head_of edition count = codes "EDKSTEPS" ++ (number_form 4).spelling edition ++ (number_form 8).spelling (20 + count)
 
-unfoldable pub cache_text : List (Entry Key Out) → List ℕ
-cache_text entries = head_of (length (body_of entries)) ++ body_of entries
+-- the edition that a head states, if one that is read
+abbrev pub edition_in : List ℕ → ℕ
+edition_in bytes = slice_index_or bytes 8 0
+
+unfoldable pub cache_text : ℕ → List (Entry Key Out) → List ℕ
+cache_text edition entries = head_of edition (length (body_of entries)) ++ body_of entries
 
 -- the answers and the results are values
 abbrev pub pair_is_value : Pair Key Out → Bool
@@ -78,10 +88,22 @@ batch_is_value batch = list_all pair_is_value batch.pairs
 abbrev pub entry_is_value : Entry Key Out → Bool
 entry_is_value entry = list_all batch_is_value entry.talk.batches && outcome_form.is_value entry.result
 
--- the bytes are the text of a cache of these entries
-pub record IsCacheText (entries : List (Entry Key Out)) (bytes : List ℕ) : Type 0 where
+-- the bytes are the text of a cache of these entries, of an edition
+pub record IsTextOf (edition : ℕ) (entries : List (Entry Key Out)) (bytes : List ℕ) : Type 0 where
+  pub known : is_edition edition ≡ true
   pub order : AreInOrder key_cmp entries
   pub answers : list_all entry_is_value entries ≡ true
   pub parts : pooled_form.is_value (pooled entries) ≡ true
   pub fits : nat_lt (length bytes) (256 ^ 8) ≡ true
-  pub text : bytes ≡ cache_text entries
+  pub text : bytes ≡ cache_text edition entries
+
+-- of the newest edition
+abbrev pub IsCacheText : List (Entry Key Out) → List ℕ → Type 0
+IsCacheText entries bytes = IsTextOf newest entries bytes
+
+-- they are the text of no cache, in an edition, and in none
+abbrev pub IsNoTextOf : ℕ → List ℕ → Type 0
+IsNoTextOf edition bytes = (entries : List (Entry Key Out)) → IsTextOf edition entries bytes → ⊥
+
+abbrev pub IsNoText : List ℕ → Type 0
+IsNoText bytes = (edition : ℕ) → IsNoTextOf edition bytes

@@ -4,3 +4,4 @@ pub mod CacheText
 pub mod Decoding
 pub mod Checking
 pub mod Known
+pub mod Agreement

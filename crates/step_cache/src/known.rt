@@ -36,7 +36,8 @@ impl Known {
         }
     }
 
-    fn get(&self, part: &Key) -> Option<u64>
+    /// The number that is noted of a part.
+    pub(crate) fn get(&self, part: &Key) -> Option<u64>
         ensures { result ≡ number_at self.now part.now }
     {
         match self.map.get(part) {
@@ -45,7 +46,8 @@ impl Known {
         }
     }
 
-    fn note(&mut self, part: Key, number: u64) -> Result<(), WantOfMemory>
+    /// Notes the number of the answer to a part.
+    pub(crate) fn note(&mut self, part: Key, number: u64) -> Result<(), WantOfMemory>
         ensures { OnOk result (IsPlaced part number (number_at self.old) (number_at self.new)) }
     {
         if self.map.insert(part, number).is_err() {

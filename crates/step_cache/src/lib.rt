@@ -1,6 +1,7 @@
 //! The text of a cache: each answer once, and the entries with numbers in their place.
 #![tactic(auto)]
 
+mod agreeing;
 mod checking;
 mod decoding;
 mod known;
@@ -11,5 +12,6 @@ mod reading;
 mod text;
 mod writing;
 
-pub use reading::unpack;
+pub use reading::{Kept, unpack};
+pub use text::NEWEST;
 pub use writing::pack;

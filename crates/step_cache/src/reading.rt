@@ -1,6 +1,6 @@
 //! A cache from its text.
-ghost use Rattle.std.specs.Prelude.{◌≡◌, true, false, List, ℕ, IfOk, MatchOption};
-ghost use Rattle.step_cache.specs.CacheText.{IsCacheText};
+ghost use Rattle.std.specs.Prelude.{◌≡◌, ◌≤◌, true, false, List, ℕ, length, take, drop, IfOk, MatchOption};
+ghost use Rattle.step_cache.specs.CacheText.{head_of, is_edition, IsNoText, IsNoTextOf, IsTextOf};
 ghost use Rattle.step_cache.specs.Checking.{ascend, IsCacheOf};
 ghost use Rattle.step_engine.specs.Caches.{AreInOrder};
 ghost use Rattle.step_engine.specs.declared.talk.Entry.{Entry as EntryOf};
@@ -8,10 +8,11 @@ ghost use Rattle.step_pack.specs.Keys.{key_cmp};
 ghost use Rattle.step_pack.specs.declared.key.Key.{Key as KeyOf};
 ghost use Rattle.step_pack.specs.declared.out.Out.{Out as OutOf};
 
+use crate::agreeing::agreeing;
 use crate::checking::{are_used, ascend};
 use crate::decoding::{decoded_of, entries_in};
 use crate::numbered::Pooled;
-use crate::text::{HEAD, is_head, parts_of, tail};
+use crate::text::{HEAD, edition_in, is_edition, is_head, parts_of, tail};
 use build_base::{Same, WantOfMemory};
 use std::alloc::Global;
 use step_engine::{Cache, Entry};
@@ -60,21 +61,29 @@ fn cache_of(alloc: Global, parts: &Pooled) -> Result<Option<Cache<Key, Out>>, Wa
     };
     match ascending_cache(alloc, entries.items())? {
         None => Ok(None),
-        Some(cache) => Ok(Some(cache)),
+        Some(cache) => Ok(Some(agreeing(alloc, &decoded, parts, cache)?)),
     }
 }
 
-/// The cache whose text the bytes are; nothing exactly where they are the text of none.
-#[tactic(auto, using(crate::proofs::TextLemmas::too_short, crate::proofs::TextLemmas::other_head, crate::proofs::TextLemmas::no_parts))]
-pub fn unpack(alloc: Global, bytes: &[u8]) -> Result<Option<Cache<Key, Out>>, WantOfMemory>
-    ensures { IfOk result (λ r. MatchOption r ((entries : List (EntryOf KeyOf OutOf)) → IsCacheText entries bytes.now → ⊥) (λ entries. IsCacheText entries bytes.now)) }
+/// A cache, and the edition of the text that it was read from.
+#[derive(Drop)]
+pub struct Kept {
+    pub edition: u32,
+    pub cache: Cache<Key, Out>,
+}
+
+// The cache whose text of an edition the bytes are; nothing exactly where they are that of none.
+#[tactic(auto, using(crate::proofs::TextLemmas::no_parts))]
+fn unpack_body(
+    alloc: Global,
+    edition: u32,
+    bytes: &[u8],
+) -> Result<Option<Cache<Key, Out>>, WantOfMemory>
+    requires long { 20 ≤ length bytes.now }
+    requires known { is_edition edition ≡ true }
+    requires head { take 20 bytes.now ≡ head_of edition (length (drop 20 bytes.now)) }
+    ensures { IfOk result (λ r. MatchOption r (IsNoTextOf edition bytes.now) (λ entries. IsTextOf edition entries bytes.now)) }
 {
-    if bytes.len() < HEAD {
-        return Ok(None);
-    }
-    if !is_head(alloc, bytes)? {
-        return Ok(None);
-    }
     let parts = match parts_of(alloc, tail(bytes))? {
         None => return Ok(None),
         Some(parts) => parts,
@@ -83,4 +92,34 @@ pub fn unpack(alloc: Global, bytes: &[u8]) -> Result<Option<Cache<Key, Out>>, Wa
         None => Ok(None),
         Some(cache) => Ok(Some(cache)),
     }
+}
+
+// The same where the bytes have room for a head.
+
+fn unpack_long(alloc: Global, bytes: &[u8]) -> Result<Option<Kept>, WantOfMemory>
+    requires { 20 ≤ length bytes.now }
+    ensures { IfOk result (λ r. MatchOption r (IsNoText bytes.now) (λ kept. IsTextOf kept.edition kept.cache bytes.now)) }
+{
+    let edition = edition_in(bytes);
+    if !is_edition(edition) {
+        return Ok(None);
+    }
+    if !is_head(alloc, edition, bytes)? {
+        return Ok(None);
+    }
+    match unpack_body(alloc, edition, bytes)? {
+        None => Ok(None),
+        Some(cache) => Ok(Some(Kept { edition, cache })),
+    }
+}
+
+/// The cache whose text the bytes are, and the text's edition; nothing exactly where they are the text of none.
+#[tactic(auto, using(crate::proofs::TextLemmas::too_short))]
+pub fn unpack(alloc: Global, bytes: &[u8]) -> Result<Option<Kept>, WantOfMemory>
+    ensures { IfOk result (λ r. MatchOption r (IsNoText bytes.now) (λ kept. IsTextOf kept.edition kept.cache bytes.now)) }
+{
+    if bytes.len() < HEAD {
+        return Ok(None);
+    }
+    unpack_long(alloc, bytes)
 }

@@ -1,0 +1,14 @@
+-- One more is noted.
+use Rattle.std.proofs.Common.{List, rules, refl, subst}
+use Rattle.step_cache.specs.Agreement.{HasAsk, Notes}
+use Rattle.step_cache.specs.declared.numbered.Asked.{Asked}
+use Rattle.step_cache.proofs.AgreementLemmas.{one_noted, all_noted}
+use Rattle.step_cache.proofs.agreeing.note_batches.Goals as goal
+
+pub loop-left-preserved : goal.loop-left-preserved
+loop-left-preserved c =
+    one_noted HasAsk c.loop-left.left.now c.args.batches.now c.batch-item.result c.args.known.now c.loop-left.known c.note_batch.new.known _ refl c.in-len1-up.len_at_least c.batch-item.is
+    (subst (λ (rows : List Asked). Notes (HasAsk rows) c.loop-left.known c.note_batch.new.known) c.items.ensures (c.in_ok-note_batch.ensures (search rules))) c.loop-left.invariant
+
+pub returns : goal.returns
+returns c = λ yes. all_noted HasAsk c.loop-left.left.now c.args.batches.now c.args.known.now c.loop-left.known c.in_default.len_below c.loop-left.invariant
