@@ -43,6 +43,7 @@ use Rattle.module_steps.specs.Skus.{skus_end}
 use Rattle.image_steps.specs.Asks.{sections_below, regions_below, are_few}
 use Rattle.image_steps.specs.Files.{file_given}
 use Rattle.image_steps.specs.Volumes.{volume_given}
+use Rattle.build_rules.specs.Based.{based_given}
 use Rattle.image_steps.specs.Devices.{device_given}
 use Rattle.module_images.specs.Apriori.{apriori_given}
 use Rattle.module_images.specs.Files.{module_given}
@@ -55,7 +56,9 @@ use Rattle.text_steps.specs.Code.{code_given}
 use Rattle.text_steps.specs.Depex.{depex_given}
 use Rattle.text_steps.specs.Report.{values_at, report_given}
 use Rattle.build_rules.specs.Trees.{EdkStages, given_as, document_stages, root_in, macros_in, platform_in, flash_root, flash_from}
-use Rattle.build_rules.specs.ImageTrees.{flash_in, volume_at, item_at, device_at, item_stages}
+use Rattle.build_rules.specs.ImageTrees.{flash_in, volume_at, item_at, device_at, vpd_in, item_stages}
+use Rattle.build_rules.specs.VpdTree.{arches_at, placed}
+use Rattle.build_rules.specs.VpdLines.{has_vpd}
 use Rattle.build_rules.specs.Rules.{edk, stages_of}
 use Rattle.build_rules.specs.RulesBounds.{edk_is_bounded}
 use Rattle.build_rules.specs.Values.{answers_in, fault_asked}
@@ -137,16 +140,23 @@ of_kind (key.File v i) =
 of_kind (key.Volume v) =
     λ given. attempt_kind 9 (flash_in given 0) _ (λ flash. attempt_kind 9 (volume_at flash v) _ (λ plan.
     when_kind 9 (are_few (length plan.items)) _ (λ files. given_kind 9 out.Volume (λ x. refl) (volume_given plan.head files))))
+of_kind (key.Based v) =
+    λ given. attempt_kind 9 (flash_in given 0) _ (λ flash. attempt_kind 9 (volume_at flash v) _ (λ plan.
+    when_kind 9 (are_few (length plan.items)) _ (λ files. given_kind 9 out.Volume (λ x. refl) (based_given plan.head files))))
+of_kind key.Vpd =
+    λ given. attempt_kind 13 (platform_in given 0) _ (λ platform. attempt_kind 13 (values_at given 1) _ (λ values. attempt_kind 13 (arches_at platform given) _ (λ arches.
+    given_kind 13 out.Vpd (λ x. refl) (placed platform values arches))))
 of_kind (key.Device d) =
-    λ given. attempt_kind 10 (flash_in given 0) _ (λ flash. attempt_kind 10 (device_at flash d) _ (λ plan.
-    when_kind 10 (regions_below plan.regions) _ (λ parts. given_kind 10 out.Device (λ x. refl) (device_given plan parts))))
+    λ given. attempt_kind 10 (flash_in given 0) _ (λ flash. attempt_kind 10 (platform_in given 1) _ (λ platform. attempt_kind 10 (vpd_in platform given) _ (λ vpd.
+    attempt_kind 10 (device_at flash d) _ (λ plan.
+    when_kind 10 (regions_below plan.regions) _ (λ parts. given_kind 10 out.Device (λ x. refl) (device_given vpd plan parts))))))
 of_kind key.Report =
     λ given. attempt_kind 11 (platform_in given 0) _ (λ platform. attempt_kind 11 (told_modules_in platform given) _ (λ modules. attempt_kind 11 (heading_in platform given) _ (λ heading.
     λ told. given_kind 11 out.Report (λ x. refl) (report_given platform heading modules told))))
 of_kind key.All =
     λ given. attempt_kind 12 (platform_in given 0) _ (λ platform. attempt_kind 12 (flash_in given 1) _ (λ flash. attempt_kind 12 (folder_in platform given) _ (λ folder.
     attempt_kind 12 (modules_in platform given) _ (λ modules. attempt_kind 12 (wanted_in flash given) _ (λ wanted. attempt_kind 12 (report_in given) _ (λ report.
-    when_kind 12 (are_few (length flash.volumes) && are_few (length flash.devices)) _ (λ files. given_kind 12 out.All (λ x. refl) (outputs_of folder modules flash wanted report files))))))))
+    when_kind 12 (are_few (length flash.volumes) && are_few (length flash.devices)) _ (λ files. given_kind 12 out.All (λ x. refl) (outputs_of (has_vpd platform) folder modules flash wanted report files))))))))
 
 run_kind : (n : ℕ) (o : Ask Key → Answer Out) (s : EdkStages) → AreOfKind n s → IfOk (run fits o s) (λ given. kind_of given ≡ n)
 run_kind n o (end (Ok given)) h = h

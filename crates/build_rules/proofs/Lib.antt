@@ -7,3 +7,7 @@ mod ToldLemmas
 mod ChoiceValues
 mod PcdValues
 mod TextLemmas
+mod VpdLemmas
+mod BasedLemmas
+pub mod AdoptLemmas
+mod OlderLemmas

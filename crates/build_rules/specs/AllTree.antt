@@ -7,6 +7,7 @@ use Rattle.step_engine.specs.declared.talk.Ask.{Ask}
 use Rattle.step_engine.specs.declared.talk.Ask.TheVariants as ask
 use Rattle.step_engine.specs.declared.talk.Answer.{Answer}
 use Rattle.doc_types.specs.declared.choice.Module.{Module}
+use Rattle.doc_types.specs.declared.flash.DevicePlan.{DevicePlan}
 use Rattle.doc_types.specs.declared.flash.FlashDoc.{FlashDoc}
 use Rattle.doc_types.specs.declared.platform.PlatformDoc.{PlatformDoc}
 use Rattle.build_stages.specs.Stages.{end, stage}
@@ -15,9 +16,11 @@ use Rattle.step_pack.specs.declared.key.Key.{Key}
 use Rattle.step_pack.specs.declared.key.Key.TheVariants as key
 use Rattle.step_pack.specs.declared.out.Out.{Out}
 use Rattle.step_pack.specs.declared.out.Out.TheVariants as out
-use Rattle.image_steps.specs.Asks.{are_few}
+use Rattle.doc_types.specs.declared.volume.VolumePlan.{VolumePlan}
+use Rattle.image_steps.specs.Asks.{are_few, step_of}
 use Rattle.module_steps.specs.Settings.{built_modules}
 use Rattle.text_steps.specs.Asks.{build_module_asks}
+use Rattle.build_rules.specs.VpdLines.{has_vpd}
 use Rattle.build_rules.specs.Trees.{EdkStages, given_as, platform_in, flash_named}
 use Rattle.build_rules.specs.ImageTrees.{flash_in}
 use Rattle.build_rules.specs.Outputs.{output_folder, outputs_of}
@@ -36,14 +39,17 @@ step_where true step = ask.Part step ∷ []
 step_where false step = []
 
 -- steps by number, from one on, one for each of these whose number is marked
-unfoldable pub steps_from : {A : Type 0} → (ℕ → Key) → List Bool → ℕ → List A → List (Ask Key)
+unfoldable pub steps_from : {A : Type 0} → (ℕ → A → Key) → List Bool → ℕ → List A → List (Ask Key)
 steps_from step marks n [] = []
-steps_from step marks n (x ∷ xs) = step_where (is_marked marks n) (step n) ++ steps_from step marks (n + 1) xs
+steps_from step marks n (x ∷ xs) = step_where (is_marked marks n) (step n x) ++ steps_from step marks (n + 1) xs
+
+abbrev pub device_step : ℕ → DevicePlan → Key
+device_step n plan = key.Device n
 
 -- the volumes that are wanted, by their numbers, and then the devices
 abbrev pub image_asks : FlashDoc → Wanted → List (Ask Key)
 image_asks flash wanted =
-    steps_from key.Volume wanted.volumes 0 flash.volumes ++ steps_from key.Device wanted.devices 0 flash.devices
+    steps_from step_of wanted.volumes 0 flash.volumes ++ steps_from device_step wanted.devices 0 flash.devices
 
 abbrev pub folder_in : PlatformDoc → List (Answer Out) → Result (List ℕ) Fault
 folder_in platform given =
@@ -69,16 +75,19 @@ abbrev pub report_part : Option (List ℕ) → List (Ask Key)
 report_part None = []
 report_part (Some path) = ask.Part key.Report ∷ []
 
--- the rows of dynamic PCDs, each module, the images that are wanted, and last the report
-abbrev pub build_asks : List Module → FlashDoc → Wanted → Option (List ℕ) → List (Ask Key)
-build_asks modules flash wanted report =
-    ask.Part key.PlatformPcds ∷ build_module_asks modules ++ image_asks flash wanted ++ report_part report
+-- the rows of dynamic PCDs, each module, the images that are wanted, the image of vital product data, where the platform has a line
+-- of it, and last the report
+abbrev pub build_asks : Bool → List Module → FlashDoc → Wanted → Option (List ℕ) → List (Ask Key)
+build_asks vpd modules flash wanted report =
+    ask.Part key.PlatformPcds ∷ build_module_asks modules ++ image_asks flash wanted
+    ++ step_where vpd key.Vpd ++ report_part report
 
 -- modules, images of a flash description and the report, and then the files of the build
-abbrev pub files_stages : List ℕ → List Module → FlashDoc → Wanted → Option (List ℕ) → EdkStages
-files_stages folder modules flash wanted report =
+abbrev pub files_stages : Bool → List ℕ → List Module → FlashDoc → Wanted → Option (List ℕ) → EdkStages
+files_stages vpd folder modules flash wanted report =
     when (are_few (length flash.volumes) && are_few (length flash.devices))
-    (stage (build_asks modules flash wanted report) (λ given. end (given_as out.All (outputs_of folder modules flash wanted report given))))
+    (stage (build_asks vpd modules flash wanted report)
+    (λ given. end (given_as out.All (outputs_of vpd folder modules flash wanted report given))))
 
 abbrev pub all_given : List (Answer Out) → EdkStages
 all_given given =
@@ -87,7 +96,7 @@ all_given given =
     attempt (folder_in platform given) (λ folder.
     attempt (modules_in platform given) (λ modules.
     attempt (wanted_in flash given) (λ wanted.
-    attempt (report_in given) (λ report. files_stages folder modules flash wanted report))))))
+    attempt (report_in given) (λ report. files_stages (has_vpd platform) folder modules flash wanted report))))))
 
 abbrev pub all_stages : EdkStages
 all_stages = stage all_asks all_given

@@ -26,6 +26,7 @@ kind_of (out.Volume image) = 9
 kind_of (out.Device image) = 10
 kind_of (out.Report text) = 11
 kind_of (out.All outputs) = 12
+kind_of (out.Vpd image) = 13
 
 -- and what the step of a key gives
 abbrev pub kind_at : Key → ℕ
@@ -43,6 +44,8 @@ kind_at (key.Volume v) = 9
 kind_at (key.Device d) = 10
 kind_at key.Report = 11
 kind_at key.All = 12
+kind_at key.Vpd = 13
+kind_at (key.Based v) = 9
 
 -- an answer of its ask's kind; a part is a fault, or what the step of its key gives
 abbrev pub fits : Ask Key → Answer Out → Bool

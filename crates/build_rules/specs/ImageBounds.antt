@@ -25,15 +25,18 @@ use Rattle.doc_types.specs.declared.volume.VolumePlan.{VolumePlan}
 use Rattle.doc_types.specs.declared.volume_head.VolumeHead.{VolumeHead}
 use Rattle.step_pack.specs.declared.key.Key.{Key}
 use Rattle.step_pack.specs.declared.key.Key.TheVariants as key
-use Rattle.std.proofs.Common.{Option, Some, None}
-use Rattle.image_steps.specs.Asks.{source_file, source_volume, section_files, section_volumes, body_asks, source_below, sections_below, is_apriori, files_where, kind_asks, region_asks, kind_below, regions_below, are_few}
+use Rattle.std.proofs.Common.{Option, Some, None, slice_get, refl}
+use Rattle.image_steps.specs.Asks.{is_based, step_of, step_by, volume_step, source_file, source_volume, section_files, section_volumes, body_asks, source_below, sections_below, is_apriori, files_where, is_vpd, tree_asks, kind_asks, region_asks, kind_below, regions_below, are_few}
+use Rattle.text_steps.specs.Report.{values_at}
+use Rattle.build_rules.specs.VpdLines.{has_vpd}
 use Rattle.text_steps.specs.Asks.{built_asks, build_module_asks}
 use Rattle.module_images.specs.declared.plans.ModulePlan.{ModulePlan}
 use Rattle.module_images.specs.Asks.{line_asks, member_asks, members_asks, is_path_of, source_file as filled_file, section_files as filled_files, takes_depex, plan_asks}
 use Rattle.module_images.specs.Modules.{plan_given}
 use Rattle.build_rules.specs.Trees.{platform_in}
-use Rattle.build_rules.specs.ImageTrees.{flash_in, volume_at, item_at, device_at, item_stages, file_stages, plan_stages, volume_stages, device_stages}
-use Rattle.build_rules.specs.AllTree.{step_where, steps_from, folder_in, modules_in, wanted_in, report_in, image_asks, report_part, files_stages, all_stages}
+use Rattle.build_rules.specs.ImageTrees.{flash_in, volume_at, item_at, device_at, item_stages, file_stages, plan_stages, volume_stages, vpd_in, device_stages}
+use Rattle.build_rules.specs.VpdTree.{arches_at, vpd_stages}
+use Rattle.build_rules.specs.AllTree.{step_where, steps_from, device_step, folder_in, modules_in, wanted_in, report_in, image_asks, report_part, files_stages, all_stages}
 use Rattle.build_rules.specs.Wanted.{is_marked}
 use Rattle.build_rules.specs.declared.wanted.Wanted.{Wanted}
 use Rattle.build_rules.specs.Rules.{rank_of}
@@ -46,29 +49,46 @@ source_file_lower bound (source.Volume n) = All-nil (IsLower rank_of bound)
 source_file_lower bound (source.Words text) = All-nil (IsLower rank_of bound)
 source_file_lower bound (source.Refused text) = All-nil (IsLower rank_of bound)
 
-source_volume_lower : (v : ℕ) (s : SectionSource) → source_below v s ≡ true → All (IsLower rank_of (8 + 2 * v)) (source_volume s)
-source_volume_lower v (source.Tree path) e = All-nil (IsLower rank_of (8 + 2 * v))
-source_volume_lower v (source.Template text) e = All-nil (IsLower rank_of (8 + 2 * v))
-source_volume_lower v (source.Volume n) e =
-    all_one (IsLower rank_of (8 + 2 * v)) (ask.Part (key.Volume n)) (let below : n < v = ltb-true n v e in omega (arith, below))
-source_volume_lower v (source.Words text) e = All-nil (IsLower rank_of (8 + 2 * v))
-source_volume_lower v (source.Refused text) e = All-nil (IsLower rank_of (8 + 2 * v))
+-- a volume has one rank, moved or not
+moved_rank : (b : Bool) (n : ℕ) → rank_of (cond b (key.Based n) (key.Volume n)) ≡ 9 + 2 * n
+moved_rank true n = refl
+moved_rank false n = refl
+
+step_rank : (n : ℕ) (plan : VolumePlan) → rank_of (step_of n plan) ≡ 9 + 2 * n
+step_rank n plan = moved_rank (is_based plan.head) n
+
+by_rank : (n : ℕ) (plan : Option VolumePlan) → rank_of (step_by n plan) ≡ 9 + 2 * n
+by_rank n None = refl
+by_rank n (Some plan) = step_rank n plan
+
+volume_rank : (volumes : List VolumePlan) (n : ℕ) → rank_of (volume_step volumes n) ≡ 9 + 2 * n
+volume_rank volumes n = by_rank n (slice_get volumes n)
+
+source_volume_lower : (v : ℕ) (volumes : List VolumePlan) (s : SectionSource) → source_below v s ≡ true → All (IsLower rank_of (8 + 2 * v)) (source_volume volumes s)
+source_volume_lower v volumes (source.Tree path) e = All-nil (IsLower rank_of (8 + 2 * v))
+source_volume_lower v volumes (source.Template text) e = All-nil (IsLower rank_of (8 + 2 * v))
+source_volume_lower v volumes (source.Volume n) e =
+    all_one (IsLower rank_of (8 + 2 * v)) (ask.Part (volume_step volumes n))
+    (let below : n < v = ltb-true n v e in let rank : rank_of (volume_step volumes n) ≡ 9 + 2 * n = volume_rank volumes n in omega (arith, below, rank))
+source_volume_lower v volumes (source.Words text) e = All-nil (IsLower rank_of (8 + 2 * v))
+source_volume_lower v volumes (source.Refused text) e = All-nil (IsLower rank_of (8 + 2 * v))
 
 files_lower : (bound : ℕ) (sections : List SectionPlan) → All (IsLower rank_of bound) (section_files sections)
 files_lower bound [] = All-nil (IsLower rank_of bound)
 files_lower bound (s ∷ sections) =
     All-append (IsLower rank_of bound) (source_file s.source) (section_files sections) (source_file_lower bound s.source) (files_lower bound sections)
 
-volumes_lower : (v : ℕ) (sections : List SectionPlan) → sections_below v sections ≡ true → All (IsLower rank_of (8 + 2 * v)) (section_volumes sections)
-volumes_lower v [] e = All-nil (IsLower rank_of (8 + 2 * v))
-volumes_lower v (s ∷ sections) e =
+volumes_lower : (v : ℕ) (volumes : List VolumePlan) (sections : List SectionPlan) → sections_below v sections ≡ true → All (IsLower rank_of (8 + 2 * v)) (section_volumes volumes sections)
+volumes_lower v volumes [] e = All-nil (IsLower rank_of (8 + 2 * v))
+volumes_lower v volumes (s ∷ sections) e =
     let parts = both_hold (source_below v s.source) (sections_below v sections) e in
-    All-append (IsLower rank_of (8 + 2 * v)) (source_volume s.source) (section_volumes sections) (source_volume_lower v s.source parts.0) (volumes_lower v sections parts.1)
+    All-append (IsLower rank_of (8 + 2 * v)) (source_volume volumes s.source) (section_volumes volumes sections)
+    (source_volume_lower v volumes s.source parts.0) (volumes_lower v volumes sections parts.1)
 
-body_lower : (v : ℕ) (sections : List SectionPlan) (whole : Option (List ℕ)) → sections_below v sections ≡ true → All (IsLower rank_of (8 + 2 * v)) (body_asks sections whole)
-body_lower v sections (Some path) e = all_one (IsLower rank_of (8 + 2 * v)) (ask.File path) tt
-body_lower v sections None e =
-    All-append (IsLower rank_of (8 + 2 * v)) (section_files sections) (section_volumes sections) (files_lower (8 + 2 * v) sections) (volumes_lower v sections e)
+body_lower : (v : ℕ) (volumes : List VolumePlan) (sections : List SectionPlan) (whole : Option (List ℕ)) → sections_below v sections ≡ true → All (IsLower rank_of (8 + 2 * v)) (body_asks volumes sections whole)
+body_lower v volumes sections (Some path) e = all_one (IsLower rank_of (8 + 2 * v)) (ask.File path) tt
+body_lower v volumes sections None e =
+    All-append (IsLower rank_of (8 + 2 * v)) (section_files sections) (section_volumes volumes sections) (files_lower (8 + 2 * v) sections) (volumes_lower v volumes sections e)
 
 line_lower : (v : ℕ) (line : InfLine) → All (IsLower rank_of (8 + 2 * v)) (line_asks line)
 line_lower v line =
@@ -113,7 +133,7 @@ plan_asks_lower v plan =
 
 item_lower : (v : ℕ) (flash : FlashDoc) (head : VolumeHead) (i : Item) → AreLower rank_of (8 + 2 * v) (item_stages v flash head i)
 item_lower v flash head (item.File plan) =
-    when_lower rank_of (8 + 2 * v) (sections_below v plan.sections) _ (λ e. (body_lower v plan.sections plan.whole e, λ given. tt))
+    when_lower rank_of (8 + 2 * v) (sections_below v plan.sections) _ (λ e. (body_lower v flash.volumes plan.sections plan.whole e, λ given. tt))
 item_lower v flash head (item.Apriori at pei members) = (members_lower v members, λ given. tt)
 item_lower v flash head (item.Inf line) = (
   line_lower v line,
@@ -153,70 +173,97 @@ unfolding files_where
 items_lower choose v n [] = All-nil (IsLower rank_of (9 + 2 * v))
 items_lower choose v n (i ∷ items) = chosen_lower (choose i) v n (files_where choose v (n + 1) items) (items_lower choose v (n + 1) items)
 
-plan_lower : (v : ℕ) (plan : VolumePlan) → AreLower rank_of (9 + 2 * v) (plan_stages v plan)
-plan_lower v plan =
+plan_lower : (moved : Bool) (v : ℕ) (plan : VolumePlan) → AreLower rank_of (9 + 2 * v) (plan_stages moved v plan)
+plan_lower moved v plan =
     when_lower rank_of (9 + 2 * v) (are_few (length plan.items)) _ (λ e. (
       All-append (IsLower rank_of (9 + 2 * v)) (files_where is_apriori v 0 plan.items) (files_where (λ i. not (is_apriori i)) v 0 plan.items)
           (items_lower is_apriori v 0 plan.items) (items_lower (λ i. not (is_apriori i)) v 0 plan.items),
       λ given. tt,
     ))
 
-pub volume_lower : (v : ℕ) → AreLower rank_of (9 + 2 * v) (volume_stages v)
-volume_lower v = (
+pub volume_lower : (moved : Bool) (v : ℕ) → AreLower rank_of (9 + 2 * v) (volume_stages moved v)
+volume_lower moved v = (
   all_one (IsLower rank_of (9 + 2 * v)) (ask.Part key.Flash) (omega arith),
-  λ given. attempt_lower rank_of (9 + 2 * v) (flash_in given 0) _ (λ flash. attempt_lower rank_of (9 + 2 * v) (volume_at flash v) _ (λ plan. plan_lower v plan)),
+  λ given. attempt_lower rank_of (9 + 2 * v) (flash_in given 0) _ (λ flash. attempt_lower rank_of (9 + 2 * v) (volume_at flash v) _ (λ plan. plan_lower moved v plan)),
 )
 
-pub volume_within : (v : ℕ) → IsWithin fits 2 (volume_stages v)
-volume_within v = (
+pub volume_within : (moved : Bool) (v : ℕ) → IsWithin fits 2 (volume_stages moved v)
+volume_within moved v = (
   omega arith,
   λ given fit. attempt_within fits 1 (flash_in given 0) _ (λ flash. attempt_within fits 1 (volume_at flash v) _ (λ plan.
       when_within fits 1 (are_few (length plan.items)) _ (omega arith, λ images fit_too. tt))),
 )
 
-kind_lower : (k : RegionKind) → kind_below k ≡ true → All (IsLower rank_of 0x400000000) (kind_asks k)
-kind_lower kind.Empty e = All-nil (IsLower rank_of 0x400000000)
-kind_lower (kind.Bytes bytes) e = All-nil (IsLower rank_of 0x400000000)
-kind_lower (kind.Tree path) e = all_one (IsLower rank_of 0x400000000) (ask.File path) tt
-kind_lower (kind.Volume n) e =
-    all_one (IsLower rank_of 0x400000000) (ask.Part (key.Volume n)) (let few : n < 65536 = ltb-true n 65536 e in omega (arith, few))
+tree_lower : (b : Bool) (path : List ℕ) → All (IsLower rank_of 0x400000000) (tree_asks b path)
+tree_lower true path = all_one (IsLower rank_of 0x400000000) (ask.Part key.Vpd) (omega arith)
+tree_lower false path = all_one (IsLower rank_of 0x400000000) (ask.File path) tt
 
-regions_lower : (regions : List Region) → regions_below regions ≡ true → All (IsLower rank_of 0x400000000) (region_asks regions)
-regions_lower [] e = All-nil (IsLower rank_of 0x400000000)
-regions_lower (r ∷ regions) e =
+kind_lower : (volumes : List VolumePlan) (vpd : Option (List ℕ)) (k : RegionKind) → kind_below k ≡ true → All (IsLower rank_of 0x400000000) (kind_asks volumes vpd k)
+kind_lower volumes vpd kind.Empty e = All-nil (IsLower rank_of 0x400000000)
+kind_lower volumes vpd (kind.Bytes bytes) e = All-nil (IsLower rank_of 0x400000000)
+kind_lower volumes vpd (kind.Tree path) e = tree_lower (is_vpd vpd path) path
+kind_lower volumes vpd (kind.Volume n) e =
+    all_one (IsLower rank_of 0x400000000) (ask.Part (volume_step volumes n))
+    (let few : n < 65536 = ltb-true n 65536 e in let rank : rank_of (volume_step volumes n) ≡ 9 + 2 * n = volume_rank volumes n in omega (arith, few, rank))
+
+regions_lower : (volumes : List VolumePlan) (vpd : Option (List ℕ)) (regions : List Region) → regions_below regions ≡ true → All (IsLower rank_of 0x400000000) (region_asks volumes vpd regions)
+regions_lower volumes vpd [] e = All-nil (IsLower rank_of 0x400000000)
+regions_lower volumes vpd (r ∷ regions) e =
     let parts = both_hold (kind_below r.kind) (regions_below regions) e in
-    All-append (IsLower rank_of 0x400000000) (kind_asks r.kind) (region_asks regions) (kind_lower r.kind parts.0) (regions_lower regions parts.1)
+    All-append (IsLower rank_of 0x400000000) (kind_asks volumes vpd r.kind) (region_asks volumes vpd regions)
+    (kind_lower volumes vpd r.kind parts.0) (regions_lower volumes vpd regions parts.1)
 
 pub device_lower : (d : ℕ) → AreLower rank_of 0x400000000 (device_stages d)
 device_lower d = (
-  all_one (IsLower rank_of 0x400000000) (ask.Part key.Flash) (omega arith),
-  λ given. attempt_lower rank_of 0x400000000 (flash_in given 0) _ (λ flash. attempt_lower rank_of 0x400000000 (device_at flash d) _ (λ plan.
-      when_lower rank_of 0x400000000 (regions_below plan.regions) _ (λ e. (regions_lower plan.regions e, λ parts. tt)))),
+  All-cons (IsLower rank_of 0x400000000) (ask.Part key.Flash) (ask.Part key.Platform ∷ ask.Field 2 ∷ ask.Field 3 ∷ []) (omega arith)
+      (All-cons (IsLower rank_of 0x400000000) (ask.Part key.Platform) (ask.Field 2 ∷ ask.Field 3 ∷ []) (omega arith)
+      (all_two (IsLower rank_of 0x400000000) (ask.Field 2) (ask.Field 3) tt tt)),
+  λ given. attempt_lower rank_of 0x400000000 (flash_in given 0) _ (λ flash. attempt_lower rank_of 0x400000000 (platform_in given 1) _ (λ platform.
+      attempt_lower rank_of 0x400000000 (vpd_in platform given) _ (λ vpd. attempt_lower rank_of 0x400000000 (device_at flash d) _ (λ plan.
+      when_lower rank_of 0x400000000 (regions_below plan.regions) _ (λ e. (regions_lower flash.volumes vpd plan.regions e, λ parts. tt)))))),
 )
 
 pub device_within : (d : ℕ) → IsWithin fits 2 (device_stages d)
 device_within d = (
   omega arith,
-  λ given fit. attempt_within fits 1 (flash_in given 0) _ (λ flash. attempt_within fits 1 (device_at flash d) _ (λ plan.
-      when_within fits 1 (regions_below plan.regions) _ (omega arith, λ parts fit_too. tt))),
+  λ given fit. attempt_within fits 1 (flash_in given 0) _ (λ flash. attempt_within fits 1 (platform_in given 1) _ (λ platform.
+      attempt_within fits 1 (vpd_in platform given) _ (λ vpd. attempt_within fits 1 (device_at flash d) _ (λ plan.
+      when_within fits 1 (regions_below plan.regions) _ (omega arith, λ parts fit_too. tt))))),
+)
+
+-- vital product data asks once
+pub vpd_lower : AreLower rank_of 6 vpd_stages
+vpd_lower = (
+  All-cons (IsLower rank_of 6) (ask.Part key.Platform) (ask.Part key.PlatformPcds ∷ ask.Field 1 ∷ []) (omega arith)
+      (all_two (IsLower rank_of 6) (ask.Part key.PlatformPcds) (ask.Field 1) (omega arith) tt),
+  λ given. attempt_lower rank_of 6 (platform_in given 0) _ (λ platform. attempt_lower rank_of 6 (values_at given 1) _ (λ values.
+      attempt_lower rank_of 6 (arches_at platform given) _ (λ arches. tt))),
+)
+
+pub vpd_within : IsWithin fits 1 vpd_stages
+vpd_within = (
+  omega arith,
+  λ given fit. attempt_within fits 0 (platform_in given 0) _ (λ platform. attempt_within fits 0 (values_at given 1) _ (λ values.
+      attempt_within fits 0 (arches_at platform given) _ (λ arches. tt))),
 )
 
 where_asked : (b : Bool) (step : Key) → rank_of step < 0x400000002 → All (IsLower rank_of 0x400000002) (step_where b step)
 where_asked true step h = all_one (IsLower rank_of 0x400000002) (ask.Part step) h
 where_asked false step h = All-nil (IsLower rank_of 0x400000002)
 
-volumes_asked : (marks : List Bool) (n : ℕ) (plans : List VolumePlan) → n + length plans < 65536 → All (IsLower rank_of 0x400000002) (steps_from key.Volume marks n plans)
+volumes_asked : (marks : List Bool) (n : ℕ) (plans : List VolumePlan) → n + length plans < 65536 → All (IsLower rank_of 0x400000002) (steps_from step_of marks n plans)
 unfolding steps_from
 volumes_asked marks n [] h = All-nil (IsLower rank_of 0x400000002)
 volumes_asked marks n (plan ∷ plans) h =
-    All-append (IsLower rank_of 0x400000002) (step_where (is_marked marks n) (key.Volume n)) (steps_from key.Volume marks (n + 1) plans)
-    (where_asked (is_marked marks n) (key.Volume n) (omega (arith, h))) (volumes_asked marks (n + 1) plans (omega (arith, h)))
+    All-append (IsLower rank_of 0x400000002) (step_where (is_marked marks n) (step_of n plan)) (steps_from step_of marks (n + 1) plans)
+    (where_asked (is_marked marks n) (step_of n plan) (let rank : rank_of (step_of n plan) ≡ 9 + 2 * n = step_rank n plan in omega (arith, h, rank)))
+    (volumes_asked marks (n + 1) plans (omega (arith, h)))
 
-devices_asked : (marks : List Bool) (n : ℕ) (plans : List DevicePlan) → All (IsLower rank_of 0x400000002) (steps_from key.Device marks n plans)
+devices_asked : (marks : List Bool) (n : ℕ) (plans : List DevicePlan) → All (IsLower rank_of 0x400000002) (steps_from device_step marks n plans)
 unfolding steps_from
 devices_asked marks n [] = All-nil (IsLower rank_of 0x400000002)
 devices_asked marks n (plan ∷ plans) =
-    All-append (IsLower rank_of 0x400000002) (step_where (is_marked marks n) (key.Device n)) (steps_from key.Device marks (n + 1) plans)
+    All-append (IsLower rank_of 0x400000002) (step_where (is_marked marks n) (key.Device n)) (steps_from device_step marks (n + 1) plans)
     (where_asked (is_marked marks n) (key.Device n) (omega arith)) (devices_asked marks (n + 1) plans)
 
 modules_asked : (modules : List Module) → All (IsLower rank_of 0x400000002) (build_module_asks modules)
@@ -229,7 +276,7 @@ modules_asked (m ∷ modules) =
 
 images_asked : (flash : FlashDoc) (wanted : Wanted) → (are_few (length flash.volumes) && are_few (length flash.devices)) ≡ true → All (IsLower rank_of 0x400000002) (image_asks flash wanted)
 images_asked flash wanted e =
-    All-append (IsLower rank_of 0x400000002) (steps_from key.Volume wanted.volumes 0 flash.volumes) (steps_from key.Device wanted.devices 0 flash.devices)
+    All-append (IsLower rank_of 0x400000002) (steps_from step_of wanted.volumes 0 flash.volumes) (steps_from device_step wanted.devices 0 flash.devices)
     (volumes_asked wanted.volumes 0 flash.volumes
     (let few : length flash.volumes < 65536 = ltb-true (length flash.volumes) 65536 (both_hold (are_few (length flash.volumes)) (are_few (length flash.devices)) e).0 in omega (arith, few)))
     (devices_asked wanted.devices 0 flash.devices)
@@ -238,12 +285,14 @@ report_asked : (report : Option (List ℕ)) → All (IsLower rank_of 0x400000002
 report_asked None = All-nil (IsLower rank_of 0x400000002)
 report_asked (Some path) = all_one (IsLower rank_of 0x400000002) (ask.Part key.Report) (omega arith)
 
-build_lower : (folder : List ℕ) (modules : List Module) (flash : FlashDoc) (wanted : Wanted) (report : Option (List ℕ)) → AreLower rank_of 0x400000002 (files_stages folder modules flash wanted report)
-build_lower folder modules flash wanted report =
+build_lower : (vpd : Bool) (folder : List ℕ) (modules : List Module) (flash : FlashDoc) (wanted : Wanted) (report : Option (List ℕ)) → AreLower rank_of 0x400000002 (files_stages vpd folder modules flash wanted report)
+build_lower vpd folder modules flash wanted report =
     when_lower rank_of 0x400000002 (are_few (length flash.volumes) && are_few (length flash.devices)) _ (λ e. (
-      All-cons (IsLower rank_of 0x400000002) (ask.Part key.PlatformPcds) (build_module_asks modules ++ image_asks flash wanted ++ report_part report) (omega arith)
-          (All-append (IsLower rank_of 0x400000002) (build_module_asks modules ++ image_asks flash wanted) (report_part report)
+      All-cons (IsLower rank_of 0x400000002) (ask.Part key.PlatformPcds) (build_module_asks modules ++ image_asks flash wanted ++ step_where vpd key.Vpd ++ report_part report) (omega arith)
+          (All-append (IsLower rank_of 0x400000002) (build_module_asks modules ++ image_asks flash wanted ++ step_where vpd key.Vpd) (report_part report)
+          (All-append (IsLower rank_of 0x400000002) (build_module_asks modules ++ image_asks flash wanted) (step_where vpd key.Vpd)
           (All-append (IsLower rank_of 0x400000002) (build_module_asks modules) (image_asks flash wanted) (modules_asked modules) (images_asked flash wanted e))
+          (where_asked vpd key.Vpd (omega arith)))
           (report_asked report)),
       λ given. tt,
     ))
@@ -263,7 +312,7 @@ all_lower = (
   λ given. attempt_lower rank_of 0x400000002 (platform_in given 0) _ (λ platform. attempt_lower rank_of 0x400000002 (flash_in given 1) _ (λ flash.
       attempt_lower rank_of 0x400000002 (folder_in platform given) _ (λ folder. attempt_lower rank_of 0x400000002 (modules_in platform given) _ (λ modules.
       attempt_lower rank_of 0x400000002 (wanted_in flash given) _ (λ wanted. attempt_lower rank_of 0x400000002 (report_in given) _ (λ report.
-      build_lower folder modules flash wanted report)))))),
+      build_lower (has_vpd platform) folder modules flash wanted report)))))),
 )
 
 pub all_within : IsWithin fits 2 all_stages

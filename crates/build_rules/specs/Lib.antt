@@ -4,7 +4,10 @@ pub mod Trees
 pub mod ImageTrees
 pub mod ModuleTrees
 pub mod TextTrees
+pub mod VpdTree
 pub mod Wanted
+pub mod VpdLines
+pub mod Based
 pub mod Outputs
 pub mod AllTree
 pub mod Rules
@@ -12,6 +15,9 @@ pub mod ImageBounds
 pub mod ModuleBounds
 pub mod TextBounds
 pub mod RulesBounds
+pub mod Adopting
+pub mod Older
 pub mod Values
 pub mod ModuleValues
 pub mod TextValues
+pub mod VpdValues

@@ -19,6 +19,7 @@ use Rattle.step_pack.specs.declared.out.Out.{Out}
 use Rattle.step_pack.specs.declared.out.Out.TheVariants as out
 use Rattle.step_pack.specs.declared.out.Output.{Output}
 use Rattle.step_engine.specs.declared.talk.Answer.{Answer}
+use Rattle.image_steps.specs.Asks.{step_of}
 use Rattle.text_steps.specs.Stems.{stem_of}
 use Rattle.build_rules.specs.Defines.{or_default}
 use Rattle.build_rules.specs.Wanted.{is_marked}
@@ -48,7 +49,7 @@ image_where false folder name extension from = Ok []
 unfoldable pub volume_outputs : List ℕ → List Bool → ℕ → List VolumePlan → Result (List Output) Fault
 volume_outputs folder marks n [] = Ok []
 volume_outputs folder marks n (plan ∷ plans) =
-    and_then (image_where (is_marked marks n) folder plan.head.name (codes ".Fv") (key.Volume n))
+    and_then (image_where (is_marked marks n) folder plan.head.name (codes ".Fv") (step_of n plan))
     (λ outputs. with_front outputs (volume_outputs folder marks (n + 1) plans))
 
 unfoldable pub device_outputs : List ℕ → List Bool → ℕ → List DevicePlan → Result (List Output) Fault
@@ -130,14 +131,23 @@ modules_outputs folder given i [] = Ok []
 modules_outputs folder given i (m ∷ modules) =
     and_then (outputs_at folder given i m) (λ outputs. with_front outputs (modules_outputs folder given (i + 3) modules))
 
+-- the image of vital product data and its map
+unfoldable pub vpd_outputs : Bool → List ℕ → Result (List Output) Fault
+vpd_outputs false folder = Ok []
+vpd_outputs true folder =
+    and_then (file_output folder (codes "FV/VPD.bin") key.Vpd 0) (λ image.
+    and_then (file_output folder (codes "FV/VPD.map") key.Vpd 1) (λ map_. Ok (image ∷ map_ ∷ [])))
+
 abbrev pub report_output : Option (List ℕ) → List Output
 report_output None = []
 report_output (Some path) = record { path = path; from = key.Report; part = 0 } ∷ []
 
 -- Module by module its files, whose answers stand behind the first; of the images that are wanted the volumes by their numbers, and
--- the devices as they stand in the flash description; last the report.
-unfoldable pub outputs_of : List ℕ → List Module → FlashDoc → Wanted → Option (List ℕ) → List (Answer Out) → Result (List Output) Fault
-outputs_of folder modules flash wanted report given =
+-- the devices as they stand in the flash description; then the image of vital product data and its map, where there are any; last
+-- the report.
+unfoldable pub outputs_of : Bool → List ℕ → List Module → FlashDoc → Wanted → Option (List ℕ) → List (Answer Out) → Result (List Output) Fault
+outputs_of vpd folder modules flash wanted report given =
     and_then (modules_outputs folder given 1 modules) (λ texts.
     and_then (with_front texts (volume_outputs folder wanted.volumes 0 flash.volumes)) (λ volumes.
-    and_then (with_front volumes (device_outputs folder wanted.devices 0 flash.devices)) (λ images. Ok (images ++ report_output report))))
+    and_then (with_front volumes (device_outputs folder wanted.devices 0 flash.devices)) (λ images.
+    and_then (with_front images (vpd_outputs vpd folder)) (λ outputs. Ok (outputs ++ report_output report)))))

@@ -1,6 +1,6 @@
 -- The steps of a build as rules: what each key asks and gives, and its rank. The rule is this
 -- project's own.
-use Rattle.std.specs.Prelude.{ℕ, ◌+◌, ◌*◌, ◌==◌, ◌&&◌, Bool, true, if◌then◌else◌, List, [], length, Result, slice_index_or}
+use Rattle.std.specs.Prelude.{ℕ, ◌+◌, ◌*◌, ◌==◌, ◌&&◌, Bool, true, false, if◌then◌else◌, List, [], length, Result, slice_index_or}
 use Rattle.std.specs.Option.{is_some}
 use Rattle.build_base.specs.Path.{path_field}
 use Rattle.build_base.specs.World.{World}
@@ -19,6 +19,7 @@ use Rattle.build_rules.specs.AllTree.{all_stages}
 use Rattle.build_rules.specs.ImageTrees.{file_stages, volume_stages, device_stages}
 use Rattle.build_rules.specs.ModuleTrees.{most_rounds, choice_stages, pcds_stages, values_stages}
 use Rattle.build_rules.specs.TextTrees.{code_stages, depex_stages, report_stages}
+use Rattle.build_rules.specs.VpdTree.{vpd_stages}
 use Rattle.build_rules.specs.Trees.{EdkStages, dec_stages, inf_stages, platform_stages, flash_stages}
 
 abbrev pub stages_of : Key → EdkStages
@@ -32,10 +33,12 @@ stages_of (key.Values m) = values_stages m
 stages_of (key.Code m) = code_stages m
 stages_of (key.Depex m) = depex_stages m
 stages_of (key.File v i) = file_stages v i
-stages_of (key.Volume v) = volume_stages v
+stages_of (key.Volume v) = volume_stages false v
 stages_of (key.Device d) = device_stages d
 stages_of key.Report = report_stages
 stages_of key.All = all_stages
+stages_of key.Vpd = vpd_stages
+stages_of (key.Based v) = volume_stages true v
 
 -- a volume's number is below 2^32, so that a device's rank is above those of all volumes
 abbrev pub rank_of : Key → ℕ
@@ -53,6 +56,8 @@ rank_of (key.Volume v) = 9 + 2 * v
 rank_of (key.Device d) = 0x400000000
 rank_of key.Report = 0x400000001
 rank_of key.All = 0x400000002
+rank_of key.Vpd = 6
+rank_of (key.Based v) = 9 + 2 * v
 
 -- how many batches each asks at most
 abbrev pub most_of : Key → ℕ
@@ -70,6 +75,8 @@ most_of (key.Volume v) = 2
 most_of (key.Device d) = 2
 most_of key.Report = 2
 most_of key.All = 2
+most_of key.Vpd = 1
+most_of (key.Based v) = 2
 
 abbrev pub is_empty : List ℕ → Bool
 is_empty text = length text == 0

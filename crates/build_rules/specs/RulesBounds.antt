@@ -1,6 +1,6 @@
 -- The bounds of the steps of a build: what they ask is of lower rank, and how many batches they
 -- ask.
-use Rattle.std.proofs.Common.{◌≡◌, ℕ, ◌+◌, ◌-◌, arith, List, [], ◌∷◌, Option, Some, None, Result, subst}
+use Rattle.std.proofs.Common.{◌≡◌, ℕ, ◌+◌, ◌-◌, arith, true, false, List, [], ◌∷◌, Option, Some, None, Result, subst}
 use Rattle.std.proofs.lemmas.List.Elements.{All-cons}
 use Rattle.build_base.specs.declared.lines.Macro.{Macro}
 use Rattle.step_engine.specs.declared.talk.Ask.TheVariants as ask
@@ -20,7 +20,7 @@ use Rattle.inf_docs.specs.Modules.{module_of}
 use Rattle.build_rules.specs.Fits.{fits}
 use Rattle.doc_types.specs.declared.platform.PlatformDoc.{PlatformDoc}
 use Rattle.flash_document.specs.Flash.{flash_of}
-use Rattle.build_rules.specs.ImageBounds.{file_lower, volume_lower, device_lower, all_lower, file_within, volume_within, device_within, all_within}
+use Rattle.build_rules.specs.ImageBounds.{file_lower, volume_lower, device_lower, vpd_lower, all_lower, file_within, volume_within, device_within, vpd_within, all_within}
 use Rattle.build_rules.specs.ModuleBounds.{choice_lower, pcds_lower, values_lower, choice_within, pcds_within, values_within}
 use Rattle.build_rules.specs.TextBounds.{code_lower, depex_lower, report_lower, code_within, depex_within, report_within}
 use Rattle.build_rules.specs.Trees.{given_as, document_stages, root_in, macros_in, platform_given, platform_in, flash_root, flash_from, flash_given}
@@ -75,10 +75,12 @@ lower (key.Values m) = values_lower m
 lower (key.Code m) = code_lower m
 lower (key.Depex m) = depex_lower m
 lower (key.File v i) = file_lower v i
-lower (key.Volume v) = volume_lower v
+lower (key.Volume v) = volume_lower false v
 lower (key.Device d) = device_lower d
-lower key.Report = report_lower
+lower key.Report = report_lower 0x400000001 (omega arith)
 lower key.All = all_lower
+lower key.Vpd = vpd_lower
+lower (key.Based v) = volume_lower true v
 
 within : (k : Key) → IsWithin fits (most_of k) (stages_of k)
 within (key.Dec path) = document_within out.Dec package_of [] [] path
@@ -101,10 +103,12 @@ within (key.Values m) = values_within m
 within (key.Code m) = code_within m
 within (key.Depex m) = depex_within m
 within (key.File v i) = file_within v i
-within (key.Volume v) = volume_within v
+within (key.Volume v) = volume_within false v
 within (key.Device d) = device_within d
 within key.Report = report_within
 within key.All = all_within
+within key.Vpd = vpd_within
+within (key.Based v) = volume_within true v
 
 pub edk_is_bounded : AreBounded edk
 edk_is_bounded = record { lower = lower; within = within }

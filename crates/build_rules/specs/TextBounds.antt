@@ -1,6 +1,6 @@
 -- The bounds of the steps of texts, dependency expressions and the report: what they ask is of lower rank, and how many
 -- batches they ask.
-use Rattle.std.proofs.Common.{arith, List, [], ◌∷◌, All}
+use Rattle.std.proofs.Common.{ℕ, ◌<◌, arith, List, [], ◌∷◌, All}
 use Rattle.std.specs.List.{flat_map}
 use Rattle.std.proofs.lemmas.List.Elements.{All-nil, All-cons, All-append}
 use Rattle.step_engine.specs.declared.talk.Ask.TheVariants as ask
@@ -49,22 +49,22 @@ depex_within m = (
       bind_within fits 2 0 (module_parts m choice) _ (module_within m choice) (λ parts. tt)),
 )
 
-told_lower : (modules : List Module) → All (IsLower rank_of 0x400000001) (flat_map told_asks modules)
-told_lower [] = All-nil (IsLower rank_of 0x400000001)
-told_lower (m ∷ modules) =
-    All-append (IsLower rank_of 0x400000001) (told_asks m) (flat_map told_asks modules)
-    (all_two (IsLower rank_of 0x400000001) (ask.Part (key.Choice m)) (ask.Part (key.Values m)) (omega arith) (omega arith))
-    (told_lower modules)
+told_lower : (bound : ℕ) → 6 < bound → (modules : List Module) → All (IsLower rank_of bound) (flat_map told_asks modules)
+told_lower bound h [] = All-nil (IsLower rank_of bound)
+told_lower bound h (m ∷ modules) =
+    All-append (IsLower rank_of bound) (told_asks m) (flat_map told_asks modules)
+    (all_two (IsLower rank_of bound) (ask.Part (key.Choice m)) (ask.Part (key.Values m)) (omega (arith, h)) (omega (arith, h)))
+    (told_lower bound h modules)
 
-pub report_lower : AreLower rank_of 0x400000001 report_stages
-report_lower = (
-  All-cons (IsLower rank_of 0x400000001) (ask.Part key.Platform) (ask.Field 1 ∷ ask.Field 2 ∷ ask.Field 3 ∷ ask.Field 4 ∷ []) (omega arith)
-      (All-cons (IsLower rank_of 0x400000001) (ask.Field 1) (ask.Field 2 ∷ ask.Field 3 ∷ ask.Field 4 ∷ []) tt
-      (All-cons (IsLower rank_of 0x400000001) (ask.Field 2) (ask.Field 3 ∷ ask.Field 4 ∷ []) tt
-      (all_two (IsLower rank_of 0x400000001) (ask.Field 3) (ask.Field 4) tt tt))),
-  λ given. attempt_lower rank_of 0x400000001 (platform_in given 0) _ (λ platform. attempt_lower rank_of 0x400000001 (told_modules_in platform given) _ (λ modules.
-      attempt_lower rank_of 0x400000001 (heading_in platform given) _ (λ heading. (
-        All-cons (IsLower rank_of 0x400000001) (ask.Part key.PlatformPcds) (flat_map told_asks modules) (omega arith) (told_lower modules),
+pub report_lower : (bound : ℕ) → 6 < bound → AreLower rank_of bound report_stages
+report_lower bound h = (
+  All-cons (IsLower rank_of bound) (ask.Part key.Platform) (ask.Field 1 ∷ ask.Field 2 ∷ ask.Field 3 ∷ ask.Field 4 ∷ []) (omega (arith, h))
+      (All-cons (IsLower rank_of bound) (ask.Field 1) (ask.Field 2 ∷ ask.Field 3 ∷ ask.Field 4 ∷ []) tt
+      (All-cons (IsLower rank_of bound) (ask.Field 2) (ask.Field 3 ∷ ask.Field 4 ∷ []) tt
+      (all_two (IsLower rank_of bound) (ask.Field 3) (ask.Field 4) tt tt))),
+  λ given. attempt_lower rank_of bound (platform_in given 0) _ (λ platform. attempt_lower rank_of bound (told_modules_in platform given) _ (λ modules.
+      attempt_lower rank_of bound (heading_in platform given) _ (λ heading. (
+        All-cons (IsLower rank_of bound) (ask.Part key.PlatformPcds) (flat_map told_asks modules) (omega (arith, h)) (told_lower bound h modules),
         λ told. tt,
       )))),
 )

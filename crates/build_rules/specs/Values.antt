@@ -29,6 +29,7 @@ use Rattle.doc_types.specs.declared.volume.Item.TheVariants as item
 use Rattle.doc_types.specs.declared.volume.InfLine.{InfLine}
 use Rattle.doc_types.specs.declared.volume.VolumePlan.{VolumePlan}
 use Rattle.doc_types.specs.declared.volume_head.VolumeHead.{VolumeHead}
+use Rattle.build_rules.specs.VpdLines.{has_vpd}
 use Rattle.flash_document.specs.Flash.{flash_of}
 use Rattle.build_stages.specs.Stages.{outcome_of, meaning_of, misfit, fault_in}
 use Rattle.step_pack.specs.Keys.{key_cmp}
@@ -37,7 +38,6 @@ use Rattle.step_pack.specs.declared.out.Out.{Out}
 use Rattle.step_pack.specs.declared.out.Output.{Output}
 use Rattle.image_steps.specs.Asks.{file_asks, sections_below, item_asks, region_asks, regions_below, are_few}
 use Rattle.image_steps.specs.Files.{file_given}
-use Rattle.image_steps.specs.Volumes.{volume_given}
 use Rattle.image_steps.specs.Devices.{device_given}
 use Rattle.module_images.specs.declared.plans.ModulePlan.{ModulePlan}
 use Rattle.module_images.specs.Apriori.{apriori_given}
@@ -45,7 +45,7 @@ use Rattle.module_images.specs.Asks.{line_asks, members_asks, plan_asks}
 use Rattle.module_images.specs.Files.{module_given}
 use Rattle.module_images.specs.Modules.{plan_given}
 use Rattle.build_rules.specs.AllTree.{build_asks}
-use Rattle.build_rules.specs.ImageTrees.{volume_at, item_at, device_at}
+use Rattle.build_rules.specs.ImageTrees.{volume_at, item_at, device_at, image_by, vpd_path}
 use Rattle.build_rules.specs.Outputs.{output_folder, outputs_of}
 use Rattle.build_rules.specs.Wanted.{wanted_of}
 use Rattle.build_rules.specs.declared.wanted.Wanted.{Wanted}
@@ -113,7 +113,7 @@ module_file w flash head line =
 
 abbrev pub item_value : World → ℕ → FlashDoc → VolumeHead → Item → Result FileImage Fault
 item_value w v flash head (item.File plan) =
-    if_shaped (sections_below v plan.sections) (by_answers w (file_asks plan) (file_given flash head plan))
+    if_shaped (sections_below v plan.sections) (by_answers w (file_asks flash.volumes plan) (file_given flash head plan))
 item_value w v flash head (item.Apriori at pei members) =
     by_answers w (members_asks members) (apriori_given head at pei members)
 item_value w v flash head (item.Inf line) = module_file w flash head line
@@ -125,40 +125,47 @@ file_value w v i =
     and_then (volume_at flash v) (λ plan.
     and_then (item_at flash plan i) (λ it. item_value w v flash plan.head it)))
 
-abbrev pub planned_value : World → ℕ → VolumePlan → Result (List ℕ) Fault
-planned_value w v plan =
-    if_shaped (are_few (length plan.items)) (by_answers w (item_asks v plan.items) (volume_given plan.head))
+abbrev pub planned_value : World → Bool → ℕ → VolumePlan → Result (List ℕ) Fault
+planned_value w moved v plan =
+    if_shaped (are_few (length plan.items)) (by_answers w (item_asks v plan.items) (image_by moved plan.head))
 
--- the image of volume v
-unfoldable pub volume_value : World → ℕ → Result (List ℕ) Fault
-volume_value w v = and_then (flash_value w) (λ flash. and_then (volume_at flash v) (planned_value w v))
+-- the image of volume v, as it stands or moved to its base
+unfoldable pub volume_value : World → Bool → ℕ → Result (List ℕ) Fault
+volume_value w moved v =
+    and_then (flash_value w) (λ flash. and_then (volume_at flash v) (planned_value w moved v))
 
-abbrev pub regions_value : World → DevicePlan → Result (List ℕ) Fault
-regions_value w plan =
-    if_shaped (regions_below plan.regions) (by_answers w (region_asks plan.regions) (device_given plan))
+abbrev pub regions_value : World → List VolumePlan → Option (List ℕ) → DevicePlan → Result (List ℕ) Fault
+regions_value w volumes vpd plan =
+    if_shaped (regions_below plan.regions) (by_answers w (region_asks volumes vpd plan.regions) (device_given vpd plan))
+
+abbrev pub numbered_value : World → ℕ → FlashDoc → PlatformDoc → Result (List ℕ) Fault
+numbered_value w d flash platform =
+    and_then (vpd_path platform (field w 2) (field w 3)) (λ vpd.
+    and_then (device_at flash d) (regions_value w flash.volumes vpd))
 
 -- the image of device d
 unfoldable pub device_value : World → ℕ → Result (List ℕ) Fault
-device_value w d = and_then (flash_value w) (λ flash. and_then (device_at flash d) (regions_value w))
+device_value w d = and_then (flash_value w) (λ flash. and_then (platform_value w) (numbered_value w d flash))
 
-abbrev pub files_value : World → List ℕ → List Module → FlashDoc → Wanted → Option (List ℕ) → Result (List Output) Fault
-files_value w folder modules flash wanted report =
+abbrev pub files_value : World → Bool → List ℕ → List Module → FlashDoc → Wanted → Option (List ℕ) → Result (List Output) Fault
+files_value w vpd folder modules flash wanted report =
     if_shaped (are_few (length flash.volumes) && are_few (length flash.devices))
-    (by_answers w (build_asks modules flash wanted report) (outputs_of folder modules flash wanted report))
+    (by_answers w (build_asks vpd modules flash wanted report) (outputs_of vpd folder modules flash wanted report))
 
-abbrev pub wanted_value : World → List ℕ → List Module → FlashDoc → Result (List Output) Fault
-wanted_value w folder modules flash =
-    and_then (wanted_of flash (field w 8)) (λ wanted. files_value w folder modules flash wanted (flash_file None (field w 9)))
+abbrev pub wanted_value : World → Bool → List ℕ → List Module → FlashDoc → Result (List Output) Fault
+wanted_value w vpd folder modules flash =
+    and_then (wanted_of flash (field w 8)) (λ wanted. files_value w vpd folder modules flash wanted (flash_file None (field w 9)))
 
--- The files of the build: each module's, each volume's and each device's that is wanted, and last the report. The first
--- fault is that the words name an image that there isn't; then one of the rows of dynamic PCDs; module by module of its
--- description, its texts or its expression; of a volume, of a device, or of the report.
+-- The files of the build: each module's, each volume's and each device's that is wanted, the image of vital product data and its
+-- map, where the platform has a line of it, and last the report. The first fault is that the words name an image that there
+-- isn't; then one of the rows of dynamic PCDs; module by module of its description, its texts or its expression; of a volume, of
+-- a device, of vital product data, or of the report.
 unfoldable pub all_value : World → Result (List Output) Fault
 all_value w =
     and_then (platform_value w) (λ platform.
     and_then (flash_value w) (λ flash.
     and_then (output_folder platform.output (field w 2) (field w 3)) (λ folder.
-    and_then (built_modules platform (field w 1)) (λ modules. wanted_value w folder modules flash))))
+    and_then (built_modules platform (field w 1)) (λ modules. wanted_value w (has_vpd platform) folder modules flash))))
 
 -- the step of a document gives its value
 abbrev pub GivesPackage : World → List ℕ → Type 0
@@ -183,7 +190,11 @@ GivesFile w v i =
 
 abbrev pub GivesVolume : World → ℕ → Type 0
 GivesVolume w v =
-    value_in w (key.Volume v) ≡ outcome_of (given_as out.Volume (volume_value w v))
+    value_in w (key.Volume v) ≡ outcome_of (given_as out.Volume (volume_value w false v))
+
+abbrev pub GivesBased : World → ℕ → Type 0
+GivesBased w v =
+    value_in w (key.Based v) ≡ outcome_of (given_as out.Volume (volume_value w true v))
 
 abbrev pub GivesDevice : World → ℕ → Type 0
 GivesDevice w d =

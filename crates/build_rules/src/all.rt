@@ -2,12 +2,14 @@
 ghost use Rattle.std.specs.Prelude.{◌≡◌, ◌++◌, ◌∷◌, [], ◌<◌, length, IfOk, OnOk};
 ghost use Rattle.build_stages.specs.Gives.{GivesIn};
 ghost use Rattle.build_rules.specs.Rules.{Comes};
-ghost use Rattle.build_rules.specs.AllTree.{step_where, steps_from, report_part, build_asks, folder_in, modules_in, wanted_in, report_in, files_stages, all_stages};
+ghost use Rattle.image_steps.specs.Asks.{step_of};
+ghost use Rattle.build_rules.specs.AllTree.{step_where, steps_from, device_step, report_part, build_asks, folder_in, modules_in, wanted_in, report_in, files_stages, all_stages};
 
 use crate::documents::{flash_named, platform_in};
 use crate::images::flash_in;
 use crate::outputs::{output_folder, outputs_of};
 use crate::shapes::EdkRules;
+use crate::vpd::has_vpd;
 use crate::wanted::{Wanted, is_marked, wanted_of};
 use build_base::{Path, Permit, Rows, WantOfMemory};
 use build_stages::{Given, Known, Stop, gather};
@@ -15,18 +17,23 @@ use doc_types::choice::Module;
 use doc_types::flash::{DevicePlan, FlashDoc};
 use doc_types::platform::PlatformDoc;
 use doc_types::volume::VolumePlan;
-use image_steps::are_few;
+use image_steps::{are_few, step_of};
 use module_steps::built_modules;
 use std::alloc::Global;
 use step_engine::Ask;
 use step_pack::{Key, Out};
 use text_steps::push_module_asks;
 
-fn push_volume(asks: &mut Rows<Ask<Key>>, is_wanted: bool, number: u32) -> Result<(), WantOfMemory>
-    ensures { OnOk result (asks.new ≡ asks.old ++ step_where is_wanted (Key.Volume number)) }
+fn push_volume(
+    asks: &mut Rows<Ask<Key>>,
+    is_wanted: bool,
+    number: u32,
+    plan: &VolumePlan,
+) -> Result<(), WantOfMemory>
+    ensures { OnOk result (asks.new ≡ asks.old ++ step_where is_wanted (step_of number plan.now)) }
 {
     if is_wanted {
-        asks.push(Ask::Part(Key::Volume(number)))?;
+        asks.push(Ask::Part(step_of(number, plan)))?;
     }
     Ok(())
 }
@@ -48,12 +55,12 @@ fn push_volumes(
     plans: &[VolumePlan],
 ) -> Result<(), WantOfMemory>
     requires { length plans.now < 65536 }
-    ensures { OnOk result (asks.new ≡ asks.old ++ steps_from Key.Volume marks.now 0 plans.now) }
+    ensures { OnOk result (asks.new ≡ asks.old ++ steps_from step_of marks.now 0 plans.now) }
 {
     let mut number: u32 = 0;
     let mut left = plans;
-    while let [_plan, rest @ ..] = left {
-        push_volume(asks, is_marked(marks, number), number)?;
+    while let [plan, rest @ ..] = left {
+        push_volume(asks, is_marked(marks, number), number, plan)?;
         number += 1;
         left = rest;
     }
@@ -68,7 +75,7 @@ fn push_devices(
     plans: &[DevicePlan],
 ) -> Result<(), WantOfMemory>
     requires { length plans.now < 65536 }
-    ensures { OnOk result (asks.new ≡ asks.old ++ steps_from Key.Device marks.now 0 plans.now) }
+    ensures { OnOk result (asks.new ≡ asks.old ++ steps_from device_step marks.now 0 plans.now) }
 {
     let mut number: u32 = 0;
     let mut left = plans;
@@ -76,6 +83,16 @@ fn push_devices(
         push_device(asks, is_marked(marks, number), number)?;
         number += 1;
         left = rest;
+    }
+    Ok(())
+}
+
+// Appends the step of the image of vital product data, where there is one.
+fn push_vpd(asks: &mut Rows<Ask<Key>>, vpd: bool) -> Result<(), WantOfMemory>
+    ensures { OnOk result (asks.new ≡ asks.old ++ step_where vpd Key.Vpd) }
+{
+    if vpd {
+        asks.push(Ask::Part(Key::Vpd))?;
     }
     Ok(())
 }
@@ -90,9 +107,11 @@ fn push_report(asks: &mut Rows<Ask<Key>>, report: &Option<Path>) -> Result<(), W
     }
 }
 
-// The rows of dynamic PCDs, each module, the volumes that are wanted by their numbers, the devices, and then the report.
+// The rows of dynamic PCDs, each module, the volumes that are wanted by their numbers, the devices, the image of vital product
+// data, where there is one, and then the report.
 fn build_asks(
     alloc: Global,
+    vpd: bool,
     modules: &[Module],
     flash: &FlashDoc,
     wanted: &Wanted,
@@ -100,13 +119,14 @@ fn build_asks(
 ) -> Result<Rows<Ask<Key>>, WantOfMemory>
     requires volumes { length flash.now.volumes < 65536 }
     requires devices { length flash.now.devices < 65536 }
-    ensures { IfOk result (λ asks. asks ≡ build_asks modules.now flash.now wanted.now report.now) }
+    ensures { IfOk result (λ asks. asks ≡ build_asks vpd modules.now flash.now wanted.now report.now) }
 {
     let mut asks = Rows::new(alloc);
     asks.push(Ask::Part(Key::PlatformPcds))?;
     push_module_asks(alloc, &mut asks, modules)?;
     push_volumes(&mut asks, wanted.volumes.items(), flash.volumes.items())?;
     push_devices(&mut asks, wanted.devices.items(), flash.devices.items())?;
+    push_vpd(&mut asks, vpd)?;
     push_report(&mut asks, report)?;
     Ok(asks)
 }
@@ -155,6 +175,7 @@ fn report_in(alloc: Global, given: &Given<'_, Out>) -> Result<Option<Path>, Stop
 fn files(
     alloc: Global,
     known: &Known<'_, Key, Out>,
+    vpd: bool,
     folder: &Path,
     modules: &[Module],
     flash: &FlashDoc,
@@ -162,12 +183,12 @@ fn files(
     report: &Option<Path>,
     permit: Permit,
 ) -> Result<Out, Stop<Key>>
-    ensures { Comes known.now (files_stages folder.now modules.now flash.now wanted.now report.now) result }
+    ensures { Comes known.now (files_stages vpd folder.now modules.now flash.now wanted.now report.now) result }
 {
     if are_few(flash.volumes.items().len()) && are_few(flash.devices.items().len()) {
-        let asks = build_asks(alloc, modules, flash, wanted, report)?;
+        let asks = build_asks(alloc, vpd, modules, flash, wanted, report)?;
         let (given, _permit) = gather(alloc, &EdkRules, known, asks.items(), permit)?;
-        let outputs = outputs_of(alloc, folder, modules, flash, wanted, report, &given)?;
+        let outputs = outputs_of(alloc, vpd, folder, modules, flash, wanted, report, &given)?;
         return Ok(Out::All(outputs));
     }
     Err(Stop::Misfit)
@@ -197,6 +218,7 @@ pub fn all(alloc: Global, known: &Known<'_, Key, Out>, permit: Permit) -> Result
     files(
         alloc,
         known,
+        has_vpd(platform),
         &folder,
         modules.items(),
         flash,

@@ -1,15 +1,20 @@
 //! The steps of files, volumes and devices.
-ghost use Rattle.std.specs.Prelude.{◌≡◌, Err, length, slice_get};
+ghost use Rattle.std.specs.Prelude.{◌≡◌, true, false, Err, length, slice_get};
 ghost use Rattle.std.specs.Option.{option_copied};
 ghost use Rattle.build_base.specs.FaultText.{fault_of};
 ghost use Rattle.build_stages.specs.Gives.{GivesIn};
 ghost use Rattle.build_rules.specs.Rules.{Comes};
-ghost use Rattle.build_rules.specs.ImageTrees.{flash_of_out, flash_in, numbered, volume_at, item_at, device_at, sections_stages, module_from, module_stages, apriori_stages, item_stages, file_stages, plan_stages, volume_stages, regions_stages, device_stages};
+ghost use Rattle.build_rules.specs.ImageTrees.{flash_of_out, flash_in, numbered, volume_at, item_at, device_at, sections_stages, module_from, module_stages, apriori_stages, item_stages, file_stages, image_by, plan_stages, volume_stages, vpd_where, vpd_path, vpd_in, regions_stages, device_stages};
 
+use crate::based::based_given;
+use crate::documents::platform_in;
+use crate::outputs::{output_folder, path_below};
 use crate::shapes::EdkRules;
-use build_base::{Permit, Place, Refusal, refuse};
+use crate::vpd::has_vpd;
+use build_base::{Image, Path, Permit, Place, Refusal, refuse};
 use build_stages::{Given, Known, Stop, gather};
 use doc_types::flash::{DevicePlan, FlashDoc};
+use doc_types::platform::PlatformDoc;
 use doc_types::volume::{FilePlan, InfLine, Item, Member, VolumePlan};
 use doc_types::volume_head::VolumeHead;
 use image_steps::{
@@ -110,7 +115,7 @@ fn statement(
     if !sections_below(volume, plan.sections.items()) {
         return Err(Stop::Misfit);
     }
-    let asks = file_asks(alloc, plan)?;
+    let asks = file_asks(alloc, flash.volumes.items(), plan)?;
     let (given, permit) = gather(alloc, &EdkRules, known, asks.items(), permit)?;
     Ok(Out::File(file_given(alloc, permit, flash, head, plan, &given)?))
 }
@@ -218,15 +223,32 @@ pub fn file(
     item_file(alloc, known, volume, flash, &plan.head, item, permit)
 }
 
+// The image of a volume as it stands, or moved to its base.
+fn image_by(
+    alloc: Global,
+    permit: Permit,
+    moved: bool,
+    head: &VolumeHead,
+    given: &Given<'_, Out>,
+) -> Result<Image, Stop<Key>>
+    ensures { GivesIn (λ image. image) result (image_by moved head.now given.now) }
+{
+    if moved {
+        return based_given(alloc, permit, head, given);
+    }
+    volume_given(alloc, permit, head, given)
+}
+
 // The volume of a plan.
 fn planned(
     alloc: Global,
     known: &Known<'_, Key, Out>,
+    moved: bool,
     number: u32,
     plan: &VolumePlan,
     permit: Permit,
 ) -> Result<Out, Stop<Key>>
-    ensures { Comes known.now (plan_stages number plan.now) result }
+    ensures { Comes known.now (plan_stages moved number plan.now) result }
 {
     let items = plan.items.items();
     if !are_few(items.len()) {
@@ -234,41 +256,95 @@ fn planned(
     }
     let asks = item_asks(alloc, number, items)?;
     let (given, permit) = gather(alloc, &EdkRules, known, asks.items(), permit)?;
-    Ok(Out::Volume(volume_given(alloc, permit, &plan.head, &given)?))
+    Ok(Out::Volume(image_by(alloc, permit, moved, &plan.head, &given)?))
 }
 
-/// The volume of a number.
+fn numbered_volume(
+    alloc: Global,
+    known: &Known<'_, Key, Out>,
+    moved: bool,
+    number: u32,
+    permit: Permit,
+) -> Result<Out, Stop<Key>>
+    ensures { Comes known.now (volume_stages moved number) result }
+{
+    let asks = [Ask::Part(Key::Flash)];
+    let (given, permit) = gather(alloc, &EdkRules, known, &asks, permit)?;
+    let flash = flash_in(&given, 0)?;
+    let plan = volume_at(alloc, flash, number)?;
+    planned(alloc, known, moved, number, plan, permit)
+}
+
+/// The volume of a number as it stands.
 pub fn volume(
     alloc: Global,
     known: &Known<'_, Key, Out>,
     number: u32,
     permit: Permit,
 ) -> Result<Out, Stop<Key>>
-    ensures { Comes known.now (volume_stages number) result }
+    ensures { Comes known.now (volume_stages false number) result }
 {
-    let asks = [Ask::Part(Key::Flash)];
-    let (given, permit) = gather(alloc, &EdkRules, known, &asks, permit)?;
-    let flash = flash_in(&given, 0)?;
-    let plan = volume_at(alloc, flash, number)?;
-    planned(alloc, known, number, plan, permit)
+    numbered_volume(alloc, known, false, number, permit)
+}
+
+/// The volume of a number, moved to its base where it is to be.
+pub fn based(
+    alloc: Global,
+    known: &Known<'_, Key, Out>,
+    number: u32,
+    permit: Permit,
+) -> Result<Out, Stop<Key>>
+    ensures { Comes known.now (volume_stages true number) result }
+{
+    numbered_volume(alloc, known, true, number, permit)
+}
+
+// The path of the image of vital product data, where the platform has a line of it.
+fn vpd_path(
+    alloc: Global,
+    platform: &PlatformDoc,
+    target: &[u8],
+    tag: &[u8],
+) -> Result<Option<Path>, Stop<Key>>
+    ensures { GivesIn (λ vpd. vpd) result (vpd_path platform.now target.now tag.now) }
+{
+    if has_vpd(platform) {
+        let folder = output_folder(alloc, &platform.output, target, tag)?;
+        return Ok(Some(path_below(alloc, &folder, b"FV/VPD.bin".as_slice())?));
+    }
+    Ok(None)
+}
+
+fn vpd_in(
+    alloc: Global,
+    platform: &PlatformDoc,
+    given: &Given<'_, Out>,
+) -> Result<Option<Path>, Stop<Key>>
+    ensures { GivesIn (λ vpd. vpd) result (vpd_in platform.now given.now) }
+{
+    let target = given.field(2)?;
+    let tag = given.field(3)?;
+    vpd_path(alloc, platform, target.bytes(), tag.bytes())
 }
 
 // The device of a plan.
 fn with_regions(
     alloc: Global,
     known: &Known<'_, Key, Out>,
+    volumes: &[VolumePlan],
+    vpd: &Option<Path>,
     plan: &DevicePlan,
     permit: Permit,
 ) -> Result<Out, Stop<Key>>
-    ensures { Comes known.now (regions_stages plan.now) result }
+    ensures { Comes known.now (regions_stages volumes.now vpd.now plan.now) result }
 {
     let regions = plan.regions.items();
     if !regions_below(regions) {
         return Err(Stop::Misfit);
     }
-    let asks = region_asks(alloc, regions)?;
+    let asks = region_asks(alloc, volumes, vpd, regions)?;
     let (given, permit) = gather(alloc, &EdkRules, known, asks.items(), permit)?;
-    Ok(Out::Device(device_given(alloc, permit, plan, &given)?))
+    Ok(Out::Device(device_given(alloc, permit, vpd, plan, &given)?))
 }
 
 /// The device of a number.
@@ -280,9 +356,16 @@ pub fn device(
 ) -> Result<Out, Stop<Key>>
     ensures { Comes known.now (device_stages number) result }
 {
-    let asks = [Ask::Part(Key::Flash)];
+    let asks = [
+        Ask::Part(Key::Flash),
+        Ask::Part(Key::Platform),
+        Ask::Field(2),
+        Ask::Field(3),
+    ];
     let (given, permit) = gather(alloc, &EdkRules, known, &asks, permit)?;
     let flash = flash_in(&given, 0)?;
+    let platform = platform_in(&given, 1)?;
+    let vpd = vpd_in(alloc, platform, &given)?;
     let plan = device_at(alloc, flash, number)?;
-    with_regions(alloc, known, plan, permit)
+    with_regions(alloc, known, flash.volumes.items(), &vpd, plan, permit)
 }

@@ -5,10 +5,22 @@ ghost use Rattle.doc_types.specs.declared.choice.Module.{Module};
 ghost use Rattle.step_engine.specs.Meaning.{IsWorld};
 ghost use Rattle.build_stages.specs.Stages.{meaning_of};
 ghost use Rattle.step_pack.specs.Keys.{key_cmp};
+ghost use Rattle.build_rules.specs.Adopting.{AreOlder};
+ghost use Rattle.build_rules.specs.Older.{second_edition};
 ghost use Rattle.build_rules.specs.Rules.{edk};
+ghost use Rattle.build_rules.specs.Trees.{EdkStages};
+ghost use Rattle.step_pack.specs.declared.key.Key.{Key as KeyOf};
 ghost use Rattle.build_rules.specs.ModuleValues.{GivesChoice, GivesPcds, GivesValues};
 ghost use Rattle.build_rules.specs.TextValues.{GivesCode, GivesDepex, GivesReport};
-ghost use Rattle.build_rules.specs.Values.{GivesPackage, GivesModule, GivesPlatform, GivesFlash, GivesFile, GivesVolume, GivesDevice, GivesAll};
+ghost use Rattle.build_rules.specs.VpdValues.{GivesVpd};
+ghost use Rattle.build_rules.specs.Values.{GivesPackage, GivesModule, GivesPlatform, GivesFlash, GivesFile, GivesVolume, GivesBased, GivesDevice, GivesAll};
+
+/// The steps of edition 2, whatever those of images and of the whole build were, are older definitions: dependency expressions
+/// whose conjunctions aren't simplified, and of all other kinds today's.
+#[tactic(auto, using(crate::proofs::OlderLemmas::second_is_older))]
+pub fn second_edition_is_older()
+    ensures { (images : KeyOf → EdkStages) → AreOlder 2 (second_edition images) }
+{}
 
 /// A package's step gives what its lines come to.
 pub fn packages_are_read()
@@ -76,10 +88,22 @@ pub fn volumes_are_made()
     ensures { (w : World) (v : ℕ) → IsWorld (meaning_of key_cmp edk) w → GivesVolume w v }
 {}
 
-/// The step of a device gives its image, or the first fault: of a volume that it holds, then of a file
-/// that it asks for, then of the device itself.
+/// The step of a volume that is moved to its base gives its image so moved, or the first fault: of its files, of itself as it
+/// stands, and then of a module that is moved. Of a volume that isn't to be moved it gives what stands.
+pub fn volumes_are_moved()
+    ensures { (w : World) (v : ℕ) → IsWorld (meaning_of key_cmp edk) w → GivesBased w v }
+{}
+
+/// The step of a device gives its image, or the first fault: of the flash description, of the platform, of a volume that it
+/// holds, then of a file that it asks for, then of the device itself.
 pub fn devices_are_made()
     ensures { (w : World) (d : ℕ) → IsWorld (meaning_of key_cmp edk) w → GivesDevice w d }
+{}
+
+/// The step of vital product data gives its image, its map and its places, or the first fault: of the platform, of the rows of
+/// dynamic PCDs, of the words' architectures, and then of the places.
+pub fn vital_data_is_placed()
+    ensures { (w : World) → IsWorld (meaning_of key_cmp edk) w → GivesVpd w }
 {}
 
 /// The whole build gives its files, or the first fault of a module, a volume, a device or the report.

@@ -5,7 +5,8 @@ ghost use Rattle.build_stages.specs.Gives.{GivesIn};
 ghost use Rattle.build_base.specs.First.{with_front};
 ghost use Rattle.step_pack.specs.declared.key.Key.TheVariants as key;
 ghost use Rattle.build_rules.specs.Defines.{or_default};
-ghost use Rattle.build_rules.specs.Outputs.{path_below, output_folder, image_output, image_where, volume_outputs, device_outputs, module_folder, file_output, c_output, h_output, code_outputs, depex_outputs, module_outputs, base_of_out, base_at, has_texts, texts_at, has_bytes, bytes_at, named_at, outputs_at, modules_outputs, report_output, outputs_of};
+ghost use Rattle.build_rules.specs.Outputs.{path_below, output_folder, image_output, image_where, volume_outputs, device_outputs, module_folder, file_output, c_output, h_output, code_outputs, depex_outputs, module_outputs, base_of_out, base_at, has_texts, texts_at, has_bytes, bytes_at, named_at, outputs_at, modules_outputs, vpd_outputs, report_output, outputs_of};
+ghost use Rattle.image_steps.specs.Asks.{step_of};
 
 use crate::defines::or_default;
 use crate::wanted::{Wanted, is_marked};
@@ -16,6 +17,7 @@ use build_texts::arch_word;
 use doc_types::choice::Module;
 use doc_types::flash::{DevicePlan, FlashDoc};
 use doc_types::volume::VolumePlan;
+use image_steps::step_of;
 use module_steps::parts::out_at;
 use std::alloc::Global;
 use step_pack::{Key, Out, Output};
@@ -24,9 +26,9 @@ use text_steps::stem_of;
 /// The most bytes that the path of an output may have.
 const LONGEST: usize = 2048;
 
-// The path of a file in a folder.
+/// The path of a file in a folder.
 #[tactic(auto, unfolding(crate::specs::Outputs::path_below))]
-fn path_below(alloc: Global, folder: &Path, rest: &[u8]) -> Result<Path, Stop<Key>>
+pub fn path_below(alloc: Global, folder: &Path, rest: &[u8]) -> Result<Path, Stop<Key>>
     ensures { GivesIn (λ path. path) result (path_below folder.now rest.now) }
 {
     match path_field(alloc, rest)? {
@@ -117,12 +119,13 @@ fn volume_where(
     plan: &VolumePlan,
     number: u32,
 ) -> Result<Rows<Output>, Stop<Key>>
-    ensures { GivesIn (λ outputs. outputs) result (image_where is_wanted folder.now plan.now.head.name (codes ".Fv") (Key.Volume number)) }
+    ensures { GivesIn (λ outputs. outputs) result (image_where is_wanted folder.now plan.now.head.name (codes ".Fv") (step_of number plan.now)) }
 {
     let mut outputs = Rows::new(alloc);
     if is_wanted {
         let name = plan.head.name.bytes();
-        let output = image_output(alloc, folder, name, b".Fv".as_slice(), Key::Volume(number))?;
+        let step = step_of(number, plan);
+        let output = image_output(alloc, folder, name, b".Fv".as_slice(), step)?;
         outputs.push(output)?;
     }
     Ok(outputs)
@@ -433,6 +436,26 @@ fn modules_outputs(
     Ok(outputs)
 }
 
+// Appends the image of vital product data and its map, where there are any.
+#[tactic(auto, unfolding(crate::specs::Outputs::vpd_outputs))]
+fn push_vpd(
+    alloc: Global,
+    vpd: bool,
+    folder: &Path,
+    images: Rows<Output>,
+) -> Result<Rows<Output>, Stop<Key>>
+    ensures { GivesIn (λ outputs. outputs) result (with_front images (vpd_outputs vpd folder.now)) }
+{
+    let mut outputs = images;
+    if vpd {
+        let image = file_output(alloc, folder, b"FV/VPD.bin".as_slice(), Key::Vpd, 0)?;
+        let map = file_output(alloc, folder, b"FV/VPD.map".as_slice(), Key::Vpd, 1)?;
+        outputs.push(image)?;
+        outputs.push(map)?;
+    }
+    Ok(outputs)
+}
+
 fn push_report(
     alloc: Global,
     outputs: &mut Rows<Output>,
@@ -450,10 +473,12 @@ fn push_report(
     }
 }
 
-/// The files of a build: those of each module, the volumes that are wanted by their numbers, the devices, and last the report.
+/// The files of a build: those of each module, the volumes that are wanted by their numbers, the devices, the image of vital
+/// product data and its map, where there are any, and last the report.
 #[tactic(auto, unfolding(crate::specs::Outputs::outputs_of))]
 pub fn outputs_of(
     alloc: Global,
+    vpd: bool,
     folder: &Path,
     modules: &[Module],
     flash: &FlashDoc,
@@ -463,13 +488,14 @@ pub fn outputs_of(
 ) -> Result<Rows<Output>, Stop<Key>>
     requires volumes { length flash.now.volumes < 65536 }
     requires devices { length flash.now.devices < 65536 }
-    ensures { GivesIn (λ outputs. outputs) result (outputs_of folder.now modules.now flash.now wanted.now report.now given.now) }
+    ensures { GivesIn (λ outputs. outputs) result (outputs_of vpd folder.now modules.now flash.now wanted.now report.now given.now) }
 {
     let texts = modules_outputs(alloc, folder, modules, given)?;
     let marks = wanted.volumes.items();
     let volumes = push_volumes(alloc, folder, marks, flash.volumes.items(), texts)?;
     let marks = wanted.devices.items();
-    let mut outputs = push_devices(alloc, folder, marks, flash.devices.items(), volumes)?;
+    let images = push_devices(alloc, folder, marks, flash.devices.items(), volumes)?;
+    let mut outputs = push_vpd(alloc, vpd, folder, images)?;
     push_report(alloc, &mut outputs, report)?;
     Ok(outputs)
 }

@@ -1,10 +1,11 @@
 //! The steps of a build as rules of the engine.
 use crate::all::all;
 use crate::documents::{dec, flash, inf, platform};
-use crate::images::{device, file, volume};
+use crate::images::{based, device, file, volume};
 use crate::modules::{choice, pcds, values};
 pub use crate::shapes::EdkRules;
 use crate::texts::{code, depex, report};
+use crate::vpd::vpd;
 use build_base::{Permit, WantOfMemory};
 use build_stages::{Known, StagedRules, Stop, turn_by};
 use std::alloc::Global;
@@ -21,10 +22,10 @@ impl StagedRules for EdkRules {
             Key::Flash => 3,
             Key::Choice(_) => 4,
             Key::PlatformPcds => 5,
-            Key::Values(_) => 6,
+            Key::Values(_) | Key::Vpd => 6,
             Key::Code(_) | Key::Depex(_) => 7,
             Key::File(volume, _) => 8 + 2 * *volume as u64,
-            Key::Volume(volume) => 9 + 2 * *volume as u64,
+            Key::Volume(volume) | Key::Based(volume) => 9 + 2 * *volume as u64,
             Key::Device(_) => 0x4_0000_0000,
             Key::Report => 0x4_0000_0001,
             Key::All => 0x4_0000_0002,
@@ -50,9 +51,11 @@ impl StagedRules for EdkRules {
             Key::Depex(module) => depex(alloc, known, module, permit),
             Key::File(volume, item) => file(alloc, known, *volume, *item, permit),
             Key::Volume(number) => volume(alloc, known, *number, permit),
+            Key::Based(number) => based(alloc, known, *number, permit),
             Key::Device(number) => device(alloc, known, *number, permit),
             Key::Report => report(alloc, known, permit),
             Key::All => all(alloc, known, permit),
+            Key::Vpd => vpd(alloc, known, permit),
         }
     }
 

@@ -27,6 +27,7 @@ fn kind_of(out: &Out) -> u8
         Out::Device(_) => 10,
         Out::Report(_) => 11,
         Out::All(_) => 12,
+        Out::Vpd(_) => 13,
     }
 }
 
@@ -44,10 +45,11 @@ fn kind_at(key: &Key) -> u8
         Key::Code(_) => 6,
         Key::Depex(_) => 7,
         Key::File(_, _) => 8,
-        Key::Volume(_) => 9,
+        Key::Volume(_) | Key::Based(_) => 9,
         Key::Device(_) => 10,
         Key::Report => 11,
         Key::All => 12,
+        Key::Vpd => 13,
     }
 }
 

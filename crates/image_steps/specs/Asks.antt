@@ -1,6 +1,7 @@
 -- What the steps of files, volumes and devices ask, once the flash description is known; the rule is
 -- this project's own. What its statements mean is told by the EDK II FDF specification.
-use Rattle.std.specs.Prelude.{ℕ, ◌+◌, ◌&&◌, Bool, true, false, not, nat_lt, List, [], ◌∷◌, ◌++◌, length, Option, Some, None, if◌then◌else◌}
+use Rattle.std.specs.Prelude.{ℕ, ◌+◌, ◌&&◌, Bool, true, false, not, nat_lt, nat_eq, List, [], ◌∷◌, ◌++◌, length, Option, Some, None, is_some, slice_get, if◌then◌else◌}
+use Rattle.std.specs.Cmp.Lexicographic.{pointwise}
 use Rattle.std.specs.List.{flat_map, list_all}
 use Rattle.step_engine.specs.declared.talk.Ask.{Ask}
 use Rattle.step_engine.specs.declared.talk.Ask.TheVariants as ask
@@ -13,8 +14,26 @@ use Rattle.doc_types.specs.declared.volume.Item.TheVariants as item
 use Rattle.doc_types.specs.declared.volume.SectionPlan.{SectionPlan}
 use Rattle.doc_types.specs.declared.volume.SectionSource.{SectionSource}
 use Rattle.doc_types.specs.declared.volume.SectionSource.TheVariants as source
+use Rattle.doc_types.specs.declared.volume.VolumePlan.{VolumePlan}
+use Rattle.doc_types.specs.declared.volume_head.VolumeHead.{VolumeHead}
 use Rattle.step_pack.specs.declared.key.Key.{Key}
 use Rattle.step_pack.specs.declared.key.Key.TheVariants as key
+
+-- a volume is moved to its base where it has one and is to be
+abbrev pub is_based : VolumeHead → Bool
+is_based head = is_some head.base && head.force
+
+-- the step of a volume of a number
+abbrev pub step_of : ℕ → VolumePlan → Key
+step_of n plan = if is_based plan.head then key.Based n else key.Volume n
+
+-- there may be none of the number
+abbrev pub step_by : ℕ → Option VolumePlan → Key
+step_by n None = key.Volume n
+step_by n (Some plan) = step_of n plan
+
+abbrev pub volume_step : List VolumePlan → ℕ → Key
+volume_step volumes n = step_by n (slice_get volumes n)
 
 -- the file that a section asks for
 abbrev pub source_file : SectionSource → List (Ask Key)
@@ -25,27 +44,27 @@ source_file (source.Words text) = []
 source_file (source.Refused text) = []
 
 -- the volume that it asks for
-abbrev pub source_volume : SectionSource → List (Ask Key)
-source_volume (source.Tree path) = []
-source_volume (source.Template text) = []
-source_volume (source.Volume n) = ask.Part (key.Volume n) ∷ []
-source_volume (source.Words text) = []
-source_volume (source.Refused text) = []
+abbrev pub source_volume : List VolumePlan → SectionSource → List (Ask Key)
+source_volume volumes (source.Tree path) = []
+source_volume volumes (source.Template text) = []
+source_volume volumes (source.Volume n) = ask.Part (volume_step volumes n) ∷ []
+source_volume volumes (source.Words text) = []
+source_volume volumes (source.Refused text) = []
 
 abbrev pub section_files : List SectionPlan → List (Ask Key)
 section_files sections = flat_map (λ section. source_file section.source) sections
 
-abbrev pub section_volumes : List SectionPlan → List (Ask Key)
-section_volumes sections = flat_map (λ section. source_volume section.source) sections
+abbrev pub section_volumes : List VolumePlan → List SectionPlan → List (Ask Key)
+section_volumes volumes sections = flat_map (λ section. source_volume volumes section.source) sections
 
 -- the file that is the whole body, or else the files of the sections in their order, and then the
 -- volumes
-abbrev pub body_asks : List SectionPlan → Option (List ℕ) → List (Ask Key)
-body_asks sections (Some path) = ask.File path ∷ []
-body_asks sections None = section_files sections ++ section_volumes sections
+abbrev pub body_asks : List VolumePlan → List SectionPlan → Option (List ℕ) → List (Ask Key)
+body_asks volumes sections (Some path) = ask.File path ∷ []
+body_asks volumes sections None = section_files sections ++ section_volumes volumes sections
 
-abbrev pub file_asks : FilePlan → List (Ask Key)
-file_asks plan = body_asks plan.sections plan.whole
+abbrev pub file_asks : List VolumePlan → FilePlan → List (Ask Key)
+file_asks volumes plan = body_asks volumes plan.sections plan.whole
 
 -- a section of a volume names volumes below it alone
 abbrev pub source_below : ℕ → SectionSource → Bool
@@ -82,15 +101,24 @@ most_items = 65535
 abbrev pub are_few : ℕ → Bool
 are_few count = nat_lt count 65536
 
-abbrev pub kind_asks : RegionKind → List (Ask Key)
-kind_asks kind.Empty = []
-kind_asks (kind.Bytes bytes) = []
-kind_asks (kind.Tree path) = ask.File path ∷ []
-kind_asks (kind.Volume n) = ask.Part (key.Volume n) ∷ []
+-- a path is that of the image of vital product data, where there is one
+abbrev pub is_vpd : Option (List ℕ) → List ℕ → Bool
+is_vpd None path = false
+is_vpd (Some image) path = pointwise nat_eq path image
 
--- the file or the volume of each region
-abbrev pub region_asks : List Region → List (Ask Key)
-region_asks regions = flat_map (λ region. kind_asks region.kind) regions
+abbrev pub tree_asks : Bool → List ℕ → List (Ask Key)
+tree_asks true path = ask.Part key.Vpd ∷ []
+tree_asks false path = ask.File path ∷ []
+
+abbrev pub kind_asks : List VolumePlan → Option (List ℕ) → RegionKind → List (Ask Key)
+kind_asks volumes vpd kind.Empty = []
+kind_asks volumes vpd (kind.Bytes bytes) = []
+kind_asks volumes vpd (kind.Tree path) = tree_asks (is_vpd vpd path) path
+kind_asks volumes vpd (kind.Volume n) = ask.Part (volume_step volumes n) ∷ []
+
+-- the file, the volume or the image of vital product data of each region
+abbrev pub region_asks : List VolumePlan → Option (List ℕ) → List Region → List (Ask Key)
+region_asks volumes vpd regions = flat_map (λ region. kind_asks volumes vpd region.kind) regions
 
 -- a region names volumes that there can be alone
 abbrev pub kind_below : RegionKind → Bool

@@ -45,6 +45,14 @@ volume_given _ = Err misfit
 abbrev pub volume_content : List (Answer Out) → ℕ → Result (List ℕ) Fault
 volume_content given i = and_then (part_at given i) volume_given
 
+-- the image of vital product data that its step gives
+abbrev pub vpd_given : Out → Result (List ℕ) Fault
+vpd_given (out.Vpd vpd) = Ok vpd.image
+vpd_given _ = Err misfit
+
+abbrev pub vpd_content : List (Answer Out) → ℕ → Result (List ℕ) Fault
+vpd_content given i = and_then (part_at given i) vpd_given
+
 -- a text of 16-bit units, and a final zero
 unfoldable pub wide_text : List ℕ → List ℕ
 wide_text text = flat_map (λ byte. byte ∷ 0 ∷ []) text ++ 0 ∷ 0 ∷ []

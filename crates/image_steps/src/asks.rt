@@ -1,13 +1,49 @@
 //! What the steps of files, volumes and devices ask, once the flash description is known.
-ghost use Rattle.std.specs.Prelude.{◌≡◌, ◌++◌, ◌∷◌, [], ◌<◌, not, length, IfOk, OnOk};
-ghost use Rattle.image_steps.specs.Asks.{source_file, source_volume, section_files, section_volumes, body_asks, file_asks, source_below, sections_below, is_apriori, files_where, item_asks, are_few, kind_asks, region_asks, kind_below, regions_below};
+ghost use Rattle.std.specs.Prelude.{◌≡◌, ◌++◌, ◌∷◌, [], ◌<◌, not, length, slice_get, IfOk, OnOk};
+ghost use Rattle.std.specs.Option.{option_copied};
+ghost use Rattle.image_steps.specs.Asks.{is_based, step_of, step_by, volume_step, source_file, source_volume, section_files, section_volumes, body_asks, file_asks, source_below, sections_below};
+ghost use Rattle.image_steps.specs.Asks.{is_apriori, files_where, item_asks, are_few, is_vpd, kind_asks, region_asks, kind_below, regions_below};
 
 use build_base::{Path, Rows, Same, WantOfMemory};
 use doc_types::flash::{Region, RegionKind};
-use doc_types::volume::{FilePlan, Item, SectionPlan, SectionSource};
+use doc_types::volume::{FilePlan, Item, SectionPlan, SectionSource, VolumePlan};
+use doc_types::volume_head::VolumeHead;
 use std::alloc::Global;
 use step_engine::Ask;
 use step_pack::Key;
+
+/// Whether a volume is moved to its base: where it has one, and is to be.
+pub fn is_based(head: &VolumeHead) -> bool
+    ensures { result ≡ is_based head.now }
+{
+    head.base.is_some() && head.force
+}
+
+/// The step of a volume: one that is moved to its base has a step of its own.
+pub fn step_of(number: u32, plan: &VolumePlan) -> Key
+    ensures { result ≡ step_of number plan.now }
+{
+    if is_based(&plan.head) {
+        return Key::Based(number);
+    }
+    Key::Volume(number)
+}
+
+fn step_by(number: u32, plan: Option<&VolumePlan>) -> Key
+    ensures { result ≡ step_by number (option_copied plan.entry) }
+{
+    match plan {
+        Some(plan) => step_of(number, plan),
+        None => Key::Volume(number),
+    }
+}
+
+/// The step of the volume of a number.
+pub fn volume_step(volumes: &[VolumePlan], number: u32) -> Key
+    ensures { result ≡ volume_step volumes.now number }
+{
+    step_by(number, volumes.get(number as usize))
+}
 
 fn push_file(alloc: Global, asks: &mut Rows<Ask<Key>>, path: &Path) -> Result<(), WantOfMemory>
     ensures { OnOk result (asks.new ≡ asks.old ++ Ask.File path.now ∷ []) }
@@ -32,12 +68,16 @@ fn push_source_file(
     }
 }
 
-fn push_source_volume(asks: &mut Rows<Ask<Key>>, source: &SectionSource) -> Result<(), WantOfMemory>
-    ensures { OnOk result (asks.new ≡ asks.old ++ source_volume source.now) }
+fn push_source_volume(
+    asks: &mut Rows<Ask<Key>>,
+    volumes: &[VolumePlan],
+    source: &SectionSource,
+) -> Result<(), WantOfMemory>
+    ensures { OnOk result (asks.new ≡ asks.old ++ source_volume volumes.now source.now) }
 {
     match source {
         SectionSource::Volume(number) => {
-            asks.push(Ask::Part(Key::Volume(*number)))?;
+            asks.push(Ask::Part(volume_step(volumes, *number)))?;
             Ok(())
         }
         SectionSource::Tree(_)
@@ -62,27 +102,35 @@ fn push_files(
     Ok(())
 }
 
-fn push_volumes(asks: &mut Rows<Ask<Key>>, sections: &[SectionPlan]) -> Result<(), WantOfMemory>
-    ensures { OnOk result (asks.new ≡ asks.old ++ section_volumes sections.now) }
+fn push_volumes(
+    asks: &mut Rows<Ask<Key>>,
+    volumes: &[VolumePlan],
+    sections: &[SectionPlan],
+) -> Result<(), WantOfMemory>
+    ensures { OnOk result (asks.new ≡ asks.old ++ section_volumes volumes.now sections.now) }
 {
     let mut left = sections;
     while let [section, rest @ ..] = left {
-        push_source_volume(asks, &section.source)?;
+        push_source_volume(asks, volumes, &section.source)?;
         left = rest;
     }
     Ok(())
 }
 
 /// What the step of a FILE statement asks: its files, and then the volumes of its sections.
-pub fn file_asks(alloc: Global, plan: &FilePlan) -> Result<Rows<Ask<Key>>, WantOfMemory>
-    ensures { IfOk result (λ asks. asks ≡ file_asks plan.now) }
+pub fn file_asks(
+    alloc: Global,
+    volumes: &[VolumePlan],
+    plan: &FilePlan,
+) -> Result<Rows<Ask<Key>>, WantOfMemory>
+    ensures { IfOk result (λ asks. asks ≡ file_asks volumes.now plan.now) }
 {
     let mut asks = Rows::new(alloc);
     match &plan.whole {
         Some(path) => push_file(alloc, &mut asks, path)?,
         None => {
             push_files(alloc, &mut asks, plan.sections.items())?;
-            push_volumes(&mut asks, plan.sections.items())?;
+            push_volumes(&mut asks, volumes, plan.sections.items())?;
         }
     }
     Ok(asks)
@@ -173,31 +221,54 @@ pub fn item_asks(alloc: Global, volume: u32, items: &[Item]) -> Result<Rows<Ask<
     Ok(asks)
 }
 
+/// Whether a path is that of the image of vital product data, where there is one.
+pub fn is_vpd(vpd: &Option<Path>, path: &Path) -> bool
+    ensures { result ≡ is_vpd vpd.now path.now }
+{
+    match vpd {
+        Some(image) => path.bytes() == image.bytes(),
+        None => false,
+    }
+}
+
 fn push_kind(
     alloc: Global,
     asks: &mut Rows<Ask<Key>>,
+    volumes: &[VolumePlan],
+    vpd: &Option<Path>,
     kind: &RegionKind,
 ) -> Result<(), WantOfMemory>
-    ensures { OnOk result (asks.new ≡ asks.old ++ kind_asks kind.now) }
+    ensures { OnOk result (asks.new ≡ asks.old ++ kind_asks volumes.now vpd.now kind.now) }
 {
     match kind {
         RegionKind::Empty | RegionKind::Bytes(_) => Ok(()),
-        RegionKind::Tree(path) => push_file(alloc, asks, path),
+        RegionKind::Tree(path) => {
+            if is_vpd(vpd, path) {
+                return asks.push(Ask::Part(Key::Vpd));
+            }
+            push_file(alloc, asks, path)
+        }
         RegionKind::Volume(number) => {
-            asks.push(Ask::Part(Key::Volume(*number)))?;
+            asks.push(Ask::Part(volume_step(volumes, *number)))?;
             Ok(())
         }
     }
 }
 
-/// The file or the volume of each region of a device.
-pub fn region_asks(alloc: Global, regions: &[Region]) -> Result<Rows<Ask<Key>>, WantOfMemory>
-    ensures { IfOk result (λ asks. asks ≡ region_asks regions.now) }
+/// The file, the volume or the image of vital product data of each region of a device. `vpd` is the path of that image,
+/// where there is one.
+pub fn region_asks(
+    alloc: Global,
+    volumes: &[VolumePlan],
+    vpd: &Option<Path>,
+    regions: &[Region],
+) -> Result<Rows<Ask<Key>>, WantOfMemory>
+    ensures { IfOk result (λ asks. asks ≡ region_asks volumes.now vpd.now regions.now) }
 {
     let mut asks = Rows::new(alloc);
     let mut left = regions;
     while let [region, rest @ ..] = left {
-        push_kind(alloc, &mut asks, &region.kind)?;
+        push_kind(alloc, &mut asks, volumes, vpd, &region.kind)?;
         left = rest;
     }
     Ok(asks)

@@ -4,7 +4,7 @@ ghost use Rattle.std.specs.List.{flat_map};
 ghost use Rattle.build_base.specs.Answer.{Finds};
 ghost use Rattle.build_base.specs.FaultText.{fault_of};
 ghost use Rattle.build_stages.specs.Gives.{GivesIn};
-ghost use Rattle.image_steps.specs.Contents.{whole_file, file_content, file_absent, section_absent, volume_content, volume_given, wide_text, words_bytes};
+ghost use Rattle.image_steps.specs.Contents.{whole_file, file_content, file_absent, section_absent, volume_content, volume_given, vpd_content, vpd_given, wide_text, words_bytes};
 
 use build_base::{Image, Path, Place, Refusal, Same, Text, WantOfMemory, refuse};
 use build_stages::{Given, Stop};
@@ -82,6 +82,22 @@ pub fn volume_content<'a>(given: &Given<'a, Out>, place: usize) -> Result<&'a Im
     ensures { GivesIn (λ image. image.now) result (volume_content given.now place) }
 {
     volume_of(given.part(place)?)
+}
+
+fn vpd_of(out: &Out) -> Result<&Text, Stop<Key>>
+    ensures { GivesIn (λ text. text.now) result (vpd_given out.now) }
+{
+    match out {
+        Out::Vpd(vpd) => Ok(&vpd.image),
+        _ => Err(Stop::Misfit),
+    }
+}
+
+/// The image of vital product data at a place among the answers.
+pub fn vpd_content<'a>(given: &Given<'a, Out>, place: usize) -> Result<&'a Text, Stop<Key>>
+    ensures { GivesIn (λ text. text.now) result (vpd_content given.now place) }
+{
+    vpd_of(given.part(place)?)
 }
 
 fn push_unit(out: &mut Vec<u8>, byte: u8) -> Result<(), WantOfMemory>

@@ -3,10 +3,12 @@ ghost use Rattle.std.specs.Prelude.{◌≡◌, ◌≤◌, ◌+◌, ◌++◌, [],
 ghost use Rattle.build_base.specs.Answer.{AnswersAs};
 ghost use Rattle.build_stages.specs.Gives.{GivesIn};
 ghost use Rattle.fd_regions.specs.Device.{device_of};
-ghost use Rattle.image_steps.specs.Devices.{region_content, asks_of, contents_from, device_given};
+ghost use Rattle.image_steps.specs.Asks.{is_vpd};
+ghost use Rattle.image_steps.specs.Devices.{tree_content, region_content, asks_of, contents_from, device_given};
 
-use crate::contents::{volume_content, whole_content};
-use build_base::{Image, Permit, Refusal, Rows, RunWriter, Same, Text, WantOfMemory};
+use crate::asks::is_vpd;
+use crate::contents::{volume_content, vpd_content, whole_content};
+use build_base::{Image, Path, Permit, Refusal, Rows, RunWriter, Same, Text, WantOfMemory};
 use build_stages::{Given, Stop};
 use doc_types::flash::{DevicePlan, Region, RegionKind};
 use fd_regions::{Contents, device};
@@ -110,19 +112,36 @@ impl<'a> Contents for RegionParts<'a> {
     }
 }
 
+// The bytes of a region of a path.
+fn tree_content<'a>(
+    alloc: Global,
+    vpd: &Option<Path>,
+    given: &Given<'a, Out>,
+    place: usize,
+    path: &Path,
+) -> Result<&'a Text, Stop<Key>>
+    ensures { GivesIn (λ text. text.now) result (tree_content (is_vpd vpd.now path.now) given.now place path.now) }
+{
+    if is_vpd(vpd, path) {
+        return vpd_content(given, place);
+    }
+    whole_content(alloc, given, place, path)
+}
+
 fn region_content<'a>(
     alloc: Global,
+    vpd: &Option<Path>,
     given: &Given<'a, Out>,
     place: usize,
     kind: &'a RegionKind,
 ) -> Result<RegionPart<'a>, Stop<Key>>
-    ensures { GivesIn (λ part. part) result (region_content given.now place kind.now) }
+    ensures { GivesIn (λ part. part) result (region_content vpd.now given.now place kind.now) }
 {
     match kind {
         RegionKind::Empty => Ok(RegionPart::nothing()),
         RegionKind::Bytes(bytes) => Ok(RegionPart::of_text(bytes)),
         RegionKind::Tree(path) => {
-            let bytes = whole_content(alloc, given, place, path)?;
+            let bytes = tree_content(alloc, vpd, given, place, path)?;
             Ok(RegionPart::of_text(bytes))
         }
         RegionKind::Volume(_) => {
@@ -144,17 +163,18 @@ fn asks_of(kind: &RegionKind) -> usize
 #[tactic(auto, unfolding(crate::specs::Devices::contents_from))]
 fn contents<'a>(
     alloc: Global,
+    vpd: &Option<Path>,
     given: &Given<'a, Out>,
     regions: &'a [Region],
 ) -> Result<Rows<RegionPart<'a>>, Stop<Key>>
-    ensures value { GivesIn (λ parts. parts) result (contents_from given.now 0 regions.now) }
+    ensures value { GivesIn (λ parts. parts) result (contents_from vpd.now given.now 0 regions.now) }
     ensures count { IfOk result (λ parts. length regions.now ≡ length parts) }
 {
     let mut parts = Rows::new(alloc);
     let mut place = 0;
     let mut left = regions;
     while let [region, rest @ ..] = left {
-        parts.push(region_content(alloc, given, place, &region.kind)?)?;
+        parts.push(region_content(alloc, vpd, given, place, &region.kind)?)?;
         place += asks_of(&region.kind);
         left = rest;
     }
@@ -176,16 +196,18 @@ fn image(
     }
 }
 
-/// The device of a plan, whose regions hold what the answers tell.
+/// The device of a plan, whose regions hold what the answers tell. `vpd` is the path of the image of vital product data,
+/// where there is one.
 #[tactic(auto, unfolding(crate::specs::Devices::device_given))]
 pub fn device_given(
     alloc: Global,
     permit: Permit,
+    vpd: &Option<Path>,
     plan: &DevicePlan,
     given: &Given<'_, Out>,
 ) -> Result<Image, Stop<Key>>
-    ensures { GivesIn (λ image. image) result (device_given plan.now given.now) }
+    ensures { GivesIn (λ image. image) result (device_given vpd.now plan.now given.now) }
 {
-    let parts = contents(alloc, given, plan.regions.items())?;
+    let parts = contents(alloc, vpd, given, plan.regions.items())?;
     Ok(image(alloc, permit, plan, &RegionParts { parts })?)
 }

@@ -8,7 +8,10 @@ pub mod files;
 pub mod parts;
 pub mod volumes;
 
-pub use asks::{are_few, file_asks, item_asks, region_asks, regions_below, sections_below};
+pub use asks::{
+    are_few, file_asks, is_based, item_asks, region_asks, regions_below, sections_below, step_of,
+    volume_step,
+};
 pub use devices::device_given;
 pub use files::file_given;
 pub use volumes::volume_given;

@@ -30,7 +30,8 @@ fn is_multiple(size: u64, unit: u64) -> bool
     size % unit == 0
 }
 
-fn head_fits(head: &VolumeHead) -> bool
+/// Whether a stated length is a whole number of blocks and at most 256M.
+pub fn head_fits(head: &VolumeHead) -> bool
     ensures { result ≡ head_fits head.now }
 {
     match head.size {
@@ -46,7 +47,8 @@ fn is_stated(file: &FileImage) -> bool
     ALIGNMENTS.contains(&file.align)
 }
 
-fn are_stated(files: &[FileImage]) -> bool
+/// Whether each alignment of the files is one that a file's header can state.
+pub fn are_stated(files: &[FileImage]) -> bool
     ensures { result ≡ list_all is_stated files.now }
 {
     files.iter().all(|file| is_stated(file))
@@ -68,8 +70,9 @@ fn image_at(alloc: Global, given: &Given<'_, Out>, place: usize) -> Result<FileI
     Ok(file.copy(alloc)?)
 }
 
+/// The files that the answers are, in their order.
 #[tactic(auto, using(crate::proofs::VolumeLemmas::images_more))]
-fn images(alloc: Global, given: &Given<'_, Out>) -> Result<Rows<FileImage>, Stop<Key>>
+pub fn images(alloc: Global, given: &Given<'_, Out>) -> Result<Rows<FileImage>, Stop<Key>>
     ensures { GivesIn (λ images. images) result (images_from given.now 0) }
 {
     let mut images = Rows::new(alloc);
