@@ -1,6 +1,7 @@
 -- From what was brought, written and stored to what a build has done that keeps its cache.
-use Rattle.std.proofs.Common.{◌≡◌, ◌⊎◌, inl, inr, refl, sym, ap, ◌∙◌, ℕ, ◌-◌, List, [], ◌∷◌, ◌++◌, append-nil, arith, Option, None, Some, Result, Ok, Err, subst, true}
-use Rattle.std.specs.Prelude.{IfOk, IsOk, OnOk}
+use Rattle.std.proofs.Common.{◌≡◌, ◌⊎◌, inl, inr, refl, sym, ap, ◌∙◌, ℕ, ◌-◌, List, [], ◌∷◌, ◌++◌, append-nil, arith, Option, None, Some, Result, Ok, Err, subst, Bool, true}
+use Rattle.std.specs.Prelude.{IfOk, IsOk, OnOk, nat_le, ◌≤◌, ◌<◌}
+use Rattle.std.proofs.lemmas.Bool.{leb-true}
 use Rattle.std.specs.Option.{IfSome}
 use Rattle.build_base.proofs.OptionLemmas.{some_then}
 use Rattle.build_base.proofs.SpellingLemmas.{SpellsCut-append, SpellsCut-more}
@@ -11,12 +12,17 @@ use Rattle.build_base.specs.World.{World}
 use Rattle.build_base.specs.declared.fault.Fault.{Fault}
 use Rattle.build_base.specs.declared.outside.KeeperFailed.TheVariants.{Failed}
 use Rattle.build_base.specs.declared.outside.Target.TheVariants.{Out as ToOut}
+use Rattle.build_rules.proofs.AdoptLemmas.{adopted_sound, all_stay}
+use Rattle.build_rules.specs.Adopting.{AreOlder, adopted, by_older}
 use Rattle.build_rules.specs.Rules.{is_job, value_in}
+use Rattle.build_rules.specs.Trees.{EdkStages}
+use Rattle.build_stages.specs.Bounds.{both_hold}
+use Rattle.build_stages.specs.Stages.{meaning_of}
 use Rattle.build_words.specs.Fields.{job_fields}
 use Rattle.build_words.specs.declared.job.Job.{Job}
 use Rattle.step_cache.proofs.CacheLemmas.{same_cache}
-use Rattle.step_cache.proofs.TextLemmas.{cut_text}
-use Rattle.step_cache.specs.CacheText.{IsCacheText}
+use Rattle.step_cache.proofs.TextLemmas.{cut_text, same_edition}
+use Rattle.step_cache.specs.CacheText.{IsCacheText, IsTextOf, is_edition, newest}
 use Rattle.step_engine.specs.Build.{setting, IsEntryOf, IsHere}
 use Rattle.step_engine.specs.Edits.{over}
 use Rattle.step_engine.specs.Entries.{AreSound}
@@ -24,6 +30,7 @@ use Rattle.step_engine.specs.declared.edits.Edit.{Edit}
 use Rattle.step_engine.specs.declared.talk.Entry.{Entry}
 use Rattle.step_engine.specs.declared.talk.Outcome.{Outcome}
 use Rattle.step_engine.specs.declared.talk.Outcome.TheVariants.{Good, Bad}
+use Rattle.step_pack.specs.Keys.{key_cmp}
 use Rattle.step_pack.specs.declared.key.Key.{Key}
 use Rattle.step_pack.specs.declared.key.Key.TheVariants as key
 use Rattle.step_pack.specs.declared.out.Out.{Out}
@@ -32,7 +39,7 @@ use Rattle.edk_build.proofs.RunLemmas.{told_over}
 use Rattle.edk_build.specs.Building.{means, IsBrought, IsBuilt, IsCutShort, Leaves, result_status}
 use Rattle.edk_build.specs.Emitting.{emitted, outputs_of, status_of, summary}
 use Rattle.edk_build.specs.FilePair.{FilePair}
-use Rattle.edk_build.specs.Kept.{IsSoundKept, OfKept, StandsFor, StaysSound}
+use Rattle.edk_build.specs.Kept.{HasText, IsOfText, IsSoundKept, OfKept, StandsFor, StaysSound}
 use Rattle.edk_build.specs.KeptBuild.{Told, told, AsMade, Makes, WroteAll, HasFailed, HasEnded, HasStopped, Comes}
 use Rattle.edk_build.specs.Outcome.{outcome, files_by}
 use Rattle.edk_build.specs.Run.{IsComplete, plain, world_of}
@@ -196,17 +203,45 @@ completes WantOfMemory (Some files) job (Some there) old new T K S ends read wri
 pub empty_sound : AreSound means []
 empty_sound k x h = absurd (omega arith)
 
+-- editions that are read
+pub least_edition : (edition : ℕ) → is_edition edition ≡ true → 2 ≤ edition
+least_edition edition e = leb-true 2 edition (both_hold (nat_le 2 edition) (nat_le edition 5) e).0
+
+pub most_edition : (edition : ℕ) → is_edition edition ≡ true → edition ≤ 5
+most_edition edition e = leb-true edition 5 (both_hold (nat_le 2 edition) (nat_le edition 5) e).1
+
+pub stands_for : (bytes : List ℕ) (edition : ℕ) (entries cache : List (Entry Key Out)) → IsTextOf edition entries bytes → cache ≡ adopted edition entries → StandsFor (Some bytes) cache
+stands_for bytes edition entries cache t e = inl (record { edition = edition; entries = entries; text = t; holds = e })
+
+pub newest_text : (bytes : List ℕ) (edition : ℕ) (entries cache : List (Entry Key Out)) → IsTextOf edition entries bytes → (edition ≡ newest) × (cache ≡ entries) → IsCacheText cache bytes
+newest_text bytes edition entries cache t e =
+    subst (λ (c : List (Entry Key Out)). IsTextOf newest c bytes) (sym e.1) (subst (λ (n : ℕ). IsTextOf n entries bytes) e.0 t)
+
+-- bytes that are a cache's text stand for what holds of it
+pub of_text : (edition : ℕ) (left cache : List (Entry Key Out)) (bytes : List ℕ) → IsTextOf edition left bytes → IsOfText bytes cache → cache ≡ adopted edition left
+of_text edition left cache bytes t h =
+    h.holds ∙ ap (λ (n : ℕ). adopted n h.entries) (same_edition h.edition edition h.entries left bytes h.text t)
+    ∙ ap (adopted edition) (same_cache h.edition edition h.entries left bytes h.text t)
+
+-- a prefix of a text is the whole or no text
+prefix_sound : (edition : ℕ) (left : List (Entry Key Out)) (front rest : List ℕ) → IsTextOf edition left (front ++ rest) → AreSound means (adopted edition left) → IsSoundKept (Some front)
+prefix_sound edition left front rest t s cache (inl h) =
+    let e : front ++ rest ≡ front = ap (λ z. front ++ z) (cut_text h.edition edition h.entries left front rest h.text t) ∙ append-nil front in
+    subst (AreSound means) (sym (of_text edition left cache front (subst (λ z. IsTextOf edition left z) e t) h)) s
+prefix_sound edition left front rest t s cache (inr h) = subst (AreSound means) (sym h.1) empty_sound
+
+-- and of the text of a sound cache
+pub sound_prefix : (left : List (Entry Key Out)) (front rest : List ℕ) → IsCacheText left (front ++ rest) → AreSound means left → IsSoundKept (Some front)
+sound_prefix left front rest t s = prefix_sound newest left front rest t (subst (AreSound means) (sym (all_stay left)) s)
+
+-- and of what a build of an older edition left
+pub older_prefix : (edition : ℕ) (older : Key → EdkStages) (cache : List (Entry Key Out)) (front rest : List ℕ) → edition < 5 → IsTextOf edition cache (front ++ rest)
+    → AreOlder edition older → AreSound (meaning_of key_cmp (by_older older)) cache → IsSoundKept (Some front)
+older_prefix edition older cache front rest few t are s = prefix_sound edition cache front rest t (adopted_sound edition older are few cache s)
+
 -- the text of a sound cache stands for no other
 sound_text : (left : List (Entry Key Out)) (stored : List ℕ) → IsCacheText left stored → AreSound means left → IsSoundKept (Some stored)
-sound_text left stored t s cache (inl h) = subst (AreSound means) (same_cache left cache stored t h) s
-sound_text left stored t s cache (inr h) = absurd (h.0 left t)
-
--- a prefix of it is the whole or no text
-pub sound_prefix : (left : List (Entry Key Out)) (front rest : List ℕ) → IsCacheText left (front ++ rest) → AreSound means left → IsSoundKept (Some front)
-sound_prefix left front rest t s cache (inl h) =
-    let e : front ++ rest ≡ front = ap (λ z. front ++ z) (cut_text cache left front rest h t) ∙ append-nil front in
-    subst (AreSound means) (same_cache left cache front (subst (λ z. IsCacheText left z) e t) h) s
-sound_prefix left front rest t s cache (inr h) = subst (AreSound means) (sym h.1) empty_sound
+sound_text left stored t s = sound_prefix left stored [] (subst (λ z. IsCacheText left z) (sym (append-nil stored)) t) s
 
 pub same_sound : (old new : Option (Option (List ℕ))) → new ≡ old → StaysSound old new
 same_sound None new e = tt
@@ -251,3 +286,13 @@ stays ReadFault held job old new ends stops same usage = same_sound old.kept new
 stays WantOfMemory held job old new ends stops same usage = same_sound old.kept new.kept same
 stays WriteFault held job old new ends stops same usage =
     failed_sound old new stops.0 stops.2.left stops.2.outputs stops.2.line stops.2.stored stops.1 stops.2.stored_is stops.2.sound stops.2.failed
+
+-- a load changes nothing of what is kept
+pub text_still : (kept kept' : Option (Option (List ℕ))) (cache : List (Entry Key Out)) (is_text : Bool) → kept' ≡ kept → (is_text ≡ true → HasText kept cache)
+    → is_text ≡ true → HasText kept' cache
+text_still kept kept' cache is_text e given h = subst (λ (k : Option (Option (List ℕ))). HasText k cache) (sym e) (given h)
+
+-- the cache that is left is the one whose text is kept
+pub text_left : (kept : Option (Option (List ℕ))) (old new : List (Entry Key Out)) (is_text unchanged keeps : Bool) → (keeps ≡ true → (is_text ≡ true) × (unchanged ≡ true))
+    → (unchanged ≡ true → new ≡ old) → (is_text ≡ true → HasText kept old) → keeps ≡ true → HasText kept new
+text_left kept old new is_text unchanged keeps both same given h = subst (HasText kept) (sym (same (both h).1)) (given (both h).0)

@@ -1,14 +1,13 @@
 -- Laws of what is kept.
 use Rattle.std.proofs.Common.{◌≡◌, inl, inr, refl, sym, ◌∙◌, ℕ, List, [], ◌∷◌, ◌++◌, Option, Some, None, subst}
-use Rattle.step_cache.proofs.CacheLemmas.{same_cache}
-use Rattle.step_cache.specs.CacheText.{IsCacheText}
+use Rattle.step_cache.specs.CacheText.{IsNoText}
 use Rattle.step_engine.specs.Entries.{AreSound}
 use Rattle.step_engine.specs.declared.talk.Entry.{Entry}
 use Rattle.step_pack.specs.declared.key.Key.{Key}
 use Rattle.step_pack.specs.declared.out.Out.{Out}
-use Rattle.edk_build.proofs.KeptLemmas.{empty_sound}
+use Rattle.edk_build.proofs.KeptLemmas.{empty_sound, of_text}
 use Rattle.edk_build.specs.Building.{means, IsBuilt, IsCutShort}
-use Rattle.edk_build.specs.Kept.{IsNoText, IsSoundKept, OfKept, StandsFor, StaysSound}
+use Rattle.edk_build.specs.Kept.{IsSoundKept, OfKept, StandsFor, StaysSound}
 use Rattle.edk_build.specs.KeptBuild.{HasEnded, HasStopped}
 use Rattle.edk_build.specs.KeptRuns.{AreRight, BuildRun, Follow, FromSound, IsRight, IsRun}
 use Rattle.edk_build.specs.Run.{plain, world_of}
@@ -18,16 +17,16 @@ use Rattle.edk_build.specs.declared.status.Status.TheVariants.{Done, FileFault, 
 
 pub one_cache : (kept : Option (List ℕ)) (a b : List (Entry Key Out)) → StandsFor kept a → StandsFor kept b → a ≡ b
 one_cache None a b x y = x ∙ sym y
-one_cache (Some bytes) a b (inl x) (inl y) = same_cache a b bytes x y
-one_cache (Some bytes) a b (inl x) (inr y) = absurd (y.0 a x)
-one_cache (Some bytes) a b (inr x) (inl y) = absurd (x.0 b y)
+one_cache (Some bytes) a b (inl x) (inl y) = of_text y.edition y.entries a bytes y.text x ∙ sym y.holds
+one_cache (Some bytes) a b (inl x) (inr y) = absurd (y.0 x.edition x.entries x.text)
+one_cache (Some bytes) a b (inr x) (inl y) = absurd (x.0 y.edition y.entries y.text)
 one_cache (Some bytes) a b (inr x) (inr y) = x.1 ∙ sym y.1
 
 pub sound_nothing : IsSoundKept None
 sound_nothing cache e = subst (AreSound means) (sym e) empty_sound
 
 pub sound_no_text : (bytes : List ℕ) → IsNoText bytes → IsSoundKept (Some bytes)
-sound_no_text bytes n cache (inl t) = absurd (n cache t)
+sound_no_text bytes n cache (inl t) = absurd (n t.edition t.entries t.text)
 sound_no_text bytes n cache (inr e) = subst (AreSound means) (sym e.1) empty_sound
 
 on_end : (s : Status) (P Q : Type 0) → (P → Q) → OnEnd s P → OnEnd s Q

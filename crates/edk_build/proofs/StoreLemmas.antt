@@ -6,6 +6,7 @@ use Rattle.build_base.specs.Outside.{Cause, Emission, Emits, Grew}
 use Rattle.build_base.specs.Spelling.{Output, Spelled, Writes}
 use Rattle.build_base.specs.declared.outside.KeeperFailed.{KeeperFailed}
 use Rattle.build_base.specs.declared.outside.Target.{Target}
+use Rattle.edk_build.specs.Kept.{IsKept}
 
 pub wrote_all : {E : Type 0} (a b : Option (List Emission)) (outputs : List Output) (r : Result (Unit {0}) E) → false ≡ is_err r → Writes a b outputs r → Spelled a b outputs
 wrote_all a b outputs (Ok x) e w = w
@@ -32,3 +33,8 @@ pub stored_all : (old new : Option (Option (List ℕ))) (bytes stored : List ℕ
     → Stores old new stored (Ok tt)
 stored_all old new bytes stored (Ok x) e same s = subst (λ z. Stores old new z (Ok tt)) same (stored_by old new bytes x s)
 stored_all old new bytes stored (Err x) e same s = absurd cc
+
+-- what is kept already is as after a store of it
+pub kept_again : (told : Option (Option (List ℕ))) (text : List ℕ) → IsKept told text → Stores told told text (Ok tt)
+kept_again None text h = tt
+kept_again (Some kept) text h = h

@@ -1,22 +1,35 @@
--- What is kept from one run to the next: the text of a cache. Where nothing is kept, or bytes that are the text of no cache, as those that a
--- store left that failed, it stands for the empty cache. The rule is this project's own.
+-- What is kept from one run to the next: the text of a cache. One of an older edition stands for the entries that still hold. Where nothing is
+-- kept, or bytes that are the text of no cache, as those that a store left that failed, it stands for the empty cache. The rule is this
+-- project's own.
 use Rattle.std.specs.Prelude.{◌≡◌, ◌⊎◌, ℕ, List, [], Option, Some, None}
 use Rattle.std.specs.Option.{IfSome}
-use Rattle.step_cache.specs.CacheText.{IsCacheText}
+use Rattle.build_rules.specs.Adopting.{adopted}
+use Rattle.step_cache.specs.CacheText.{IsCacheText, IsNoText, IsTextOf}
 use Rattle.step_engine.specs.Entries.{AreSound}
 use Rattle.step_engine.specs.declared.talk.Entry.{Entry}
 use Rattle.step_pack.specs.declared.key.Key.{Key}
 use Rattle.step_pack.specs.declared.out.Out.{Out}
 use Rattle.edk_build.specs.Building.{means}
 
--- the bytes are the text of no cache
-abbrev pub IsNoText : List ℕ → Type 0
-IsNoText bytes = (entries : List (Entry Key Out)) → IsCacheText entries bytes → ⊥
+-- the cache is what holds of the one whose text the bytes are, by the text's edition
+pub record IsOfText (bytes : List ℕ) (cache : List (Entry Key Out)) : Type 0 where
+  pub edition : ℕ
+  pub entries : List (Entry Key Out)
+  pub text : IsTextOf edition entries bytes
+  pub holds : cache ≡ adopted edition entries
 
 -- the cache that what is kept stands for
 abbrev pub StandsFor : Option (List ℕ) → List (Entry Key Out) → Type 0
 StandsFor None cache = cache ≡ []
-StandsFor (Some bytes) cache = IsCacheText cache bytes ⊎ (IsNoText bytes × (cache ≡ []))
+StandsFor (Some bytes) cache = IsOfText bytes cache ⊎ (IsNoText bytes × (cache ≡ []))
+
+-- what is kept is the text, where it is told
+abbrev pub IsKept : Option (Option (List ℕ)) → List ℕ → Type 0
+IsKept told text = IfSome told (λ kept. kept ≡ Some text)
+
+-- what is kept is the text of the cache, where it is told, and the cache has one
+abbrev pub HasText : Option (Option (List ℕ)) → List (Entry Key Out) → Type 0
+HasText told cache = (text : List ℕ) × IsCacheText cache text × IsKept told text
 
 -- it stands for no cache that isn't sound
 abbrev pub IsSoundKept : Option (List ℕ) → Type 0

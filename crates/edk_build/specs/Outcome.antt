@@ -4,6 +4,7 @@ use Rattle.std.specs.Prelude.{ℕ, ◌==◌, List, [], map, Option, Some, None, 
 use Rattle.build_base.specs.declared.fault.Fault.{Fault}
 use Rattle.build_base.specs.World.{World}
 use Rattle.doc_types.specs.declared.texts.Texts.{Texts}
+use Rattle.doc_types.specs.declared.vpd.Vpd.{Vpd}
 use Rattle.step_engine.specs.declared.talk.Outcome.{Outcome}
 use Rattle.step_engine.specs.declared.talk.Outcome.TheVariants.{Good, Bad}
 use Rattle.step_pack.specs.declared.key.Key.{Key}
@@ -19,6 +20,10 @@ abbrev pub texts_part : Option Texts → ℕ → List ℕ
 texts_part None part = []
 texts_part (Some texts) part = if part == 1 then texts.h else texts.c
 
+-- the map of vital product data is part 1
+abbrev pub vpd_part : Vpd → ℕ → List ℕ
+vpd_part vpd part = if part == 1 then vpd.map else vpd.image
+
 -- the bytes of what a step gives
 abbrev pub given_bytes : Out → ℕ → List ℕ
 given_bytes (out.Code texts) part = texts_part texts part
@@ -26,6 +31,7 @@ given_bytes (out.Depex bytes) part = bytes
 given_bytes (out.Volume image) part = image
 given_bytes (out.Device image) part = image
 given_bytes (out.Report text) part = text
+given_bytes (out.Vpd vpd) part = vpd_part vpd part
 given_bytes _ part = []
 
 abbrev pub outcome_bytes : Outcome Out → ℕ → List ℕ

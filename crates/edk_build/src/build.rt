@@ -63,14 +63,15 @@ fn emit<S: Sink>(
     }
 }
 
-/// What a build made before its first emission: its outcome, the cache that it leaves, and how many steps
-/// ran and were reused.
+/// What a build made before its first emission: its outcome, the cache that it leaves, how many steps
+/// ran and were reused, and whether it leaves the cache that it was handed.
 #[derive(Drop)]
 pub struct Brought {
     pub given: Outcome<Out>,
     pub cache: Cache<Key, Out>,
     pub steps: u64,
     pub reused: u64,
+    pub unchanged: bool,
 }
 
 /// Brings what these fields of a job ask for, over edits of the tree's files, from the cache that the last
@@ -97,6 +98,7 @@ pub fn bring_all<H: Threads + Sync, T: Tree, G: Gate>(
     // For any tree.
     ensures sound { AreSound means cache → IfOk result (λ b. AreSound means b.cache) }
     ensures own { IfOk result (λ b. IsEntryOf All b.given b.cache) }
+    ensures unchanged { IfOk result (λ b. b.unchanged ≡ true → b.cache ≡ cache) }
     ensures held { T.held tree.new ≡ T.held tree.old }
     ensures tree_count { OnOk result (T.faults tree.new ≡ T.faults tree.old) }
     ensures read_fault { IfReadFault result (Rose (T.faults tree.old) (T.faults tree.new)) }
@@ -132,6 +134,7 @@ pub fn bring_all<H: Threads + Sync, T: Tree, G: Gate>(
         cache: brought.cache,
         steps,
         reused,
+        unchanged: brought.unchanged,
     })
 }
 

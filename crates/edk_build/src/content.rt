@@ -4,10 +4,11 @@ ghost use Rattle.std.specs.Iterator.{at_most};
 ghost use Rattle.build_base.specs.GivesPiece.{GivesPiece};
 ghost use Rattle.build_base.specs.Runs.{runs_bytes, are_blank};
 ghost use Rattle.edk_build.specs.Contents.{kind_bytes};
-ghost use Rattle.edk_build.specs.Outcome.{texts_part, given_bytes, outcome_bytes};
+ghost use Rattle.edk_build.specs.Outcome.{texts_part, vpd_part, given_bytes, outcome_bytes};
 
 use build_base::{Pieces, Run};
 use doc_types::texts::Texts;
+use doc_types::vpd::Vpd;
 use std::marker::Model;
 use step_engine::Outcome;
 use step_pack::Out;
@@ -138,6 +139,17 @@ fn texts_part(texts: &Option<Texts>, part: u8) -> Content<'_>
     }
 }
 
+// The image of vital product data, or its map.
+fn vpd_part(vpd: &Vpd, part: u8) -> Content<'_>
+    ensures { result ≡ vpd_part vpd.now part }
+{
+    if part == 1 {
+        Content::text(vpd.map.bytes())
+    } else {
+        Content::text(vpd.image.bytes())
+    }
+}
+
 fn given_bytes(given: &Out, part: u8) -> Content<'_>
     ensures { result ≡ given_bytes given.now part }
 {
@@ -147,6 +159,7 @@ fn given_bytes(given: &Out, part: u8) -> Content<'_>
         Out::Volume(image) => Content::image(image.runs()),
         Out::Device(image) => Content::image(image.runs()),
         Out::Report(text) => Content::text(text.bytes()),
+        Out::Vpd(vpd) => vpd_part(vpd, part),
         _ => Content::text(b"".as_slice()),
     }
 }

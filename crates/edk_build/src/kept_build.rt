@@ -1,12 +1,14 @@
 //! One build from the cache that is kept, and what is kept after it.
-ghost use Rattle.std.specs.Prelude.{◌≡◌, ◌⊎◌, true, Some, IfOk, OnOk, IfSome};
+ghost use Rattle.std.specs.Prelude.{◌≡◌, ◌⊎◌, ℕ, List, true, Some, IfOk, OnOk, IfSome};
 ghost use Rattle.build_base.specs.Outside.{Rose};
 ghost use Rattle.build_rules.specs.Rules.{is_job};
 ghost use Rattle.build_words.specs.Fields.{job_fields};
+ghost use Rattle.build_rules.specs.Adopting.{adopted};
+ghost use Rattle.step_cache.specs.CacheText.{IsCacheText, is_edition, newest};
 ghost use Rattle.step_engine.specs.Build.{setting, Ran, RanAll, HasRead};
 ghost use Rattle.step_pack.specs.declared.key.Key.TheVariants.{All};
 ghost use Rattle.edk_build.specs.Building.{means, result_status};
-ghost use Rattle.edk_build.specs.Kept.{IsSoundKept, OfKept, StandsFor, StaysSound};
+ghost use Rattle.edk_build.specs.Kept.{HasText, IsKept, IsSoundKept, OfKept, StandsFor, StaysSound};
 ghost use Rattle.edk_build.specs.Run.{IsComplete, world_of};
 ghost use Rattle.edk_build.specs.KeptBuild.{AsMade, HasEnded, HasFailed, HasStopped, WroteAll, told};
 ghost use Rattle.edk_build.specs.Made.{made_outputs};
@@ -19,35 +21,67 @@ use crate::made::{Ready, make_ready};
 use crate::status::Status;
 use crate::stop::Stop;
 use build_base::{Book, Gate, Keeper, KeeperFailed, Sink, Text, Tree, WantOfMemory};
+use build_rules::adopt;
 use build_words::{Job, job_fields};
 use std::alloc::Global;
 use std::thread::Threads;
-use step_cache::{pack, unpack};
+use step_cache::{Kept, NEWEST, pack, unpack};
 use step_engine::{Cache, Edits};
 use step_pack::{Key, Out};
 
+/// The cache that is loaded, and whether what is kept is its text.
+#[derive(Drop)]
+struct Loaded {
+    cache: Cache<Key, Out>,
+    is_text: bool,
+}
+
+// What holds of a cache that was read, and whether it is of the newest edition.
+#[tactic(auto, using(crate::proofs::KeptLemmas::least_edition, crate::proofs::KeptLemmas::most_edition))]
+fn adopted(kept: Kept) -> Loaded
+    requires { is_edition kept.edition ≡ true }
+    ensures cache { result.cache ≡ adopted kept.edition kept.cache }
+    ensures newest { result.is_text ≡ true → (kept.edition ≡ newest) × (result.cache ≡ kept.cache) }
+{
+    let Kept { edition, cache } = kept;
+    let is_text = edition == NEWEST;
+    Loaded {
+        cache: adopt(edition, cache),
+        is_text,
+    }
+}
+
 // The cache that bytes stand for.
-fn cache_in(alloc: Global, bytes: &[u8]) -> Result<Cache<Key, Out>, WantOfMemory>
-    ensures { IfOk result (λ cache. StandsFor (Some bytes.now) cache) }
+#[tactic(auto, using(crate::proofs::KeptLemmas::stands_for, crate::proofs::KeptLemmas::newest_text))]
+fn cache_in(alloc: Global, bytes: &[u8]) -> Result<Loaded, WantOfMemory>
+    ensures stands { IfOk result (λ l. StandsFor (Some bytes.now) l.cache) }
+    ensures text { IfOk result (λ l. l.is_text ≡ true → IsCacheText l.cache bytes.now) }
 {
     match unpack(alloc, bytes)? {
-        Some(cache) => Ok(cache),
-        None => Ok(Cache::new(alloc)),
+        Some(kept) => Ok(adopted(kept)),
+        None => Ok(Loaded {
+            cache: Cache::new(alloc),
+            is_text: false,
+        }),
     }
 }
 
 // The cache that is kept.
-fn load_cache<K: Keeper>(alloc: Global, keeper: &mut K) -> Result<Cache<Key, Out>, Stop>
-    ensures stands { IfOk result (λ cache. IfSome (K.kept keeper.old) (λ kept. StandsFor kept cache)) }
+fn load_cache<K: Keeper>(alloc: Global, keeper: &mut K) -> Result<Loaded, Stop>
+    ensures stands { IfOk result (λ l. IfSome (K.kept keeper.old) (λ kept. StandsFor kept l.cache)) }
+    ensures text { IfOk result (λ l. l.is_text ≡ true → HasText (K.kept keeper.old) l.cache) }
     ensures kept { K.kept keeper.new ≡ K.kept keeper.old }
     ensures count { OnOk result (K.faults keeper.new ≡ K.faults keeper.old) }
     ensures read_fault { IfReadFault result (Rose (K.faults keeper.old) (K.faults keeper.new)) }
     ensures no_write { IfWriteFault result ⊥ }
 {
     match keeper.load() {
-        Ok(None) => Ok(Cache::new(alloc)),
+        Ok(None) => Ok(Loaded {
+            cache: Cache::new(alloc),
+            is_text: false,
+        }),
         Ok(Some(text)) => match cache_in(alloc, text.bytes()) {
-            Ok(cache) => Ok(cache),
+            Ok(loaded) => Ok(loaded),
             Err(_) => Err(Stop::WantOfMemory),
         },
         Err(KeeperFailed::Failed) => Err(Stop::ReadFault),
@@ -85,9 +119,30 @@ fn write_kept<S: Sink, K: Keeper>(
     Ok(())
 }
 
+// Writes what stands ready, where what is kept is the text already.
+fn write_again<S: Sink, K: Keeper>(ready: &Ready<'_>, to: &mut S, keeper: &K) -> Result<(), Stop>
+    ensures all { (text : List ℕ) → IsKept (K.kept keeper.now) text → OnOk result (WroteAll (made_outputs ready.now.made) ready.now.summary text
+        (told (S.written to.old) (K.kept keeper.now) (S.faults to.old) (K.faults keeper.now))
+        (told (S.written to.new) (K.kept keeper.now) (S.faults to.new) (K.faults keeper.now))) }
+    ensures failed { (text : List ℕ) → IsKept (K.kept keeper.now) text → IfWriteFault result (HasFailed (made_outputs ready.now.made) ready.now.summary text
+        (told (S.written to.old) (K.kept keeper.now) (S.faults to.old) (K.faults keeper.now))
+        (told (S.written to.new) (K.kept keeper.now) (S.faults to.new) (K.faults keeper.now))) }
+    ensures sink_count { OnOk result (S.faults to.new ≡ S.faults to.old) }
+    ensures write_fault { IfWriteFault result (Rose (S.faults to.old) (S.faults to.new)) }
+    ensures no_other { IfUnwritten result ⊥ }
+{
+    if ready.write_outputs(to).is_err() {
+        return Err(Stop::WriteFault);
+    }
+    if ready.write_summary(to).is_err() {
+        return Err(Stop::WriteFault);
+    }
+    Ok(())
+}
+
 // Writes what a build made, and stores the text of the cache that it leaves. All memory is taken before
 // the first emission.
-fn emit_kept<S: Sink, K: Keeper>(
+fn emit_stored<S: Sink, K: Keeper>(
     alloc: Global,
     brought: &Brought,
     sink: &mut S,
@@ -130,12 +185,97 @@ fn emit_kept<S: Sink, K: Keeper>(
     }
 }
 
-// Builds what a job asks for from a cache, and keeps the one that it leaves.
+// Writes what a build made that leaves the cache whose text is kept. All memory is taken before the first
+// emission.
+fn emit_again<S: Sink, K: Keeper>(
+    alloc: Global,
+    brought: &Brought,
+    sink: &mut S,
+    keeper: &K,
+) -> Result<Status, Stop>
+    requires { HasText (K.kept keeper.now) brought.now.cache }
+    ensures all { OnOk result (AsMade brought.now.given brought.now.cache brought.now.steps brought.now.reused (λ outputs line stored. WroteAll outputs line stored
+        (told (S.written sink.old) (K.kept keeper.now) (S.faults sink.old) (K.faults keeper.now))
+        (told (S.written sink.new) (K.kept keeper.now) (S.faults sink.new) (K.faults keeper.now)))) }
+    ensures failed { IfWriteFault result (AsMade brought.now.given brought.now.cache brought.now.steps brought.now.reused (λ outputs line stored. HasFailed outputs line stored
+        (told (S.written sink.old) (K.kept keeper.now) (S.faults sink.old) (K.faults keeper.now))
+        (told (S.written sink.new) (K.kept keeper.now) (S.faults sink.new) (K.faults keeper.now)))) }
+    ensures status { IfOk result (λ s. s ≡ result_status brought.now.given) }
+    ensures sink_count { OnOk result (S.faults sink.new ≡ S.faults sink.old) }
+    ensures write_fault { IfWriteFault result (Rose (S.faults sink.old) (S.faults sink.new)) }
+    ensures no_read { IfReadFault result ⊥ }
+    ensures unwritten { IfUnwritten result (S.written sink.new ≡ S.written sink.old) }
+{
+    let label = Label {
+        folder: None,
+        tells_status: false,
+    };
+    let Ok(ready) = make_ready(
+        alloc,
+        &label,
+        &brought.given,
+        &brought.cache,
+        brought.steps,
+        brought.reused,
+    ) else {
+        return Err(Stop::WantOfMemory);
+    };
+    match write_again(&ready, sink, keeper) {
+        Ok(()) => Ok(ready.status()),
+        Err(stop) => Err(stop),
+    }
+}
+
+// Writes what a build made, and stores the text of the cache that it leaves, unless what is kept is that
+// text already.
+fn emit_kept<S: Sink, K: Keeper>(
+    alloc: Global,
+    brought: &Brought,
+    is_kept: bool,
+    sink: &mut S,
+    keeper: &mut K,
+) -> Result<Status, Stop>
+    requires { is_kept ≡ true → HasText (K.kept keeper.old) brought.now.cache }
+    ensures all { OnOk result (AsMade brought.now.given brought.now.cache brought.now.steps brought.now.reused (λ outputs line stored. WroteAll outputs line stored
+        (told (S.written sink.old) (K.kept keeper.old) (S.faults sink.old) (K.faults keeper.old))
+        (told (S.written sink.new) (K.kept keeper.new) (S.faults sink.new) (K.faults keeper.new)))) }
+    ensures failed { IfWriteFault result (AsMade brought.now.given brought.now.cache brought.now.steps brought.now.reused (λ outputs line stored. HasFailed outputs line stored
+        (told (S.written sink.old) (K.kept keeper.old) (S.faults sink.old) (K.faults keeper.old))
+        (told (S.written sink.new) (K.kept keeper.new) (S.faults sink.new) (K.faults keeper.new)))) }
+    ensures status { IfOk result (λ s. s ≡ result_status brought.now.given) }
+    ensures sink_count { OnOk result (S.faults sink.new ≡ S.faults sink.old) }
+    ensures keeper_count { OnOk result (K.faults keeper.new ≡ K.faults keeper.old) }
+    ensures write_fault { IfWriteFault result (Rose (S.faults sink.old) (S.faults sink.new) ⊎ Rose (K.faults keeper.old) (K.faults keeper.new)) }
+    ensures no_read { IfReadFault result ⊥ }
+    ensures unwritten { IfUnwritten result (S.written sink.new ≡ S.written sink.old) }
+    ensures kept { IfUnwritten result (K.kept keeper.new ≡ K.kept keeper.old) }
+{
+    if is_kept {
+        return emit_again(alloc, brought, sink, keeper);
+    }
+    emit_stored(alloc, brought, sink, keeper)
+}
+
+// Whether the text of the cache that a build leaves is kept already: that of the cache that was loaded, which
+// the build leaves as it was. A report may stand where the cache is kept, so with one the text is stored.
+fn keeps_text(job: &Job, is_text: bool, unchanged: bool) -> bool
+    ensures { result ≡ true → (is_text ≡ true) × (unchanged ≡ true) }
+{
+    if job.files.report.is_some() {
+        return false;
+    }
+    if !is_text {
+        return false;
+    }
+    unchanged
+}
+
+// Builds what a job asks for from the cache that was loaded, and keeps the one that it leaves.
 fn build_from<H: Threads + Sync, T: Tree, S: Sink, K: Keeper, G: Gate>(
     rt: &H,
     alloc: Global,
     job: &Job,
-    cache: Cache<Key, Out>,
+    loaded: Loaded,
     tree: &mut T,
     sink: &mut S,
     keeper: &mut K,
@@ -143,10 +283,11 @@ fn build_from<H: Threads + Sync, T: Tree, S: Sink, K: Keeper, G: Gate>(
     book: &mut Book<Key>,
 ) -> Result<Status, Stop>
     requires job { is_job (job_fields job.now) ≡ true }
-    ensures ended { IfOk result (λ s. HasEnded (T.held tree.old) job.now cache s
+    requires text { loaded.is_text ≡ true → HasText (K.kept keeper.old) loaded.cache }
+    ensures ended { IfOk result (λ s. HasEnded (T.held tree.old) job.now loaded.cache s
         (told (S.written sink.old) (K.kept keeper.old) (S.faults sink.old) (K.faults keeper.old))
         (told (S.written sink.new) (K.kept keeper.new) (S.faults sink.new) (K.faults keeper.new))) }
-    ensures stopped { IfWriteFault result (HasStopped (T.held tree.old) job.now cache
+    ensures stopped { IfWriteFault result (HasStopped (T.held tree.old) job.now loaded.cache
         (told (S.written sink.old) (K.kept keeper.old) (S.faults sink.old) (K.faults keeper.old))
         (told (S.written sink.new) (K.kept keeper.new) (S.faults sink.new) (K.faults keeper.new))) }
     ensures kept { IfUnwritten result (K.kept keeper.new ≡ K.kept keeper.old) }
@@ -157,20 +298,22 @@ fn build_from<H: Threads + Sync, T: Tree, S: Sink, K: Keeper, G: Gate>(
     ensures keeper_count { OnOk result (K.faults keeper.new ≡ K.faults keeper.old) }
     ensures read_fault { IfReadFault result (Rose (T.faults tree.old) (T.faults tree.new)) }
     ensures write_fault { IfWriteFault result (Rose (S.faults sink.old) (S.faults sink.new) ⊎ Rose (K.faults keeper.old) (K.faults keeper.new)) }
-    ensures ran { Ran (setting means (T.held tree.old) (job_fields job.now) cache) All book.old book.new }
-    ensures all { OnOk result (RanAll (setting means (T.held tree.old) (job_fields job.now) cache) All book.old book.new) }
-    ensures read { HasRead (setting means (T.held tree.old) (job_fields job.now) cache) All (T.reads tree.old) (T.reads tree.new) }
+    ensures ran { Ran (setting means (T.held tree.old) (job_fields job.now) loaded.cache) All book.old book.new }
+    ensures all { OnOk result (RanAll (setting means (T.held tree.old) (job_fields job.now) loaded.cache) All book.old book.new) }
+    ensures read { HasRead (setting means (T.held tree.old) (job_fields job.now) loaded.cache) All (T.reads tree.old) (T.reads tree.new) }
 {
     let Ok(fields) = job_fields(alloc, job) else {
         return Err(Stop::WantOfMemory);
     };
+    let Loaded { cache, is_text } = loaded;
     let edits = Edits::new(alloc);
     let workers = job.workers.number();
     let brought = match bring_all(rt, alloc, &fields, workers, cache, tree, &edits, gate, book) {
         Ok(brought) => brought,
         Err(stop) => return Err(stop),
     };
-    emit_kept(alloc, &brought, sink, keeper)
+    let is_kept = keeps_text(job, is_text, brought.unchanged);
+    emit_kept(alloc, &brought, is_kept, sink, keeper)
 }
 
 // Builds from the cache that is kept.
@@ -212,18 +355,18 @@ fn build_loaded<H: Threads + Sync, T: Tree, S: Sink, K: Keeper, G: Gate>(
     ensures all { OnEnd result (OfKept (K.kept keeper.old) (λ cache. RanAll (setting means (T.held tree.old) (job_fields job.now) cache) All book.old book.new)) }
     ensures read { (T.reads tree.new ≡ T.reads tree.old) ⊎ OfKept (K.kept keeper.old) (λ cache. HasRead (setting means (T.held tree.old) (job_fields job.now) cache) All (T.reads tree.old) (T.reads tree.new)) }
 {
-    let cache = match load_cache(alloc, keeper) {
-        Ok(cache) => cache,
+    let loaded = match load_cache(alloc, keeper) {
+        Ok(loaded) => loaded,
         Err(stop) => return stop.status(),
     };
-    match build_from(rt, alloc, job, cache, tree, sink, keeper, gate, book) {
+    match build_from(rt, alloc, job, loaded, tree, sink, keeper, gate, book) {
         Ok(status) => status,
         Err(stop) => stop.status(),
     }
 }
 
 /// Builds what a job asks for from the cache that is kept, which it loads first, and keeps the one that it
-/// leaves: the text of that is stored after the outputs and before the summary.
+/// leaves: the text of that is stored after the outputs and before the summary, unless it is what is kept.
 ///
 /// All is read, and all memory is taken, before the first emission.
 pub fn build_kept<H: Threads + Sync, T: Tree, S: Sink, K: Keeper, G: Gate>(

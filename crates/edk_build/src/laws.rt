@@ -1,12 +1,16 @@
 //! Laws of what is kept.
-ghost use Rattle.std.specs.Prelude.{◌≡◌, ◌++◌, ℕ, List, Option, Some, None};
-ghost use Rattle.step_cache.specs.CacheText.{IsCacheText};
+ghost use Rattle.std.specs.Prelude.{◌≡◌, ◌++◌, ◌<◌, ℕ, List, Option, Some, None};
+ghost use Rattle.build_rules.specs.Adopting.{AreOlder, by_older};
+ghost use Rattle.build_rules.specs.Trees.{EdkStages};
+ghost use Rattle.build_stages.specs.Stages.{meaning_of};
+ghost use Rattle.step_cache.specs.CacheText.{IsCacheText, IsNoText, IsTextOf};
+ghost use Rattle.step_pack.specs.Keys.{key_cmp};
 ghost use Rattle.step_engine.specs.Entries.{AreSound};
 ghost use Rattle.step_engine.specs.declared.talk.Entry.{Entry as EntryOf};
 ghost use Rattle.step_pack.specs.declared.key.Key.{Key as KeyOf};
 ghost use Rattle.step_pack.specs.declared.out.Out.{Out as OutOf};
 ghost use Rattle.edk_build.specs.Building.{means};
-ghost use Rattle.edk_build.specs.Kept.{IsNoText, IsSoundKept, StandsFor};
+ghost use Rattle.edk_build.specs.Kept.{IsSoundKept, StandsFor};
 ghost use Rattle.edk_build.specs.KeptRuns.{AreRight, BuildRun, Follow};
 
 /// What is kept stands for one cache. Nothing, no cache's text, the text of a sound cache and each prefix of it
@@ -16,6 +20,13 @@ pub fn kept_is_one()
     ensures nothing { IsSoundKept None }
     ensures no_text { (bytes : List ℕ) → IsNoText bytes → IsSoundKept (Some bytes) }
     ensures prefix { (cache : List (EntryOf KeyOf OutOf)) (front rest : List ℕ) → IsCacheText cache (front ++ rest) → AreSound means cache → IsSoundKept (Some front) }
+{}
+
+/// The text of a cache that a build of an older edition left, sound by the definitions of that edition, and each prefix of it stand
+/// for no cache that isn't sound by today's: whatever the definitions were of the steps whose entries don't stay.
+pub fn older_texts_are_adopted()
+    ensures { (edition : ℕ) (older : KeyOf → EdkStages) (cache : List (EntryOf KeyOf OutOf)) (front rest : List ℕ) → edition < 5 → IsTextOf edition cache (front ++ rest)
+        → AreOlder edition older → AreSound (meaning_of key_cmp (by_older older)) cache → IsSoundKept (Some front) }
 {}
 
 /// Runs of `build` with edits between them, each of which begins with what the one before it kept, write what the
