@@ -47,9 +47,9 @@ pub fn call_unpack(page: &mut Page, files: &[Output], path: &str) -> Result<(), 
     let alloc = page.alloc();
     match unpack(alloc, file_of(files, path)?)? {
         None => page.put(b"none\n"),
-        Some(cache) => {
-            tell_entries(page, cache.entries());
-            let text = pack(alloc, &cache)?;
+        Some(kept) => {
+            tell_entries(page, kept.cache.entries());
+            let text = pack(alloc, &kept.cache)?;
             page.file(b"packed", text.bytes());
         }
     }
@@ -59,7 +59,7 @@ pub fn call_unpack(page: &mut Page, files: &[Output], path: &str) -> Result<(), 
 fn is_none(alloc: Global, bytes: &[u8]) -> Result<bool, Stop> {
     match unpack(alloc, bytes)? {
         None => Ok(true),
-        Some(_cache) => Ok(false),
+        Some(_kept) => Ok(false),
     }
 }
 

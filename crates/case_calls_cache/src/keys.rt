@@ -16,6 +16,7 @@ fn plain_key(name: &str) -> Result<Key, Stop> {
         "PlatformPcds" => Ok(Key::PlatformPcds),
         "Report" => Ok(Key::Report),
         "All" => Ok(Key::All),
+        "Vpd" => Ok(Key::Vpd),
         _ => Err(Stop::Wrong(Wrong::Line("no key has this name"))),
     }
 }
@@ -56,6 +57,7 @@ fn image_key(name: &str, words: &str) -> Result<Key, Stop> {
         "File" => file_key(words),
         "Volume" => Ok(Key::Volume(number_of(words)?)),
         "Device" => Ok(Key::Device(number_of(words)?)),
+        "Based" => Ok(Key::Based(number_of(words)?)),
         _ => plain_key(name),
     }
 }
@@ -101,7 +103,9 @@ fn tell_image_key(page: &mut Page, key: &Key) {
         }
         Key::Volume(number) => tell_number(page, b"Volume", *number),
         Key::Device(number) => tell_number(page, b"Device", *number),
+        Key::Based(number) => tell_number(page, b"Based", *number),
         Key::Report => page.put(b"Report\n"),
+        Key::Vpd => page.put(b"Vpd\n"),
         _ => page.put(b"All\n"),
     }
 }

@@ -12,6 +12,7 @@ fn image_name(out: &Out) -> &'static [u8] {
         Out::Device(_image) => b"Device\n",
         Out::Report(_text) => b"Report\n",
         Out::All(_outputs) => b"All\n",
+        Out::Vpd(_image) => b"Vpd\n",
         _ => b"Depex\n",
     }
 }

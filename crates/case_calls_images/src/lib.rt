@@ -16,6 +16,7 @@ pub fn call(page: &mut Page, files: &[Output], name: &str, path: &str) -> Result
         "section_alignment" => headers::call_section_alignment(page, files, path)?,
         "file_of" => files::call_file_of(page, files, path)?,
         "compose" => volumes::call_compose(page, files, path)?,
+        "rebase_volume" => volumes::call_rebase_volume(page, files, path)?,
         _ => return call_reader(page, files, name, path),
     }
     Ok(true)

@@ -1,4 +1,4 @@
-//! A call that makes a volume. The call's file has one thing a line: `block NUMBER`, `size NUMBER`, `guid GUID`, lines
+//! Calls that make a volume. The call's file has one thing a line: `block NUMBER`, `size NUMBER`, `guid GUID`, `base NUMBER`, lines
 //! `file GUID ALIGN PATH`, and the words `ffs3`, `erase0`.
 
 use crate::words::{bytes_of, count, guid_of, middle, other_form};
@@ -9,6 +9,7 @@ use case_player::{Output, Page, Stop, Wrong, first_word, text_of};
 use doc_types::image::FileImage;
 use doc_types::volume_head::VolumeHead;
 use fv_compose::{are_aligned, compose, has_shape};
+use image_rebase::{is_based, rebase_volume};
 use std::alloc::Global;
 
 fn empty_head(alloc: Global, path: &str) -> Result<VolumeHead, Stop> {
@@ -56,6 +57,10 @@ fn set_head(head: &mut VolumeHead, word: &str, rest: &str) -> Result<(), Stop> {
         "block" => head.block_size = count(rest)?,
         "size" => head.size = Some(count(rest)?),
         "guid" => head.name_guid = Some(guid_of(rest)?),
+        "base" => {
+            head.base = Some(count(rest)?);
+            head.force = true;
+        }
         _ => set_flag(head, word)?,
     }
     Ok(())
@@ -78,11 +83,14 @@ fn joined(alloc: Global, runs: &[Run]) -> Result<Vec<u8>, Stop> {
     Ok(out)
 }
 
-/// The file `volume`, or its fault, of what the file of this path has.
-pub fn call_compose(page: &mut Page, files: &[Output], path: &str) -> Result<(), Stop> {
-    let alloc = page.alloc();
+// The head and the files that the file of this path tells.
+fn plan_of(
+    alloc: Global,
+    files: &[Output],
+    path: &str,
+    images: &mut Rows<FileImage>,
+) -> Result<VolumeHead, Stop> {
     let mut head = empty_head(alloc, path)?;
-    let mut images = Rows::new(alloc);
     for line in text_of(files, path)?.lines() {
         let (word, rest) = first_word(line);
         if word == "file" {
@@ -91,15 +99,31 @@ pub fn call_compose(page: &mut Page, files: &[Output], path: &str) -> Result<(),
             set_head(&mut head, word, rest)?;
         }
     }
+    Ok(head)
+}
+
+/// The file `volume`, or its fault, of what the file of this path has.
+pub fn call_compose(page: &mut Page, files: &[Output], path: &str) -> Result<(), Stop> {
+    let alloc = page.alloc();
+    let mut images = Rows::new(alloc);
+    let head = plan_of(alloc, files, path, &mut images)?;
     composed(page, &copied(alloc, &head)?, &copied(alloc, &images)?)
+}
+
+/// The same with its modules moved; `base NUMBER` says where the volume lies.
+pub fn call_rebase_volume(page: &mut Page, files: &[Output], path: &str) -> Result<(), Stop> {
+    let alloc = page.alloc();
+    let mut images = Rows::new(alloc);
+    let head = plan_of(alloc, files, path, &mut images)?;
+    rebased(page, &copied(alloc, &head)?, &copied(alloc, &images)?)
 }
 
 fn composed(page: &mut Page, head: &VolumeHead, images: &Rows<FileImage>) -> Result<(), Stop> {
     if !has_shape(head) {
-        return Err(Stop::Wrong(Wrong::Line("the size is no whole number of blocks")));
+        return Err(no_blocks());
     }
     if !are_aligned(images) {
-        return Err(Stop::Wrong(Wrong::Line("an alignment that no header can state")));
+        return Err(no_alignment());
     }
     let alloc = page.alloc();
     let mut book: Book<u8> = Book::new(alloc);
@@ -107,4 +131,30 @@ fn composed(page: &mut Page, head: &VolumeHead, images: &Rows<FileImage>) -> Res
     let bytes = joined(alloc, copied(alloc, &runs)?.items())?;
     page.file(b"volume", bytes.as_slice());
     Ok(())
+}
+
+fn rebased(page: &mut Page, head: &VolumeHead, images: &Rows<FileImage>) -> Result<(), Stop> {
+    if !is_based(head) {
+        return Err(Stop::Wrong(Wrong::Line("the volume has no base")));
+    }
+    if !has_shape(head) {
+        return Err(no_blocks());
+    }
+    if !are_aligned(images) {
+        return Err(no_alignment());
+    }
+    let alloc = page.alloc();
+    let mut book: Book<u8> = Book::new(alloc);
+    let runs = rebase_volume(alloc, book.grant(1)?, head, images)?;
+    let bytes = joined(alloc, copied(alloc, &runs)?.items())?;
+    page.file(b"volume", bytes.as_slice());
+    Ok(())
+}
+
+fn no_blocks() -> Stop {
+    Stop::Wrong(Wrong::Line("the size is no whole number of blocks"))
+}
+
+fn no_alignment() -> Stop {
+    Stop::Wrong(Wrong::Line("an alignment that no header can state"))
 }

@@ -1,4 +1,5 @@
-//! Calls of what is found for modules and the platform: libraries, dependency expressions, values of PCDs.
+//! Calls of what is found for modules and the platform: libraries, dependency expressions, values of PCDs,
+//! the image of vital product data.
 #![tactic(auto)]
 
 mod asking;
@@ -8,6 +9,7 @@ mod parsing;
 mod plans;
 mod skus;
 mod values;
+mod vpd;
 mod words;
 
 use case_player::{Output, Page, Stop};
@@ -30,6 +32,7 @@ fn call_on_pcds(page: &mut Page, files: &[Output], name: &str, path: &str) -> Re
         "sku_value" => skus::call_sku_value(page, files, path)?,
         "resolve_platform" => values::call_resolve_platform(page, files, path)?,
         "resolve_module" => values::call_resolve_module(page, files, path)?,
+        "vpd_of" => vpd::call_vpd(page, files, path)?,
         _ => return Ok(false),
     }
     Ok(true)

@@ -181,6 +181,19 @@ fn copy_file(scene: &mut Scene, rest: &str) -> Result<(), Wrong> {
     Ok(())
 }
 
+// Writes a byte into the edition of what is kept.
+fn set_edition(scene: &mut Scene, rest: &str) -> Result<(), Wrong> {
+    let Ok(edition) = rest.trim_ascii().parse::<u8>() else {
+        return Err(Wrong::Line("an edition is a byte"));
+    };
+    if let Some(kept) = &mut scene.kept {
+        if let Some(byte) = kept.get_mut(8) {
+            *byte = edition;
+        }
+    }
+    Ok(())
+}
+
 fn plan(scene: &mut Scene, word: &str, rest: &str) -> Result<(), Wrong> {
     let (first, second) = first_word(rest);
     let call = number(first)?;
@@ -212,6 +225,7 @@ fn follow<H: AllocGlobal + Threads + Sync>(
             scene.kept = Some(Vec::from_slice(scene.alloc, rest.as_bytes())?);
             Ok(())
         }
+        "edition" => set_edition(scene, rest),
         "read" | "write" | "keeper" => plan(scene, word, rest),
         _ => Err(Wrong::Line("this is no line of runs")),
     }
