@@ -177,14 +177,14 @@ short_files : (limit : ℕ) (files : List Known) → AreWithin limit files → S
 short_files limit files w p path bytes ls e is = omega (arith, within_files limit files w p bytes e, few_lines path bytes ls is)
 
 -- one answer more takes none away, and answers its path
-answer_more : (files : List Known) (p : List ℕ) (g : Got) → MoreAnswers (answer files) (answer (with_answer files p g))
+pub answer_more : (files : List Known) (p : List ℕ) (g : Got) → MoreAnswers (answer files) (answer (with_answer files p g))
 unfolding answer
 answer_more [] p g path got e = cc
 answer_more (k ∷ files) p g path got e =
     let Found : Bool → Type 0 = λ b. cond b (Some k.got) (answer files path) ≡ Some got → cond b (Some k.got) (answer (with_answer files p g) path) ≡ Some got in
     elim (same_text k.path path) as Found [ true ↦ λ h. h | false ↦ λ h. answer_more files p g path got h ] e
 
-same_self : (xs : List ℕ) → same_text xs xs ≡ true
+pub same_self : (xs : List ℕ) → same_text xs xs ≡ true
 same_self [] = refl
 same_self (x ∷ xs) = let one : nat_eq x x ≡ true = search (rules, tests) in rw (one, same_self xs) refl
 

@@ -46,7 +46,8 @@ asked known (path ∷ paths) = more_asked (known path) (asked known paths)
 
 abbrev pub counted_acts : List Macro → (Line → Counted → Result Counted Halt) → Acts Counted Halt
 counted_acts fixed include = record {
-  act = λ line c. if is_include line.text then include line c else counting c.used (acted fixed line c.env);
+  act = λ line c. if is_include line.text then include line c
+      else counting c.used (acted fixed line c.env);
   test = λ line c. saying (tested fixed line c.env);
   unbalanced = λ line. fault (unbalanced line);
 }
@@ -57,37 +58,51 @@ counted_inside path u e = record { env = inside path e; used = u }
 abbrev pub counted_outside : Env → Counted → Counted
 counted_outside e x = record { env = outside e x.env; used = x.used }
 
-abbrev pub counted_opened : (List Line → Counted → Result Counted Halt) → List ℕ → List ℕ → ℕ → Env → Result Counted Halt
-counted_opened file path bytes u e = saying (lines_read path bytes) >>= (λ lines. file (map (line_at path) lines) (counted_inside path u e) >>= (λ x. Ok (counted_outside e x)))
+abbrev pub counted_opened : (List Line → Counted → Result Counted Halt) → List ℕ → List ℕ → ℕ → Env
+    → Result Counted Halt
+counted_opened file path bytes u e = saying (lines_read path bytes)
+    >>= (λ lines. file (map (line_at path) lines) (counted_inside path u e)
+    >>= (λ x. Ok (counted_outside e x)))
 
-abbrev pub counted_found : (List ℕ → List ℕ → Result Counted Halt) → Line → List ℕ → ℕ → Located → Result Counted Halt
+abbrev pub counted_found : (List ℕ → List ℕ → Result Counted Halt) → Line → List ℕ → ℕ → Located
+    → Result Counted Halt
 counted_found enter line path u (wanted p) = Err (wants p u)
 counted_found enter line path u missing = Err (fault (fault_at 121 line path))
 counted_found enter line path u (over_limit p) = Err (fault (long_fault p))
 counted_found enter line path u (there p bytes) = enter p bytes
 
-abbrev pub counted_at : (List ℕ → ℕ → List ℕ → List ℕ → Result Counted Halt) → Source → Line → List ℕ → ℕ → Option (List ℕ) → Result Counted Halt
+abbrev pub counted_at : (List ℕ → ℕ → List ℕ → List ℕ → Result Counted Halt) → Source → Line
+    → List ℕ → ℕ → Option (List ℕ) → Result Counted Halt
 counted_at enter known line field u None = Err (fault (fault_at 101 line field))
 counted_at enter known line field u (Some path) =
     let v = u + asked known (places line.at.path path) in
     counted_found (enter path v) line path v (located known (places line.at.path path))
 
-abbrev pub counted_by : (List ℕ → ℕ → List ℕ → List ℕ → Result Counted Halt) → Source → Line → List ℕ → ℕ → Result Counted Halt
-counted_by enter known line field u = counted_at enter known line field u (path_field (without_workspace field))
+abbrev pub counted_by : (List ℕ → ℕ → List ℕ → List ℕ → Result Counted Halt) → Source → Line
+    → List ℕ → ℕ → Result Counted Halt
+counted_by enter known line field u =
+    counted_at enter known line field u (path_field (without_workspace field))
 
 unfoldable pub counted : Source → List Macro → ℕ → Line → Counted → Result Counted Halt
-counted known fixed zero line c = counted_by (λ path v p bytes. Err (fault (fault_at 122 line path))) known line (include_field fixed line c.env) c.used
+counted known fixed zero line c =
+    counted_by (λ path v p bytes. Err (fault (fault_at 122 line path))) known line
+    (include_field fixed line c.env) c.used
 counted known fixed (suc n) line c =
-    counted_by (λ path v p bytes. if is_open p c.env then Err (fault (fault_at 123 line path)) else counted_opened (λ lines x. file_of (counted_acts fixed (counted known fixed n)) lines x) p bytes v c.env)
+    counted_by (λ path v p bytes. if is_open p c.env then Err (fault (fault_at 123 line path))
+    else counted_opened
+    (λ lines x. file_of (counted_acts fixed (counted known fixed n)) lines x) p bytes v c.env)
     known line (include_field fixed line c.env) c.used
 
 abbrev pub counted_root : Source → List Macro → List ℕ → Env → Option Got → Result Counted Halt
 counted_root known fixed root e None = Err (wants root 0)
 counted_root known fixed root e (Some Absent) = Err (fault (fault_of 103 (place_of root 0) root))
 counted_root known fixed root e (Some TooLong) = Err (fault (long_fault root))
-counted_root known fixed root e (Some (File bytes)) = counted_opened (λ lines x. file_of (counted_acts fixed (counted known fixed 31)) lines x) root bytes 1 e
+counted_root known fixed root e (Some (File bytes)) =
+    counted_opened (λ lines x. file_of (counted_acts fixed (counted known fixed 31)) lines x) root
+    bytes 1 e
 
--- the answers that one include can use: those of its two places, and those of as many lines as a file may have
+-- the answers that one include can use: those of its two places, and those of as many lines as a
+-- file may have
 unfoldable pub most : ℕ → ℕ → ℕ
 most longest zero = 2
 most longest (suc n) = 2 + longest * most longest n
@@ -97,10 +112,12 @@ left_by m (Ok x) = 0
 left_by m (Err (fault f)) = 0
 left_by m (Err (wants path u)) = m - u
 
--- how many answers may still be wanted, where a file has at most so many bytes, and so no more lines than that and one
+-- how many answers may still be wanted, where a file has at most so many bytes, and so no more
+-- lines than that and one
 unfoldable pub left : ℕ → List ℕ → List Macro → List Macro → List Known → ℕ
 left limit root macros fixed files =
-    left_by (1 + (limit + 1) * most (limit + 1) 31) (counted_root (answer files) fixed root (begun macros) (answer files root))
+    left_by (1 + (limit + 1) * most (limit + 1) 31)
+    (counted_root (answer files) fixed root (begun macros) (answer files root))
 
 -- what is known of one path more
 abbrev pub with_answer : List Known → List ℕ → Got → List Known

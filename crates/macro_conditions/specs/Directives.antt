@@ -1,5 +1,5 @@
--- Directives and definitions, by the first word of a line (EDK II DSC specification, conditional directive
--- statements, `!include` and `DEFINE`).
+-- Directives and definitions, by the first word of a line (EDK II DSC specification, conditional
+-- directive statements, `!include` and `DEFINE`).
 use Rattle.std.specs.Prelude.{ℕ, ◌+◌, Bool, ◌&&◌, ◌||◌, ◌==◌, if◌then◌else◌, List, [], ◌∷◌, length, take, drop, slice_index, codes, Option, Some, None, unwrap_or}
 use Rattle.meta_lexer.specs.Lines.{without_blanks}
 use Rattle.meta_lexer.specs.Tokens.{word_size}
@@ -46,7 +46,8 @@ is_include text = is_directive text && same_word (directive_word text) (codes "i
 
 -- a line that begins with the word DEFINE or EDK_GLOBAL
 unfoldable pub is_definition : List ℕ → Bool
-is_definition text = same_word (first_word text) (codes "DEFINE") || same_word (first_word text) (codes "EDK_GLOBAL")
+is_definition text = same_word (first_word text) (codes "DEFINE")
+    || same_word (first_word text) (codes "EDK_GLOBAL")
 
 abbrev pub named : Option (List ℕ × List ℕ) → Option (List ℕ × List ℕ)
 named None = None

@@ -40,7 +40,8 @@ settled (Err fault) = Err (bad fault)
 -- the macros with one defined: in the place of that of its name, or at the end
 unfoldable pub put_macro : List ℕ → List ℕ → List Macro → List Macro
 put_macro name value [] = record { name = name; value = value } ∷ []
-put_macro name value (m ∷ ms) = if same_text m.name name then record { name = m.name; value = value } ∷ ms else m ∷ put_macro name value ms
+put_macro name value (m ∷ ms) = if same_text m.name name
+    then record { name = m.name; value = value } ∷ ms else m ∷ put_macro name value ms
 
 -- each name once, in first-seen order and with its last value
 unfoldable pub table_of : List Macro → List Macro
@@ -85,16 +86,28 @@ module _ (fixed : List Macro) where
   abbrev pub with_macro : Line → Env → List ℕ → List ℕ → Result Env Fault
   with_macro line e name value =
       if is_full name e.macros then Err (fault_at 128 line name)
-      else Ok (record { rows = e.rows; macros = put_macro name (replaced Kept (scope e) value) e.macros; open_files = e.open_files })
+      else Ok
+      (record {
+        rows = e.rows;
+        macros = put_macro name (replaced Kept (scope e) value) e.macros;
+        open_files = e.open_files;
+      })
 
   abbrev pub defined : Line → Env → Option (List ℕ × List ℕ) → Result Env Fault
   defined line e None = Err (fault_at 129 line line.text)
   defined line e (Some pair) = with_macro line e pair.0 pair.1
 
   abbrev pub written : Line → Env → Env
-  written line e = record { rows = e.rows ++ record { at = line.at; text = without_blanks (replaced Kept (scope e) line.text) } ∷ []; macros = e.macros; open_files = e.open_files }
+  written line e =
+      record {
+        rows = e.rows
+            ++ record { at = line.at; text = without_blanks (replaced Kept (scope e) line.text) } ∷ [];
+        macros = e.macros;
+        open_files = e.open_files;
+      }
 
-  -- what a line does that is no include: a directive that there isn't, a definition, or a line with its macros replaced
+  -- what a line does that is no include: a directive that there isn't, a definition, or a line with
+  -- its macros replaced
   unfoldable pub acted : Line → Env → Result Env Fault
   acted line e =
       if is_directive line.text then Err (fault_at 129 line line.text)
@@ -104,8 +117,10 @@ module _ (fixed : List Macro) where
   abbrev pub condition : Line → Env → List ℕ → Result Bool Fault
   condition line e word =
       if same_word word (codes "else") then Ok true
-      else if same_word word (codes "ifdef") then names line (scope e) (macro_named (directive_rest line.text))
-      else if same_word word (codes "ifndef") then negated (names line (scope e) (macro_named (directive_rest line.text)))
+      else if same_word word (codes "ifdef")
+      then names line (scope e) (macro_named (directive_rest line.text))
+      else if same_word word (codes "ifndef")
+      then negated (names line (scope e) (macro_named (directive_rest line.text)))
       else holds line (value_of_text (replaced Zero (scope e) (directive_rest line.text)))
 
   -- what the condition of an `!if`, `!ifdef`, `!ifndef`, `!elseif` or `!else` says
@@ -122,7 +137,8 @@ hex_digit n = if nat_lt n 10 then 48 + n else 55 + n
 -- the detail of a fault of a file's lines: the bad byte in hexadecimal, or how long the line is
 unfoldable pub spot_detail : List ℕ → ℕ → ℕ → ℕ → List ℕ
 spot_detail bytes code start end =
-    if code == 110 then hex_digit (slice_index bytes start / 16) ∷ hex_digit (slice_index bytes start % 16) ∷ []
+    if code == 110 then hex_digit (slice_index bytes start / 16)
+    ∷ hex_digit (slice_index bytes start % 16) ∷ []
     else decimal (end - start)
 
 abbrev pub place_of : List ℕ → ℕ → Place
@@ -153,13 +169,16 @@ outside e x = record { rows = x.rows; macros = x.macros; open_files = e.open_fil
 -- the lines of a file, whose own faults come when it is opened
 abbrev pub read_by : List ℕ → List ℕ → Result (List TextLine) Spot → Result (List TextLine) Fault
 read_by path bytes (Ok lines) = Ok lines
-read_by path bytes (Err spot) = Err (fault_of spot.code (place_of path spot.line) (spot_detail bytes spot.code spot.start spot.end))
+read_by path bytes (Err spot) =
+    Err (fault_of spot.code (place_of path spot.line)
+    (spot_detail bytes spot.code spot.start spot.end))
 
 unfoldable pub lines_read : List ℕ → List ℕ → Result (List TextLine) Fault
 lines_read path bytes = read_by path bytes (lines_of bytes)
 
 abbrev pub opened : (List Line → Env → Result Env Stop) → List ℕ → List ℕ → Env → Result Env Stop
-opened file path bytes e = settled (lines_read path bytes) >>= (λ lines. file (map (line_at path) lines) (inside path e) >>= (λ x. Ok (outside e x)))
+opened file path bytes e = settled (lines_read path bytes)
+    >>= (λ lines. file (map (line_at path) lines) (inside path e) >>= (λ x. Ok (outside e x)))
 
 abbrev pub long_fault : List ℕ → Fault
 long_fault path = fault_of 102 (place_of path 0) path
@@ -168,38 +187,53 @@ abbrev pub too_long : List ℕ → Stop
 too_long path = bad (long_fault path)
 
 -- an include of this path, where `enter` says what the file comes to that was found
-abbrev pub found_at : (List ℕ → List ℕ → Result Env Stop) → Line → List ℕ → Located → Result Env Stop
+abbrev pub found_at : (List ℕ → List ℕ → Result Env Stop) → Line → List ℕ → Located
+    → Result Env Stop
 found_at enter line path (wanted p) = Err (need p)
 found_at enter line path missing = Err (bad (fault_at 121 line path))
 found_at enter line path (over_limit p) = Err (too_long p)
 found_at enter line path (there p bytes) = enter p bytes
 
-abbrev pub at_path : (List ℕ → List ℕ → List ℕ → Result Env Stop) → Source → Line → List ℕ → Option (List ℕ) → Result Env Stop
+abbrev pub at_path : (List ℕ → List ℕ → List ℕ → Result Env Stop) → Source → Line → List ℕ
+    → Option (List ℕ) → Result Env Stop
 at_path enter known line field None = Err (bad (fault_at 101 line field))
-at_path enter known line field (Some path) = found_at (enter path) line path (located known (places line.at.path path))
+at_path enter known line field (Some path) =
+    found_at (enter path) line path (located known (places line.at.path path))
 
-abbrev pub included_by : (List ℕ → List ℕ → List ℕ → Result Env Stop) → Source → Line → List ℕ → Result Env Stop
-included_by enter known line field = at_path enter known line field (path_field (without_workspace field))
+abbrev pub included_by : (List ℕ → List ℕ → List ℕ → Result Env Stop) → Source → Line → List ℕ
+    → Result Env Stop
+included_by enter known line field =
+    at_path enter known line field (path_field (without_workspace field))
 
 abbrev pub is_open : List ℕ → Env → Bool
 is_open path e = list_any (same_text path) e.open_files
 
--- what a file comes to that an include of this path finds: too many are open, or what `file` says of its lines
-abbrev pub entered_by : Option (List Line → Env → Result Env Stop) → Line → List ℕ → List ℕ → List ℕ → Env → Result Env Stop
+-- what a file comes to that an include of this path finds: too many are open, or what `file` says
+-- of its lines
+abbrev pub entered_by : Option (List Line → Env → Result Env Stop) → Line → List ℕ → List ℕ → List ℕ
+    → Env → Result Env Stop
 entered_by None line path p bytes e = Err (bad (fault_at 122 line path))
-entered_by (Some file) line path p bytes e = if is_open p e then Err (bad (fault_at 123 line path)) else opened file p bytes e
+entered_by (Some file) line path p bytes e =
+    if is_open p e then Err (bad (fault_at 123 line path)) else opened file p bytes e
 
 -- what an include comes to, where so many files more may be open
 unfoldable pub included : Source → List Macro → ℕ → Line → Env → Result Env Stop
-included known fixed zero line e = included_by (λ path p bytes. entered_by None line path p bytes e) known line (include_field fixed line e)
+included known fixed zero line e =
+    included_by (λ path p bytes. entered_by None line path p bytes e) known line
+    (include_field fixed line e)
 included known fixed (suc n) line e =
-    included_by (λ path p bytes. entered_by (Some (λ lines x. file_of (acts fixed (included known fixed n)) lines x)) line path p bytes e)
+    included_by (λ path p bytes.
+    entered_by (Some (λ lines x. file_of (acts fixed (included known fixed n)) lines x)) line
+    path p bytes e)
     known line (include_field fixed line e)
 
 -- and what the file comes to that it finds
-unfoldable pub entered : Source → List Macro → ℕ → Line → List ℕ → List ℕ → List ℕ → Env → Result Env Stop
+unfoldable pub entered : Source → List Macro → ℕ → Line → List ℕ → List ℕ → List ℕ → Env
+    → Result Env Stop
 entered known fixed zero line path p bytes e = entered_by None line path p bytes e
-entered known fixed (suc n) line path p bytes e = entered_by (Some (λ lines x. file_of (acts fixed (included known fixed n)) lines x)) line path p bytes e
+entered known fixed (suc n) line path p bytes e =
+    entered_by (Some (λ lines x. file_of (acts fixed (included known fixed n)) lines x)) line path p
+    bytes e
 
 abbrev pub begun : List Macro → Env
 begun macros = record { rows = []; macros = table_of macros; open_files = [] }
@@ -211,9 +245,11 @@ abbrev pub rooted : Source → List Macro → List ℕ → Env → Option Got �
 rooted known fixed root e None = Err (need root)
 rooted known fixed root e (Some Absent) = Err (bad (fault_of 103 (place_of root 0) root))
 rooted known fixed root e (Some TooLong) = Err (too_long root)
-rooted known fixed root e (Some (File bytes)) = opened (λ lines x. file_of (acts fixed (included known fixed 31)) lines x) root bytes e
+rooted known fixed root e (Some (File bytes)) =
+    opened (λ lines x. file_of (acts fixed (included known fixed 31)) lines x) root bytes e
 
--- What a document comes to: its lines, its first fault, or the first path that is wanted and of which nothing
--- is known. At most 32 files are open, the root counted.
+-- What a document comes to: its lines, its first fault, or the first path that is wanted and of
+-- which nothing is known. At most 32 files are open, the root counted.
 unfoldable pub expansion : Source → List ℕ → List Macro → List Macro → Result Lines Stop
-expansion known root macros fixed = rooted known fixed root (begun macros) (known root) >>= (λ e. document root e)
+expansion known root macros fixed = rooted known fixed root (begun macros) (known root)
+    >>= (λ e. document root e)

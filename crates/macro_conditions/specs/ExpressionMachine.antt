@@ -39,7 +39,8 @@ abbrev pub reduce : ℕ → List Wait → Outcome → Held
 reduce n [] v = record { waits = []; operand = v }
 reduce n (group ∷ ws) v = record { waits = group ∷ ws; operand = v }
 reduce n (front op ∷ ws) v = record { waits = front op ∷ ws; operand = v }
-reduce n (left u op ∷ ws) v = if nat_le n (level op) then reduce n ws (apply op u v) else record { waits = left u op ∷ ws; operand = v }
+reduce n (left u op ∷ ws) v = if nat_le n (level op) then reduce n ws (apply op u v)
+    else record { waits = left u op ∷ ws; operand = v }
 
 abbrev pub holding : Held → State
 holding h = record { waits = h.waits; operand = Some h.operand }
@@ -66,7 +67,8 @@ step_wanting ws unknown = None
 
 abbrev pub step_holding : List Wait → Outcome → Symbol → Option State
 step_holding ws v (value u) = None
-step_holding ws v (binary op) = let h = reduce (level op) ws v in Some (wanting (left h.operand op ∷ h.waits))
+step_holding ws v (binary op) = let h = reduce (level op) ws v
+    in Some (wanting (left h.operand op ∷ h.waits))
 step_holding ws v (prefix op) = None
 step_holding ws v open_mark = None
 step_holding ws v unknown = None

@@ -28,8 +28,8 @@ spelling (prefixed op t) = prefix op ∷ spelling t
 spelling (joined l op r) = spelling l ++ binary op ∷ spelling r
 spelling (grouped t) = open_mark ∷ spelling t ++ close_mark ∷ []
 
--- The tree may stand where an operator of the level n or above it is wanted. The left operand may have
--- its operator's own level, the right one is above it: so operators group from the left.
+-- The tree may stand where an operator of the level n or above it is wanted. The left operand may
+-- have its operator's own level, the right one is above it: so operators group from the left.
 abbrev pub Binds : ℕ → Tree → Type 0
 Binds n (leaf v) = Unit {0}
 Binds n (prefixed op t) = Binds 10 t

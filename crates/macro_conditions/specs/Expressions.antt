@@ -93,7 +93,8 @@ mark_twice a =
 unfoldable pub mark_symbol : List ℕ → Symbol
 mark_symbol m =
     if length m == 2
-    then (if slice_index m 1 == 61 then mark_before_equals (slice_index m 0) else mark_twice (slice_index m 0))
+    then (if slice_index m 1 == 61 then mark_before_equals (slice_index m 0)
+    else mark_twice (slice_index m 0))
     else one_mark (slice_index m 0)
 
 unfoldable pub symbol_of : TokenKind → List ℕ → Symbol
@@ -137,8 +138,8 @@ faulted at text (Err code) = Err (fault_of code at (detail_of code text))
 unfoldable pub evaluation : Place → List ℕ → List Macro → Result Value Fault
 evaluation at text ms = faulted at text (value_of_text (replaced Zero ms text))
 
--- The value is that of a tree of the expression. 111 stands for an open quote, 124 where no tree has a
--- value, and any other code where a tree comes to that fault first.
+-- The value is that of a tree of the expression. 111 stands for an open quote, 124 where no tree
+-- has a value, and any other code where a tree comes to that fault first.
 abbrev pub IsValueOf : List ℕ → Result Value ℕ → Type 0
 IsValueOf text (Ok (Number n)) = (ends_quoted text ≡ false) × HasValue (symbols_of text) (number n)
 IsValueOf text (Ok (Word w)) = (ends_quoted text ≡ false) × HasValue (symbols_of text) (word w)

@@ -33,7 +33,9 @@ module _ {E F : Type 0} (a : Acts E F) where
     taken nothing e = Ok e
     taken (plain l t) e = a.act l e >>= (λ x. taken t x)
     taken (stray l t) e = Err (a.unbalanced l)
-    taken (choice l body bs t) e = (a.test l e >>= (λ b. if b then (taken body e >>= (λ x. passed bs x)) else (skipped body e >>= (λ x. chosen bs x)))) >>= (λ x. taken t x)
+    taken (choice l body bs t) e =
+        (a.test l e >>= (λ b. if b then (taken body e >>= (λ x. passed bs x))
+        else (skipped body e >>= (λ x. chosen bs x)))) >>= (λ x. taken t x)
 
     -- the items of a branch that isn't taken
     pub skipped : Items → E → Result E F
@@ -52,7 +54,9 @@ module _ {E F : Type 0} (a : Acts E F) where
     pub chosen : Branches → E → Result E F
     chosen unclosed e = Ok e
     chosen (closed l) e = Ok e
-    chosen (further l body bs) e = a.test l e >>= (λ b. if b then (taken body e >>= (λ x. passed bs x)) else (skipped body e >>= (λ x. chosen bs x)))
+    chosen (further l body bs) e = a.test l e
+        >>= (λ b. if b then (taken body e >>= (λ x. passed bs x))
+        else (skipped body e >>= (λ x. chosen bs x)))
 
   abbrev pub at_end : Option Line → E → Result E F
   at_end None e = Ok e

@@ -57,15 +57,22 @@ module _ {E F : Type 0} (a : Acts E F) where
   turned last [] e l = Err (a.unbalanced l)
   turned last (f ∷ fs) e l =
       if f.last then Err (a.unbalanced l)
-      else next_mode f.mode l e >>= (λ m. Ok (record { frames = record { opener = f.opener; mode = m; last = last } ∷ fs; found = e }))
+      else next_mode f.mode l e
+      >>=
+      (λ m.
+      Ok
+      (record { frames = record { opener = f.opener; mode = m; last = last } ∷ fs; found = e }))
 
   abbrev pub shut : List Frame → E → Line → Result (State E) F
   shut [] e l = Err (a.unbalanced l)
   shut (f ∷ fs) e l = Ok (record { frames = fs; found = e })
 
   abbrev pub step_by : Kind → List Frame → E → Line → Result (State E) F
-  step_by Act fs e l = if active fs then (a.act l e >>= (λ x. Ok (record { frames = fs; found = x }))) else Ok (record { frames = fs; found = e })
-  step_by If fs e l = open_frame fs l e >>= (λ m. Ok (record { frames = frame l m ∷ fs; found = e }))
+  step_by Act fs e l = if active fs
+      then (a.act l e >>= (λ x. Ok (record { frames = fs; found = x })))
+      else Ok (record { frames = fs; found = e })
+  step_by If fs e l = open_frame fs l e
+      >>= (λ m. Ok (record { frames = frame l m ∷ fs; found = e }))
   step_by Elseif fs e l = turned false fs e l
   step_by Else fs e l = turned true fs e l
   step_by Endif fs e l = shut fs e l

@@ -57,7 +57,8 @@ whole t = record { body = t; branches = unclosed; rest = ended nothing }
 
 abbrev pub ended_by : Kind → Items → Line → Cut → Gathered → Gathered
 ended_by Endif t k r g = record { body = t; branches = closed k; rest = r }
-ended_by _ t k r g = record { body = append t (stray k g.body); branches = g.branches; rest = g.rest }
+ended_by _ t k r g =
+    record { body = append t (stray k g.body); branches = g.branches; rest = g.rest }
 
 -- the branch of an `!else`: another `!elseif` or `!else` is stray in it
 abbrev pub gather_last : Cut → Gathered

@@ -20,13 +20,15 @@ used_name xs = take (word_size (drop 2 xs)) (drop 2 xs)
 unfoldable pub use_at : List ℕ → Option ℕ
 use_at xs =
     let n = word_size (drop 2 xs) in
-    if (slice_index xs 0 == 36) && (slice_index xs 1 == 40) && nat_lt (n + 2) (length xs) && (slice_index xs (n + 2) == 41) && is_identifier (used_name xs)
+    if (slice_index xs 0 == 36) && (slice_index xs 1 == 40) && nat_lt (n + 2) (length xs)
+    && (slice_index xs (n + 2) == 41) && is_identifier (used_name xs)
     then Some n else None
 
 -- the value of the last macro of the name
 unfoldable pub value_from : Option (List ℕ) → List ℕ → List Macro → Option (List ℕ)
 value_from found name [] = found
-value_from found name (m ∷ ms) = value_from (if same_text m.name name then Some m.value else found) name ms
+value_from found name (m ∷ ms) =
+    value_from (if same_text m.name name then Some m.value else found) name ms
 
 abbrev pub value_of : List ℕ → List Macro → Option (List ℕ)
 value_of name ms = value_from None name ms
@@ -48,11 +50,14 @@ abbrev pub used : Undefined → List Macro → Option ℕ → List ℕ → ℕ �
 used u ms None xs b plain after = b ∷ plain
 used u ms (Some n) xs b plain after = meaning u ms n xs ++ after n
 
--- the text with its macros replaced once from left to right, but for its first k bytes, which have been
+-- the text with its macros replaced once from left to right, but for its first k bytes, which have
+-- been
 unfoldable pub replaced_after : Undefined → List Macro → ℕ → List ℕ → List ℕ
 replaced_after u ms k [] = []
 replaced_after u ms (suc k) (b ∷ bs) = replaced_after u ms k bs
-replaced_after u ms zero (b ∷ bs) = used u ms (use_at (b ∷ bs)) (b ∷ bs) b (replaced_after u ms 0 bs) (λ n. replaced_after u ms (n + 2) bs)
+replaced_after u ms zero (b ∷ bs) =
+    used u ms (use_at (b ∷ bs)) (b ∷ bs) b (replaced_after u ms 0 bs)
+    (λ n. replaced_after u ms (n + 2) bs)
 
 abbrev pub replaced : Undefined → List Macro → List ℕ → List ℕ
 replaced u ms xs = replaced_after u ms 0 xs

@@ -1,4 +1,5 @@
--- Where the files of an expansion come from: what is known of a path, and the paths that an include names.
+-- Where the files of an expansion come from: what is known of a path, and the paths that an include
+-- names.
 use Rattle.std.specs.Prelude.{ℕ, ◌+◌, Bool, ◌&&◌, nat_le, if◌then◌else◌, List, [], ◌∷◌, ◌++◌, length, take, drop, codes, Option, Some, None}
 use Rattle.build_base.specs.declared.outside.Got.{Got}
 use Rattle.build_base.specs.declared.outside.Got.TheVariants.{File, Absent, TooLong}
@@ -16,7 +17,8 @@ answer [] path = None
 answer (known ∷ more) path = if same_text known.path path then Some known.got else answer more path
 
 abbrev pub begins_at_workspace : List ℕ → Bool
-begins_at_workspace field = nat_le 13 (length field) && same_text (take 13 field) (codes "$(WORKSPACE)/")
+begins_at_workspace field = nat_le 13 (length field)
+    && same_text (take 13 field) (codes "$(WORKSPACE)/")
 
 -- a path field that begins with `$(WORKSPACE)/` loses that front
 unfoldable pub without_workspace : List ℕ → List ℕ
@@ -25,9 +27,11 @@ without_workspace field = if begins_at_workspace field then drop 13 field else f
 -- the file of this path in the folder, where the joined path has at most 2,048 bytes
 abbrev pub in_folder : Option (List ℕ) → List ℕ → List (List ℕ)
 in_folder None path = []
-in_folder (Some folder) path = if nat_le (length folder + 1 + length path) 2048 then (folder ++ 47 ∷ path) ∷ [] else []
+in_folder (Some folder) path = if nat_le (length folder + 1 + length path) 2048
+    then (folder ++ 47 ∷ path) ∷ [] else []
 
--- the places of an included file: the workspace's root, and then the folder of the file that includes it
+-- the places of an included file: the workspace's root, and then the folder of the file that
+-- includes it
 unfoldable pub places : List ℕ → List ℕ → List (List ℕ)
 places from path = path ∷ in_folder (folder_of from) path
 

@@ -8,8 +8,8 @@ use Rattle.macro_conditions.specs.declared.operator.PrefixOperator.TheVariants a
 use Rattle.macro_conditions.specs.declared.operand.Operand.{Operand}
 use Rattle.macro_conditions.specs.declared.operand.Operand.TheVariants as operand
 
--- A text, a number, the fault 125 or 126 that comes first in the expression, or nothing, where a text
--- stands in the place of a number.
+-- A text, a number, the fault 125 or 126 that comes first in the expression, or nothing, where a
+-- text stands in the place of a number.
 pub data Outcome : Type 0 where
   word : List ℕ → Outcome
   number : ℕ → Outcome
@@ -86,7 +86,8 @@ is_ill _ = false
 
 -- no text stands in the place of a number
 abbrev pub kinds_fit : BinaryOperator → Outcome → Outcome → Bool
-kinds_fit op l r = if takes_texts op then not (is_ill l) && not (is_ill r) else is_number l && is_number r
+kinds_fit op l r = if takes_texts op then not (is_ill l) && not (is_ill r)
+    else is_number l && is_number r
 
 -- the fault of the left operand comes first, then that of the right one, then the operator's own
 abbrev pub joined : BinaryOperator → Outcome → Outcome → Outcome

@@ -27,7 +27,8 @@ located_view (located.OverLimit path) = over_limit path
 located_view (located.There path bytes) = there path bytes.now
 
 abbrev pub source_view : SourceLine → Line
-source_view line = record { at = record { path = line.path.now; line = line.number }; text = line.text.now }
+source_view line =
+    record { at = record { path = line.path.now; line = line.number }; text = line.text.now }
 
 abbrev pub mode_view : code_mode.Mode → Mode
 mode_view modes.Taking = taking
@@ -49,7 +50,13 @@ state_of fs w = record { frames = frames_of fs.items; found = env_of w }
 
 -- the innermost file is open no more
 abbrev pub left_last : Env → Env
-left_last e = record { rows = e.rows; macros = e.macros; open_files = take (length e.open_files - 1) e.open_files }
+left_last e =
+    record {
+      rows = e.rows;
+      macros = e.macros;
+      open_files =
+          take (length e.open_files - 1) e.open_files;
+    }
 
 -- includes that do nothing, where it doesn't matter what they do
 abbrev pub idle : Line → Env → Result Env Stop
@@ -73,6 +80,7 @@ Agrees view (Err e) outcome = Halts e (stop_in outcome)
 -- What the public call answers is this outcome, unless memory was wanting.
 abbrev pub Expands : Result Turned Refusal → Result Lines Stop → Type 0
 Expands (Ok (turned.Whole lines)) outcome = outcome ≡ Ok lines
-Expands (Ok (turned.Need paths)) outcome = (path : List ℕ) × (paths ≡ path ∷ []) × (outcome ≡ Err (need path))
+Expands (Ok (turned.Need paths)) outcome = (path : List ℕ) × (paths ≡ path ∷ [])
+    × (outcome ≡ Err (need path))
 Expands (Err (refusals.Bad fault)) outcome = outcome ≡ Err (bad fault)
 Expands (Err refusals.WantOfMemory) outcome = Unit {0}

@@ -1,5 +1,5 @@
 -- What an expansion says of the worlds that agree with what is known.
-use Rattle.std.specs.Prelude.{◌≡◌, ℕ, List, Some, Result, Ok, Err}
+use Rattle.std.specs.Prelude.{◌≡◌, ℕ, List, Some, None, Result, Ok, Err}
 use Rattle.build_base.specs.declared.lines.Lines.{Lines}
 use Rattle.build_base.specs.declared.outside.Got.{Got}
 use Rattle.build_base.specs.declared.refusal.Refusal.{Refusal}
@@ -13,11 +13,12 @@ use Rattle.macro_conditions.specs.Expansion.{Stop, bad, need}
 abbrev pub MoreAnswers : Source → Source → Type 0
 MoreAnswers less more = (path : List ℕ) (got : Got) → less path ≡ Some got → more path ≡ Some got
 
--- what is found without a need is found again
-abbrev pub Stays : {A : Type 0} → Result A Stop → Result A Stop → Type 0
-Stays (Ok x) outcome = outcome ≡ Ok x
-Stays (Err (bad fault)) outcome = outcome ≡ Err (bad fault)
-Stays (Err (need path)) outcome = Unit {0}
+-- what is found without a need is found again, and a need stays where nothing more is known of its
+-- path
+abbrev pub Stays : {A : Type 0} → Source → Result A Stop → Result A Stop → Type 0
+Stays more (Ok x) outcome = outcome ≡ Ok x
+Stays more (Err (bad fault)) outcome = outcome ≡ Err (bad fault)
+Stays more (Err (need path)) outcome = more path ≡ None → outcome ≡ Err (need path)
 
 -- a world tells what is got of every path
 abbrev pub told : (List ℕ → Got) → Source

@@ -33,7 +33,8 @@ fn mode_of_test(
     work: &Work,
     line: SourceLine<'_>,
 ) -> Result<Mode, Stopped>
-    ensures { Agrees mode_view result (open_frame (acts fixed.now idle) [] (source_view line.entry) (env_of work.now)) }
+    ensures { Agrees mode_view result
+        (open_frame (acts fixed.now idle) [] (source_view line.entry) (env_of work.now)) }
 {
     match test(alloc, fixed, work, line) {
         Ok(holds) => Ok(mode_by(holds)),
@@ -48,7 +49,9 @@ fn opened(
     frames: &Vec<Frame<'_>>,
     line: SourceLine<'_>,
 ) -> Result<Mode, Stopped>
-    ensures { Agrees mode_view result (open_frame (acts fixed.now idle) (frames_of frames.now.items) (source_view line.entry) (env_of work.now)) }
+    ensures { Agrees mode_view result
+        (open_frame (acts fixed.now idle) (frames_of frames.now.items) (source_view line.entry)
+        (env_of work.now)) }
 {
     if active(frames) {
         mode_of_test(alloc, fixed, work, line)
@@ -64,7 +67,9 @@ fn turned(
     mode: Mode,
     line: SourceLine<'_>,
 ) -> Result<Mode, Stopped>
-    ensures { Agrees mode_view result (next_mode (acts fixed.now idle) (mode_view mode) (source_view line.entry) (env_of work.now)) }
+    ensures { Agrees mode_view result
+        (next_mode (acts fixed.now idle) (mode_view mode) (source_view line.entry)
+        (env_of work.now)) }
 {
     match mode {
         Mode::Taking | Mode::Passing => Ok(Mode::Passing),
@@ -96,7 +101,9 @@ pub(crate) fn open<'a>(
     frames: &mut Vec<Frame<'a>>,
     line: SourceLine<'a>,
 ) -> Result<(), Stopped>
-    ensures { Agrees (λ u. state_of frames.new work.now) result (step_by (acts fixed.now idle) If (frames_of frames.old.items) (env_of work.now) (source_view line.entry)) }
+    ensures { Agrees (λ u. state_of frames.new work.now) result
+        (step_by (acts fixed.now idle) If (frames_of frames.old.items) (env_of work.now)
+        (source_view line.entry)) }
 {
     match opened(alloc, fixed, work, frames, line) {
         Ok(mode) => {
@@ -120,7 +127,9 @@ pub(crate) fn turn<'a>(
     last: bool,
     line: SourceLine<'a>,
 ) -> Result<(), Stopped>
-    ensures { Agrees (λ u. state_of frames.new work.now) result (turned (acts fixed.now idle) last (frames_of frames.old.items) (env_of work.now) (source_view line.entry)) }
+    ensures { Agrees (λ u. state_of frames.new work.now) result
+        (turned (acts fixed.now idle) last (frames_of frames.old.items) (env_of work.now)
+        (source_view line.entry)) }
 {
     let Some(frame) = frames.pop() else {
         return Err(stray(alloc, line));
@@ -149,7 +158,9 @@ pub(crate) fn close<'a>(
     frames: &mut Vec<Frame<'a>>,
     line: SourceLine<'a>,
 ) -> Result<(), Stopped>
-    ensures { Agrees (λ u. state_of frames.new work.now) result (shut (acts fixed.now idle) (frames_of frames.old.items) (env_of work.now) (source_view line.entry)) }
+    ensures { Agrees (λ u. state_of frames.new work.now) result
+        (shut (acts fixed.now idle) (frames_of frames.old.items) (env_of work.now)
+        (source_view line.entry)) }
 {
     match frames.pop() {
         Some(_) => Ok(()),
@@ -159,7 +170,8 @@ pub(crate) fn close<'a>(
 
 /// The end of a file, where no conditional may be open.
 pub(crate) fn end(alloc: Global, fixed: &[Macro], frames: &Vec<Frame<'_>>) -> Result<(), Stopped>
-    ensures { (e : Env) → Agrees (λ u. e) result (at_end (acts fixed.now idle) (outermost (frames_of frames.now.items) None) e) }
+    ensures { (e : Env) → Agrees (λ u. e) result
+        (at_end (acts fixed.now idle) (outermost (frames_of frames.now.items) None) e) }
 {
     match frames.first() {
         None => Ok(()),

@@ -137,7 +137,11 @@ fn one_line<'a>(
     frames: &mut Vec<Frame<'a>>,
     line: SourceLine<'a>,
 ) -> Result<(), Stopped>
-    ensures step { Agrees (λ u. state_of frames.new work.new) result (step (acts given.entry.fixed.now (included (answer given.entry.known.now) given.entry.fixed.now levels)) (state_of frames.old work.old) (source_view line.entry)) }
+    ensures step { Agrees (λ u. state_of frames.new work.new) result
+        (step
+        (acts given.entry.fixed.now
+        (included (answer given.entry.known.now) given.entry.fixed.now levels))
+        (state_of frames.old work.old) (source_view line.entry)) }
     ensures open_files { OnOk result (work.new.open_files.items ≡ work.old.open_files.items) }
 {
     match kind_of(line.text) {
@@ -168,7 +172,11 @@ fn all_lines(
     path: &Path,
     lines: &[Line<'_>],
 ) -> Result<(), Stopped>
-    ensures whole { Agrees (λ u. env_of work.new) result (file_of (acts given.entry.fixed.now (included (answer given.entry.known.now) given.entry.fixed.now levels)) (map (line_at path.now) (map line_view lines.now)) (env_of work.old)) }
+    ensures whole { Agrees (λ u. env_of work.new) result
+        (file_of
+        (acts given.entry.fixed.now
+        (included (answer given.entry.known.now) given.entry.fixed.now levels))
+        (map (line_at path.now) (map line_view lines.now)) (env_of work.old)) }
     ensures open_files { OnOk result (work.new.open_files.items ≡ work.old.open_files.items) }
 {
     let mut frames = Vec::new(alloc);
@@ -198,7 +206,13 @@ fn open_file(
     path: &Path,
     bytes: &[u8],
 ) -> Result<(), Stopped>
-    ensures whole { Agrees (λ u. env_of work.new) result (opened (λ lines x. file_of (acts given.entry.fixed.now (included (answer given.entry.known.now) given.entry.fixed.now levels)) lines x) path.now bytes.now (env_of work.old)) }
+    ensures whole { Agrees (λ u. env_of work.new) result
+        (opened
+        (λ lines x.
+        file_of
+        (acts given.entry.fixed.now
+        (included (answer given.entry.known.now) given.entry.fixed.now levels)) lines x) path.now
+        bytes.now (env_of work.old)) }
     ensures open_files { OnOk result (work.new.open_files.items ≡ work.old.open_files.items) }
 {
     match lines_read(alloc, path, bytes) {
@@ -239,7 +253,9 @@ fn include(
     levels: u32,
     line: SourceLine<'_>,
 ) -> Result<(), Stopped>
-    ensures whole { Agrees (λ u. env_of work.new) result (included (answer given.entry.known.now) given.entry.fixed.now levels (source_view line.entry) (env_of work.old)) }
+    ensures whole { Agrees (λ u. env_of work.new) result
+        (included (answer given.entry.known.now) given.entry.fixed.now levels
+        (source_view line.entry) (env_of work.old)) }
     ensures open_files { OnOk result (work.new.open_files.items ≡ work.old.open_files.items) }
 {
     let field = replace(
@@ -274,7 +290,9 @@ fn open_included(
     place: &Path,
     bytes: &[u8],
 ) -> Result<(), Stopped>
-    ensures whole { Agrees (λ u. env_of work.new) result (entered (answer given.entry.known.now) given.entry.fixed.now levels (source_view line.entry) path.now place.now bytes.now (env_of work.old)) }
+    ensures whole { Agrees (λ u. env_of work.new) result
+        (entered (answer given.entry.known.now) given.entry.fixed.now levels
+        (source_view line.entry) path.now place.now bytes.now (env_of work.old)) }
     ensures open_files { OnOk result (work.new.open_files.items ≡ work.old.open_files.items) }
 {
     if levels == 0 {
@@ -288,7 +306,9 @@ fn open_included(
 
 // The root of a document.
 fn read_root(alloc: Global, given: Given<'_>, work: &mut Work, root: &Path) -> Result<(), Stopped>
-    ensures { Agrees (λ u. env_of work.new) result (rooted (answer given.entry.known.now) given.entry.fixed.now root.now (env_of work.old) (answer given.entry.known.now root.now)) }
+    ensures { Agrees (λ u. env_of work.new) result
+        (rooted (answer given.entry.known.now) given.entry.fixed.now root.now (env_of work.old)
+        (answer given.entry.known.now root.now)) }
 {
     match answer(given.known, root) {
         None => Err(Stopped::Need(root.copy(alloc)?)),
@@ -313,7 +333,8 @@ fn whole(alloc: Global, root: &Path, work: Work) -> Result<Turned, Refusal>
 
 #[tactic(auto, using(crate::proofs::FileTurns::stops))]
 fn make_turned(alloc: Global, stopped: Stopped) -> Result<Turned, Refusal>
-    ensures { (outcome : Result Document Stop) → Halts stopped (stop_in outcome) → Expands result outcome }
+    ensures { (outcome : Result Document Stop) → Halts stopped (stop_in outcome)
+        → Expands result outcome }
 {
     match stopped {
         Stopped::Bad(fault) => Err(Refusal::Bad(fault)),
@@ -333,7 +354,8 @@ fn carry_out(
     root: &Path,
     macros: &[Macro],
 ) -> Result<Turned, Refusal>
-    ensures { Expands result (expansion (answer given.entry.known.now) root.now macros.now given.entry.fixed.now) }
+    ensures { Expands result
+        (expansion (answer given.entry.known.now) root.now macros.now given.entry.fixed.now) }
 {
     let mut work = Work {
         rows: Rows::new(alloc),
@@ -346,9 +368,9 @@ fn carry_out(
     }
 }
 
-/// The lines that a document comes to, from what is known of its files: its conditionals and includes are
-/// carried out, and its macros replaced. `macros` are those that it starts with, and `fixed` hold above
-/// every definition of a file.
+/// The lines that a document comes to, from what is known of its files: its conditionals and
+/// includes are carried out, and its macros replaced. `macros` are those that it starts with, and
+/// `fixed` hold above every definition of a file.
 pub fn expand(
     alloc: Global,
     root: &Path,
@@ -357,7 +379,8 @@ pub fn expand(
     files: &Rows<Known>,
 ) -> Result<Turned, Refusal>
     ensures outcome { Expands result (expansion (answer files.now) root.now macros.now fixed.now) }
-    ensures worlds { (world : List ℕ → Gotten) → AgreesWith world (answer files.now) → HoldsIn result (expansion (told world) root.now macros.now fixed.now) }
+    ensures worlds { (world : List ℕ → Gotten) → AgreesWith world (answer files.now)
+        → HoldsIn result (expansion (told world) root.now macros.now fixed.now) }
 {
     let given = Given {
         known: files.items(),

@@ -229,7 +229,8 @@ pub fn refuse_expression(alloc: Global, code: u16, at: &Place, text: &[u8]) -> R
     refuse(alloc, code, at, detail(code, text))
 }
 
-/// What an expression at a place comes to. Macros are replaced first, and one that isn't defined is 0.
+/// What an expression at a place comes to. Macros are replaced first, and one that isn't defined is
+/// 0.
 #[tactic(auto, unfolding(crate::specs::Expressions::evaluation))]
 pub fn evaluate(
     alloc: Global,

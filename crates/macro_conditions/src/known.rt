@@ -73,7 +73,8 @@ fn locate_in_folder<'a>(
     from: &Path,
     path: &Path,
 ) -> Result<Located<'a>, WantOfMemory>
-    ensures { IfOk result (λ l. located_view l ≡ located (answer known.now) (in_folder (folder_of from.now) path.now)) }
+    ensures { IfOk result (λ l. located_view l
+        ≡ located (answer known.now) (in_folder (folder_of from.now) path.now)) }
 {
     match from.folder(alloc)? {
         None => Ok(Located::Missing),
@@ -86,7 +87,8 @@ fn locate_in_folder<'a>(
     }
 }
 
-// What is known of a file that another one includes: at the workspace's root, then in that one's folder.
+// What is known of a file that another one includes: at the workspace's root, then in that one's
+// folder.
 #[tactic(auto, unfolding(crate::specs::Sources::places))]
 pub(crate) fn locate<'a>(
     alloc: Global,
@@ -94,7 +96,8 @@ pub(crate) fn locate<'a>(
     from: &Path,
     path: &Path,
 ) -> Result<Located<'a>, WantOfMemory>
-    ensures { IfOk result (λ l. located_view l ≡ located (answer known.now) (places from.now path.now)) }
+    ensures { IfOk result (λ l. located_view l
+        ≡ located (answer known.now) (places from.now path.now)) }
 {
     match locate_at(known, path.copy(alloc)?) {
         Located::Missing => locate_in_folder(alloc, known, from, path),

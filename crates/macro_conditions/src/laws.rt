@@ -15,18 +15,23 @@ pub fn tree_is_whole()
     ensures { (lines : List Line) → written (tree_of lines) ≡ lines }
 {}
 
-/// What the text of an expression comes to, after `!if` and in a numeric field, is the value of its tree, or the
-/// fault that the tree has.
+/// What the text of an expression comes to, after `!if` and in a numeric field, is the value of its
+/// tree, or the fault that the tree has.
 pub fn values_are_of_trees()
     ensures { (text : List ℕ) → IsValueOf text (value_of_text text) }
 {}
 
 /// The answer to the path that is wanted makes less left.
 pub fn answers_make_less_left()
-    ensures { (limit : ℕ) (root : List ℕ) (macros fixed : List Macro) (files : List Known) (path : List ℕ) (got : Got) → AreWithin limit files → expansion (answer files) root macros fixed ≡ Err (need path) → left limit root macros fixed (with_answer files path got) < left limit root macros fixed files }
+    ensures { (limit : ℕ) (root : List ℕ) (macros fixed : List Macro) (files : List Known)
+        (path : List ℕ) (got : Got) → AreWithin limit files
+        → expansion (answer files) root macros fixed ≡ Err (need path)
+        → left limit root macros fixed (with_answer files path got)
+        < left limit root macros fixed files }
 {}
 
 /// A path that is wanted has no answer, so that in a world, which tells all, none is wanted.
 pub fn wanted_paths_are_unknown()
-    ensures { (known : Source) (root : List ℕ) (macros fixed : List Macro) (path : List ℕ) → expansion known root macros fixed ≡ Err (need path) → known path ≡ None }
+    ensures { (known : Source) (root : List ℕ) (macros fixed : List Macro) (path : List ℕ)
+        → expansion known root macros fixed ≡ Err (need path) → known path ≡ None }
 {}

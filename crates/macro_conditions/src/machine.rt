@@ -80,7 +80,8 @@ impl<'a> Machine<'a> {
     fn deepen(&mut self, wait: Waiting<'a>) -> Result<bool, AllocError>
         requires opens { depth_of (wait_view wait ∷ []) ≡ 1 }
         requires wanting { self.old.held ≡ None }
-        ensures { IfOk result (λ goes. deeper (wait_view wait.entry) (waits_of self.old.waits.items) ≡ (if goes then Some (state_of self.new) else None)) }
+        ensures { IfOk result (λ goes. deeper (wait_view wait.entry) (waits_of self.old.waits.items)
+            ≡ (if goes then Some (state_of self.new) else None)) }
     {
         if self.depth >= 64 {
             return Ok(false);
@@ -92,7 +93,8 @@ impl<'a> Machine<'a> {
 
     /// Prefix operators take their operand, and what they make is held.
     fn settle(&mut self, operand: Operand<'a>)
-        ensures { state_of self.new ≡ holding (settle (waits_of self.old.waits.items) (view operand.entry)) }
+        ensures { state_of self.new ≡ holding
+            (settle (waits_of self.old.waits.items) (view operand.entry)) }
     {
         let mut value = operand;
         while let Some(op) = front_of(&self.waits) {
@@ -105,8 +107,10 @@ impl<'a> Machine<'a> {
 
     /// Operators of the level or above it take their right operand.
     fn reduce(&mut self, level: u8, operand: Operand<'a>) -> Operand<'a>
-        ensures waits { waits_of self.new.waits.items ≡ (reduce level (waits_of self.old.waits.items) (view operand.entry)).waits }
-        ensures value { view result ≡ (reduce level (waits_of self.old.waits.items) (view operand.entry)).operand }
+        ensures waits { waits_of self.new.waits.items
+            ≡ (reduce level (waits_of self.old.waits.items) (view operand.entry)).waits }
+        ensures value { view result
+            ≡ (reduce level (waits_of self.old.waits.items) (view operand.entry)).operand }
     {
         let mut value = operand;
         while let Some((left, op)) = left_of(level, &self.waits) {
@@ -118,7 +122,8 @@ impl<'a> Machine<'a> {
 
     /// The parenthesis that is open closes.
     fn close(&mut self, operand: Operand<'a>) -> bool
-        ensures { closed (waits_of self.old.waits.items) (view operand.entry) ≡ (if result then Some (state_of self.new) else None) }
+        ensures { closed (waits_of self.old.waits.items) (view operand.entry)
+            ≡ (if result then Some (state_of self.new) else None) }
     {
         match top(&self.waits) {
             Some(Waiting::Group) => {
@@ -133,7 +138,8 @@ impl<'a> Machine<'a> {
 
     /// Reads one more term, where it may follow.
     fn step(&mut self, term: Term<'a>) -> Result<bool, AllocError>
-        ensures { IfOk result (λ goes. step (state_of self.old) (term_view term.entry) ≡ (if goes then Some (state_of self.new) else None)) }
+        ensures { IfOk result (λ goes. step (state_of self.old) (term_view term.entry)
+            ≡ (if goes then Some (state_of self.new) else None)) }
     {
         match self.held {
             None => match term {
@@ -178,7 +184,8 @@ impl<'a> Machine<'a> {
 /// What the terms come to, if they are those of an expression.
 #[tactic(auto, using(crate::proofs::ExpressionTurns::run_stops, crate::proofs::ExpressionTurns::run_ends))]
 pub fn run<'a>(alloc: Global, terms: &[Term<'a>]) -> Result<Option<Operand<'a>>, AllocError>
-    ensures { IfOk result (λ r. option_map view r ≡ run (Some (wanting [])) (map term_view terms.now)) }
+    ensures { IfOk result (λ r. option_map view r
+        ≡ run (Some (wanting [])) (map term_view terms.now)) }
 {
     let mut machine = Machine::new(alloc);
     for term in terms {

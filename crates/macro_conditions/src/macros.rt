@@ -46,7 +46,8 @@ pub(crate) fn value_from<'a>(
     name: &[u8],
     macros: &'a [Macro],
 ) -> Option<&'a [u8]>
-    ensures { option_map (λ v. v.now) result ≡ value_from (option_map (λ v. v.now) found.entry) name.now macros.now }
+    ensures { option_map (λ v. v.now) result
+        ≡ value_from (option_map (λ v. v.now) found.entry) name.now macros.now }
 {
     let mut last = found;
     for m in macros {
@@ -86,7 +87,8 @@ fn write_use(
     rest: &[u8],
 ) -> Result<(), WantOfMemory>
     requires { n + 3 ≤ length rest.now }
-    ensures { OnOk result (out.new.items ≡ out.old.items ++ meaning undefined (scope_of scope.entry) n rest.now) }
+    ensures { OnOk result (out.new.items ≡ out.old.items
+        ++ meaning undefined (scope_of scope.entry) n rest.now) }
 {
     match scope.value_of(&rest[2..n + 2]) {
         Some(value) => push_bytes(out, value),
@@ -107,7 +109,9 @@ fn write_front(
     requires { 0 < length rest.now }
     ensures some { IfOk result (λ k. 0 < k) }
     ensures within { IfOk result (λ k. k ≤ length rest.now) }
-    ensures text { IfOk result (λ k. out.new.items ++ replaced undefined (scope_of scope.entry) (drop k rest.now) ≡ out.old.items ++ replaced undefined (scope_of scope.entry) rest.now) }
+    ensures text { IfOk result
+        (λ k. out.new.items ++ replaced undefined (scope_of scope.entry) (drop k rest.now)
+        ≡ out.old.items ++ replaced undefined (scope_of scope.entry) rest.now) }
 {
     match use_at(rest) {
         Some(n) => {

@@ -5,7 +5,8 @@ ghost use Rattle.macro_conditions.specs.Values.{view, number, faulty, apply, app
 
 use crate::operator::{BinaryOperator, PrefixOperator};
 
-/// A text, a number, the code of the fault that comes first, or that a text stands in the place of a number.
+/// A text, a number, the code of the fault that comes first, or that a text stands in the place of
+/// a number.
 #[derive(Clone, Copy, Debug)]
 pub enum Operand<'a> {
     Word(&'a [u8]),

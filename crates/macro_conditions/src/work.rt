@@ -167,7 +167,9 @@ fn holds(alloc: Global, line: SourceLine<'_>, value: Result<Value, u16>) -> Resu
 }
 
 fn names(alloc: Global, line: SourceLine<'_>, scope: Scope<'_>) -> Result<bool, Stopped>
-    ensures { Agrees (λ b. b) result (settled (names (source_view line.entry) (scope_of scope.entry) (macro_named (directive_rest line.entry.text.now)))) }
+    ensures { Agrees (λ b. b) result
+        (settled (names (source_view line.entry) (scope_of scope.entry)
+        (macro_named (directive_rest line.entry.text.now)))) }
 {
     match macro_named(directive_rest(line.text)) {
         Some(name) => Ok(scope.value_of(name).is_some()),
@@ -195,7 +197,8 @@ pub(crate) fn test(
     work: &Work,
     line: SourceLine<'_>,
 ) -> Result<bool, Stopped>
-    ensures { Agrees (λ b. b) result (settled (tested fixed.now (source_view line.entry) (env_of work.now))) }
+    ensures { Agrees (λ b. b) result
+        (settled (tested fixed.now (source_view line.entry) (env_of work.now))) }
 {
     let word = directive_word(line.text);
     if same_word(word, b"else".as_slice()) {
@@ -223,7 +226,9 @@ fn define(
     work: &mut Work,
     line: SourceLine<'_>,
 ) -> Result<(), Stopped>
-    ensures outcome { Agrees (λ u. env_of work.new) result (settled (defined fixed.now (source_view line.entry) (env_of work.old) (definition_of line.entry.text.now))) }
+    ensures outcome { Agrees (λ u. env_of work.new) result
+        (settled (defined fixed.now (source_view line.entry) (env_of work.old)
+        (definition_of line.entry.text.now))) }
     ensures open_files { OnOk result (work.new.open_files.items ≡ work.old.open_files.items) }
 {
     let Some((name, value)) = definition_of(line.text) else {
@@ -243,7 +248,8 @@ fn take(
     work: &mut Work,
     line: SourceLine<'_>,
 ) -> Result<(), Stopped>
-    ensures outcome { OnOk result (env_of work.new ≡ written fixed.now (source_view line.entry) (env_of work.old)) }
+    ensures outcome { OnOk result
+        (env_of work.new ≡ written fixed.now (source_view line.entry) (env_of work.old)) }
     ensures open_files { OnOk result (work.new.open_files.items ≡ work.old.open_files.items) }
     ensures cause { IfErr result (λ e. e ≡ Stopped.WantOfMemory) }
 {
@@ -262,7 +268,8 @@ pub(crate) fn act(
     work: &mut Work,
     line: SourceLine<'_>,
 ) -> Result<(), Stopped>
-    ensures outcome { Agrees (λ u. env_of work.new) result (settled (acted fixed.now (source_view line.entry) (env_of work.old))) }
+    ensures outcome { Agrees (λ u. env_of work.new) result
+        (settled (acted fixed.now (source_view line.entry) (env_of work.old))) }
     ensures open_files { OnOk result (work.new.open_files.items ≡ work.old.open_files.items) }
 {
     if is_directive(line.text) {
