@@ -11,15 +11,21 @@ use Rattle.step_engine.specs.declared.talk.Answer.{Answer}
 use Rattle.build_stages.specs.Stages.{Stages, end, stage, bind, Fits, Known, first_stop, unless_stopped, run, gather, advance, AreLower, IsWithin}
 use Rattle.build_stages.specs.Writing.{attempt, when}
 
-pub attempt_lower : {K O A B : Type 0} (rank : K → ℕ) (bound : ℕ) (r : Result A Fault) (next : A → Stages K O B) → ((x : A) → AreLower rank bound (next x)) → AreLower rank bound (attempt r next)
+pub attempt_lower : {K O A B : Type 0} (rank : K → ℕ) (bound : ℕ) (r : Result A Fault)
+    (next : A → Stages K O B) → ((x : A) → AreLower rank bound (next x))
+    → AreLower rank bound (attempt r next)
 attempt_lower rank bound (Ok x) next h = h x
 attempt_lower rank bound (Err fault) next h = tt
 
-pub attempt_within : {K O A B : Type 0} (fits : Fits K O) (n : ℕ) (r : Result A Fault) (next : A → Stages K O B) → ((x : A) → IsWithin fits n (next x)) → IsWithin fits n (attempt r next)
+pub attempt_within : {K O A B : Type 0} (fits : Fits K O) (n : ℕ) (r : Result A Fault)
+    (next : A → Stages K O B) → ((x : A) → IsWithin fits n (next x))
+    → IsWithin fits n (attempt r next)
 attempt_within fits n (Ok x) next h = h x
 attempt_within fits n (Err fault) next h = tt
 
-pub bind_lower : {K O A B : Type 0} (rank : K → ℕ) (bound : ℕ) (s : Stages K O A) (f : A → Stages K O B) → AreLower rank bound s → ((x : A) → AreLower rank bound (f x)) → AreLower rank bound (bind s f)
+pub bind_lower : {K O A B : Type 0} (rank : K → ℕ) (bound : ℕ) (s : Stages K O A)
+    (f : A → Stages K O B) → AreLower rank bound s → ((x : A) → AreLower rank bound (f x))
+    → AreLower rank bound (bind s f)
 bind_lower rank bound (end (Ok x)) f l h = h x
 bind_lower rank bound (end (Err fault)) f l h = tt
 bind_lower rank bound (stage asks next) f l h =
@@ -29,33 +35,51 @@ bind_lower rank bound (stage asks next) f l h =
 pub within_more : {K O A : Type 0} (fits : Fits K O) (n m : ℕ) (s : Stages K O A) → n ≤ m
     → IsWithin fits n s → IsWithin fits m s
 within_more fits n m (end r) l w = tt
-within_more fits n m (stage asks next) l w =
-    (let some : 0 < n = w.0 in omega (arith, l, some), λ answers fit. within_more fits (n - 1) (m - 1) (next answers) (omega (arith, l)) (w.1 answers fit))
+within_more fits n m (stage asks next) l w = (
+  let some : 0 < n = w.0 in omega (arith, l, some),
+  λ answers fit.
+      within_more fits (n - 1) (m - 1) (next answers) (omega (arith, l)) (w.1 answers fit),
+)
 
-pub bind_within : {K O A B : Type 0} (fits : Fits K O) (n m : ℕ) (s : Stages K O A) (f : A → Stages K O B) → IsWithin fits n s → ((x : A) → IsWithin fits m (f x)) → IsWithin fits (n + m) (bind s f)
+pub bind_within : {K O A B : Type 0} (fits : Fits K O) (n m : ℕ) (s : Stages K O A)
+    (f : A → Stages K O B) → IsWithin fits n s → ((x : A) → IsWithin fits m (f x))
+    → IsWithin fits (n + m) (bind s f)
 bind_within fits n m (end (Ok x)) f w h = within_more fits m (n + m) (f x) (omega arith) (h x)
 bind_within fits n m (end (Err fault)) f w h = tt
 bind_within {K} {O} {A} {B} fits n m (stage asks next) f w h = (
   let some : 0 < n = w.0 in omega (arith, some),
   λ answers fit.
-      within_more fits ((n - 1) + m) ((n + m) - 1) (bind (next answers) f) (let some : 0 < n = w.0 in omega (arith, some)) (bind_within fits (n - 1) m (next answers) f (w.1 answers fit) h),
+      within_more fits ((n - 1) + m) ((n + m) - 1) (bind (next answers) f)
+      (let some : 0 < n = w.0 in omega (arith, some))
+      (bind_within fits (n - 1) m (next answers) f (w.1 answers fit) h),
 )
 
 -- what one after the other gives by known answers, and in a world
-pub advance_bind : {K O A B : Type 0} (same : Ask K → Ask K → Bool) (fits : Fits K O) (known : Known K O) (s : Stages K O A) (f : A → Stages K O B) → advance same fits known (bind s f) ≡ and_then (advance same fits known s) (λ x. advance same fits known (f x))
+pub advance_bind : {K O A B : Type 0} (same : Ask K → Ask K → Bool) (fits : Fits K O)
+    (known : Known K O) (s : Stages K O A) (f : A → Stages K O B)
+    → advance same fits known (bind s f)
+    ≡ and_then (advance same fits known s) (λ x. advance same fits known (f x))
 advance_bind same fits known (end (Ok x)) f = refl
 advance_bind same fits known (end (Err fault)) f = refl
 advance_bind {K} {O} {A} {B} same fits known (stage asks next) f =
-    elim (gather same fits known asks) as (λ g. and_then g (λ answers. advance same fits known (bind (next answers) f)) ≡ and_then (and_then g (λ answers. advance same fits known (next answers))) (λ x. advance same fits known (f x))) [
+    elim (gather same fits known asks)
+    as (λ g. and_then g (λ answers. advance same fits known (bind (next answers) f))
+    ≡ and_then (and_then g (λ answers. advance same fits known (next answers)))
+    (λ x. advance same fits known (f x))) [
       | Ok answers ↦ advance_bind same fits known (next answers) f
       | Err h ↦ refl
     ]
 
-pub run_bind : {K O A B : Type 0} (fits : Fits K O) (answers : Ask K → Answer O) (s : Stages K O A) (f : A → Stages K O B) → run fits answers (bind s f) ≡ and_then (run fits answers s) (λ x. run fits answers (f x))
+pub run_bind : {K O A B : Type 0} (fits : Fits K O) (answers : Ask K → Answer O) (s : Stages K O A)
+    (f : A → Stages K O B) → run fits answers (bind s f)
+    ≡ and_then (run fits answers s) (λ x. run fits answers (f x))
 run_bind fits answers (end (Ok x)) f = refl
 run_bind fits answers (end (Err fault)) f = refl
 run_bind {K} {O} {A} {B} fits answers (stage asks next) f =
-    elim (first_stop fits asks (map answers asks)) as (λ q. unless_stopped q Err (run fits answers (bind (next (map answers asks)) f)) ≡ and_then (unless_stopped q Err (run fits answers (next (map answers asks)))) (λ x. run fits answers (f x))) [
+    elim (first_stop fits asks (map answers asks))
+    as (λ q. unless_stopped q Err (run fits answers (bind (next (map answers asks)) f))
+    ≡ and_then (unless_stopped q Err (run fits answers (next (map answers asks))))
+    (λ x. run fits answers (f x))) [
       | Some fault ↦ refl
       | None ↦ run_bind fits answers (next (map answers asks)) f
     ]

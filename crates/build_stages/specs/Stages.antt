@@ -70,7 +70,8 @@ unless_stopped None f x = x
 abbrev pub run : {K O A : Type 0} → Fits K O → (Ask K → Answer O) → Stages K O A → Result A Fault
 run fits answers (end r) = r
 run fits answers (stage asks next) =
-    unless_stopped (first_stop fits asks (map answers asks)) Err (run fits answers (next (map answers asks)))
+    unless_stopped (first_stop fits asks (map answers asks)) Err
+    (run fits answers (next (map answers asks)))
 
 abbrev pub cons_both : {A : Type 0} → Option A → Option (List A) → Option (List A)
 cons_both (Some x) (Some xs) = Some (x ∷ xs)
@@ -146,13 +147,15 @@ IsLower rank bound _ = Unit {0}
 abbrev pub AreLower : {K O A : Type 0} → (K → ℕ) → ℕ → Stages K O A → Type 0
 AreLower rank bound (end r) = Unit {0}
 AreLower {K} {O} {A} rank bound (stage asks next) =
-    All (IsLower rank bound) asks × ((answers : List (Answer O)) → AreLower rank bound (next answers))
+    All (IsLower rank bound) asks
+    × ((answers : List (Answer O)) → AreLower rank bound (next answers))
 
 -- so many batches are asked at most
 abbrev pub IsWithin : {K O A : Type 0} → Fits K O → ℕ → Stages K O A → Type 0
 IsWithin fits n (end r) = Unit {0}
 IsWithin {K} {O} {A} fits n (stage asks next) =
-    (0 < n) × ((answers : List (Answer O)) → first_stop fits asks answers ≡ None → IsWithin fits (n - 1) (next answers))
+    (0 < n) × ((answers : List (Answer O)) → first_stop fits asks answers ≡ None
+    → IsWithin fits (n - 1) (next answers))
 
 abbrev pub left_with : {K O : Type 0} → Fits K O → ℕ → List (Ask K) → (List (Answer O) → ℕ)
     → Option (List (Answer O)) → ℕ
@@ -164,7 +167,8 @@ left_with fits n asks rest (Some answers) =
 abbrev pub left_at : {K O A : Type 0} → Fits K O → Known K O → ℕ → Stages K O A → ℕ
 left_at fits known n (end r) = 0
 left_at fits known n (stage asks next) =
-    left_with fits n asks (λ answers. left_at fits known (n - 1) (next answers)) (answered known asks)
+    left_with fits n asks (λ answers. left_at fits known (n - 1) (next answers))
+    (answered known asks)
 
 -- Rules that are written as stages: what each key asks, its rank, how many batches it asks at most,
 -- and which answers fit.

@@ -55,45 +55,78 @@ pub staged_is_lawful : {K O : Type 0} (cmp : K → K → Ordering) (c : Staged K
     → CmpEqualImpliesEq cmp → AreBounded c → AreLawful (meaning_of cmp c)
 staged_is_lawful {K} {O} cmp c total key staged = record {
   is_new = λ k talk asks b a f n h d g.
-      let t : is_some (known_in (same_ask cmp) talk a) ≡ true = talk_has (same_ask cmp) (asks_exact cmp total key) talk b a d g in
-      let e : is_some (known_in (same_ask cmp) talk a) ≡ false = wants_new (same_ask cmp) c.fits (known_in (same_ask cmp) talk) (c.stages k) asks (wanted_is (turned cmp c k talk) asks n) a h in
+      let t : is_some (known_in (same_ask cmp) talk a) ≡ true =
+      talk_has (same_ask cmp) (asks_exact cmp total key) talk b a d g in
+      let e : is_some (known_in (same_ask cmp) talk a) ≡ false =
+      wants_new (same_ask cmp) c.fits (known_in (same_ask cmp) talk) (c.stages k) asks
+      (wanted_is (turned cmp c k talk) asks n) a h in
       absurd (cc);
-  lower = λ k part talk asks f n h. wants_lower (same_ask cmp) c.fits c.rank (c.rank k) (known_in (same_ask cmp) talk) (c.stages k) asks (staged.lower k) (wanted_is (turned cmp c k talk) asks n) (ask.Part part) h;
-  falls = λ k talk b f n s. left_falls (same_ask cmp) (asks_exact cmp total key) c.fits (known_in (same_ask cmp) talk) (known_in (same_ask cmp) (talk ++ b ∷ [])) (talk_grows (same_ask cmp) talk b) (c.most k) (c.stages k) (asks_of b.pairs)
-      (staged.within k) (wanted_is (turned cmp c k talk) (asks_of b.pairs) n) (talk_last (same_ask cmp) (asks_exact cmp total key) talk b);
+  lower = λ k part talk asks f n h.
+      wants_lower (same_ask cmp) c.fits c.rank (c.rank k) (known_in (same_ask cmp) talk)
+      (c.stages k) asks (staged.lower k) (wanted_is (turned cmp c k talk) asks n) (ask.Part part) h;
+  falls = λ k talk b f n s. left_falls (same_ask cmp) (asks_exact cmp total key) c.fits
+      (known_in (same_ask cmp) talk) (known_in (same_ask cmp) (talk ++ b ∷ []))
+      (talk_grows (same_ask cmp) talk b) (c.most k) (c.stages k) (asks_of b.pairs)
+      (staged.within k) (wanted_is (turned cmp c k talk) (asks_of b.pairs) n)
+      (talk_last (same_ask cmp) (asks_exact cmp total key) talk b);
 }
 
 -- at the end of a talk stands the value of the key
 pub ends_ok : {K O : Type 0} (cmp : K → K → Ordering) (c : Staged K O) → IsTotalOrder cmp
     → CmpEqualImpliesEq cmp → AreBounded c → (k : K) (talk : List (Batch K O)) (r : O)
     → turned cmp c k talk ≡ Ok r
-    → ((meaning_of cmp c).next k talk ≡ None) × ((w : World) → IsWorld (meaning_of cmp c) w → Follows (meaning_of cmp c) k talk → IsRight (meaning_of cmp c) w talk → (meaning_of cmp c).value k w ≡ Good r)
-ends_ok {K} {O} cmp c total key staged k talk r e =
-    (ap wanted_in e, λ w i f h. value_is cmp c staged w k ∙ ap outcome_of (advance_run (same_ask cmp) c.fits (known_in (same_ask cmp) talk) (right (meaning_of cmp c) w) (talk_agrees (meaning_of cmp c) w (same_ask cmp) (asks_exact cmp total key) talk h) (c.stages k) r e))
+    → ((meaning_of cmp c).next k talk ≡ None)
+    × ((w : World) → IsWorld (meaning_of cmp c) w → Follows (meaning_of cmp c) k talk
+    → IsRight (meaning_of cmp c) w talk → (meaning_of cmp c).value k w ≡ Good r)
+ends_ok {K} {O} cmp c total key staged k talk r e = (
+  ap wanted_in e,
+  λ w i f h. value_is cmp c staged w k
+      ∙ ap outcome_of (advance_run (same_ask cmp) c.fits (known_in (same_ask cmp) talk)
+      (right (meaning_of cmp c) w)
+      (talk_agrees (meaning_of cmp c) w (same_ask cmp) (asks_exact cmp total key) talk h)
+      (c.stages k) r e),
+)
 
 pub ends_bad : {K O : Type 0} (cmp : K → K → Ordering) (c : Staged K O) → IsTotalOrder cmp
     → CmpEqualImpliesEq cmp → AreBounded c → (k : K) (talk : List (Batch K O)) (fault : Fault)
     → turned cmp c k talk ≡ Err (fails fault)
-    → ((meaning_of cmp c).next k talk ≡ None) × ((w : World) → IsWorld (meaning_of cmp c) w → Follows (meaning_of cmp c) k talk → IsRight (meaning_of cmp c) w talk → (meaning_of cmp c).value k w ≡ Bad fault)
-ends_bad {K} {O} cmp c total key staged k talk fault e =
-    (ap wanted_in e, λ w i f h. value_is cmp c staged w k ∙ ap outcome_of (advance_fails (same_ask cmp) c.fits (known_in (same_ask cmp) talk) (right (meaning_of cmp c) w) (talk_agrees (meaning_of cmp c) w (same_ask cmp) (asks_exact cmp total key) talk h) (c.stages k) fault e))
+    → ((meaning_of cmp c).next k talk ≡ None)
+    × ((w : World) → IsWorld (meaning_of cmp c) w → Follows (meaning_of cmp c) k talk
+    → IsRight (meaning_of cmp c) w talk → (meaning_of cmp c).value k w ≡ Bad fault)
+ends_bad {K} {O} cmp c total key staged k talk fault e = (
+  ap wanted_in e,
+  λ w i f h. value_is cmp c staged w k
+      ∙ ap outcome_of (advance_fails (same_ask cmp) c.fits (known_in (same_ask cmp) talk)
+      (right (meaning_of cmp c) w)
+      (talk_agrees (meaning_of cmp c) w (same_ask cmp) (asks_exact cmp total key) talk h)
+      (c.stages k) fault e),
+)
 
 -- what is known is what the talk tells, and the key's function answered by it
 pub is_turn_ok : {K O : Type 0} (cmp : K → K → Ordering) (c : Staged K O) → IsTotalOrder cmp
     → CmpEqualImpliesEq cmp → AreBounded c
     → (k : K) (talk : List (Batch K O)) (known : Known K O) (r : O)
-    → known ≡ known_in (same_ask cmp) talk → advance (same_ask cmp) c.fits known (c.stages k) ≡ Ok r → IsTurn (meaning_of cmp c) k talk (turn.Done (Good r))
+    → known ≡ known_in (same_ask cmp) talk → advance (same_ask cmp) c.fits known (c.stages k) ≡ Ok r
+    → IsTurn (meaning_of cmp c) k talk (turn.Done (Good r))
 is_turn_ok {K} {O} cmp c total key bounded k talk known r e h =
-    ends_ok cmp c total key bounded k talk r (subst (λ (f : Known K O). advance (same_ask cmp) c.fits f (c.stages k) ≡ Ok r) e h)
+    ends_ok cmp c total key bounded k talk r
+    (subst (λ (f : Known K O). advance (same_ask cmp) c.fits f (c.stages k) ≡ Ok r) e h)
 
 pub is_turn_bad : {K O : Type 0} (cmp : K → K → Ordering) (c : Staged K O) → IsTotalOrder cmp
     → CmpEqualImpliesEq cmp → AreBounded c
     → (k : K) (talk : List (Batch K O)) (known : Known K O) (fault : Fault)
-    → known ≡ known_in (same_ask cmp) talk → advance (same_ask cmp) c.fits known (c.stages k) ≡ Err (fails fault) → IsTurn (meaning_of cmp c) k talk (turn.Done (Bad fault))
+    → known ≡ known_in (same_ask cmp) talk → advance (same_ask cmp) c.fits known (c.stages k)
+    ≡ Err (fails fault) → IsTurn (meaning_of cmp c) k talk (turn.Done (Bad fault))
 is_turn_bad {K} {O} cmp c total key bounded k talk known fault e h =
-    ends_bad cmp c total key bounded k talk fault (subst (λ (f : Known K O). advance (same_ask cmp) c.fits f (c.stages k) ≡ Err (fails fault)) e h)
+    ends_bad cmp c total key bounded k talk fault
+    (subst (λ (f : Known K O). advance (same_ask cmp) c.fits f (c.stages k) ≡ Err (fails fault))
+    e h)
 
-pub is_turn_ask : {K O : Type 0} (cmp : K → K → Ordering) (c : Staged K O) (k : K) (talk : List (Batch K O)) (known : Known K O) (asks : List (Ask K)) (permit : Permit)
-    → known ≡ known_in (same_ask cmp) talk → advance (same_ask cmp) c.fits known (c.stages k) ≡ Err (wants asks) → IsTurn (meaning_of cmp c) k talk (turn.Ask asks permit)
+pub is_turn_ask : {K O : Type 0} (cmp : K → K → Ordering) (c : Staged K O) (k : K)
+    (talk : List (Batch K O)) (known : Known K O) (asks : List (Ask K)) (permit : Permit)
+    → known ≡ known_in (same_ask cmp) talk → advance (same_ask cmp) c.fits known (c.stages k)
+    ≡ Err (wants asks) → IsTurn (meaning_of cmp c) k talk (turn.Ask asks permit)
 is_turn_ask {K} {O} cmp c k talk known asks permit e h =
-    ap wanted_in (subst (λ (f : Known K O). advance (same_ask cmp) c.fits f (c.stages k) ≡ Err (wants asks)) e h)
+    ap wanted_in
+    (subst (λ (f : Known K O). advance (same_ask cmp) c.fits f (c.stages k) ≡ Err (wants asks))
+    e h)

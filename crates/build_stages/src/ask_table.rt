@@ -3,7 +3,7 @@ ghost use Rattle.std.specs.Prelude.{◌≡◌, None, OnOk};
 ghost use Rattle.std.specs.Option.{option_copied};
 ghost use Rattle.build_stages.specs.Asks.{found_at, Puts, Notes};
 
-use build_base::{Path, Same, WantOfMemory};
+use build_base::{Path, Rows, Same, WantOfMemory};
 use std::alloc::Global;
 use std::collections::BTreeMap;
 use std::marker::Model;
@@ -74,5 +74,14 @@ impl<K: StepKey, V: Drop> AskTable<K, V> {
             Ask::Field(number) => put(&mut self.fields, *number, value),
             Ask::Part(key) => put(&mut self.parts, key.copy(alloc)?, value),
         }
+    }
+
+    /// The paths of the files that have a value, in one pass.
+    pub fn file_paths(&self, alloc: Global) -> Result<Rows<Path>, WantOfMemory> {
+        let mut paths = Rows::new(alloc);
+        for path in self.files.keys() {
+            paths.push(path.copy(alloc)?)?;
+        }
+        Ok(paths)
     }
 }

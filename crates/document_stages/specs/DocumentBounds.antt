@@ -12,31 +12,52 @@ use Rattle.build_stages.specs.Writing.{attempt, file_at}
 use Rattle.build_stages.specs.Bounds.{attempt_lower, attempt_within, all_one}
 use Rattle.document_stages.specs.Documents.{by_stop, got_in, lines_after}
 
-stop_lower : {K O : Type 0} (rank : K → ℕ) (bound : ℕ) (r : Result Lines Stop) (more : List ℕ → Stages K O Lines) → ((path : List ℕ) → AreLower rank bound (more path)) → AreLower rank bound (by_stop r more)
+stop_lower : {K O : Type 0} (rank : K → ℕ) (bound : ℕ) (r : Result Lines Stop)
+    (more : List ℕ → Stages K O Lines) → ((path : List ℕ) → AreLower rank bound (more path))
+    → AreLower rank bound (by_stop r more)
 stop_lower rank bound (Ok lines) more h = tt
 stop_lower rank bound (Err (bad fault)) more h = tt
 stop_lower rank bound (Err (need path)) more h = h path
 
-pub lines_lower : {K : Type 0} (O : Type 0) (rank : K → ℕ) (bound n : ℕ) (root : List ℕ) (macros fixed : List Macro) (files : List Known) → AreLower rank bound (lines_after {K = K} {O = O} n root macros fixed files)
+pub lines_lower : {K : Type 0} (O : Type 0) (rank : K → ℕ) (bound n : ℕ) (root : List ℕ)
+    (macros fixed : List Macro) (files : List Known)
+    → AreLower rank bound (lines_after {K = K} {O = O} n root macros fixed files)
 unfolding lines_after
 lines_lower {K} O rank bound zero root macros fixed files =
     stop_lower rank bound (expansion (answer files) root macros fixed) _ (λ path. tt)
 lines_lower {K} O rank bound (suc n) root macros fixed files =
-    stop_lower rank bound (expansion (answer files) root macros fixed) _ (λ path.
-    (all_one (IsLower rank bound) (ask.File path) tt, λ given. attempt_lower rank bound (file_at given 0) _ (λ x. attempt_lower rank bound (got_in x) _ (λ got. lines_lower O rank bound n root macros fixed (with_answer files path got)))))
+    stop_lower rank bound (expansion (answer files) root macros fixed) _ (λ path. (
+      all_one (IsLower rank bound) (ask.File path) tt,
+      λ given.
+          attempt_lower rank bound (file_at given 0) _
+          (λ x. attempt_lower rank bound (got_in x) _
+          (λ got. lines_lower O rank bound n root macros fixed (with_answer files path got))),
+    ))
 
-stop_within : {K O : Type 0} (fits : Fits K O) (n : ℕ) (r : Result Lines Stop) (more : List ℕ → Stages K O Lines) → ((path : List ℕ) → IsWithin fits n (more path)) → IsWithin fits n (by_stop r more)
+stop_within : {K O : Type 0} (fits : Fits K O) (n : ℕ) (r : Result Lines Stop)
+    (more : List ℕ → Stages K O Lines) → ((path : List ℕ) → IsWithin fits n (more path))
+    → IsWithin fits n (by_stop r more)
 stop_within fits n (Ok lines) more h = tt
 stop_within fits n (Err (bad fault)) more h = tt
 stop_within fits n (Err (need path)) more h = h path
 
-pub lines_within : {K O : Type 0} (fits : Fits K O) (n : ℕ) (root : List ℕ) (macros fixed : List Macro) (files : List Known) → IsWithin fits n (lines_after n root macros fixed files)
+pub lines_within : {K O : Type 0} (fits : Fits K O) (n : ℕ) (root : List ℕ)
+    (macros fixed : List Macro) (files : List Known)
+    → IsWithin fits n (lines_after n root macros fixed files)
 unfolding lines_after
 lines_within fits zero root macros fixed files =
     stop_within fits zero (expansion (answer files) root macros fixed) _ (λ path. tt)
 lines_within {K} {O} fits (suc n) root macros fixed files =
     stop_within fits (suc n) (expansion (answer files) root macros fixed) _ (λ path. (
       omega arith,
-      λ given fit. subst (λ m. IsWithin fits m (attempt (file_at given 0) (λ x. attempt (got_in x) (λ got. lines_after n root macros fixed (with_answer files path got))))) (let same : n ≡ suc n - 1 = omega arith in same)
-          (attempt_within fits n (file_at given 0) _ (λ x. attempt_within fits n (got_in x) _ (λ got. lines_within fits n root macros fixed (with_answer files path got)))),
+      λ given fit.
+          subst
+          (λ m. IsWithin fits m
+          (attempt (file_at given 0)
+          (λ x. attempt (got_in x)
+          (λ got. lines_after n root macros fixed (with_answer files path got)))))
+          (let same : n ≡ suc n - 1 = omega arith in same)
+          (attempt_within fits n (file_at given 0) _
+          (λ x. attempt_within fits n (got_in x) _
+          (λ got. lines_within fits n root macros fixed (with_answer files path got)))),
     ))

@@ -47,7 +47,9 @@ unfoldable pub lines_after : {K O : Type 0} → ℕ → List ℕ → List Macro 
 lines_after zero root macros fixed files =
     by_stop (expansion (answer files) root macros fixed) (λ path. end (Err misfit))
 lines_after (suc n) root macros fixed files =
-    by_stop (expansion (answer files) root macros fixed) (λ path. ask_file path (λ got. lines_after n root macros fixed (with_answer files path got)))
+    by_stop (expansion (answer files) root macros fixed)
+    (λ path. ask_file path
+    (λ got. lines_after n root macros fixed (with_answer files path got)))
 
 -- the answers that a document can want
 unfoldable pub most_files : ℕ
@@ -60,4 +62,5 @@ lines_of root macros fixed = lines_after most_files root macros fixed []
 abbrev pub got_step : {K O : Type 0} → (Ask K → Ask K → Bool) → Fits K O → Answers K O → List ℕ
     → Result Got (Halt K)
 got_step same fits known path =
-    and_then (gather same fits known (ask.File path ∷ [])) (λ given. and_then (ended (file_at given 0)) (λ x. ended (got_in x)))
+    and_then (gather same fits known (ask.File path ∷ []))
+    (λ given. and_then (ended (file_at given 0)) (λ x. ended (got_in x)))

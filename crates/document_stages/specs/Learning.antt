@@ -1,5 +1,6 @@
 -- What a step learns of one file more, and of all lines. The rule is this project's own.
 use Rattle.std.specs.Prelude.{◌≡◌, ℕ, List, Result, Ok, Err}
+use Rattle.std.specs.List.{All}
 use Rattle.std.specs.declared.cmp.Ordering.{Ordering}
 use Rattle.build_base.specs.Outside.{IsWithin}
 use Rattle.build_base.specs.World.{file_limit}
@@ -24,6 +25,13 @@ Learned step path old new =
 abbrev pub gets : {K O : Type 0} → (K → K → Ordering) → Fits K O → Table K O → List ℕ
     → Result Got (Halt K)
 gets cmp fits t path = got_step (same_ask cmp) fits (known_at cmp t) path
+
+-- a file of which the step gets what is known of it
+abbrev pub IsTold : {K : Type 0} → (List ℕ → Result Got (Halt K)) → Known → Type 0
+IsTold step known = step known.path ≡ Ok known.got
+
+abbrev pub AreTold : {K : Type 0} → (List ℕ → Result Got (Halt K)) → List Known → Type 0
+AreTold step files = All (IsTold step) files
 
 abbrev pub Learns : {K : Type 0} → Result Permit (Stop K) → (List ℕ → Result Got (Halt K)) → List ℕ
     → List Known → List Known → Type 0

@@ -20,7 +20,8 @@ world_lines (Err (bad fault)) = Err fault
 world_lines (Err (need path)) = Err misfit
 
 -- what a world's files are for a set of rules
-pub record TellsFiles {K O : Type 0} (fits : Fits K O) (o : Ask K → Answer O) (world : List ℕ → Got) : Type 0 where
+pub record TellsFiles {K O : Type 0} (fits : Fits K O) (o : Ask K → Answer O) (world : List ℕ → Got)
+    : Type 0 where
   pub is : (path : List ℕ) → o (ask.File path) ≡ answer_of (world path)
   pub fit : (path : List ℕ) → fits (ask.File path) (o (ask.File path)) ≡ true
   pub within : (path : List ℕ) → IsWithin file_limit (world path)

@@ -1,10 +1,10 @@
 //! The lines of a document from what is known of its files.
-ghost use Rattle.std.specs.Prelude.{◌≡◌};
+ghost use Rattle.std.specs.Prelude.{◌≡◌, Ok, IfOk, IfSome};
 ghost use Rattle.build_stages.specs.Gives.{GivesIn};
 ghost use Rattle.document_stages.specs.Documents.{got_in};
-ghost use Rattle.document_stages.specs.Learning.{gets, Learns, GivesLines};
+ghost use Rattle.document_stages.specs.Learning.{gets, AreTold, Learns, GivesLines};
 
-use build_base::{FILE_LIMIT, Got, Lines, Macro, Path, Permit, Rows, Same};
+use build_base::{FILE_LIMIT, Got, Lines, Macro, Path, Permit, Rows, Same, WantOfMemory};
 use build_stages::{Known as KnownAnswers, Shapes, Stop, gather};
 use macro_conditions::{Known, Turned, expand};
 use std::alloc::Global;
@@ -28,6 +28,51 @@ fn got<K, O>(alloc: Global, answer: &Answer<O>) -> Result<Got, Stop<K>>
     }
 }
 
+// What the talk tells of a path, where that can be got.
+fn told<S: Shapes>(
+    alloc: Global,
+    rules: &S,
+    known: &KnownAnswers<'_, S::Key, S::Out>,
+    path: &Path,
+) -> Result<Option<Got>, WantOfMemory>
+    ensures { IfOk result
+        (λ told. IfSome told (λ got. gets S.Key.cmp S.staged.fits known.now path.now ≡ Ok got)) }
+{
+    let ask = Ask::File(path.copy(alloc)?);
+    let Some(answer) = known.get(&ask) else {
+        return Ok(None);
+    };
+    if !rules.fits(&ask, answer) {
+        return Ok(None);
+    }
+    let outcome: Result<Got, Stop<S::Key>> = got(alloc, answer);
+    match outcome {
+        Ok(got) => Ok(Some(got)),
+        Err(Stop::WantOfMemory) => Err(WantOfMemory),
+        Err(_stop) => Ok(None),
+    }
+}
+
+// All files that the talk tells. With them a turn expands the document once, however many files it
+// has learnt in the turns before.
+fn all_told<S: Shapes>(
+    alloc: Global,
+    rules: &S,
+    known: &KnownAnswers<'_, S::Key, S::Out>,
+) -> Result<Rows<Known>, WantOfMemory>
+    ensures { IfOk result (AreTold (gets S.Key.cmp S.staged.fits known.now)) }
+{
+    let mut files = Rows::new(alloc);
+    let paths = known.file_paths(alloc)?;
+    for path in paths.items() {
+        if let Some(got) = told(alloc, rules, known, path)? {
+            let path = path.copy(alloc)?;
+            files.push(Known { path, got })?;
+        }
+    }
+    Ok(files)
+}
+
 // Learns what was got of one path more.
 fn learn<S: Shapes>(
     alloc: Global,
@@ -49,7 +94,7 @@ fn learn<S: Shapes>(
 }
 
 /// The lines of a document, and the permit again. Each path that an include line comes to is asked
-/// for, one after another, the document's own first.
+/// for, one after another, the document's own first. A turn begins with all files that it was told.
 pub fn lines_of<S: Shapes>(
     alloc: Global,
     rules: &S,
@@ -61,7 +106,7 @@ pub fn lines_of<S: Shapes>(
 ) -> Result<(Lines, Permit), Stop<S::Key>>
     ensures { GivesLines S.Key.cmp S.staged.fits known.now root.now macros.now fixed.now result }
 {
-    let mut files = Rows::new(alloc);
+    let mut files = all_told(alloc, rules, known)?;
     let mut permit = permit;
     loop {
         match expand(alloc, root, macros, fixed, &files) {
