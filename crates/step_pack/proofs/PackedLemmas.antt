@@ -1,5 +1,5 @@
 -- The order of keys is that of their packed forms, byte by byte.
-use Rattle.std.proofs.Common.{◌≡◌, ◌<◌, ◌^◌, ℕ, List, [], ◌∷◌, ◌++◌, length, refl, sym, ap, ◌∙◌, subst, arith}
+use Rattle.std.proofs.Common.{◌≡◌, ◌<◌, ◌^◌, ℕ, List, [], ◌∷◌, ◌++◌, length, refl, ap, ◌∙◌, subst, arith}
 use Rattle.std.specs.Int.{to_le_bytes, w64}
 use Rattle.std.specs.Ordering.{nat_cmp, ordering_then}
 use Rattle.std.specs.declared.cmp.Ordering.{Ordering}
@@ -11,17 +11,7 @@ use Rattle.step_pack.specs.Keys.{arch_byte, variant, arch_of, path_of, first_of,
 use Rattle.step_pack.specs.KeyLaws.{module_at, key_at, key_back}
 use Rattle.std.proofs.lemmas.Map.Lookups.{exact_unsigned}
 use Rattle.step_pack.specs.Packed.{packed_number, packed_path, packed_module, packed_fields, packed, HasNumbers}
-use Rattle.step_pack.proofs.NumberLemmas.{numbers_by_bytes}
-
-then_assoc : (a b c : Ordering) → ordering_then a (ordering_then b c) ≡ ordering_then (ordering_then a b) c
-then_assoc Less b c = refl
-then_assoc Equal b c = refl
-then_assoc Greater b c = refl
-
-then_equal : (a : Ordering) → a ≡ ordering_then a Equal
-then_equal Less = refl
-then_equal Equal = refl
-then_equal Greater = refl
+use Rattle.step_pack.proofs.NumberLemmas.{then_assoc, then_equal, numbers_by_bytes}
 
 -- texts behind texts of one length
 joined : (xs ys as_ bs : List ℕ) → length xs ≡ length ys → text_cmp (xs ++ as_) (ys ++ bs) ≡ ordering_then (text_cmp xs ys) (text_cmp as_ bs)

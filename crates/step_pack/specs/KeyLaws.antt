@@ -4,7 +4,7 @@ use Rattle.std.proofs.Common.{◌≡◌, ℕ, List, [], ◌∷◌, refl, sym, ap
 use Rattle.std.specs.Cmp.{IsTotalOrder, then_total, on_total, nat_cmp_total}
 use Rattle.std.specs.Cmp.Lexicographic.{nat_list_cmp_total}
 use Rattle.std.specs.Int.{to_le_bytes, w32, w64}
-use Rattle.std.specs.Ordering.{nat_cmp, on, then_cmp, ordering_then, is_lt, is_gt}
+use Rattle.std.specs.Ordering.{nat_cmp, ordering_then, is_lt, is_gt}
 use Rattle.std.specs.declared.cmp.Ordering.{Ordering}
 use Rattle.std.specs.declared.cmp.Ordering.TheVariants.{Less, Equal, Greater}
 use Rattle.std.proofs.lemmas.Map.Lookups.{CmpEqualImpliesEq, exact_bytes, exact_unsigned}
@@ -22,7 +22,9 @@ numbers_total = then_total (on_total (to_le_bytes w32) nat_list_cmp_total) nat_c
 
 pub paths_total : IsTotalOrder path_cmp
 unfolding path_cmp
-paths_total = then_total (on_total (λ (path : List ℕ). to_le_bytes w64 (length path)) nat_list_cmp_total) nat_list_cmp_total
+paths_total =
+    then_total (on_total (λ (path : List ℕ). to_le_bytes w64 (length path)) nat_list_cmp_total)
+    nat_list_cmp_total
 
 pub keys_total : IsTotalOrder key_cmp
 unfolding key_cmp
@@ -40,15 +42,19 @@ both_equal Greater b e = absurd (true≢false (ap is_gt e))
 
 pub numbers_exact : CmpEqualImpliesEq number_cmp
 unfolding number_cmp
-numbers_exact a b e = exact_unsigned a b (both_equal (text_cmp (to_le_bytes w32 a) (to_le_bytes w32 b)) (nat_cmp a b) e).1
+numbers_exact a b e = exact_unsigned a b
+    (both_equal (text_cmp (to_le_bytes w32 a) (to_le_bytes w32 b)) (nat_cmp a b) e).1
 
 pub paths_exact : CmpEqualImpliesEq path_cmp
 unfolding path_cmp
-paths_exact p q e = exact_bytes p q (both_equal (text_cmp (to_le_bytes w64 (length p)) (to_le_bytes w64 (length q))) (text_cmp p q) e).1
+paths_exact p q e =
+    exact_bytes p q (both_equal (text_cmp (to_le_bytes w64 (length p)) (to_le_bytes w64 (length q)))
+    (text_cmp p q) e).1
 
 -- the key of a variant and fields
 abbrev pub arch_at : ℕ → Arch
-arch_at n = slice_index_or (Common ∷ Ia32 ∷ X64 ∷ Arm ∷ Aarch64 ∷ Riscv64 ∷ Loongarch64 ∷ Ebc ∷ []) n Common
+arch_at n = slice_index_or (Common ∷ Ia32 ∷ X64 ∷ Arm ∷ Aarch64 ∷ Riscv64 ∷ Loongarch64 ∷ Ebc ∷ [])
+    n Common
 
 abbrev pub module_at : ℕ → List ℕ → Module
 module_at arch path = record { arch = arch_at arch; inf = path }
@@ -56,9 +62,12 @@ module_at arch path = record { arch = arch_at arch; inf = path }
 abbrev pub key_at : ℕ → ℕ → List ℕ → ℕ → ℕ → Key
 key_at n arch path v i =
     slice_index_or (
-    key.Dec path ∷ key.Inf path ∷ key.Platform ∷ key.Flash ∷ key.Choice (module_at arch path) ∷ key.PlatformPcds
-    ∷ key.Values (module_at arch path) ∷ key.Code (module_at arch path) ∷ key.Depex (module_at arch path)
-    ∷ key.File v i ∷ key.Volume v ∷ key.Device v ∷ key.Report ∷ key.All ∷ key.Vpd ∷ key.Based v ∷ []) n key.All
+    key.Dec path ∷ key.Inf path ∷ key.Platform ∷ key.Flash ∷ key.Choice (module_at arch path)
+    ∷ key.PlatformPcds
+    ∷ key.Values (module_at arch path) ∷ key.Code (module_at arch path)
+    ∷ key.Depex (module_at arch path)
+    ∷ key.File v i ∷ key.Volume v ∷ key.Device v ∷ key.Report ∷ key.All ∷ key.Vpd ∷ key.Based v
+    ∷ []) n key.All
 
 arch_back : (arch : Arch) → arch_at (arch_byte arch) ≡ arch
 arch_back Common = refl
@@ -91,21 +100,32 @@ key_back key.All = refl
 key_back key.Vpd = refl
 key_back (key.Based v) = refl
 
-same_fields : (n m a b : ℕ) (p q : List ℕ) (v w i j : ℕ) → n ≡ m → a ≡ b → p ≡ q → v ≡ w → i ≡ j → key_at n a p v i ≡ key_at m b q w j
+same_fields : (n m a b : ℕ) (p q : List ℕ) (v w i j : ℕ) → n ≡ m → a ≡ b → p ≡ q → v ≡ w → i ≡ j
+    → key_at n a p v i ≡ key_at m b q w j
 same_fields n m a b p q v w i j e f g h l = rw (e, f, g, h, l) refl
 
 pub keys_exact : CmpEqualImpliesEq key_cmp
 unfolding key_cmp
 keys_exact x y e =
-    let numbers : Ordering = ordering_then (number_cmp (first_of x) (first_of y)) (number_cmp (second_of x) (second_of y)) in
+    let numbers : Ordering = ordering_then (number_cmp (first_of x) (first_of y))
+    (number_cmp (second_of x) (second_of y)) in
     let paths : Ordering = ordering_then (path_cmp (path_of x) (path_of y)) numbers in
     let arches : Ordering = ordering_then (nat_cmp (arch_of x) (arch_of y)) paths in
-    let one : (nat_cmp (variant x) (variant y) ≡ Equal) × (arches ≡ Equal) = both_equal (nat_cmp (variant x) (variant y)) arches e in
-    let two : (nat_cmp (arch_of x) (arch_of y) ≡ Equal) × (paths ≡ Equal) = both_equal (nat_cmp (arch_of x) (arch_of y)) paths one.1 in
-    let three : (path_cmp (path_of x) (path_of y) ≡ Equal) × (numbers ≡ Equal) = both_equal (path_cmp (path_of x) (path_of y)) numbers two.1 in
-    let four : (number_cmp (first_of x) (first_of y) ≡ Equal) × (number_cmp (second_of x) (second_of y) ≡ Equal) = both_equal (number_cmp (first_of x) (first_of y)) (number_cmp (second_of x) (second_of y)) three.1 in
+    let one : (nat_cmp (variant x) (variant y) ≡ Equal) × (arches ≡ Equal) =
+    both_equal (nat_cmp (variant x) (variant y)) arches e in
+    let two : (nat_cmp (arch_of x) (arch_of y) ≡ Equal) × (paths ≡ Equal) =
+    both_equal (nat_cmp (arch_of x) (arch_of y)) paths one.1 in
+    let three : (path_cmp (path_of x) (path_of y) ≡ Equal) × (numbers ≡ Equal) =
+    both_equal (path_cmp (path_of x) (path_of y)) numbers two.1 in
+    let four : (number_cmp (first_of x) (first_of y) ≡ Equal)
+    × (number_cmp (second_of x) (second_of y) ≡ Equal) =
+    both_equal (number_cmp (first_of x) (first_of y)) (number_cmp (second_of x) (second_of y))
+    three.1 in
     sym (key_back x)
-    ∙ same_fields (variant x) (variant y) (arch_of x) (arch_of y) (path_of x) (path_of y) (first_of x) (first_of y) (second_of x) (second_of y)
-    (exact_unsigned (variant x) (variant y) one.0) (exact_unsigned (arch_of x) (arch_of y) two.0) (paths_exact (path_of x) (path_of y) three.0)
-    (numbers_exact (first_of x) (first_of y) four.0) (numbers_exact (second_of x) (second_of y) four.1)
+    ∙ same_fields (variant x) (variant y) (arch_of x) (arch_of y) (path_of x) (path_of y)
+    (first_of x) (first_of y) (second_of x) (second_of y)
+    (exact_unsigned (variant x) (variant y) one.0) (exact_unsigned (arch_of x) (arch_of y) two.0)
+    (paths_exact (path_of x) (path_of y) three.0)
+    (numbers_exact (first_of x) (first_of y) four.0)
+    (numbers_exact (second_of x) (second_of y) four.1)
     ∙ key_back y

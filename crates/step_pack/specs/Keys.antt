@@ -1,13 +1,15 @@
 -- The order of the keys of steps. It is this project's own, and that of the bytes of their packed
 -- form: a key's variant, and then its fields, where a number has its bytes lowest first, and a path
 -- the eight bytes of its length before its own.
-use Rattle.std.specs.Prelude.{ℕ, List, [], ◌∷◌, length}
+use Rattle.std.specs.Prelude.{ℕ, List, [], length}
 use Rattle.std.specs.Cmp.Lexicographic.{slice_cmp}
 use Rattle.std.specs.Int.{to_le_bytes, w32, w64}
-use Rattle.std.specs.Ordering.{nat_cmp, on, then_cmp}
+use Rattle.std.specs.Ordering.{nat_cmp, on, then_cmp, ordering_then}
 use Rattle.std.specs.declared.cmp.Ordering.{Ordering}
+use Rattle.std.specs.declared.cmp.Ordering.TheVariants.{Equal}
 use Rattle.doc_types.specs.declared.arch.Arch.{Arch}
 use Rattle.doc_types.specs.declared.arch.Arch.TheVariants.{Common, Ia32, X64, Arm, Aarch64, Riscv64, Loongarch64, Ebc}
+use Rattle.doc_types.specs.declared.choice.Module.{Module}
 use Rattle.step_pack.specs.declared.key.Key.{Key}
 use Rattle.step_pack.specs.declared.key.Key.TheVariants as key
 
@@ -88,6 +90,26 @@ fields_cmp =
     then_cmp (on arch_of nat_cmp) (
     then_cmp (on path_of path_cmp) (
     then_cmp (on first_of number_cmp) (on second_of number_cmp)))
+
+-- the same by the fields alone that the first of them has
+abbrev pub module_cmp : Module → Key → Ordering
+module_cmp m b = ordering_then (nat_cmp (arch_byte m.arch) (arch_of b)) (path_cmp m.inf (path_of b))
+
+abbrev pub item_cmp : ℕ → ℕ → Key → Ordering
+item_cmp v i b = ordering_then (number_cmp v (first_of b)) (number_cmp i (second_of b))
+
+abbrev pub held_cmp : Key → Key → Ordering
+held_cmp (key.Dec path) b = path_cmp path (path_of b)
+held_cmp (key.Inf path) b = path_cmp path (path_of b)
+held_cmp (key.Choice m) b = module_cmp m b
+held_cmp (key.Values m) b = module_cmp m b
+held_cmp (key.Code m) b = module_cmp m b
+held_cmp (key.Depex m) b = module_cmp m b
+held_cmp (key.File v i) b = item_cmp v i b
+held_cmp (key.Volume v) b = number_cmp v (first_of b)
+held_cmp (key.Device d) b = number_cmp d (first_of b)
+held_cmp (key.Based v) b = number_cmp v (first_of b)
+held_cmp _ b = Equal
 
 -- the order of keys
 unfoldable pub key_cmp : Key → Key → Ordering

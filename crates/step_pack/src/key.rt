@@ -4,7 +4,7 @@ ghost use Rattle.std.proofs.Common.{rules};
 ghost use Rattle.std.specs.Cmp.{eq_by_cmp_equiv, partial_equiv_from_equiv, partial_order_from_total};
 ghost use Rattle.std.specs.Ordering.{as_partial_cmp, eq_by_cmp};
 ghost use Rattle.step_pack.specs.KeyLaws.{keys_total};
-ghost use Rattle.step_pack.specs.Keys.{key_cmp, variant, arch_of, path_of, first_of, second_of};
+ghost use Rattle.step_pack.specs.Keys.{key_cmp, held_cmp, module_cmp, item_cmp, variant, arch_of, path_of, first_of, second_of};
 
 use crate::order::{arch_byte, number_cmp, path_cmp};
 use build_base::{Path, Same, WantOfMemory};
@@ -12,8 +12,8 @@ use doc_types::choice::Module;
 use std::alloc::Global;
 use std::cmp::Ordering;
 
-/// A step of a build. `File(v, i)` is item i of volume v, `Based(v)` is volume v moved to its base; volumes, items and
-/// devices count from 0.
+/// A step of a build. `File(v, i)` is item i of volume v, `Based(v)` is volume v moved to its base;
+/// volumes, items and devices count from 0.
 #[derive(Debug, Drop)]
 pub enum Key {
     Dec(Path),
@@ -104,6 +104,43 @@ impl Key {
             _ => 0,
         }
     }
+
+    // The order by the fields that this key has.
+    fn fields_cmp(&self, other: &Key) -> Ordering
+        ensures { result ≡ held_cmp self.now other.now }
+    {
+        match self {
+            Key::Dec(path) | Key::Inf(path) => path_cmp(path.bytes(), other.path()),
+            Key::Choice(module) | Key::Values(module) | Key::Code(module) | Key::Depex(module) => {
+                module_cmp(module, other)
+            }
+            Key::File(volume, item) => item_cmp(*volume, *item, other),
+            Key::Volume(number) | Key::Device(number) | Key::Based(number) => {
+                number_cmp(*number, other.first())
+            }
+            Key::Platform | Key::Flash | Key::PlatformPcds | Key::Report | Key::All | Key::Vpd => {
+                Ordering::Equal
+            }
+        }
+    }
+}
+
+fn module_cmp(ours: &Module, other: &Key) -> Ordering
+    ensures { result ≡ module_cmp ours.now other.now }
+{
+    match arch_byte(ours.arch).cmp(&other.arch()) {
+        Ordering::Equal => path_cmp(ours.inf.bytes(), other.path()),
+        differing => differing,
+    }
+}
+
+fn item_cmp(volume: u32, item: u32, other: &Key) -> Ordering
+    ensures { result ≡ item_cmp volume item other.now }
+{
+    match number_cmp(volume, other.first()) {
+        Ordering::Equal => number_cmp(item, other.second()),
+        differing => differing,
+    }
 }
 
 impl PartialEq for Key {
@@ -139,13 +176,12 @@ impl Ord for Key {
 
     ghost matches_eq = { Prim.search rules };
 
-    #[tactic(auto, unfolding(crate::specs::Keys::key_cmp))]
+    #[tactic(auto, using(crate::proofs::KeyLemmas::alike, crate::proofs::KeyLemmas::apart))]
     fn cmp(&self, other: &Key) -> Ordering {
-        let second = number_cmp(self.second(), other.second());
-        let numbers = number_cmp(self.first(), other.first()).then(second);
-        let paths = path_cmp(self.path(), other.path()).then(numbers);
-        let arches = self.arch().cmp(&other.arch()).then(paths);
-        self.variant().cmp(&other.variant()).then(arches)
+        match self.variant().cmp(&other.variant()) {
+            Ordering::Equal => self.fields_cmp(other),
+            differing => differing,
+        }
     }
 }
 
@@ -171,8 +207,25 @@ impl Same for Key {
         }
     }
 
-    #[tactic(auto, using(crate::proofs::KeyLemmas::same_by_order))]
     fn same(&self, other: &Key) -> bool {
-        self.cmp(other).is_eq()
+        match (self, other) {
+            (Key::Dec(ours), Key::Dec(others)) => ours.same(others),
+            (Key::Inf(ours), Key::Inf(others)) => ours.same(others),
+            (Key::Platform, Key::Platform) => true,
+            (Key::Flash, Key::Flash) => true,
+            (Key::Choice(ours), Key::Choice(others)) => ours.same(others),
+            (Key::PlatformPcds, Key::PlatformPcds) => true,
+            (Key::Values(ours), Key::Values(others)) => ours.same(others),
+            (Key::Code(ours), Key::Code(others)) => ours.same(others),
+            (Key::Depex(ours), Key::Depex(others)) => ours.same(others),
+            (Key::File(volume, item), Key::File(others, at)) => *volume == *others && *item == *at,
+            (Key::Volume(ours), Key::Volume(others)) => *ours == *others,
+            (Key::Device(ours), Key::Device(others)) => *ours == *others,
+            (Key::Report, Key::Report) => true,
+            (Key::All, Key::All) => true,
+            (Key::Vpd, Key::Vpd) => true,
+            (Key::Based(ours), Key::Based(others)) => *ours == *others,
+            _ => false,
+        }
     }
 }

@@ -23,22 +23,19 @@ pub fn arch_byte(arch: Arch) -> u8
 }
 
 /// The order of numbers by their four bytes, the lowest first.
-#[tactic(auto, using(crate::proofs::NumberLemmas::numbers_by_bytes))]
+#[tactic(auto, using(crate::proofs::NumberLemmas::numbers_swapped))]
 pub fn number_cmp(ours: u32, other: u32) -> Ordering
     ensures { result ≡ number_cmp ours other }
 {
-    ours.to_le_bytes()
-        .as_slice()
-        .cmp(other.to_le_bytes().as_slice())
+    ours.swap_bytes().cmp(&other.swap_bytes())
 }
 
 // The order of lengths by their eight bytes, the lowest first.
+#[tactic(auto, using(crate::proofs::NumberLemmas::lengths_swapped))]
 fn length_cmp(ours: u64, other: u64) -> Ordering
     ensures { result ≡ text_cmp (to_le_bytes w64 ours) (to_le_bytes w64 other) }
 {
-    ours.to_le_bytes()
-        .as_slice()
-        .cmp(other.to_le_bytes().as_slice())
+    ours.swap_bytes().cmp(&other.swap_bytes())
 }
 
 /// The order of paths by the eight bytes of their lengths, the lowest first, and then by their
@@ -47,5 +44,8 @@ fn length_cmp(ours: u64, other: u64) -> Ordering
 pub fn path_cmp(ours: &[u8], other: &[u8]) -> Ordering
     ensures { result ≡ path_cmp ours.now other.now }
 {
-    length_cmp(ours.len() as u64, other.len() as u64).then(ours.cmp(other))
+    match length_cmp(ours.len() as u64, other.len() as u64) {
+        Ordering::Equal => ours.cmp(other),
+        differing => differing,
+    }
 }

@@ -22,8 +22,8 @@ pub struct Output {
     pub part: u8,
 }
 
-/// What a step gives, by the kind of its key. What many steps read is shared. `PlatformPcds` gives `Values` too, and `Based`
-/// gives a `Volume`.
+/// What a step gives, by the kind of its key. What many steps read is shared. `PlatformPcds` gives
+/// `Values` too, and `Based` gives a `Volume`.
 #[derive(Debug, Drop)]
 pub enum Out {
     Dec(Shared<DecDoc>),
