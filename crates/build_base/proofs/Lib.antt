@@ -6,6 +6,7 @@ pub mod MemoryTreeLemmas
 pub mod Places
 pub mod PieceLemmas
 pub mod Least
+pub mod BestLemmas
 pub mod AnswerLemmas
 pub mod FirstLemmas
 pub mod OptionLemmas

@@ -6,7 +6,8 @@ unfoldable pub named : List (ℕ × List ℕ) → ℕ → Option (List ℕ)
 named [] code = None
 named (entry ∷ entries) code = if entry.0 == code then Some entry.1 else named entries code
 
--- by hundreds: texts and documents, the four formats, choices, PCDs, dependency expressions, images, devices
+-- by hundreds: texts and documents, the four formats, choices, PCDs, dependency expressions,
+-- images, devices
 abbrev pub names : List (ℕ × List ℕ)
 names =
     (101, codes "BadPath") ∷ (102, codes "FileTooLong") ∷ (103, codes "FileAbsent") ∷

@@ -11,5 +11,6 @@ fault_of code place detail = record { code = code; place = place; detail = detai
 -- `PATH(LINE): error CODE: NAME: DETAIL` and a line feed
 unfoldable pub fault_text : Fault → List ℕ
 fault_text fault =
-    fault.place.path ++ codes "(" ++ decimal fault.place.line ++ codes "): error " ++ decimal fault.code ++ codes ": "
+    fault.place.path ++ codes "(" ++ decimal fault.place.line ++ codes "): error "
+    ++ decimal fault.code ++ codes ": "
     ++ unwrap_or (fault_name fault.code) [] ++ codes ": " ++ fault.detail ++ codes "\n"

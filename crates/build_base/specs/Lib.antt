@@ -12,6 +12,7 @@ pub mod SinkState
 pub mod FaultNames
 pub mod Pieces
 pub mod Least
+pub mod Best
 pub mod World
 pub mod GivesPiece
 pub mod Runs

@@ -16,7 +16,10 @@ target_of KindErr path = ToErr
 
 -- the emission that a note stands for, in the bytes kept
 abbrev pub seen : List ℕ → Note → Emission
-seen bytes note = (target_of note.kind (take note.path (drop note.start bytes)), take note.bytes (drop (note.start + note.path) bytes))
+seen bytes note = (
+  target_of note.kind (take note.path (drop note.start bytes)),
+  take note.bytes (drop (note.start + note.path) bytes),
+)
 
 -- an emission as it is shown
 abbrev pub seen_emission : Seen → Emission
@@ -29,4 +32,5 @@ all_seen bytes (note ∷ notes) = seen bytes note ∷ all_seen bytes notes
 -- each note stands within the bytes kept
 abbrev pub IsKept : List ℕ → List Note → Type 0
 IsKept bytes [] = Unit {0}
-IsKept bytes (note ∷ notes) = (note.start + note.path + note.bytes ≤ length bytes) × IsKept bytes notes
+IsKept bytes (note ∷ notes) = (note.start + note.path + note.bytes ≤ length bytes)
+    × IsKept bytes notes

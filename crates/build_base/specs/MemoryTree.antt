@@ -9,7 +9,8 @@ use Rattle.build_base.specs.declared.outside.TreeFailed.TheVariants.{Failed, Wan
 -- what the first entry of a path holds
 abbrev pub file_at : List Held → List ℕ → Option (List ℕ)
 file_at [] path = None
-file_at (entry ∷ entries) path = if pointwise nat_eq entry.path path then Some entry.bytes else file_at entries path
+file_at (entry ∷ entries) path = if pointwise nat_eq entry.path path then Some entry.bytes
+    else file_at entries path
 
 -- the files with another one at a path
 abbrev pub with_file : (List ℕ → Option (List ℕ)) → List ℕ → List ℕ → List ℕ → Option (List ℕ)

@@ -52,9 +52,11 @@ Grew old (Some now) more = (before : List Emission) × (old ≡ Some before) × 
 
 -- it grew by one emission that a failure cut short
 abbrev pub GrewCut : Option (List Emission) → Option (List Emission) → Target → List ℕ → Type 0
-GrewCut old new target bytes = (kept : List ℕ) × (rest : List ℕ) × (bytes ≡ kept ++ rest) × Grew old new ((target, kept) ∷ [])
+GrewCut old new target bytes = (kept : List ℕ) × (rest : List ℕ) × (bytes ≡ kept ++ rest)
+    × Grew old new ((target, kept) ∷ [])
 
 -- what an emission does to what is written
-abbrev pub Emits : {E : Type 0} → Option (List Emission) → Option (List Emission) → Target → List ℕ → Result (Unit {0}) E → Type 0
+abbrev pub Emits : {E : Type 0} → Option (List Emission) → Option (List Emission) → Target → List ℕ
+    → Result (Unit {0}) E → Type 0
 Emits old new target bytes (Ok x) = Grew old new ((target, bytes) ∷ [])
 Emits old new target bytes (Err e) = GrewCut old new target bytes

@@ -8,7 +8,8 @@ is_between low high byte = nat_le low byte && nat_le byte high
 -- letters, digits, `_`, `-`, `+`, `.`
 unfoldable pub is_path_byte : ℕ → Bool
 is_path_byte byte =
-    is_between 97 122 byte || is_between 65 90 byte || is_between 48 57 byte || byte == 95 || byte == 45 || byte == 43 || byte == 46
+    is_between 97 122 byte || is_between 65 90 byte || is_between 48 57 byte || byte == 95
+    || byte == 45 || byte == 43 || byte == 46
 
 -- nothing, `.` or `..`
 unfoldable pub is_dots : List ℕ → Bool
@@ -38,4 +39,5 @@ folder_size path = length path - suffix_len (λ byte. not (byte == 47)) path
 
 -- the folder of a file, where it isn't the root
 abbrev pub folder_of : List ℕ → Option (List ℕ)
-folder_of path = if nat_lt 0 (folder_size path) then Some (take (folder_size path - 1) path) else None
+folder_of path = if nat_lt 0 (folder_size path) then Some (take (folder_size path - 1) path)
+    else None

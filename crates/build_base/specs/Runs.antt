@@ -1,4 +1,5 @@
--- Images as runs. The rule is this project's own; an erased byte is that of the erase polarity (UEFI PI specification, volume 3, section 3.2.1).
+-- Images as runs. The rule is this project's own; an erased byte is that of the erase polarity
+-- (UEFI PI specification, volume 3, section 3.2.1).
 use Rattle.std.specs.Prelude.{ℕ, ◌+◌, ◌==◌, ◌||◌, ◌&&◌, Bool, true, if◌then◌else◌, List, [], ◌∷◌, ◌++◌, length, replicate}
 use Rattle.build_base.specs.declared.run.Run.{Run}
 use Rattle.build_base.specs.declared.run.Run.TheVariants.{Fill, Bytes}
@@ -37,7 +38,8 @@ unfoldable pub are_blank : List Run → Bool
 are_blank [] = true
 are_blank (run ∷ runs) = is_blank run && are_blank runs
 
--- what is written so far, of which so many bytes stand in runs of bytes, over flash whose erased byte is this
+-- what is written so far, of which so many bytes stand in runs of bytes, over flash whose erased
+-- byte is this
 pub record Written : Type 0 where
   pub bytes : List ℕ
   pub kept : ℕ

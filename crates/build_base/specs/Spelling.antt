@@ -30,20 +30,25 @@ SpellsOne (text target bytes) emissions = emissions ≡ (target, bytes) ∷ []
 abbrev pub Spells : List Output → List Emission → Type 0
 Spells [] emissions = emissions ≡ []
 Spells (output ∷ outputs) emissions =
-    (front : List Emission) × (back : List Emission) × (emissions ≡ front ++ back) × SpellsOne output front × Spells outputs back
+    (front : List Emission) × (back : List Emission) × (emissions ≡ front ++ back)
+    × SpellsOne output front × Spells outputs back
 
 -- What is told grew by a spelling of these outputs.
 abbrev pub Spelled : Option (List Emission) → Option (List Emission) → List Output → Type 0
-Spelled old new outputs = (emissions : List Emission) × Spells outputs emissions × Grew old new emissions
+Spelled old new outputs = (emissions : List Emission) × Spells outputs emissions
+    × Grew old new emissions
 
 -- What is told grew by one file in pieces.
 abbrev pub SpelledFile : Option (List Emission) → Option (List Emission) → List ℕ → List ℕ → Type 0
-SpelledFile old new path bytes = (emissions : List Emission) × SpellsFile path bytes emissions × Grew old new emissions
+SpelledFile old new path bytes = (emissions : List Emission) × SpellsFile path bytes emissions
+    × Grew old new emissions
 
 -- an output that may have lost its end
 abbrev pub IsCut : Output → Output → Type 0
-IsCut (file path bytes) (file cut_path kept) = (cut_path ≡ path) × ((rest : List ℕ) × (bytes ≡ kept ++ rest))
-IsCut (text target bytes) (text cut_target kept) = (cut_target ≡ target) × ((rest : List ℕ) × (bytes ≡ kept ++ rest))
+IsCut (file path bytes) (file cut_path kept) = (cut_path ≡ path)
+    × ((rest : List ℕ) × (bytes ≡ kept ++ rest))
+IsCut (text target bytes) (text cut_target kept) = (cut_target ≡ target)
+    × ((rest : List ℕ) × (bytes ≡ kept ++ rest))
 IsCut _ _ = ⊥
 
 -- a prefix of the outputs, whose last may have lost its end
@@ -52,17 +57,22 @@ SpellsCut [] emissions = emissions ≡ []
 SpellsCut (output ∷ outputs) emissions =
     (emissions ≡ [])
     ⊎ ((cut : Output) × IsCut output cut × SpellsOne cut emissions)
-    ⊎ ((front : List Emission) × (back : List Emission) × (emissions ≡ front ++ back) × SpellsOne output front × SpellsCut outputs back)
+    ⊎ ((front : List Emission) × (back : List Emission) × (emissions ≡ front ++ back)
+    × SpellsOne output front × SpellsCut outputs back)
 
 abbrev pub SpelledCut : Option (List Emission) → Option (List Emission) → List Output → Type 0
-SpelledCut old new outputs = (emissions : List Emission) × SpellsCut outputs emissions × Grew old new emissions
+SpelledCut old new outputs = (emissions : List Emission) × SpellsCut outputs emissions
+    × Grew old new emissions
 
 -- what a write of outputs does
-abbrev pub Writes : {E : Type 0} → Option (List Emission) → Option (List Emission) → List Output → Result (Unit {0}) E → Type 0
+abbrev pub Writes : {E : Type 0} → Option (List Emission) → Option (List Emission) → List Output
+    → Result (Unit {0}) E → Type 0
 Writes old new outputs (Ok x) = Spelled old new outputs
 Writes old new outputs (Err e) = SpelledCut old new outputs
 
 -- what a write of one file in pieces does
-abbrev pub WritesFile : {E : Type 0} → Option (List Emission) → Option (List Emission) → List ℕ → List ℕ → Result (Unit {0}) E → Type 0
+abbrev pub WritesFile : {E : Type 0} → Option (List Emission) → Option (List Emission) → List ℕ
+    → List ℕ → Result (Unit {0}) E → Type 0
 WritesFile old new path bytes (Ok x) = SpelledFile old new path bytes
-WritesFile old new path bytes (Err e) = (kept : List ℕ) × (rest : List ℕ) × (bytes ≡ kept ++ rest) × SpelledFile old new path kept
+WritesFile old new path bytes (Err e) = (kept : List ℕ) × (rest : List ℕ) × (bytes ≡ kept ++ rest)
+    × SpelledFile old new path kept

@@ -1,4 +1,5 @@
-//! The files of the disk and the standard streams, to be written. It tells nothing of what was written.
+//! The files of the disk and the standard streams, to be written. It tells nothing of what was
+//! written.
 ghost use Rattle.std.specs.Prelude.{◌≡◌, None};
 
 use crate::outside::{Sink, SinkFailed, Target};
@@ -32,17 +33,23 @@ fn folder_of(path: &[u8]) -> &[u8] {
     }
 }
 
+// An empty file of a name, in the folder, which is made where it is missing.
+fn create_in<R: Runtime + AllocGlobal>(rt: &R, folder: &str, name: &str) -> io::Result<R::File> {
+    match fs::create(rt, name) {
+        Err(error) if error.kind() == ErrorKind::NotFound && !folder.is_empty() => {
+            fs::create_dir_all(rt, folder)?;
+            fs::create(rt, name)
+        }
+        made => made,
+    }
+}
+
 fn start_file<R: Runtime + AllocGlobal>(rt: &R, path: &Path, bytes: &[u8]) -> io::Result<()> {
     match (
         str::from_utf8(folder_of(path.bytes())),
         str::from_utf8(path.bytes()),
     ) {
-        (Ok(folder), Ok(name)) => {
-            if !folder.is_empty() {
-                fs::create_dir_all(rt, folder)?;
-            }
-            fs::create(rt, name)?.write_all(bytes)
-        }
+        (Ok(folder), Ok(name)) => create_in(rt, folder, name)?.write_all(bytes),
         _ => Err(ErrorKind::NotFound.into()),
     }
 }

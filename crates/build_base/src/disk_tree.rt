@@ -8,8 +8,8 @@ use std::io::{self, ErrorKind, Read};
 use std::rt::Runtime;
 use std::{fs, str};
 
-/// Reads below the current folder. What is no regular file (a folder, a pipe, a device) is `Absent` and is never
-/// opened; so is a missing file or folder, and a name that the system can't have.
+/// Reads below the current folder. What is no regular file (a folder, a pipe, a device) is `Absent`
+/// and is never opened; so is a missing file or folder, and a name that the system can't have.
 #[derive(Drop)]
 pub struct DiskTree<R: Runtime + AllocGlobal> {
     rt: R,
@@ -25,7 +25,7 @@ impl<R: Runtime + AllocGlobal> DiskTree<R> {
     }
 }
 
-const BLOCK: usize = 65536;
+const BLOCK: usize = 16384;
 
 // All bytes of a reader, or more than the limit of them.
 fn read_bytes<R: Read + Drop>(bytes: &mut Vec<u8>, reader: &mut R, limit: usize) -> io::Result<()> {
@@ -48,11 +48,13 @@ fn read_file<R: Runtime + AllocGlobal>(rt: &R, path: &Path, limit: u64) -> io::R
         Ok(name) => name,
         Err(_) => return Err(ErrorKind::NotFound.into()),
     };
-    if !fs::metadata(rt, name)?.is_file() {
+    let found = fs::metadata(rt, name)?;
+    if !found.is_file() {
         return Err(ErrorKind::NotFound.into());
     }
     let mut file = fs::open(rt, name)?;
     let mut bytes = Vec::new(rt.alloc());
+    bytes.reserve(found.len().min(limit) as usize)?;
     read_bytes(&mut bytes, &mut file, limit as usize)?;
     Ok(bytes)
 }

@@ -4,7 +4,8 @@ ghost use Rattle.build_base.specs.Guid.{guid_of};
 
 use uuid::Uuid;
 
-/// Sixteen bytes: u32, u16 and u16 little-endian, then eight bytes (UEFI specification, appendix A).
+/// Sixteen bytes: u32, u16 and u16 little-endian, then eight bytes (UEFI specification, appendix
+/// A).
 #[derive(Clone, Copy, Debug, PartialEq, Eq)]
 pub struct Guid(pub [u8; 16]);
 

@@ -11,7 +11,8 @@ use crate::text::WantOfMemory;
 use std::alloc::Global;
 use std::marker::Model;
 
-/// The bytes of a volume or of a device. Two images are the same where their bytes are, whatever their runs.
+/// The bytes of a volume or of a device. Two images are the same where their bytes are, whatever
+/// their runs.
 #[derive(Debug, Drop)]
 pub struct Image {
     runs: Rows<Run>,

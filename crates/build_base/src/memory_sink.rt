@@ -80,7 +80,17 @@ impl Model for MemorySink {
 impl MemorySink {
     /// A sink with this room, whose memory is taken here.
     pub fn new(alloc: Global, room: Room, fails: Rows<SinkFail>) -> Result<MemorySink, WantOfMemory>
-        ensures { IfOk result (λ s. s ≡ record { kept = []; written = Some []; faults = 0; calls_left = room.calls; bytes_left = room.bytes; fails = fails; calls = 0 }) }
+        ensures { IfOk result
+            (λ s. s
+            ≡ record {
+              kept = [];
+              written = Some [];
+              faults = 0;
+              calls_left = room.calls;
+              bytes_left = room.bytes;
+              fails = fails;
+              calls = 0;
+            }) }
     {
         let notes = Vec::with_capacity(alloc, room.calls as usize)?;
         let store = Vec::with_capacity(alloc, room.bytes as usize)?;
@@ -121,7 +131,8 @@ fn path_of(target: &Target) -> &[u8]
 fn put(store: &mut Vec<u8>, path: &[u8], bytes: &[u8])
     requires { vec_len store.old + length path.now + length bytes.now ≤ vec_capacity store.old }
     ensures items { store.new.items ≡ (store.old.items ++ path.now) ++ bytes.now }
-    ensures room { vec_capacity store.old - vec_len store.old ≤ vec_capacity store.new - vec_len store.new + (length path.now + length bytes.now) }
+    ensures room { vec_capacity store.old - vec_len store.old
+        ≤ vec_capacity store.new - vec_len store.new + (length path.now + length bytes.now) }
 {
     let _ = store.extend_from_slice(path);
     let _ = store.extend_from_slice(bytes);
@@ -131,11 +142,16 @@ fn put(store: &mut Vec<u8>, path: &[u8], bytes: &[u8])
 #[tactic(auto, using(crate::proofs::MemorySinkLemmas::kept_one, crate::proofs::MemorySinkLemmas::kept_one_still))]
 fn keep(notes: &mut Vec<Note>, store: &mut Vec<u8>, kind: Kind, path: &[u8], bytes: &[u8]) -> bool
     requires { IsKept store.old.items notes.old.items }
-    ensures kept { OnTrue result (all_seen store.new.items notes.new.items ≡ all_seen store.old.items notes.old.items ++ (target_of kind path.now, bytes.now) ∷ []) }
+    ensures kept { OnTrue result
+        (all_seen store.new.items notes.new.items ≡ all_seen store.old.items notes.old.items
+        ++ (target_of kind path.now, bytes.now) ∷ []) }
     ensures still { IsKept store.new.items notes.new.items }
-    ensures calls { vec_capacity notes.old - vec_len notes.old ≤ vec_capacity notes.new - vec_len notes.new + 1 }
-    ensures room { vec_capacity store.old - vec_len store.old ≤ vec_capacity store.new - vec_len store.new + (length path.now + length bytes.now) }
-    ensures refused { OnFalse result ((vec_capacity notes.old ≤ vec_len notes.old) ⊎ (vec_capacity store.old < vec_len store.old + length path.now + length bytes.now)) }
+    ensures calls { vec_capacity notes.old - vec_len notes.old
+        ≤ vec_capacity notes.new - vec_len notes.new + 1 }
+    ensures room { vec_capacity store.old - vec_len store.old
+        ≤ vec_capacity store.new - vec_len store.new + (length path.now + length bytes.now) }
+    ensures refused { OnFalse result ((vec_capacity notes.old ≤ vec_len notes.old)
+        ⊎ (vec_capacity store.old < vec_len store.old + length path.now + length bytes.now)) }
 {
     let start = store.len();
     let room = store.capacity() - start;
@@ -248,7 +264,8 @@ impl Sink for MemorySink {
         ensures told { TakesRoom self.old self.new target.now bytes.now }
         ensures calls { self.new.calls ≡ next_call self.old.calls }
         ensures fails { self.new.fails ≡ self.old.fails }
-        ensures writes { Writes (kept_at self.old.fails (next_call self.old.calls)) self.old.written self.new.written target.now bytes.now result }
+        ensures writes { Writes (kept_at self.old.fails (next_call self.old.calls)) self.old.written
+            self.new.written target.now bytes.now result }
     {
         self.calls = self.calls.saturating_add(1);
         match kept_at(self.fails.items(), self.calls) {

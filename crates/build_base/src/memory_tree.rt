@@ -57,9 +57,12 @@ impl MemoryTree {
     pub fn put(&mut self, path: Path, bytes: Text) -> Result<(), WantOfMemory>
         ensures ok { OnOk result (IfSome (⟦<MemoryTree as Tree>⟧.held self.old) (λ files.
             ⟦<MemoryTree as Tree>⟧.held self.new ≡ Some (with_file files path bytes))) }
-        ensures err { OnErr result (⟦<MemoryTree as Tree>⟧.held self.new ≡ ⟦<MemoryTree as Tree>⟧.held self.old) }
-        ensures reads { ⟦<MemoryTree as Tree>⟧.reads self.new ≡ ⟦<MemoryTree as Tree>⟧.reads self.old }
-        ensures faults { ⟦<MemoryTree as Tree>⟧.faults self.new ≡ ⟦<MemoryTree as Tree>⟧.faults self.old }
+        ensures err { OnErr result (⟦<MemoryTree as Tree>⟧.held self.new
+            ≡ ⟦<MemoryTree as Tree>⟧.held self.old) }
+        ensures reads { ⟦<MemoryTree as Tree>⟧.reads self.new
+            ≡ ⟦<MemoryTree as Tree>⟧.reads self.old }
+        ensures faults { ⟦<MemoryTree as Tree>⟧.faults self.new
+            ≡ ⟦<MemoryTree as Tree>⟧.faults self.old }
         ensures fails { self.new.fails ≡ self.old.fails }
         ensures calls { self.new.calls ≡ self.old.calls }
     {
@@ -70,8 +73,10 @@ impl MemoryTree {
     pub fn drop_file(&mut self, path: &Path)
         ensures held { IfSome (⟦<MemoryTree as Tree>⟧.held self.old) (λ files.
             ⟦<MemoryTree as Tree>⟧.held self.new ≡ Some (without_file files path.now)) }
-        ensures reads { ⟦<MemoryTree as Tree>⟧.reads self.new ≡ ⟦<MemoryTree as Tree>⟧.reads self.old }
-        ensures faults { ⟦<MemoryTree as Tree>⟧.faults self.new ≡ ⟦<MemoryTree as Tree>⟧.faults self.old }
+        ensures reads { ⟦<MemoryTree as Tree>⟧.reads self.new
+            ≡ ⟦<MemoryTree as Tree>⟧.reads self.old }
+        ensures faults { ⟦<MemoryTree as Tree>⟧.faults self.new
+            ≡ ⟦<MemoryTree as Tree>⟧.faults self.old }
         ensures fails { self.new.fails ≡ self.old.fails }
         ensures calls { self.new.calls ≡ self.old.calls }
     {

@@ -57,9 +57,11 @@ pub trait Tree {
     /// Reads a file of at most `limit` bytes.
     fn read(&mut self, path: &Path, limit: u64) -> Result<Got, TreeFailed>
         ensures held { held self.new ≡ held self.old }
-        ensures got { IfOk result (λ g. IfSome (held self.old) (λ files. g ≡ got_of limit (files path.now))) }
+        ensures got { IfOk result
+            (λ g. IfSome (held self.old) (λ files. g ≡ got_of limit (files path.now))) }
         ensures within { IfOk result (IsWithin limit) }
-        ensures reads_ok { OnOk result (reads self.new ≡ option_map (λ paths. paths ++ path.now ∷ []) (reads self.old)) }
+        ensures reads_ok { OnOk result
+            (reads self.new ≡ option_map (λ paths. paths ++ path.now ∷ []) (reads self.old)) }
         ensures reads_err { OnErr result (reads self.new ≡ reads self.old) }
         ensures cause { TreeCause (faults self.old) (faults self.new) result };
 }

@@ -119,7 +119,8 @@ impl Path {
 
     /// The path that a text is, of any length.
     pub fn of_text(text: Text) -> Option<Path>
-        ensures { MatchOption result (is_path text ≡ false) (λ p. (p ≡ text) × (is_path text ≡ true)) }
+        ensures { MatchOption result (is_path text ≡ false)
+            (λ p. (p ≡ text) × (is_path text ≡ true)) }
     {
         if is_path(text.bytes()) {
             Some(Path { text })
@@ -220,7 +221,8 @@ impl Eq for Path {
 impl PartialOrd for Path {
     ghost partial_cmp = { as_partial_cmp (slice_cmp nat_cmp) };
 
-    ghost laws = { partial_order_from_own_ties (Prim.search (comparing, rules)) (Prim.search (comparing, rules)) };
+    ghost laws = { partial_order_from_own_ties (Prim.search (comparing, rules))
+        (Prim.search (comparing, rules)) };
 
     fn partial_cmp(&self, other: &Path) -> Option<Ordering> {
         Some(self.cmp(other))

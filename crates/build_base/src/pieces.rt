@@ -109,8 +109,8 @@ fn first_of<'a>(runs: &'a [Run]) -> (Front<'a>, &'a [Run])
     (Front::none(), &runs[runs.len()..])
 }
 
-/// An iterator over the pieces of an image, each of 1 to 65,536 bytes, seen by contracts as the bytes
-/// that are left.
+/// An iterator over the pieces of an image, each of 1 to 65,536 bytes, seen by contracts as the
+/// bytes that are left.
 #[derive(Drop)]
 pub struct Pieces<'a> {
     front: Front<'a>,

@@ -24,9 +24,11 @@ impl Model for RunWriter {
 
     ghost Value = { Written };
 
-    ghost view = { λ w. record { bytes = runs_bytes w.runs; kept = kept_bytes w.runs; free = w.free } };
+    ghost view = { λ w.
+        record { bytes = runs_bytes w.runs; kept = kept_bytes w.runs; free = w.free } };
 
-    ghost invariant = { λ w. (w.size ≡ length (runs_bytes w.runs)) × (are_blank w.runs ≡ true) × (is_free w.free ≡ true) };
+    ghost invariant = { λ w. (w.size ≡ length (runs_bytes w.runs)) × (are_blank w.runs ≡ true)
+        × (is_free w.free ≡ true) };
 }
 
 impl RunWriter {
@@ -67,7 +69,8 @@ impl RunWriter {
 
     /// Writes so many bytes of erased flash.
     pub fn fill(&mut self, count: u64) -> Result<(), WantOfMemory>
-        ensures bytes { OnOk result (self.new.bytes ≡ self.old.bytes ++ replicate count self.old.free) }
+        ensures bytes { OnOk result (self.new.bytes
+            ≡ self.old.bytes ++ replicate count self.old.free) }
         ensures kept { OnOk result (self.new.kept ≡ self.old.kept) }
         ensures free { OnOk result (self.new.free ≡ self.old.free) }
     {
@@ -93,7 +96,9 @@ impl RunWriter {
     /// Writes the free space before a place, and the bytes that stand there.
     pub fn put_at(&mut self, start: u64, bytes: Text) -> Result<(), WantOfMemory>
         requires { length self.old.bytes ≤ start }
-        ensures bytes { OnOk result (self.new.bytes ≡ (self.old.bytes ++ replicate (start - length self.old.bytes) self.old.free) ++ bytes) }
+        ensures bytes { OnOk result (self.new.bytes
+            ≡ (self.old.bytes ++ replicate (start - length self.old.bytes) self.old.free)
+            ++ bytes) }
         ensures kept { OnOk result (self.new.kept ≡ self.old.kept + length bytes) }
         ensures free { OnOk result (self.new.free ≡ self.old.free) }
     {

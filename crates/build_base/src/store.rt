@@ -12,7 +12,8 @@ pub(crate) enum Store {
     Shared(Arc<Vec<u8>, Global>),
 }
 
-// Written out, so that a caller that lets a text go has one call here and not a case for each variant.
+// Written out, so that a caller that lets a text go has one call here and not a case for each
+// variant.
 impl Drop for Store {
     fn drop(self) {
         match self {

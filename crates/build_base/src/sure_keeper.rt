@@ -95,7 +95,8 @@ impl Keeper for SureKeeper {
         ensures kept { Stores self.old.kept self.new.kept bytes.now result }
         ensures cause { KeeperCause 0 0 result }
         ensures room { ¬ (result ≡ Err KeeperFailed.WantOfMemory) }
-        ensures told { IsSome self.old.kept → length bytes.now ≤ self.old.room → IsSome self.new.kept }
+        ensures told { IsSome self.old.kept → length bytes.now ≤ self.old.room
+            → IsSome self.new.kept }
         ensures room_stays { self.old.room ≤ self.new.room }
     {
         if bytes.len() <= self.store.capacity() {

@@ -20,7 +20,8 @@ impl From<AllocError> for WantOfMemory {
     }
 }
 
-/// A text of any bytes. The copies of one that is shared hold the same bytes and take no memory for them.
+/// A text of any bytes. The copies of one that is shared hold the same bytes and take no memory for
+/// them.
 #[derive(Debug, Drop)]
 pub struct Text {
     store: Store,

@@ -7,7 +7,8 @@ use Rattle.cache_keepers.specs.declared.memory_keeper.KeeperFail.{KeeperFail}
 use Rattle.cache_keepers.specs.declared.memory_keeper.Left.{Left}
 use Rattle.cache_keepers.specs.declared.memory_keeper.Left.TheVariants.{Old, Nothing, Prefix}
 
--- what is kept, where it is told, the bytes that there is room for, the count of faults, the calls that are to fail, and how many there were
+-- what is kept, where it is told, the bytes that there is room for, the count of faults, the calls
+-- that are to fail, and how many there were
 pub record MemoryKeeperState : Type 0 where
   pub kept : Option (Option (List ℕ))
   pub room : ℕ
@@ -29,7 +30,8 @@ after_store (Some (Prefix count)) before bytes = Some (take count bytes)
 
 -- it is told for as long as no store is given more bytes than there is room for
 abbrev pub stored : Option Left → Option (Option (List ℕ)) → ℕ → List ℕ → Option (Option (List ℕ))
-stored left kept room bytes = if nat_le (length bytes) room then option_map (λ before. after_store left before bytes) kept else None
+stored left kept room bytes = if nat_le (length bytes) room
+    then option_map (λ before. after_store left before bytes) kept else None
 
 -- A call fails exactly where it is to fail.
 abbrev pub FailsWhere : {T : Type 0} → Option Left → Result T KeeperFailed → Type 0

@@ -6,11 +6,11 @@ use std::fs;
 use std::io::{self, ErrorKind, Read, Write};
 use std::rt::Runtime;
 
-/// Keeps its text in `.edk_steps` in the current folder. What is no regular file there keeps nothing, and is
-/// never opened.
+/// Keeps its text in `.edk_steps` in the current folder. What is no regular file there keeps
+/// nothing, and is never opened.
 ///
-/// A store empties the file and writes it from its front on, so that what is cut, also by the end of the
-/// process, leaves the old bytes or a prefix of the new.
+/// A store empties the file and writes it from its front on, so that what is cut, also by the end
+/// of the process, leaves the old bytes or a prefix of the new.
 #[derive(Drop)]
 pub struct DiskKeeper<R: Runtime + AllocGlobal> {
     rt: R,
@@ -47,11 +47,13 @@ fn read_bytes<R: Read + Drop>(bytes: &mut Vec<u8>, reader: &mut R) -> io::Result
 }
 
 fn read_file<R: Runtime + AllocGlobal>(rt: &R) -> io::Result<Vec<u8>> {
-    if !fs::metadata(rt, NAME)?.is_file() {
+    let found = fs::metadata(rt, NAME)?;
+    if !found.is_file() {
         return Err(ErrorKind::NotFound.into());
     }
     let mut file = fs::open(rt, NAME)?;
     let mut bytes = Vec::new(rt.alloc());
+    bytes.reserve(found.len().min(LIMIT as u64) as usize)?;
     read_bytes(&mut bytes, &mut file)?;
     Ok(bytes)
 }

@@ -19,15 +19,16 @@ pub enum Left {
     Prefix(u64),
 }
 
-/// A call that fails, counted from 1, and what it leaves if it is a store. A load leaves all as it is.
+/// A call that fails, counted from 1, and what it leaves if it is a store. A load leaves all as it
+/// is.
 #[derive(Clone, Copy, Debug)]
 pub struct KeeperFail {
     pub call: u64,
     pub left: Left,
 }
 
-/// Keeps one text of up to a number of bytes, for which its memory is taken at the start. It tells what
-/// it keeps until it is given a longer one.
+/// Keeps one text of up to a number of bytes, for which its memory is taken at the start. It tells
+/// what it keeps until it is given a longer one.
 #[derive(Drop)]
 pub struct MemoryKeeper {
     keeper: SureKeeper,
@@ -64,7 +65,9 @@ impl MemoryKeeper {
         room: u64,
         fails: Rows<KeeperFail>,
     ) -> Result<MemoryKeeper, WantOfMemory>
-        ensures { IfOk result (λ k. k ≡ record { kept = Some kept; room = room; faults = 0; fails = fails; calls = 0 }) }
+        ensures { IfOk result
+            (λ k. k
+            ≡ record { kept = Some kept; room = room; faults = 0; fails = fails; calls = 0 }) }
     {
         let keeper = SureKeeper::new(alloc, kept, room)?;
         Ok(MemoryKeeper {
@@ -88,7 +91,16 @@ impl MemoryKeeper {
     // Keeps all that it is given, where there is room.
     fn keep(&mut self, bytes: &[u8])
         requires { length bytes.now ≤ self.old.room }
-        ensures { self.new ≡ record { kept = option_map (λ there. Some bytes.now) self.old.kept; room = self.old.room; faults = self.old.faults; fails = self.old.fails; calls = self.old.calls } }
+        ensures { self.new
+            ≡ record {
+              kept = option_map (λ there. Some bytes.now) self.old.kept;
+              room =
+                  self.old.room;
+              faults = self.old.faults;
+              fails = self.old.fails;
+              calls =
+                  self.old.calls;
+            } }
     {
         if self.tells {
             let _ = self.keeper.store(bytes);
@@ -98,7 +110,16 @@ impl MemoryKeeper {
 
     // Keeps what a store leaves.
     fn change(&mut self, left: Option<Left>, bytes: &[u8])
-        ensures { self.new ≡ record { kept = stored left self.old.kept self.old.room bytes.now; room = self.old.room; faults = self.old.faults; fails = self.old.fails; calls = self.old.calls } }
+        ensures { self.new
+            ≡ record {
+              kept = stored left self.old.kept self.old.room bytes.now;
+              room =
+                  self.old.room;
+              faults = self.old.faults;
+              fails = self.old.fails;
+              calls =
+                  self.old.calls;
+            } }
     {
         if bytes.len() as u64 > self.room {
             self.tells = false;
@@ -162,7 +183,8 @@ impl Keeper for MemoryKeeper {
         ensures calls { self.new.calls ≡ next_call self.old.calls }
         ensures fails { self.new.fails ≡ self.old.fails }
         ensures failed { FailsWhere (left_at self.old.fails (next_call self.old.calls)) result }
-        ensures stored { self.new.kept ≡ stored (left_at self.old.fails (next_call self.old.calls)) self.old.kept self.old.room bytes.now }
+        ensures stored { self.new.kept ≡ stored (left_at self.old.fails (next_call self.old.calls))
+            self.old.kept self.old.room bytes.now }
     {
         self.calls = self.calls.saturating_add(1);
         let left = left_at(self.fails.items(), self.calls);

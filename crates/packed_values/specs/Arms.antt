@@ -31,9 +31,12 @@ abbrev pub arm_is_value : {A B : Type 0} → Form A → Arms B → A ⊎ B → B
 arm_is_value form more (inl x) = form.is_value x
 arm_is_value form more (inr y) = more.is_value y
 
-pub arm_unique : {A B : Type 0} (form : Form A) (more : Arms B) (x y : A ⊎ B) (r s : List ℕ) → arm_is_value form more x ≡ true → arm_is_value form more y ≡ true
-    → arm_tag more x ≡ arm_tag more y → arm_body form more x ++ r ≡ arm_body form more y ++ s → (x ≡ y) × (r ≡ s)
-arm_unique form more (inl x) (inl y) r s vx vy t e = let both = form.unique x y r s vx vy e in (ap inl both.0, both.1)
+pub arm_unique : {A B : Type 0} (form : Form A) (more : Arms B) (x y : A ⊎ B) (r s : List ℕ)
+    → arm_is_value form more x ≡ true → arm_is_value form more y ≡ true
+    → arm_tag more x ≡ arm_tag more y → arm_body form more x ++ r ≡ arm_body form more y ++ s
+    → (x ≡ y) × (r ≡ s)
+arm_unique form more (inl x) (inl y) r s vx vy t e = let both =
+    form.unique x y r s vx vy e in (ap inl both.0, both.1)
 arm_unique form more (inl x) (inr y) r s vx vy t e = cc
 arm_unique form more (inr x) (inl y) r s vx vy t e = cc
 arm_unique form more (inr x) (inr y) r s vx vy t e =
@@ -49,7 +52,8 @@ arm form more = record {
   unique = arm_unique form more;
 }
 
-pub tagged_unique : {A : Type 0} (arms : Arms A) (x y : A) (r s : List ℕ) → arms.is_value x ≡ true → arms.is_value y ≡ true
+pub tagged_unique : {A : Type 0} (arms : Arms A) (x y : A) (r s : List ℕ) → arms.is_value x ≡ true
+    → arms.is_value y ≡ true
     → arms.tag x ∷ arms.body x ++ r ≡ arms.tag y ∷ arms.body y ++ s → (x ≡ y) × (r ≡ s)
 tagged_unique arms x y r s vx vy e =
     let tags : arms.tag x ≡ arms.tag y = cc in

@@ -12,7 +12,8 @@ place_form = form_by (λ x. (x.path, x.line)) (λ p. record { path = p.0; line =
     (pair_form path_form (number_form 8))
 
 unfoldable pub fault_form : Form Fault
-fault_form = form_by (λ x. (x.code, (x.place, x.detail))) (λ p. record { code = p.0; place = p.1.0; detail = p.1.1 }) (λ x. refl)
+fault_form = form_by (λ x. (x.code, (x.place, x.detail)))
+    (λ p. record { code = p.0; place = p.1.0; detail = p.1.1 }) (λ x. refl)
     (pair_form (number_form 2) (pair_form place_form text_form))
 
 unfoldable pub macro_form : Form Macro

@@ -1,4 +1,5 @@
--- How the values of a type are spelled as bytes: the rule is this project's own. A spelling is one value's alone, and no other spelling begins with it.
+-- How the values of a type are spelled as bytes: the rule is this project's own. A spelling is one
+-- value's alone, and no other spelling begins with it.
 use Rattle.std.specs.Prelude.{◌≡◌, ◌++◌, ℕ, Bool, true, List, Option, Some, None}
 
 -- a spelling for each value; which members of the type are values; and that bytes begin with the
@@ -10,7 +11,8 @@ pub record Form (A : Type 0) : Type 0 where
       → spelling x ++ r ≡ spelling y ++ s → (x ≡ y) × (r ≡ s)
 
 -- `before` begins with the spelling of x, and `after` follows it
-pub record IsRead {A : Type 0} (form : Form A) (before : List ℕ) (x : A) (after : List ℕ) : Type 0 where
+pub record IsRead {A : Type 0} (form : Form A) (before : List ℕ) (x : A) (after : List ℕ)
+    : Type 0 where
   pub value : form.is_value x ≡ true
   pub bytes : before ≡ form.spelling x ++ after
 
@@ -18,7 +20,8 @@ pub record IsRead {A : Type 0} (form : Form A) (before : List ℕ) (x : A) (afte
 pub record IsUnread {A : Type 0} (form : Form A) (before : List ℕ) : Type 0 where
   pub none : (x : A) (rest : List ℕ) → form.is_value x ≡ true → before ≡ form.spelling x ++ rest → ⊥
 
--- the answer is the value whose spelling `before` begins with, and `after` follows it; none where there is none
+-- the answer is the value whose spelling `before` begins with, and `after` follows it; none where
+-- there is none
 abbrev pub Takes : {A : Type 0} → Form A → List ℕ → Option A → List ℕ → Type 0
 Takes form before (Some x) after = IsRead form before x after
 Takes form before None after = IsUnread form before

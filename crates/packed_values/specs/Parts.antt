@@ -11,20 +11,25 @@ and_right true b e = e
 and_right false b e = cc
 
 -- a type that is seen as another
-abbrev pub form_by : {A B : Type 0} (split : A → B) (join : B → A) → ((x : A) → join (split x) ≡ x) → Form B → Form A
+abbrev pub form_by : {A B : Type 0} (split : A → B) (join : B → A) → ((x : A) → join (split x) ≡ x)
+    → Form B → Form A
 form_by {A} {B} split join back form = record {
   spelling = λ x. form.spelling (split x);
   is_value = λ x. form.is_value (split x);
   unique = λ x y r s vx vy e.
-      let both = form.unique (split x) (split y) r s vx vy e in (sym (back x) ∙ ap join both.0 ∙ back y, both.1);
+      let both = form.unique (split x) (split y) r s vx vy e
+      in (sym (back x) ∙ ap join both.0 ∙ back y, both.1);
 }
 
 pub pair_unique : {A B : Type 0} (F : Form A) (G : Form B) (x y : A × B) (r s : List ℕ)
     → (F.is_value x.0 && G.is_value x.1) ≡ true → (F.is_value y.0 && G.is_value y.1) ≡ true
-    → (F.spelling x.0 ++ G.spelling x.1) ++ r ≡ (F.spelling y.0 ++ G.spelling y.1) ++ s → (x ≡ y) × (r ≡ s)
+    → (F.spelling x.0 ++ G.spelling x.1) ++ r ≡ (F.spelling y.0 ++ G.spelling y.1) ++ s → (x ≡ y)
+    × (r ≡ s)
 pair_unique {A} {B} F G x y r s vx vy e =
-    let first = F.unique x.0 y.0 (G.spelling x.1 ++ r) (G.spelling y.1 ++ s) (and_left _ _ vx) (and_left _ _ vy)
-    (sym (append_assoc (F.spelling x.0) (G.spelling x.1) r) ∙ e ∙ append_assoc (F.spelling y.0) (G.spelling y.1) s) in
+    let first = F.unique x.0 y.0 (G.spelling x.1 ++ r) (G.spelling y.1 ++ s) (and_left _ _ vx)
+    (and_left _ _ vy)
+    (sym (append_assoc (F.spelling x.0) (G.spelling x.1) r) ∙ e
+    ∙ append_assoc (F.spelling y.0) (G.spelling y.1) s) in
     let second = G.unique x.1 y.1 r s (and_right _ _ vx) (and_right _ _ vy) first.1 in
     let pair : A → B → A × B = λ a b. (a, b) in
     (ap₂ pair first.0 second.0, second.1)
@@ -44,7 +49,8 @@ abbrev pub option_is_value : {A : Type 0} → Form A → Option A → Bool
 option_is_value F None = true
 option_is_value F (Some x) = F.is_value x
 
-pub option_unique : {A : Type 0} (F : Form A) (x y : Option A) (r s : List ℕ) → option_is_value F x ≡ true → option_is_value F y ≡ true
+pub option_unique : {A : Type 0} (F : Form A) (x y : Option A) (r s : List ℕ)
+    → option_is_value F x ≡ true → option_is_value F y ≡ true
     → option_spelling F x ++ r ≡ option_spelling F y ++ s → (x ≡ y) × (r ≡ s)
 option_unique F None None r s vx vy e = (refl, cc)
 option_unique F (Some x) (Some y) r s vx vy e =
@@ -64,15 +70,19 @@ abbrev pub spellings : {A : Type 0} → Form A → List A → List ℕ
 spellings F [] = []
 spellings F (x ∷ xs) = F.spelling x ++ spellings F xs
 
-pub spellings_unique : {A : Type 0} (F : Form A) (xs ys : List A) (r s : List ℕ) → list_all F.is_value xs ≡ true → list_all F.is_value ys ≡ true
+pub spellings_unique : {A : Type 0} (F : Form A) (xs ys : List A) (r s : List ℕ)
+    → list_all F.is_value xs ≡ true → list_all F.is_value ys ≡ true
     → length xs ≡ length ys → spellings F xs ++ r ≡ spellings F ys ++ s → (xs ≡ ys) × (r ≡ s)
 spellings_unique F [] [] r s vx vy len e = (refl, e)
 spellings_unique F [] (y ∷ ys) r s vx vy len e = absurd (omega arith)
 spellings_unique F (x ∷ xs) [] r s vx vy len e = absurd (omega arith)
 spellings_unique {A} F (x ∷ xs) (y ∷ ys) r s vx vy len e =
-    let first = F.unique x y (spellings F xs ++ r) (spellings F ys ++ s) (and_left _ _ vx) (and_left _ _ vy)
-    (sym (append_assoc (F.spelling x) (spellings F xs) r) ∙ e ∙ append_assoc (F.spelling y) (spellings F ys) s) in
-    let more = spellings_unique F xs ys r s (and_right _ _ vx) (and_right _ _ vy) (omega arith) first.1 in
+    let first = F.unique x y (spellings F xs ++ r) (spellings F ys ++ s) (and_left _ _ vx)
+    (and_left _ _ vy)
+    (sym (append_assoc (F.spelling x) (spellings F xs) r) ∙ e
+    ∙ append_assoc (F.spelling y) (spellings F ys) s) in
+    let more = spellings_unique F xs ys r s (and_right _ _ vx) (and_right _ _ vy) (omega arith)
+    first.1 in
     let row : A → List A → List A = λ a b. a ∷ b in
     (ap₂ row first.0 more.0, more.1)
 
@@ -82,11 +92,14 @@ rows_spelling F xs = bytes_low_first 0 8 (length xs) ++ spellings F xs
 abbrev pub rows_are_values : {A : Type 0} → Form A → List A → Bool
 rows_are_values F xs = nat_lt (length xs) (256 ^ 8) && list_all F.is_value xs
 
-pub rows_unique : {A : Type 0} (F : Form A) (xs ys : List A) (r s : List ℕ) → rows_are_values F xs ≡ true → rows_are_values F ys ≡ true
+pub rows_unique : {A : Type 0} (F : Form A) (xs ys : List A) (r s : List ℕ)
+    → rows_are_values F xs ≡ true → rows_are_values F ys ≡ true
     → rows_spelling F xs ++ r ≡ rows_spelling F ys ++ s → (xs ≡ ys) × (r ≡ s)
 rows_unique F xs ys r s vx vy e =
-    let count = number_unique 8 (length xs) (length ys) (spellings F xs ++ r) (spellings F ys ++ s) (and_left _ _ vx) (and_left _ _ vy)
-    (sym (append_assoc (bytes_low_first 0 8 (length xs)) (spellings F xs) r) ∙ e ∙ append_assoc (bytes_low_first 0 8 (length ys)) (spellings F ys) s) in
+    let count = number_unique 8 (length xs) (length ys) (spellings F xs ++ r) (spellings F ys ++ s)
+    (and_left _ _ vx) (and_left _ _ vy)
+    (sym (append_assoc (bytes_low_first 0 8 (length xs)) (spellings F xs) r) ∙ e
+    ∙ append_assoc (bytes_low_first 0 8 (length ys)) (spellings F ys) s) in
     spellings_unique F xs ys r s (and_right _ _ vx) (and_right _ _ vy) count.0 count.1
 
 unfoldable pub rows_form : {A : Type 0} → Form A → Form (List A)

@@ -1,4 +1,5 @@
--- The spelling of bytes, numbers, truth values, texts, paths and GUIDs: the rule is this project's own. A number has its bytes lowest first.
+-- The spelling of bytes, numbers, truth values, texts, paths and GUIDs: the rule is this project's
+-- own. A number has its bytes lowest first.
 use Rattle.std.specs.Prelude.{◌≡◌, ◌++◌, ◌^◌, ℕ, Bool, true, false, List, [], ◌∷◌, length, nat_lt, ◌&&◌, ◌==◌}
 use Rattle.std.specs.Int.{bytes_low_first}
 use Rattle.std.proofs.Common.{ap, ap₂, ◌∙◌, sym, arith, refl, subst, append_assoc}
@@ -33,7 +34,8 @@ byte_form = record {
 }
 
 -- the number in k bytes, the lowest first
-pub number_unique : (k x y : ℕ) (r s : List ℕ) → nat_lt x (256 ^ k) ≡ true → nat_lt y (256 ^ k) ≡ true
+pub number_unique : (k x y : ℕ) (r s : List ℕ) → nat_lt x (256 ^ k) ≡ true
+    → nat_lt y (256 ^ k) ≡ true
     → bytes_low_first 0 k x ++ r ≡ bytes_low_first 0 k y ++ s → (x ≡ y) × (r ≡ s)
 number_unique k x y r s vx vy e =
     let same : x ≡ y = sym (little_number-reads_back k x r (ltb-true x (256 ^ k) vx))
@@ -52,7 +54,8 @@ abbrev pub bool_byte : Bool → ℕ
 bool_byte true = 1
 bool_byte false = 0
 
-pub bool_unique : (x y : Bool) (r s : List ℕ) → bool_byte x ∷ r ≡ bool_byte y ∷ s → (x ≡ y) × (r ≡ s)
+pub bool_unique : (x y : Bool) (r s : List ℕ) → bool_byte x ∷ r ≡ bool_byte y ∷ s → (x ≡ y)
+    × (r ≡ s)
 bool_unique true true r s e = (refl, cc)
 bool_unique false false r s e = (refl, cc)
 bool_unique true false r s e = cc
@@ -66,10 +69,14 @@ bool_form = record {
 }
 
 -- a text: its length in eight bytes, and the bytes
-pub text_unique : (x y r s : List ℕ) → nat_lt (length x) (256 ^ 8) ≡ true → nat_lt (length y) (256 ^ 8) ≡ true
-    → (bytes_low_first 0 8 (length x) ++ x) ++ r ≡ (bytes_low_first 0 8 (length y) ++ y) ++ s → (x ≡ y) × (r ≡ s)
+pub text_unique : (x y r s : List ℕ) → nat_lt (length x) (256 ^ 8) ≡ true
+    → nat_lt (length y) (256 ^ 8) ≡ true
+    → (bytes_low_first 0 8 (length x) ++ x) ++ r ≡ (bytes_low_first 0 8 (length y) ++ y) ++ s
+    → (x ≡ y) × (r ≡ s)
 text_unique x y r s vx vy e =
-    let both = number_unique 8 (length x) (length y) (x ++ r) (y ++ s) vx vy (sym (append_assoc (bytes_low_first 0 8 (length x)) x r) ∙ e ∙ append_assoc (bytes_low_first 0 8 (length y)) y s) in
+    let both = number_unique 8 (length x) (length y) (x ++ r) (y ++ s) vx vy
+    (sym (append_assoc (bytes_low_first 0 8 (length x)) x r) ∙ e
+    ∙ append_assoc (bytes_low_first 0 8 (length y)) y s) in
     append_split x y r s both.0 both.1
 
 unfoldable pub text_form : Form (List ℕ)

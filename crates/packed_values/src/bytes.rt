@@ -25,7 +25,9 @@ pub fn take_bytes<'a>(
     alloc: Global,
     input: &mut Input<'a>,
 ) -> Result<Option<&'a [u8]>, WantOfMemory>
-    ensures { IfOk result (λ r. MatchOption r (IsUnread text_form input.old) (λ s. IsRead text_form input.old s.now input.new)) }
+    ensures { IfOk result
+        (λ r. MatchOption r (IsUnread text_form input.old)
+        (λ s. IsRead text_form input.old s.now input.new)) }
 {
     match u64::take(alloc, input)? {
         None => Ok(None),
@@ -52,7 +54,9 @@ impl Packed for Text {
 
 // The path that a text is.
 fn path_of(alloc: Global, text: &[u8]) -> Result<Option<Path>, WantOfMemory>
-    ensures { IfOk result (λ r. MatchOption r (is_path text.now ≡ false) (λ p. (p ≡ text.now) × (is_path text.now ≡ true))) }
+    ensures { IfOk result
+        (λ r. MatchOption r (is_path text.now ≡ false)
+        (λ p. (p ≡ text.now) × (is_path text.now ≡ true))) }
 {
     let text = Text::of(alloc, text)?;
     Ok(Path::of_text(text))

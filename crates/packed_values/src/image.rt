@@ -13,6 +13,7 @@ use std::alloc::Global;
 fn put_pieces(image: &Image, out: &mut Vec<u8>) -> Result<(), WantOfMemory>
     ensures { OnOk result (out.new.items ≡ out.old.items ++ image.now) }
 {
+    out.reserve(image.length() as usize)?;
     let mut pieces = image.pieces();
     while let Some(piece) = pieces.next() {
         out.extend_from_slice(piece)?;

@@ -43,7 +43,8 @@ impl<'a> Input<'a> {
 
     /// Takes so many bytes, where there are as many.
     pub fn bytes(&mut self, count: u64) -> Option<&'a [u8]>
-        ensures bytes { MatchOption result (length self.old < count) (λ s. self.old ≡ s.now ++ self.new) }
+        ensures bytes { MatchOption result (length self.old < count)
+            (λ s. self.old ≡ s.now ++ self.new) }
         ensures count { MatchOption result (length self.old < count) (λ s. length s.now ≡ count) }
     {
         let all = self.rest;

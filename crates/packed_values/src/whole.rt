@@ -22,7 +22,9 @@ pub fn unpack_value<T: Packed>(
     alloc: Global,
     bytes: &[u8],
 ) -> Result<Option<T::Value>, WantOfMemory>
-    ensures { IfOk result (λ r. MatchOption r ((x : T.Value) → IsSpelling T.form x bytes.now → ⊥) (λ x. IsSpelling T.form x bytes.now)) }
+    ensures { IfOk result
+        (λ r. MatchOption r ((x : T.Value) → IsSpelling T.form x bytes.now → ⊥)
+        (λ x. IsSpelling T.form x bytes.now)) }
 {
     let mut input = Input::new(bytes);
     match T::take(alloc, &mut input)? {
@@ -40,5 +42,6 @@ pub fn unpack_value<T: Packed>(
 /// Bytes are the spelling of one value at most.
 #[tactic(auto, using(crate::proofs::WholeLemmas::spelled_once))]
 pub fn bytes_are_one_value<T: Packed>()
-    ensures { (bytes : List ℕ) (x y : T.Value) → IsSpelling T.form x bytes → IsSpelling T.form y bytes → x ≡ y }
+    ensures { (bytes : List ℕ) (x y : T.Value) → IsSpelling T.form x bytes
+        → IsSpelling T.form y bytes → x ≡ y }
 {}
