@@ -1,4 +1,3 @@
-pub mod BestLemmas
 pub mod CallerLemmas
 pub mod CountLemmas
 pub mod FallLemmas

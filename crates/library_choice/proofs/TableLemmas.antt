@@ -12,11 +12,11 @@ use Rattle.std.proofs.lemmas.Option.{slice_get-get_or}
 use Rattle.doc_types.specs.declared.module.InfDoc.{InfDoc}
 use Rattle.doc_types.specs.declared.platform.LibraryLine.{LibraryLine}
 use Rattle.library_choice.specs.declared.user.User.{User}
-use Rattle.library_choice.specs.Best.{best, counted, over}
+use Rattle.build_base.specs.Best.{best, counted, over}
 use Rattle.library_choice.specs.Closure.{known}
 use Rattle.library_choice.specs.Lines.{rank, weight}
 use Rattle.library_choice.specs.Tables.{same_key, picked, Lines, Infs, outweighs}
-use Rattle.library_choice.proofs.BestLemmas.{best-append, over-none, best-counts}
+use Rattle.build_base.proofs.BestLemmas.{best-append, over-none, best-counts}
 
 best-one : {X : Type 0} (w : X → ℕ) (x : X) → best w (x ∷ []) ≡ counted w x
 unfolding best

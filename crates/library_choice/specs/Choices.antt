@@ -1,5 +1,5 @@
--- What is chosen for a module: its instances, and the constructors and destructors that they have called
--- (EDK II Build specification, library constructors and destructors).
+-- What is chosen for a module: its instances, and the constructors and destructors that they have
+-- called (EDK II Build specification, library constructors and destructors).
 use Rattle.std.specs.Prelude.{ℕ, Bool, true, false, ◌&&◌, ◌||◌, ◌==◌, not, nat_eq, if◌then◌else◌, List, [], ◌∷◌, ◌++◌, length, map, reverse, find, Option, Some, None, Result, Ok, Err, codes, slice_get, slice_index_or}
 use Rattle.std.specs.List.{filter_map, flat_map, list_any, range_with_len}
 use Rattle.std.specs.Cmp.Lexicographic.{pointwise}
@@ -34,7 +34,8 @@ is_free kind = false
 -- no types are all
 abbrev pub takes : User → Served → Bool
 takes user served =
-    is_free user.kind || length served.types == 0 || list_any (λ t. same_type t user.kind) served.types
+    is_free user.kind || length served.types == 0
+    || list_any (λ t. same_type t user.kind) served.types
 
 abbrev pub names : List ℕ → Served → Bool
 names class served = pointwise nat_eq served.name class
@@ -77,7 +78,8 @@ first_place at (call ∷ calls) = call.at
 abbrev pub call_of : List ℕ → Named → Call
 call_of inf named = record { inf = inf; name = named.name }
 
--- an instance that has something called; its place is its first constructor's, else its first destructor's
+-- an instance that has something called; its place is its first constructor's, else its first
+-- destructor's
 unfoldable pub caller_of : InfDoc → Caller
 caller_of inf =
     record {
@@ -158,7 +160,8 @@ choice_of s found = choice_by found (callers s.infs found) (reach s (callers s.i
 -- more than 1,024 instances come first, then the classes, then calls that need each other
 unfoldable pub made : Module → Setting → InfDoc → Result Choice Fault
 made user s inf =
-    if are_few s inf then or_fault (classes_fault s inf (instances s inf)) (choice_of s (instances s inf))
+    if are_few s inf then or_fault (classes_fault s inf (instances s inf))
+    (choice_of s (instances s inf))
     else Err (fault_of 305 (record { path = user.inf; line = 0 }) (codes "1025"))
 
 abbrev pub empty_choice : Choice

@@ -1,5 +1,5 @@
--- The library instances of a module (EDK II Build specification, library instances): the ends of all
--- walks by library classes, in the order in which they are found.
+-- The library instances of a module (EDK II Build specification, library instances): the ends of
+-- all walks by library classes, in the order in which they are found.
 use Rattle.std.specs.Prelude.{ℕ, Bool, ◌&&◌, ◌==◌, not, nat_eq, nat_le, if◌then◌else◌, List, [], ◌++◌, length, filter, find, Option, Some, None, codes}
 use Rattle.std.specs.List.{filter_map}
 use Rattle.std.specs.Option.{option_map, is_none, is_some}
@@ -38,15 +38,18 @@ next s path = filter_map (instance_of s) (classes_of (known s.infs path))
 -- a line that links its instance without a class
 unfoldable pub null_of : User → LibraryLine → Option (List ℕ)
 null_of user line =
-    if pointwise nat_eq line.class (codes "NULL") && applies user line then Some line.instance else None
+    if pointwise nat_eq line.class (codes "NULL") && applies user line then Some line.instance
+    else None
 
 -- those of the sections, then those of the module's own braces
 abbrev pub nulls : Setting → List (List ℕ)
 nulls s = filter_map (null_of s.user) s.sections ++ filter_map (null_of s.user) s.own
 
--- the instances of a module, where they are at most 1,024: a walk to one of them needs no more steps
+-- the instances of a module, where they are at most 1,024: a walk to one of them needs no more
+-- steps
 unfoldable pub instances : Setting → InfDoc → List (List ℕ)
-instances s inf = found_in same_path (next s) (filter_map (instance_of s) inf.classes) (nulls s) 1025
+instances s inf = found_in same_path (next s) (filter_map (instance_of s) inf.classes) (nulls s)
+    1025
 
 abbrev pub are_few : Setting → InfDoc → Bool
 are_few s inf = nat_le (length (instances s inf)) 1024
@@ -59,7 +62,8 @@ is_known infs path = is_some (known infs path)
 
 -- the module's own component, for its architecture or for all
 unfoldable pub is_component : Module → Component → Bool
-is_component user component = pointwise nat_eq component.inf user.inf && covers component.arch user.arch
+is_component user component = pointwise nat_eq component.inf user.inf
+    && covers component.arch user.arch
 
 abbrev pub libraries_of : Option Component → List LibraryLine
 libraries_of None = []

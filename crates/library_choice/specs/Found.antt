@@ -19,9 +19,12 @@ ends next starts zero = []
 ends next starts (suc n) = starts ++ flat_map next (ends next starts n)
 
 -- walks that begin with a class, then walks that begin with a NULL line, of 1 to n steps
-unfoldable pub found_in : {X : Type 0} → (X → X → Bool) → (X → List X) → List X → List X → ℕ → List X
+unfoldable pub found_in : {X : Type 0} → (X → X → Bool) → (X → List X) → List X → List X → ℕ
+    → List X
 found_in eq next classes nulls n = add eq [] (ends next classes n ++ ends next nulls n)
 
 -- what is found in n steps, for every n from the number of the found on
-abbrev pub IsFound : {X : Type 0} → (X → X → Bool) → (X → List X) → List X → List X → List X → Type 0
-IsFound eq next classes nulls found = (n : ℕ) → length found ≤ n → found_in eq next classes nulls n ≡ found
+abbrev pub IsFound : {X : Type 0} → (X → X → Bool) → (X → List X) → List X → List X → List X
+    → Type 0
+IsFound eq next classes nulls found = (n : ℕ) → length found ≤ n
+    → found_in eq next classes nulls n ≡ found

@@ -1,4 +1,3 @@
-pub mod Best
 pub mod Choices
 pub mod Closure
 pub mod Found

@@ -11,7 +11,7 @@ use Rattle.doc_types.specs.declared.module_type.ModuleType.{ModuleType}
 use Rattle.doc_types.specs.declared.module_type.ModuleType.TheVariants.{Base, Sec, PeiCore, Peim, DxeCore, DxeDriver, DxeRuntimeDriver, DxeSalDriver, DxeSmmDriver, SmmCore, MmStandalone, MmCoreStandalone, UefiDriver, UefiApplication, UserDefined, HostApplication}
 use Rattle.doc_types.specs.declared.platform.LibraryLine.{LibraryLine}
 use Rattle.library_choice.specs.declared.user.User.{User}
-use Rattle.library_choice.specs.Best.{best}
+use Rattle.build_base.specs.Best.{best}
 
 -- what is stated for an architecture, or for all, holds for one
 unfoldable pub covers : Arch → Arch → Bool

@@ -1,4 +1,5 @@
--- A number that falls from round to round, where each round makes the INF files known that were wanted.
+-- A number that falls from round to round, where each round makes the INF files known that were
+-- wanted.
 use Rattle.std.specs.Prelude.{◌≡◌, ℕ, ◌-◌, ◌<◌, true, List, ◌++◌, length, filter, Option, Some, None, if◌then◌else◌}
 use Rattle.doc_types.specs.declared.choice.Module.{Module}
 use Rattle.doc_types.specs.declared.module.InfDoc.{InfDoc}
@@ -24,5 +25,6 @@ rounds_left user platform infs = left_for user platform infs (known infs user.in
 abbrev pub Falls : Module → PlatformDoc → List InfDoc → Type 0
 Falls user platform infs =
     (more : List InfDoc) → 0 < length (wanted user platform infs)
-    → ((path : List ℕ) → is_in same_path (wanted user platform infs) path ≡ true → is_known (infs ++ more) path ≡ true)
+    → ((path : List ℕ) → is_in same_path (wanted user platform infs) path ≡ true
+    → is_known (infs ++ more) path ≡ true)
     → rounds_left user platform (infs ++ more) < rounds_left user platform infs

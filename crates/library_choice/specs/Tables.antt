@@ -6,7 +6,7 @@ use Rattle.std.specs.HashMap.{HashMap, get}
 use Rattle.doc_types.specs.declared.module.InfDoc.{InfDoc}
 use Rattle.doc_types.specs.declared.platform.LibraryLine.{LibraryLine}
 use Rattle.library_choice.specs.declared.user.User.{User}
-use Rattle.library_choice.specs.Best.{best}
+use Rattle.build_base.specs.Best.{best}
 use Rattle.library_choice.specs.Closure.{known}
 use Rattle.library_choice.specs.Lines.{rank, weight}
 
@@ -18,7 +18,8 @@ picked xs None = None
 picked xs (Some place) = slice_get xs place
 
 -- a table gives for each class the place of its line among those above
-abbrev pub Lines : {S : Type 0} → User → Bool → List LibraryLine → List LibraryLine → HashMap (Vec ℕ) ℕ S → Type 0
+abbrev pub Lines : {S : Type 0} → User → Bool → List LibraryLine → List LibraryLine
+    → HashMap (Vec ℕ) ℕ S → Type 0
 Lines user own lines above table =
     (key : Vec ℕ) → picked lines (get same_key table key) ≡ best (weight user own key.items) above
 

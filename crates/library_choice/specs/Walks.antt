@@ -10,7 +10,8 @@ pub record Walk (X : Type 0) : Type 0 where
 -- a walk and one step more, from place k on
 abbrev pub steps_from : {X : Type 0} → ℕ → List ℕ → List X → List (Walk X)
 steps_from k places [] = []
-steps_from k places (x ∷ xs) = record { places = places ++ k ∷ []; last = x } ∷ steps_from (suc k) places xs
+steps_from k places (x ∷ xs) = record { places = places ++ k ∷ []; last = x }
+    ∷ steps_from (suc k) places xs
 
 abbrev pub longer : {X : Type 0} → (X → List X) → Walk X → List (Walk X)
 longer next w = steps_from 0 w.places (next w.last)
@@ -26,7 +27,8 @@ Less (x ∷ xs) (y ∷ ys) = (x < y) ⊎ ((x ≡ y) × Less xs ys)
 
 -- the shorter, and of one length by places from the first on
 abbrev pub Before : {X : Type 0} → Walk X → Walk X → Type 0
-Before v w = (length v.places < length w.places) ⊎ ((length v.places ≡ length w.places) × Less v.places w.places)
+Before v w = (length v.places < length w.places)
+    ⊎ ((length v.places ≡ length w.places) × Less v.places w.places)
 
 abbrev pub Each : {A : Type 0} → (A → Type 0) → List A → Type 0
 Each P [] = Unit {0}
@@ -42,11 +44,16 @@ Among (x ∷ xs) a = (x ≡ a) ⊎ Among xs a
 
 -- the first step is a start, each later one a next of the one before
 pub data IsWalk {X : Type 0} (next : X → List X) (starts : List X) : Walk X → Type 0 where
-  first : (k : ℕ) (x : X) → k < length starts → slice_index_or starts k x ≡ x → IsWalk next starts (record { places = k ∷ []; last = x })
-  onward : (w : Walk X) (k : ℕ) (x : X) → IsWalk next starts w → k < length (next w.last) → slice_index_or (next w.last) k x ≡ x → IsWalk next starts (record { places = w.places ++ k ∷ []; last = x })
+  first : (k : ℕ) (x : X) → k < length starts → slice_index_or starts k x ≡ x
+      → IsWalk next starts (record { places = k ∷ []; last = x })
+  onward : (w : Walk X) (k : ℕ) (x : X) → IsWalk next starts w → k < length (next w.last)
+      → slice_index_or (next w.last) k x ≡ x
+      → IsWalk next starts (record { places = w.places ++ k ∷ []; last = x })
 
--- the ends of walks of 1 to n steps are those of a list of walks, which stand in their order and are all that there are
+-- the ends of walks of 1 to n steps are those of a list of walks, which stand in their order and
+-- are all that there are
 pub record AreWalks {X : Type 0} (next : X → List X) (starts : List X) (n : ℕ) : Type 0 where
   pub ends_of : map (λ (w : Walk X). w.last) (walks next starts n) ≡ ends next starts n
   pub ascend : Ascending (Before {X = X}) (walks next starts n)
-  pub whole : (w : Walk X) → IsWalk next starts w → length w.places ≤ n → Among (walks next starts n) w
+  pub whole : (w : Walk X) → IsWalk next starts w → length w.places ≤ n
+      → Among (walks next starts n) w

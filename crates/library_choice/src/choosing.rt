@@ -62,7 +62,8 @@ fn constructors(
     callers: &[Caller],
     order: &[usize],
 ) -> Result<Vec<Call>, WantOfMemory>
-    ensures { IfOk result (λ calls. calls.items ≡ flat_map (constructors_at callers.now) order.now) }
+    ensures { IfOk result (λ calls. calls.items
+        ≡ flat_map (constructors_at callers.now) order.now) }
 {
     let mut calls = Vec::new(alloc);
     let mut left = order;
@@ -90,7 +91,8 @@ fn destructors(
 }
 
 fn reversed(alloc: Global, callers: &[Caller], order: &[usize]) -> Result<Vec<Call>, WantOfMemory>
-    ensures { IfOk result (λ calls. calls.items ≡ reverse (flat_map (destructors_at callers.now) order.now)) }
+    ensures { IfOk result (λ calls. calls.items
+        ≡ reverse (flat_map (destructors_at callers.now) order.now)) }
 {
     let mut calls = destructors(alloc, callers, order)?;
     calls.reverse();
@@ -166,7 +168,8 @@ fn checked_choice(
     found: Rows<Path>,
 ) -> Result<Choice, Refusal>
     requires whole { IsWhole tables.now found }
-    ensures { Answers result (or_fault (classes_fault tables.now inf.now found) (choice_of tables.now found)) }
+    ensures { Answers result
+        (or_fault (classes_fault tables.now inf.now found) (choice_of tables.now found)) }
 {
     check_all(alloc, tables, inf, found.items())?;
     choice_of(alloc, tables, found)
@@ -181,7 +184,8 @@ fn lawful_choice(
 ) -> Result<Choice, Refusal>
     requires { Finds same_path (next tables.now)
         (filter_map (instance_of tables.now) inf.now.classes) (nulls tables.now) (Some found) }
-    ensures value { Answers result (or_fault (classes_fault tables.now inf.now found) (choice_of tables.now found)) }
+    ensures value { Answers result
+        (or_fault (classes_fault tables.now inf.now found) (choice_of tables.now found)) }
     ensures laws { OnOk result (IsLawful tables.now inf.now) }
 {
     let choice = checked_choice(alloc, tables, inf, found)?;
@@ -190,7 +194,8 @@ fn lawful_choice(
 
 // More than 1,024 instances.
 fn too_many(alloc: Global, inf: &Path) -> Refusal
-    ensures { Faulty result (Some (fault_of 305 (record { path = inf.now; line = 0 }) (codes "1025"))) }
+    ensures { Faulty result
+        (Some (fault_of 305 (record { path = inf.now; line = 0 }) (codes "1025"))) }
 {
     match inf.copy(alloc) {
         Ok(path) => refuse(alloc, 305, &Place { path, line: 0 }, b"1025".as_slice()),
@@ -220,8 +225,8 @@ fn empty_choice(alloc: Global) -> Choice
     }
 }
 
-/// The library instances of a module in first-found order, and what they have called (EDK II Build specification).
-/// A library chooses nothing. Faults 301 to 305.
+/// The library instances of a module in first-found order, and what they have called (EDK II Build
+/// specification). A library chooses nothing. Faults 301 to 305.
 #[tactic(auto, unfolding(crate::specs::Choices::choice))]
 pub fn choose(
     alloc: Global,

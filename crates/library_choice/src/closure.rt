@@ -53,7 +53,8 @@ pub fn put_classes(
     classes: &[Named],
     found: &mut Found,
 ) -> Result<(), WantOfMemory>
-    ensures { OnOk result (found.new ≡ add same_path found.old (filter_map (instance_of tables.now) classes.now)) }
+    ensures { OnOk result
+        (found.new ≡ add same_path found.old (filter_map (instance_of tables.now) classes.now)) }
 {
     for class in classes {
         put_class(alloc, tables, class, found)?;
@@ -68,7 +69,8 @@ fn known_at<'a>(
     at: usize,
 ) -> Result<Option<&'a InfDoc>, WantOfMemory>
     requires { at < length found.now }
-    ensures { IfOk result (λ inf. option_copied inf ≡ known tables.now.infs (slice_index_or found.now at [])) }
+    ensures { IfOk result (λ inf. option_copied inf
+        ≡ known tables.now.infs (slice_index_or found.now at [])) }
 {
     match found.get(at) {
         Some(path) => tables.known(alloc, path),
@@ -85,7 +87,8 @@ fn put_next(
     found: &mut Found,
 ) -> Result<(), WantOfMemory>
     requires { at < length found.old }
-    ensures { OnOk result (found.new ≡ add same_path found.old (next tables.now (slice_index_or found.old at []))) }
+    ensures { OnOk result
+        (found.new ≡ add same_path found.old (next tables.now (slice_index_or found.old at []))) }
 {
     match known_at(alloc, tables, found, at)? {
         Some(inf) => put_classes(alloc, tables, inf.classes.items(), found),
@@ -93,7 +96,8 @@ fn put_next(
     }
 }
 
-/// Passes the queue from a place on. True where nothing is left to pass, false where there are too many.
+/// Passes the queue from a place on. True where nothing is left to pass, false where there are too
+/// many.
 pub fn pass(
     alloc: Global,
     tables: &Tables<'_>,
@@ -153,7 +157,8 @@ fn put_nulls_in(
     lines: &[LibraryLine],
     found: &mut Found,
 ) -> Result<(), WantOfMemory>
-    ensures { OnOk result (found.new ≡ add same_path found.old (filter_map (null_of user) lines.now)) }
+    ensures { OnOk result
+        (found.new ≡ add same_path found.old (filter_map (null_of user) lines.now)) }
 {
     for line in lines {
         put_null(alloc, user, line, found)?;
@@ -172,14 +177,16 @@ fn put_nulls(alloc: Global, tables: &Tables<'_>, found: &mut Found) -> Result<()
 }
 
 fn first_found(alloc: Global, tables: &Tables<'_>, inf: &InfDoc) -> Result<Found, WantOfMemory>
-    ensures { IfOk result (λ f. f ≡ add same_path [] (filter_map (instance_of tables.now) inf.now.classes)) }
+    ensures { IfOk result
+        (λ f. f ≡ add same_path [] (filter_map (instance_of tables.now) inf.now.classes)) }
 {
     let mut found = Found::new(alloc);
     put_classes(alloc, tables, inf.classes.items(), &mut found)?;
     Ok(found)
 }
 
-/// The instances of the module whose INF file this is, in first-found order, or none where they are too many.
+/// The instances of the module whose INF file this is, in first-found order, or none where they are
+/// too many.
 pub fn instances(
     alloc: Global,
     tables: &Tables<'_>,

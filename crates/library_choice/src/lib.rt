@@ -1,5 +1,5 @@
-//! The library instances of a module, and the order in which they have constructors and destructors called (EDK II
-//! DSC, INF and Build specifications).
+//! The library instances of a module, and the order in which they have constructors and destructors
+//! called (EDK II DSC, INF and Build specifications).
 #![tactic(auto)]
 
 mod caller;

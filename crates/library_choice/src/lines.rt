@@ -88,7 +88,8 @@ fn section_rank(line: &LibraryLine) -> u8
     }
 }
 
-/// How much a line counts: 5 in the module's own braces, 4 to 1 in a section, 0 where it doesn't hold.
+/// How much a line counts: 5 in the module's own braces, 4 to 1 in a section, 0 where it doesn't
+/// hold.
 #[tactic(auto, unfolding(crate::specs::Lines::rank))]
 pub fn rank(user: User, own: bool, line: &LibraryLine) -> u8
     ensures { result ≡ rank user own line.now }

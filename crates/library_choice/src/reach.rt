@@ -45,7 +45,8 @@ fn led_to(alloc: Global, tables: &Tables<'_>, from: &Path) -> Result<Found, Want
 }
 
 fn row_in(alloc: Global, found: &Found, callers: &[Caller]) -> Result<Rows<bool>, WantOfMemory>
-    ensures { IfOk result (λ row. row ≡ map (λ (x : CallerRow). is_in same_path found.now x.inf) callers.now) }
+    ensures { IfOk result
+        (λ row. row ≡ map (λ (x : CallerRow). is_in same_path found.now x.inf) callers.now) }
 {
     let mut row = Rows::new(alloc);
     for caller in callers {
@@ -61,7 +62,8 @@ fn row_of(
     callers: &[Caller],
 ) -> Result<Rows<bool>, WantOfMemory>
     requires { IsWithin tables.now from.now }
-    ensures { IfOk result (λ row. row ≡ map (λ (x : CallerRow). leads tables.now from.now x.inf) callers.now) }
+    ensures { IfOk result
+        (λ row. row ≡ map (λ (x : CallerRow). leads tables.now from.now x.inf) callers.now) }
 {
     let found = led_to(alloc, tables, from)?;
     let row = row_in(alloc, &found, callers)?;

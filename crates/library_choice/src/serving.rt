@@ -48,7 +48,8 @@ fn any_names(class: &[u8], serves: &[Served]) -> bool
 }
 
 fn any_takes(user: User, class: &[u8], serves: &[Served]) -> bool
-    ensures { result ≡ list_any (λ (served : ServedRow). names class.now served && takes user served) serves.now }
+    ensures { result ≡ list_any (λ (served : ServedRow).
+        names class.now served && takes user served) serves.now }
 {
     serves
         .iter()

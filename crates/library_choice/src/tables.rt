@@ -137,11 +137,13 @@ impl<'a> Model for Tables<'a> {
 
     ghost Value = { Setting };
 
-    ghost view = { λ t. record { user = t.user; sections = t.sections.now; own = t.own.now; infs = t.infs.now } };
+    ghost view = { λ t.
+        record { user = t.user; sections = t.sections.now; own = t.own.now; infs = t.infs.now } };
 
     ghost invariant = { λ t.
         (Lines t.user false t.sections.now t.sections.now t.section_places)
-        × (Lines t.user true t.own.now t.own.now t.own_places) × Infs t.infs.now t.infs.now t.inf_places };
+        × (Lines t.user true t.own.now t.own.now t.own_places)
+        × Infs t.infs.now t.infs.now t.inf_places };
 }
 
 impl<'a> Tables<'a> {
@@ -153,7 +155,9 @@ impl<'a> Tables<'a> {
         own: &'a [LibraryLine],
         infs: &'a [InfDoc],
     ) -> Result<Tables<'a>, WantOfMemory>
-        ensures { IfOk result (λ t. t ≡ record { user = user; sections = sections.now; own = own.now; infs = infs.now }) }
+        ensures { IfOk result
+            (λ t. t
+            ≡ record { user = user; sections = sections.now; own = own.now; infs = infs.now }) }
     {
         let section_places = line_places(alloc, user, false, sections)?;
         let own_places = line_places(alloc, user, true, own)?;

@@ -90,7 +90,8 @@ fn push_unknown(
     path: &Path,
     paths: &mut Rows<Path>,
 ) -> Result<(), WantOfMemory>
-    ensures { OnOk result (paths.new ≡ paths.old ++ filter (is_unknown tables.now.infs) (path.now ∷ [])) }
+    ensures { OnOk result (paths.new ≡ paths.old
+        ++ filter (is_unknown tables.now.infs) (path.now ∷ [])) }
 {
     if is_unknown(alloc, tables, path)? {
         paths.push(path.copy(alloc)?)?;
@@ -127,9 +128,9 @@ fn wanted_by(alloc: Global, tables: &Tables<'_>, inf: &InfDoc) -> Result<Rows<Pa
     }
 }
 
-/// The INF files that the choice for a module needs next: those of the instances found so far that aren't among
-/// `infs`, in first-found order. None are wanted of a library, where all are known, and where more than 1,024
-/// instances are found.
+/// The INF files that the choice for a module needs next: those of the instances found so far that
+/// aren't among `infs`, in first-found order. None are wanted of a library, where all are known,
+/// and where more than 1,024 instances are found.
 #[tactic(auto, unfolding(crate::specs::Closure::wanted), using(crate::proofs::RoundLemmas::falls))]
 pub fn next_wanted(
     alloc: Global,

@@ -1,4 +1,3 @@
-pub mod BestLemmas
 pub mod DatumLemmas
 pub mod GroupLemmas
 pub mod MarkLemmas

@@ -1,5 +1,5 @@
--- The faults of a PCD that are no faults of its value. Each is a condition on one line, with its place and detail. Which
--- come first is this project's own rule.
+-- The faults of a PCD that are no faults of its value. Each is a condition on one line, with its
+-- place and detail. Which come first is this project's own rule.
 use Rattle.std.specs.Prelude.{ℕ, Bool, true, false, ◌&&◌, ◌||◌, not, if◌then◌else◌, List, [], ◌∷◌, Option, Some, None, Result, Ok, codes}
 use Rattle.std.specs.List.{list_any}
 use Rattle.std.specs.Str.{bytes_eq}
@@ -22,7 +22,8 @@ nothing (x ∷ xs) = false
 
 -- NotDeclared: no package of the INF declares the PCD for the architecture
 unfoldable pub not_declared : Use → Option Fault
-not_declared used = if nothing used.own then Some (fault_of 411 used.line.at (dotted used.line.pcd)) else None
+not_declared used = if nothing used.own then Some (fault_of 411 used.line.at (dotted used.line.pcd))
+    else None
 
 -- how a type is written
 unfoldable pub datum_text : Datum → List ℕ
@@ -48,9 +49,11 @@ is_against kind datum stated used = applies used.user stated && is_other kind da
 abbrev pub datum_fault : Kind → List Use → Stated → Option Datum → Option Fault
 datum_fault kind uses stated None = None
 datum_fault kind uses stated (Some datum) =
-    if list_any (is_against kind datum stated) uses then Some (fault_of 414 stated.line.at (datum_text datum)) else None
+    if list_any (is_against kind datum stated) uses
+    then Some (fault_of 414 stated.line.at (datum_text datum)) else None
 
--- DatumConflict: the type that a line of the platform states isn't that of a package of a module to which it applies
+-- DatumConflict: the type that a line of the platform states isn't that of a package of a module to
+-- which it applies
 unfoldable pub datum_conflict : Kind → List Use → Stated → Option Fault
 datum_conflict kind uses stated = datum_fault kind uses stated stated.line.datum
 
@@ -60,16 +63,19 @@ is_inside (Some home) = true
 
 -- DynamicInComponent: a line of a dynamic kind in a component
 unfoldable pub dynamic_in_component : Stated → Option Fault
-dynamic_in_component stated = if is_inside stated.home && is_dynamic stated.line.kind then Some (fault_of 415 stated.line.at (dotted stated.line.pcd)) else None
+dynamic_in_component stated = if is_inside stated.home && is_dynamic stated.line.kind
+    then Some (fault_of 415 stated.line.at (dotted stated.line.pcd)) else None
 
 -- SkuOnFixed: a SKU other than DEFAULT for another kind
 unfoldable pub sku_on_fixed : Stated → Option Fault
 sku_on_fixed stated =
-    if not (is_dynamic stated.line.kind) && not (bytes_eq stated.line.sku (codes "DEFAULT")) then Some (fault_of 416 stated.line.at (dotted stated.line.pcd)) else None
+    if not (is_dynamic stated.line.kind) && not (bytes_eq stated.line.sku (codes "DEFAULT"))
+    then Some (fault_of 416 stated.line.at (dotted stated.line.pcd)) else None
 
 -- KindConflict: a line says another kind than the first one
 unfoldable pub kind_conflict : List ℕ → Kind → Claim → Option Fault
-kind_conflict pcd kind claim = if same_kind claim.kind kind then None else Some (fault_of 412 claim.at pcd)
+kind_conflict pcd kind claim = if same_kind claim.kind kind then None
+    else Some (fault_of 412 claim.at pcd)
 
 abbrev pub asks_other : Kind → Option Kind → Bool
 asks_other kind None = false
@@ -98,7 +104,8 @@ faults_of_kind pcd uses lines (Some kind) = kind_faults pcd uses lines kind
 -- the first fault of a PCD, from its uses and the platform's lines that name it
 unfoldable pub pcd_fault : List ℕ → List Use → List Stated → Option Fault
 pcd_fault pcd uses lines =
-    first_of (first_fault not_declared uses ∷ faults_of_kind pcd uses lines (kind_of (claims uses lines)) ∷ [])
+    first_of (first_fault not_declared uses
+    ∷ faults_of_kind pcd uses lines (kind_of (claims uses lines)) ∷ [])
 
 -- the kind of a PCD, or its first fault
 unfoldable pub checked_kind : List ℕ → List Use → List Stated → Result (Option Kind) Fault

@@ -24,10 +24,14 @@ abbrev pub group : {V S : Type 0} → HashMap (Vec ℕ) (Vec V) S → Vec ℕ �
 group table key = items_of (get same_key table key)
 
 -- A table has at each name the items of the list that have the name, in their order.
-abbrev pub Grouped : {V X S : Type 0} → (V → X) → (X → List ℕ) → List X → HashMap (Vec ℕ) (Vec V) S → Type 0
-Grouped view name xs table = (key : Vec ℕ) → map view (group table key) ≡ filter (λ x. bytes_eq (name x) key.items) xs
+abbrev pub Grouped : {V X S : Type 0} → (V → X) → (X → List ℕ) → List X → HashMap (Vec ℕ) (Vec V) S
+    → Type 0
+Grouped view name xs table = (key : Vec ℕ) → map view (group table key)
+    ≡ filter (λ x. bytes_eq (name x) key.items) xs
 
 -- The same at each name that is kept.
-abbrev pub GroupedAt : {V X S : Type 0} → List Bool → (V → X) → (X → List ℕ) → List X → HashMap (Vec ℕ) (Vec V) S → Type 0
+abbrev pub GroupedAt : {V X S : Type 0} → List Bool → (V → X) → (X → List ℕ) → List X
+    → HashMap (Vec ℕ) (Vec V) S → Type 0
 GroupedAt marks view name xs table =
-    (key : Vec ℕ) → is_kept marks key.items ≡ true → map view (group table key) ≡ filter (λ x. bytes_eq (name x) key.items) xs
+    (key : Vec ℕ) → is_kept marks key.items ≡ true
+    → map view (group table key) ≡ filter (λ x. bytes_eq (name x) key.items) xs

@@ -1,5 +1,6 @@
--- The kind of a PCD in a platform, and the line that declares it (EDK II DSC, INF and DEC specifications, PCD sections).
--- Which kind [Pcd] takes, and which of several lines counts, is this project's own rule.
+-- The kind of a PCD in a platform, and the line that declares it (EDK II DSC, INF and DEC
+-- specifications, PCD sections). Which kind [Pcd] takes, and which of several lines counts, is this
+-- project's own rule.
 use Rattle.std.specs.Prelude.{Bool, if◌then◌else◌, List, [], ◌∷◌, map, Option, Some, None}
 use Rattle.std.specs.List.{list_any, flat_map, find}
 use Rattle.build_base.specs.First.{or_else, first_of}
@@ -29,7 +30,8 @@ kind_if kind has = if has then Some kind else None
 -- of the kinds that lines declare, the first in this order
 unfoldable pub first_kind : List DecPcd → Option Kind
 first_kind lines =
-    first_of (map (λ kind. kind_if kind (has_kind lines kind)) (FixedAtBuild ∷ PatchableInModule ∷ FeatureFlag ∷ Dynamic ∷ DynamicEx ∷ []))
+    first_of (map (λ kind. kind_if kind (has_kind lines kind))
+    (FixedAtBuild ∷ PatchableInModule ∷ FeatureFlag ∷ Dynamic ∷ DynamicEx ∷ []))
 
 -- the kind that a use gives where the platform lists none
 unfoldable pub kind_given : Use → Option Kind
@@ -47,7 +49,8 @@ claim_of at (Some kind) = record { at = at; kind = kind } ∷ []
 -- the platform's lines, and where it has none the uses
 abbrev pub claims : List Use → List Stated → List Claim
 claims uses [] = flat_map (λ used. claim_of used.line.at (kind_given used)) uses
-claims uses (stated ∷ lines) = map (λ s. record { at = s.line.at; kind = s.line.kind }) (stated ∷ lines)
+claims uses (stated ∷ lines) =
+    map (λ s. record { at = s.line.at; kind = s.line.kind }) (stated ∷ lines)
 
 -- the kind is that of the first
 abbrev pub kind_of : List Claim → Option Kind

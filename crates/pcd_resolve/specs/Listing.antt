@@ -1,5 +1,5 @@
--- The lines that name a PCD, in the order that counts: in modules, in packages and in the platform (EDK II INF, DEC
--- and DSC specifications, PCD sections).
+-- The lines that name a PCD, in the order that counts: in modules, in packages and in the platform
+-- (EDK II INF, DEC and DSC specifications, PCD sections).
 use Rattle.std.specs.Prelude.{ℕ, Bool, ◌&&◌, if◌then◌else◌, List, [], ◌∷◌, ◌++◌, map, filter, fold, Option, Some, None}
 use Rattle.std.specs.List.{flat_map, list_any}
 use Rattle.std.specs.Str.{bytes_eq}
@@ -43,11 +43,13 @@ by_packages arch lines paths = flat_map (of_package arch lines) paths
 
 -- the packages that an INF names for an architecture
 unfoldable pub packages_of : Arch → InfDoc → List (List ℕ)
-packages_of arch inf = map (λ named. named.name) (filter (λ named. serves named.arch arch) inf.packages)
+packages_of arch inf = map (λ named. named.name)
+    (filter (λ named. serves named.arch arch) inf.packages)
 
 -- names with one more, where it isn't there
 abbrev pub put_once : List (List ℕ) → List ℕ → List (List ℕ)
-put_once names name = if list_any (λ other. bytes_eq other name) names then names else names ++ name ∷ []
+put_once names name = if list_any (λ other. bytes_eq other name) names then names
+    else names ++ name ∷ []
 
 -- the packages that some INFs name, in their order, each at its first place
 unfoldable pub packages_in : Arch → List InfDoc → List (List ℕ)
@@ -59,15 +61,18 @@ arch_of parts = parts.«module».arch
 -- the lines by which the packages of a module's INFs declare a PCD for its architecture
 unfoldable pub declared_in : ModuleParts → List ℕ → List DecPcd
 declared_in parts pcd =
-    by_packages (arch_of parts) (declared_of pcd (package_lines parts.decs)) (packages_in (arch_of parts) parts.infs)
+    by_packages (arch_of parts) (declared_of pcd (package_lines parts.decs))
+    (packages_in (arch_of parts) parts.infs)
 
 -- the lines by which the packages of one INF do
 unfoldable pub declared_for : ModuleParts → InfDoc → List ℕ → List DecPcd
 declared_for parts inf pcd =
-    by_packages (arch_of parts) (declared_of pcd (package_lines parts.decs)) (packages_of (arch_of parts) inf)
+    by_packages (arch_of parts) (declared_of pcd (package_lines parts.decs))
+    (packages_of (arch_of parts) inf)
 
--- A line of an INF that names a PCD, for the module `user` that has the INF. `own` are the lines by which the INF's
--- packages declare the PCD, `all` those by which the packages of all INFs of the module do.
+-- A line of an INF that names a PCD, for the module `user` that has the INF. `own` are the lines by
+-- which the INF's packages declare the PCD, `all` those by which the packages of all INFs of the
+-- module do.
 pub record Use : Type 0 where
   pub user : Module
   pub line : UsedPcd
@@ -84,7 +89,8 @@ use_of parts inf line = record {
 
 -- the uses by an INF of a module: its lines that count for the module's architecture
 unfoldable pub uses_by : ModuleParts → InfDoc → List Use
-uses_by parts inf = map (use_of parts inf) (filter (λ line. serves line.arch (arch_of parts)) inf.pcds)
+uses_by parts inf = map (use_of parts inf)
+    (filter (λ line. serves line.arch (arch_of parts)) inf.pcds)
 
 -- the uses by a module, INF by INF
 unfoldable pub uses_of_module : ModuleParts → List Use
@@ -106,12 +112,14 @@ pub record Stated : Type 0 where
 unfoldable pub stated_in : PlatformDoc → List Stated
 stated_in platform =
     map (λ line. record { home = None; line = line }) platform.pcds
-    ++ flat_map (λ home. map (λ line. record { home = Some home; line = line }) home.pcds) platform.components
+    ++ flat_map (λ home. map (λ line. record { home = Some home; line = line }) home.pcds)
+    platform.components
 
 abbrev pub stated_for : List ℕ → List Stated → List Stated
 stated_for pcd lines = filter (λ stated. bytes_eq (dotted stated.line.pcd) pcd) lines
 
--- a line of a section applies to the modules of its architecture, one of a component to the component's module
+-- a line of a section applies to the modules of its architecture, one of a component to the
+-- component's module
 abbrev pub applies_at : Module → PcdLine → Option Component → Bool
 applies_at user line None = serves line.arch user.arch
 applies_at user line (Some home) = bytes_eq home.inf user.inf && serves home.arch user.arch

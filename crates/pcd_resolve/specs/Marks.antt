@@ -1,5 +1,5 @@
--- Names of which a table has the lines, by marks at places that names come to. Two names may come to one place, so a table may
--- have lines that nothing asks for.
+-- Names of which a table has the lines, by marks at places that names come to. Two names may come
+-- to one place, so a table may have lines that nothing asks for.
 use Rattle.std.specs.Prelude.{ℕ, ◌+◌, ◌-◌, ◌*◌, ◌%◌, Bool, true, List, length, drop, fold, set, slice_get, Option, Some, None}
 
 -- the last bytes of a name

@@ -29,22 +29,38 @@ stated_max (Some a) = a.max
 
 abbrev pub void_max : Assignment → List ℕ → List ℕ → Option ℕ → Result ℕ Fault
 void_max taken text bytes None = Ok (length bytes)
-void_max taken text bytes (Some max) = if nat_lt max (length bytes) then Err (fault_of 402 taken.at text) else Ok max
+void_max taken text bytes (Some max) = if nat_lt max (length bytes)
+    then Err (fault_of 402 taken.at text) else Ok max
 
 -- that of another type is its width
 unfoldable pub maximum : Datum → Assignment → List ℕ → List ℕ → Option ℕ → Result ℕ Fault
-maximum datum taken text bytes stated = if is_void datum then void_max taken text bytes stated else Ok (width datum)
+maximum datum taken text bytes stated = if is_void datum then void_max taken text bytes stated
+    else Ok (width datum)
 
 abbrev pub row : Kind → DecPcd → List ℕ → ℕ → List ℕ → ℕ → PcdRow
-row kind line sku rank bytes max = record { pcd = line.pcd; kind = kind; datum = line.datum; token = line.token; max = max; rank = rank; sku = sku; value = bytes }
+row kind line sku rank bytes max =
+    record {
+      pcd = line.pcd;
+      kind = kind;
+      datum = line.datum;
+      token = line.token;
+      max = max;
+      rank =
+          rank;
+      sku = sku;
+      value = bytes;
+    }
 
-abbrev pub row_by : Kind → DecPcd → List ℕ → List Assignment → Assignment → Option (List ℕ) → Result (List PcdRow) Fault
+abbrev pub row_by : Kind → DecPcd → List ℕ → List Assignment → Assignment → Option (List ℕ)
+    → Result (List PcdRow) Fault
 row_by kind line sku all taken None = Ok []
 row_by kind line sku all taken (Some text) =
     and_then (parsed taken.at text line.datum) (λ bytes.
-    and_then (maximum line.datum taken text bytes (stated_max (max_from all))) (λ max. Ok (row kind line sku taken.rank bytes max ∷ [])))
+    and_then (maximum line.datum taken text bytes (stated_max (max_from all)))
+    (λ max. Ok (row kind line sku taken.rank bytes max ∷ [])))
 
-abbrev pub row_from : Kind → DecPcd → List ℕ → List Assignment → Option Assignment → Result (List PcdRow) Fault
+abbrev pub row_from : Kind → DecPcd → List ℕ → List Assignment → Option Assignment
+    → Result (List PcdRow) Fault
 row_from kind line sku all None = Ok []
 row_from kind line sku all (Some taken) = row_by kind line sku all taken taken.value
 
@@ -56,26 +72,33 @@ row_of kind line sku all = row_from kind line sku all (value_from all)
 abbrev pub rows_named : List ℕ → List PcdRow → List PcdRow
 rows_named pcd rows = filter (λ row. bytes_eq (dotted row.pcd) pcd) rows
 
-abbrev pub fixed_row : Module → List Use → List Stated → List PcdSet → Kind → Option DecPcd → Result (List PcdRow) Fault
+abbrev pub fixed_row : Module → List Use → List Stated → List PcdSet → Kind → Option DecPcd
+    → Result (List PcdRow) Fault
 fixed_row user uses lines sets kind None = Ok []
-fixed_row user uses lines sets kind (Some line) = row_of kind line (codes "DEFAULT") (assignments user line uses lines sets)
+fixed_row user uses lines sets kind (Some line) =
+    row_of kind line (codes "DEFAULT") (assignments user line uses lines sets)
 
-abbrev pub rows_by_kind : Module → List Use → List Stated → List DecPcd → List PcdSet → List PcdRow → Option Kind
+abbrev pub rows_by_kind : Module → List Use → List Stated → List DecPcd → List PcdSet → List PcdRow
+    → Option Kind
     → Result (List PcdRow) Fault
 rows_by_kind user uses lines declared sets dynamic None = Ok []
 rows_by_kind user uses lines declared sets dynamic (Some kind) =
-    if is_dynamic kind then Ok dynamic else fixed_row user uses lines sets kind (declaration kind declared)
+    if is_dynamic kind then Ok dynamic
+    else fixed_row user uses lines sets kind (declaration kind declared)
 
--- The rows of one PCD of a module, or its first fault: from its uses there, the platform's lines that name it, the lines by which
--- the module's packages declare it, the values that it is given outside its own lines, and the rows of its dynamic kind.
-unfoldable pub rows_of : List ℕ → Module → List Use → List Stated → List DecPcd → List PcdSet → List PcdRow
+-- The rows of one PCD of a module, or its first fault: from its uses there, the platform's lines
+-- that name it, the lines by which the module's packages declare it, the values that it is given
+-- outside its own lines, and the rows of its dynamic kind.
+unfoldable pub rows_of : List ℕ → Module → List Use → List Stated → List DecPcd → List PcdSet
+    → List PcdRow
     → Result (List PcdRow) Fault
 rows_of pcd user uses lines declared sets dynamic =
     and_then (checked_kind pcd uses lines) (rows_by_kind user uses lines declared sets dynamic)
 
 -- names with those of uses, in ascending order
 abbrev pub with_names : List (List ℕ) → List Use → List (List ℕ)
-with_names names uses = fold (insert_key (slice_cmp nat_cmp)) names (map (λ used. dotted used.line.pcd) uses)
+with_names names uses = fold (insert_key (slice_cmp nat_cmp)) names
+    (map (λ used. dotted used.line.pcd) uses)
 
 -- the names of uses in ascending order, each once
 unfoldable pub names_of : List Use → List (List ℕ)
@@ -96,10 +119,13 @@ sets_in ask = ask.commands ++ ask.flash.sets
 
 unfoldable pub rows_in : ModuleAsk → List Use → List Stated → List ℕ → Result (List PcdRow) Fault
 rows_in ask uses lines pcd =
-    rows_of pcd ask.parts.«module» (uses_of pcd uses) (stated_for pcd lines) (declared_in ask.parts pcd) (sets_of pcd (sets_in ask))
+    rows_of pcd ask.parts.«module» (uses_of pcd uses) (stated_for pcd lines)
+    (declared_in ask.parts pcd) (sets_of pcd (sets_in ask))
     (rows_named pcd ask.dynamic.rows)
 
 -- the values of a module, PCD by PCD, or the first fault
 unfoldable pub module_values : ModuleAsk → Result Values Fault
 module_values ask =
-    joined (all_rows (map (rows_in ask (uses_of_module ask.parts) (stated_in ask.platform)) (names_of (uses_of_module ask.parts))))
+    joined
+    (all_rows (map (rows_in ask (uses_of_module ask.parts) (stated_in ask.platform))
+    (names_of (uses_of_module ask.parts))))

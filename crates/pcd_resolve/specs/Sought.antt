@@ -1,4 +1,5 @@
--- The lines that give the PCDs of a platform's modules their types and their tokens, looked for module by module.
+-- The lines that give the PCDs of a platform's modules their types and their tokens, looked for
+-- module by module.
 use Rattle.std.specs.Prelude.{ℕ, Bool, true, false, List, [], ◌∷◌, map, Option, Some, None, option_copied}
 use Rattle.build_base.specs.First.{or_else, first_of}
 use Rattle.doc_types.specs.declared.asks.PlatformAsk.{PlatformAsk}
@@ -9,7 +10,8 @@ use Rattle.pcd_resolve.specs.declared.sought.Sought.{Sought}
 use Rattle.pcd_resolve.specs.Kinds.{claims, head_of, kind_of, of_kind}
 use Rattle.pcd_resolve.specs.Listing.{declared_in, stated_for, stated_in, uses_in, uses_of}
 
--- A PCD of modules: its kind, and of the lines by which the modules' packages declare it the first one of the kind and the first one.
+-- A PCD of modules: its kind, and of the lines by which the modules' packages declare it the first
+-- one of the kind and the first one.
 pub record Quest : Type 0 where
   pub name : List ℕ
   pub kind : Option Kind
@@ -17,7 +19,14 @@ pub record Quest : Type 0 where
   pub first : Option DecPcd
 
 abbrev pub sought_view : Sought → Quest
-sought_view s = record { name = s.name.now.items; kind = s.kind; line = option_copied s.line; first = option_copied s.first }
+sought_view s =
+    record {
+      name = s.name.now.items;
+      kind = s.kind;
+      line = option_copied s.line;
+      first =
+          option_copied s.first;
+    }
 
 abbrev pub of_some : Option Kind → List DecPcd → Option DecPcd
 of_some None lines = None
@@ -58,7 +67,8 @@ open_names (q ∷ qs) = front_if (is_open q) q.name (open_names qs)
 
 -- the kind of a PCD, by its first line
 abbrev pub kind_at : PlatformAsk → List ℕ → Option Kind
-kind_at ask pcd = kind_of (claims (uses_of pcd (uses_in ask.modules)) (stated_for pcd (stated_in ask.platform)))
+kind_at ask pcd =
+    kind_of (claims (uses_of pcd (uses_in ask.modules)) (stated_for pcd (stated_in ask.platform)))
 
 abbrev pub begun : PlatformAsk → List ℕ → Quest
 begun ask pcd = record { name = pcd; kind = kind_at ask pcd; line = None; first = None }

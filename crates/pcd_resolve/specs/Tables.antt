@@ -32,8 +32,10 @@ at_home home line = record { home = home; line = line }
 
 -- the tables of a module hold what its parts say of marked names
 pub record IsTabled (tables : ModuleTables) : Type 0 where
-  pub packages : map (λ p. p.now) tables.packages.items ≡ packages_in (arch_of tables.parts.now) tables.parts.now.infs
-  pub declared : GroupedAt tables.marks.items declared_view declared_name (package_lines tables.parts.now.decs) tables.declared
+  pub packages : map (λ p. p.now) tables.packages.items
+      ≡ packages_in (arch_of tables.parts.now) tables.parts.now.infs
+  pub declared : GroupedAt tables.marks.items declared_view declared_name
+      (package_lines tables.parts.now.decs) tables.declared
 
 -- all names are marked
 abbrev pub AllKept : List Bool → List (List ℕ) → Type 0

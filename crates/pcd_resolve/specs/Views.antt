@@ -29,4 +29,11 @@ abbrev pub stated_view : StatedLine → Stated
 stated_view s = record { home = option_map (λ h. h.now) s.home; line = s.line.now }
 
 abbrev pub given_view : Given → Assignment
-given_view g = record { rank = g.rank; own = g.own; at = g.at.now; value = option_map (λ v. v.now) g.value; max = g.max }
+given_view g =
+    record {
+      rank = g.rank;
+      own = g.own;
+      at = g.at.now;
+      value = option_map (λ v. v.now) g.value;
+      max = g.max;
+    }

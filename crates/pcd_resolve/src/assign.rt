@@ -1,7 +1,7 @@
 //! What sets a PCD.
 ghost use Rattle.std.specs.Prelude.{◌≡◌, ◌++◌, ◌∷◌, [], map, filter, IfOk, OnOk, option_copied};
 ghost use Rattle.std.specs.Option.{option_map};
-ghost use Rattle.pcd_resolve.specs.Best.{best, over, counted};
+ghost use Rattle.build_base.specs.Best.{best, over, counted};
 ghost use Rattle.pcd_resolve.specs.Assignments.{Parts, small, one_field, vpd_parts, parts_by, parts_stated, by_declaration, first_default, by_line, by_set, assignments, height, height_if, value_height, max_height, value_from, max_from};
 ghost use Rattle.meta_lexer.specs.Numbers.{number_of};
 ghost use Rattle.pcd_resolve.specs.Listing.{applies};
@@ -17,7 +17,8 @@ use doc_types::platform::{PcdLine, Store};
 use meta_lexer::numbers::number;
 use std::alloc::Global;
 
-/// An assignment: its rank, whether it is for an architecture of its own, where it stands, and what it states.
+/// An assignment: its rank, whether it is for an architecture of its own, where it stands, and what
+/// it states.
 #[derive(Clone, Copy)]
 pub struct Given<'a> {
     pub rank: u8,
@@ -65,7 +66,9 @@ fn max_height(a: &Given<'_>) -> u64
 }
 
 fn higher_value<'a>(held: Option<Given<'a>>, a: Given<'a>) -> Option<Given<'a>>
-    ensures { option_map given_view result ≡ over value_height (option_map given_view held.entry) (counted value_height (given_view a.entry)) }
+    ensures { option_map given_view result
+        ≡ over value_height (option_map given_view held.entry)
+        (counted value_height (given_view a.entry)) }
 {
     if value_height(&a) == 0 {
         return held;
@@ -94,7 +97,9 @@ pub fn value_from<'a>(all: &[Given<'a>]) -> Option<Given<'a>>
 }
 
 fn higher_max<'a>(held: Option<Given<'a>>, a: Given<'a>) -> Option<Given<'a>>
-    ensures { option_map given_view result ≡ over max_height (option_map given_view held.entry) (counted max_height (given_view a.entry)) }
+    ensures { option_map given_view result
+        ≡ over max_height (option_map given_view held.entry)
+        (counted max_height (given_view a.entry)) }
 {
     if max_height(&a) == 0 {
         return held;
@@ -241,7 +246,8 @@ pub fn by_line<'a>(datum: Datum, stated: &StatedLine<'a>) -> Given<'a>
 }
 
 pub(crate) fn put<'a>(all: &mut Vec<Given<'a>>, a: Given<'a>) -> Result<(), WantOfMemory>
-    ensures { OnOk result (map given_view all.new.items ≡ map given_view all.old.items ++ given_view a.entry ∷ []) }
+    ensures { OnOk result (map given_view all.new.items
+        ≡ map given_view all.old.items ++ given_view a.entry ∷ []) }
 {
     if all.push(a).is_err() {
         return Err(WantOfMemory);
@@ -251,7 +257,8 @@ pub(crate) fn put<'a>(all: &mut Vec<Given<'a>>, a: Given<'a>) -> Result<(), Want
 
 // The first default that an INF of the module states.
 fn put_default<'a>(all: &mut Vec<Given<'a>>, uses: &[UseLine<'a>]) -> Result<(), WantOfMemory>
-    ensures { OnOk result (map given_view all.new.items ≡ map given_view all.old.items ++ first_default (map use_view uses.now)) }
+    ensures { OnOk result (map given_view all.new.items
+        ≡ map given_view all.old.items ++ first_default (map use_view uses.now)) }
 {
     for used in uses {
         if let Some(text) = &used.line.default {
@@ -275,7 +282,9 @@ fn put_line<'a>(
     datum: Datum,
     stated: &StatedLine<'a>,
 ) -> Result<(), WantOfMemory>
-    ensures { OnOk result (map given_view all.new.items ≡ map given_view all.old.items ++ map (by_line datum) (filter (applies user.now) (stated_view stated.now ∷ []))) }
+    ensures { OnOk result (map given_view all.new.items
+        ≡ map given_view all.old.items ++ map (by_line datum)
+        (filter (applies user.now) (stated_view stated.now ∷ []))) }
 {
     if applies(user, stated) {
         put(all, by_line(datum, stated))?;
@@ -289,7 +298,9 @@ fn put_stated<'a>(
     datum: Datum,
     lines: &[StatedLine<'a>],
 ) -> Result<(), WantOfMemory>
-    ensures { OnOk result (map given_view all.new.items ≡ map given_view all.old.items ++ map (by_line datum) (filter (applies user.now) (map stated_view lines.now))) }
+    ensures { OnOk result (map given_view all.new.items
+        ≡ map given_view all.old.items ++ map (by_line datum)
+        (filter (applies user.now) (map stated_view lines.now))) }
 {
     for stated in lines {
         put_line(all, user, datum, stated)?;
@@ -298,7 +309,8 @@ fn put_stated<'a>(
 }
 
 pub fn put_sets<'a>(all: &mut Vec<Given<'a>>, sets: &[&'a PcdSet]) -> Result<(), WantOfMemory>
-    ensures { OnOk result (map given_view all.new.items ≡ map given_view all.old.items ++ map by_set (map (λ s. s.now) sets.now)) }
+    ensures { OnOk result (map given_view all.new.items
+        ≡ map given_view all.old.items ++ map by_set (map (λ s. s.now) sets.now)) }
 {
     for set in sets {
         put(all, by_set(set))?;
@@ -316,7 +328,9 @@ pub fn assignments<'a>(
     lines: &[StatedLine<'a>],
     sets: &[&'a PcdSet],
 ) -> Result<Vec<Given<'a>>, WantOfMemory>
-    ensures { IfOk result (λ v. map given_view v.items ≡ assignments user.now line.now (map use_view uses.now) (map stated_view lines.now) (map (λ s. s.now) sets.now)) }
+    ensures { IfOk result (λ v. map given_view v.items
+        ≡ assignments user.now line.now (map use_view uses.now) (map stated_view lines.now)
+        (map (λ s. s.now) sets.now)) }
 {
     let mut all = Vec::new(alloc);
     put(&mut all, by_declaration(line))?;

@@ -98,7 +98,8 @@ fn put_default<'a>(
     line: &'a DecPcd,
     sku: &[u8],
 ) -> Result<(), WantOfMemory>
-    ensures { OnOk result (map given_view all.new.items ≡ map given_view all.old.items ++ default_for line.now sku.now) }
+    ensures { OnOk result (map given_view all.new.items
+        ≡ map given_view all.old.items ++ default_for line.now sku.now) }
 {
     if sku == b"DEFAULT".as_slice() {
         put(all, by_declaration(line))?;
@@ -112,7 +113,9 @@ fn put_line<'a>(
     stated: &StatedLine<'a>,
     sku: &[u8],
 ) -> Result<(), WantOfMemory>
-    ensures { OnOk result (map given_view all.new.items ≡ map given_view all.old.items ++ map (by_line datum) (filter (λ s. bytes_eq s.line.sku sku.now) (stated_view stated.now ∷ []))) }
+    ensures { OnOk result (map given_view all.new.items
+        ≡ map given_view all.old.items ++ map (by_line datum)
+        (filter (λ s. bytes_eq s.line.sku sku.now) (stated_view stated.now ∷ []))) }
 {
     if stated.line.sku.bytes() == sku {
         put(all, by_line(datum, stated))?;
@@ -126,7 +129,9 @@ fn put_lines<'a>(
     lines: &[StatedLine<'a>],
     sku: &[u8],
 ) -> Result<(), WantOfMemory>
-    ensures { OnOk result (map given_view all.new.items ≡ map given_view all.old.items ++ map (by_line datum) (filter (λ s. bytes_eq s.line.sku sku.now) (map stated_view lines.now))) }
+    ensures { OnOk result (map given_view all.new.items
+        ≡ map given_view all.old.items ++ map (by_line datum)
+        (filter (λ s. bytes_eq s.line.sku sku.now) (map stated_view lines.now))) }
 {
     for stated in lines {
         put_line(all, datum, stated, sku)?;
@@ -143,7 +148,9 @@ pub fn sku_assignments<'a>(
     sets: &[&'a PcdSet],
     sku: &[u8],
 ) -> Result<Vec<Given<'a>>, WantOfMemory>
-    ensures { IfOk result (λ v. map given_view v.items ≡ sku_assignments line.now (map stated_view lines.now) (map (λ s. s.now) sets.now) sku.now) }
+    ensures { IfOk result (λ v. map given_view v.items
+        ≡ sku_assignments line.now (map stated_view lines.now) (map (λ s. s.now) sets.now)
+        sku.now) }
 {
     let mut all = Vec::new(alloc);
     put_default(&mut all, line, sku)?;
@@ -158,7 +165,8 @@ fn put_named(
     sku: &Text,
     taken: Option<Given<'_>>,
 ) -> Result<(), WantOfMemory>
-    ensures { OnOk result (rows.new ≡ rows.old ++ named_if sku.now (option_map given_view taken.entry)) }
+    ensures { OnOk result (rows.new ≡ rows.old
+        ++ named_if sku.now (option_map given_view taken.entry)) }
 {
     match taken {
         Some(_) => {
@@ -180,7 +188,10 @@ fn put_valued<'a>(
     sets: &[&'a PcdSet],
     sku: &Sku,
 ) -> Result<(), WantOfMemory>
-    ensures { OnOk result (rows.new ≡ rows.old ++ named_if sku.now.name (value_from (sku_assignments line.now (map stated_view lines.now) (map (λ s. s.now) sets.now) sku.now.name))) }
+    ensures { OnOk result (rows.new ≡ rows.old
+        ++ named_if sku.now.name
+        (value_from (sku_assignments line.now (map stated_view lines.now)
+        (map (λ s. s.now) sets.now) sku.now.name))) }
 {
     let all = sku_assignments(alloc, line, lines, sets, sku.name.bytes())?;
     put_named(alloc, rows, &sku.name, value_from(all.as_slice()))?;
@@ -196,7 +207,9 @@ pub fn valued<'a>(
     sets: &[&'a PcdSet],
     skus: &[Sku],
 ) -> Result<Rows<SkuRow>, WantOfMemory>
-    ensures { IfOk result (λ rows. rows ≡ valued line.now (map stated_view lines.now) (map (λ s. s.now) sets.now) skus.now) }
+    ensures { IfOk result
+        (λ rows. rows ≡ valued line.now (map stated_view lines.now) (map (λ s. s.now) sets.now)
+        skus.now) }
 {
     let mut rows = Rows::new(alloc);
     for sku in skus {
@@ -215,7 +228,9 @@ pub fn row_by_source<'a>(
     sku: &[u8],
     from: Option<&Text>,
 ) -> Result<Rows<PcdRow>, Refusal>
-    ensures { Answers result (row_by_source kind line.now (map stated_view lines.now) (map (λ s. s.now) sets.now) sku.now (option_copied from.entry)) }
+    ensures { Answers result
+        (row_by_source kind line.now (map stated_view lines.now) (map (λ s. s.now) sets.now) sku.now
+        (option_copied from.entry)) }
 {
     let Some(from) = from else {
         return Ok(Rows::new(alloc));
@@ -243,8 +258,12 @@ fn row_for<'a>(
     sku: &Sku,
 ) -> Result<Rows<PcdRow>, Refusal>
     requires walk { WalkEnds skus.now sku.now.name }
-    requires values { values.now ≡ valued line.now (map stated_view lines.now) (map (λ s. s.now) sets.now) skus.now }
-    ensures { Answers result (row_by_source kind line.now (map stated_view lines.now) (map (λ s. s.now) sets.now) sku.now.name (source line.now (map stated_view lines.now) (map (λ s. s.now) sets.now) skus.now sku.now.name)) }
+    requires values { values.now ≡ valued line.now (map stated_view lines.now)
+        (map (λ s. s.now) sets.now) skus.now }
+    ensures { Answers result
+        (row_by_source kind line.now (map stated_view lines.now) (map (λ s. s.now) sets.now)
+        sku.now.name (source line.now (map stated_view lines.now) (map (λ s. s.now) sets.now)
+        skus.now sku.now.name)) }
 {
     let from = source(values, skus, &sku.name);
     row_by_source(alloc, kind, line, lines, sets, sku.name.bytes(), from)
@@ -261,8 +280,14 @@ fn rows_for<'a>(
     picked: &[&Sku],
 ) -> Result<Rows<PcdRow>, Refusal>
     requires walks { All (λ s. WalkEnds skus.now s.now.name) picked.now }
-    requires values { values.now ≡ valued line.now (map stated_view lines.now) (map (λ s. s.now) sets.now) skus.now }
-    ensures { Answers result (all_rows (map (λ sku. row_by_source kind line.now (map stated_view lines.now) (map (λ s. s.now) sets.now) sku.name (source line.now (map stated_view lines.now) (map (λ s. s.now) sets.now) skus.now sku.name)) (map (λ s. s.now) picked.now))) }
+    requires values { values.now ≡ valued line.now (map stated_view lines.now)
+        (map (λ s. s.now) sets.now) skus.now }
+    ensures { Answers result
+        (all_rows
+        (map (λ sku. row_by_source kind line.now (map stated_view lines.now)
+        (map (λ s. s.now) sets.now) sku.name
+        (source line.now (map stated_view lines.now) (map (λ s. s.now) sets.now) skus.now sku.name))
+        (map (λ s. s.now) picked.now))) }
 {
     let mut rows = Rows::new(alloc);
     for sku in picked {
@@ -284,7 +309,9 @@ pub fn dynamic_rows<'a>(
     picked: &[&Sku],
 ) -> Result<Rows<PcdRow>, Refusal>
     requires { All (λ s. WalkEnds skus.now s.now.name) picked.now }
-    ensures { Answers result (dynamic_rows kind line.now (map stated_view lines.now) (map (λ s. s.now) sets.now) skus.now (map (λ s. s.now) picked.now)) }
+    ensures { Answers result
+        (dynamic_rows kind line.now (map stated_view lines.now) (map (λ s. s.now) sets.now) skus.now
+        (map (λ s. s.now) picked.now)) }
 {
     vpd_faults(alloc, line.datum, lines)?;
     let values = valued(alloc, line, lines, sets, skus.items())?;

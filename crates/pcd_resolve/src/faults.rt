@@ -86,7 +86,8 @@ fn is_against(kind: Kind, datum: Datum, stated: &StatedLine<'_>, used: &UseLine<
 }
 
 fn is_against_one(kind: Kind, datum: Datum, stated: &StatedLine<'_>, uses: &[UseLine<'_>]) -> bool
-    ensures { result ≡ list_any (is_against kind datum (stated_view stated.now)) (map use_view uses.now) }
+    ensures { result ≡ list_any (is_against kind datum (stated_view stated.now))
+        (map use_view uses.now) }
 {
     for used in uses {
         if is_against(kind, datum, stated, used) {
@@ -121,7 +122,8 @@ fn is_at_odds(
     uses: &[UseLine<'_>],
 ) -> bool
     requires { IfSome agreed (λ d. list_any (is_other kind d) (map use_view uses.now) ≡ false) }
-    ensures { result ≡ list_any (is_against kind datum (stated_view stated.now)) (map use_view uses.now) }
+    ensures { result ≡ list_any (is_against kind datum (stated_view stated.now))
+        (map use_view uses.now) }
 {
     if let Some(one) = agreed {
         if same_datum(datum, one) {
@@ -159,7 +161,8 @@ fn datums_fit(
     lines: &[StatedLine<'_>],
 ) -> Result<(), Refusal>
     requires { IfSome agreed (λ d. list_any (is_other kind d) (map use_view uses.now) ≡ false) }
-    ensures { Checks result (first_fault (datum_conflict kind (map use_view uses.now)) (map stated_view lines.now)) }
+    ensures { Checks result
+        (first_fault (datum_conflict kind (map use_view uses.now)) (map stated_view lines.now)) }
 {
     for stated in lines {
         datum_conflict(alloc, kind, agreed, stated, uses)?;
@@ -244,7 +247,9 @@ fn lines_agree(
     kind: Kind,
     lines: &[StatedLine<'_>],
 ) -> Result<(), Refusal>
-    ensures { Checks result (first_fault (kind_conflict pcd.now kind) (map (λ s. record { at = s.line.at; kind = s.line.kind }) (map stated_view lines.now))) }
+    ensures { Checks result
+        (first_fault (kind_conflict pcd.now kind)
+        (map (λ s. record { at = s.line.at; kind = s.line.kind }) (map stated_view lines.now))) }
 {
     for stated in lines {
         kind_conflict(alloc, pcd, kind, &stated.line.at, stated.line.kind)?;
@@ -253,7 +258,9 @@ fn lines_agree(
 }
 
 fn use_agrees(alloc: Global, pcd: &[u8], kind: Kind, used: &UseLine<'_>) -> Result<(), Refusal>
-    ensures { Checks result (first_fault (kind_conflict pcd.now kind) (claim_of (use_view used.now).line.at (kind_given (use_view used.now)))) }
+    ensures { Checks result
+        (first_fault (kind_conflict pcd.now kind)
+        (claim_of (use_view used.now).line.at (kind_given (use_view used.now)))) }
 {
     match kind_given(used) {
         Some(said) => {
@@ -265,7 +272,9 @@ fn use_agrees(alloc: Global, pcd: &[u8], kind: Kind, used: &UseLine<'_>) -> Resu
 }
 
 fn uses_agree(alloc: Global, pcd: &[u8], kind: Kind, uses: &[UseLine<'_>]) -> Result<(), Refusal>
-    ensures { Checks result (first_fault (kind_conflict pcd.now kind) (flat_map (λ used. claim_of used.line.at (kind_given used)) (map use_view uses.now))) }
+    ensures { Checks result
+        (first_fault (kind_conflict pcd.now kind)
+        (flat_map (λ used. claim_of used.line.at (kind_given used)) (map use_view uses.now))) }
 {
     for used in uses {
         use_agrees(alloc, pcd, kind, used)?;
@@ -280,7 +289,9 @@ fn kinds_agree(
     uses: &[UseLine<'_>],
     lines: &[StatedLine<'_>],
 ) -> Result<(), Refusal>
-    ensures { Checks result (first_fault (kind_conflict pcd.now kind) (claims (map use_view uses.now) (map stated_view lines.now))) }
+    ensures { Checks result
+        (first_fault (kind_conflict pcd.now kind)
+        (claims (map use_view uses.now) (map stated_view lines.now))) }
 {
     match lines {
         [] => uses_agree(alloc, pcd, kind, uses),
@@ -327,7 +338,8 @@ fn kind_faults(
     uses: &[UseLine<'_>],
     lines: &[StatedLine<'_>],
 ) -> Result<(), Refusal>
-    ensures { Checks result (kind_faults pcd.now (map use_view uses.now) (map stated_view lines.now) kind) }
+    ensures { Checks result
+        (kind_faults pcd.now (map use_view uses.now) (map stated_view lines.now) kind) }
 {
     datums_fit(alloc, kind, agreed(kind, uses), uses, lines)?;
     none_dynamic_inside(alloc, lines)?;
@@ -345,7 +357,8 @@ pub fn pcd_faults(
     uses: &[UseLine<'_>],
     lines: &[StatedLine<'_>],
 ) -> Result<(), Refusal>
-    ensures { Checks result (pcd_fault pcd.now (map use_view uses.now) (map stated_view lines.now)) }
+    ensures { Checks result
+        (pcd_fault pcd.now (map use_view uses.now) (map stated_view lines.now)) }
 {
     all_declared(alloc, uses)?;
     match kind_of(uses, lines) {
@@ -365,7 +378,8 @@ pub fn checked_kind(
     uses: &[UseLine<'_>],
     lines: &[StatedLine<'_>],
 ) -> Result<Option<Kind>, Refusal>
-    ensures { Answers result (checked_kind pcd.now (map use_view uses.now) (map stated_view lines.now)) }
+    ensures { Answers result
+        (checked_kind pcd.now (map use_view uses.now) (map stated_view lines.now)) }
 {
     pcd_faults(alloc, pcd, uses, lines)?;
     Ok(kind_of(uses, lines))

@@ -68,7 +68,9 @@ pub fn kind_given(used: &UseLine<'_>) -> Option<Kind>
 }
 
 fn first_given(uses: &[UseLine<'_>]) -> Option<Kind>
-    ensures { result ≡ kind_of (flat_map (λ used. claim_of used.line.at (kind_given used)) (map use_view uses.now)) }
+    ensures { result
+        ≡ kind_of (flat_map (λ used. claim_of used.line.at (kind_given used))
+        (map use_view uses.now)) }
 {
     for used in uses {
         if let Some(kind) = kind_given(used) {

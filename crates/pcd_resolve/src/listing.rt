@@ -26,8 +26,9 @@ pub struct UseAt<'a> {
     pub line: &'a UsedPcd,
 }
 
-/// A line of an INF that names a PCD, for the module that has the INF: `own` are the lines by which the INF's packages
-/// declare the PCD, `all` those by which the packages of all INFs of the module do.
+/// A line of an INF that names a PCD, for the module that has the INF: `own` are the lines by which
+/// the INF's packages declare the PCD, `all` those by which the packages of all INFs of the module
+/// do.
 #[derive(Drop)]
 pub struct UseLine<'a> {
     pub user: &'a Module,

@@ -1,6 +1,6 @@
-//! The names of which a table has the lines. A table of all lines of a package, made anew for each module, would cost
-//! far more than the lines that the module asks for: so the names that are asked for are marked, and a line without a
-//! mark is passed by.
+//! The names of which a table has the lines. A table of all lines of a package, made anew for each
+//! module, would cost far more than the lines that the module asks for: so the names that are asked
+//! for are marked, and a line without a mark is passed by.
 ghost use Rattle.std.specs.Prelude.{◌≡◌, false, fold, length, map, OnOk, IfOk};
 ghost use Rattle.pcd_resolve.specs.Listing.{uses_of_module};
 ghost use Rattle.pcd_resolve.specs.Marks.{is_kept, place_of, step, with_mark, with_marks};
@@ -62,7 +62,8 @@ pub fn is_kept(marks: &[bool], name: &[u8]) -> bool
     }
 }
 
-/// Whether lines of a PCD may be wanted, by the second part of its name alone; where it is short they may be.
+/// Whether lines of a PCD may be wanted, by the second part of its name alone; where it is short
+/// they may be.
 pub fn may_be_kept(marks: &[bool], pcd: &PcdName) -> bool
     ensures { result ≡ false → is_kept marks.now (dotted pcd.now) ≡ false }
 {
@@ -91,7 +92,8 @@ fn mark_use(
     parts: &ModuleParts,
     at: &UseAt<'_>,
 ) -> Result<(), WantOfMemory>
-    ensures { OnOk result (marks.new.items ≡ with_mark marks.old.items (use_name (at_view parts.now at.now))) }
+    ensures { OnOk result (marks.new.items
+        ≡ with_mark marks.old.items (use_name (at_view parts.now at.now))) }
 {
     let name = dotted(alloc, &at.line.pcd)?;
     mark(marks, name.as_slice());
@@ -104,7 +106,8 @@ fn mark_each(
     parts: &ModuleParts,
     uses: &[UseAt<'_>],
 ) -> Result<(), WantOfMemory>
-    ensures { OnOk result (marks.new.items ≡ with_marks marks.old.items (map use_name (map (at_view parts.now) uses.now))) }
+    ensures { OnOk result (marks.new.items
+        ≡ with_marks marks.old.items (map use_name (map (at_view parts.now) uses.now))) }
 {
     let mut left = uses;
     while let [at, rest @ ..] = left {
@@ -115,7 +118,8 @@ fn mark_each(
 }
 
 fn mark_uses(alloc: Global, marks: &mut Vec<bool>, parts: &ModuleParts) -> Result<(), WantOfMemory>
-    ensures { OnOk result (marks.new.items ≡ with_marks marks.old.items (map use_name (uses_of_module parts.now))) }
+    ensures { OnOk result (marks.new.items
+        ≡ with_marks marks.old.items (map use_name (uses_of_module parts.now))) }
 {
     let uses = uses_of_module(alloc, parts)?;
     mark_each(alloc, marks, parts, uses.as_slice())?;
@@ -129,7 +133,8 @@ pub fn marks_of(
     names: &[Vec<u8>],
 ) -> Result<Vec<bool>, WantOfMemory>
     ensures names { IfOk result (λ marks. AllKept marks.items (map (λ n. n.items) names.now)) }
-    ensures uses { IfOk result (λ marks. AllKept marks.items (map use_name (uses_of_module parts.now))) }
+    ensures uses { IfOk result
+        (λ marks. AllKept marks.items (map use_name (uses_of_module parts.now))) }
 {
     let mut marks = no_marks(alloc)?;
     mark_names(&mut marks, names);

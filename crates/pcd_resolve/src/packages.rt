@@ -20,8 +20,8 @@ use doc_types::parts::ModuleParts;
 use indexmap::IndexMap;
 use std::alloc::Global;
 
-/// A module, the packages that its INFs name for its architecture, each once, and the lines of its packages by the
-/// names of their PCDs, where these are marked.
+/// A module, the packages that its INFs name for its architecture, each once, and the lines of its
+/// packages by the names of their PCDs, where these are marked.
 #[derive(Drop)]
 pub struct ModuleTables<'a> {
     pub parts: &'a ModuleParts,
@@ -35,7 +35,9 @@ fn put_named<'a>(
     named: &'a Named,
     paths: &mut Vec<&'a [u8]>,
 ) -> Result<(), WantOfMemory>
-    ensures { OnOk result (map (λ p. p.now) paths.new.items ≡ map (λ p. p.now) paths.old.items ++ map (λ n. n.name) (filter (λ n. serves n.arch arch) (named.now ∷ []))) }
+    ensures { OnOk result (map (λ p. p.now) paths.new.items
+        ≡ map (λ p. p.now) paths.old.items ++ map (λ n. n.name)
+        (filter (λ n. serves n.arch arch) (named.now ∷ []))) }
 {
     if serves(named.arch, arch) {
         if paths.push(named.name.bytes()).is_err() {
@@ -50,7 +52,9 @@ fn put_names<'a>(
     names: &'a [Named],
     paths: &mut Vec<&'a [u8]>,
 ) -> Result<(), WantOfMemory>
-    ensures { OnOk result (map (λ p. p.now) paths.new.items ≡ map (λ p. p.now) paths.old.items ++ map (λ n. n.name) (filter (λ n. serves n.arch arch) names.now)) }
+    ensures { OnOk result (map (λ p. p.now) paths.new.items
+        ≡ map (λ p. p.now) paths.old.items ++ map (λ n. n.name)
+        (filter (λ n. serves n.arch arch) names.now)) }
 {
     for named in names {
         put_named(arch, named, paths)?;
@@ -64,7 +68,8 @@ fn put_packages<'a>(
     inf: &'a InfDoc,
     paths: &mut Vec<&'a [u8]>,
 ) -> Result<(), WantOfMemory>
-    ensures { OnOk result (map (λ p. p.now) paths.new.items ≡ map (λ p. p.now) paths.old.items ++ packages_of arch inf.now) }
+    ensures { OnOk result (map (λ p. p.now) paths.new.items
+        ≡ map (λ p. p.now) paths.old.items ++ packages_of arch inf.now) }
 {
     put_names(arch, inf.packages.items(), paths)?;
     Ok(())
@@ -110,7 +115,8 @@ fn has_path(paths: &[&[u8]], path: &[u8]) -> bool
 }
 
 fn put_once<'a>(paths: &mut Vec<&'a [u8]>, path: &'a [u8]) -> Result<(), WantOfMemory>
-    ensures { OnOk result (map (λ p. p.now) paths.new.items ≡ put_once (map (λ p. p.now) paths.old.items) path.now) }
+    ensures { OnOk result (map (λ p. p.now) paths.new.items
+        ≡ put_once (map (λ p. p.now) paths.old.items) path.now) }
 {
     if has_path(paths.as_slice(), path) {
         return Ok(());
@@ -122,7 +128,8 @@ fn put_once<'a>(paths: &mut Vec<&'a [u8]>, path: &'a [u8]) -> Result<(), WantOfM
 }
 
 fn put_each_once<'a>(paths: &mut Vec<&'a [u8]>, more: &[&'a [u8]]) -> Result<(), WantOfMemory>
-    ensures { OnOk result (map (λ p. p.now) paths.new.items ≡ fold put_once (map (λ p. p.now) paths.old.items) (map (λ p. p.now) more.now)) }
+    ensures { OnOk result (map (λ p. p.now) paths.new.items
+        ≡ fold put_once (map (λ p. p.now) paths.old.items) (map (λ p. p.now) more.now)) }
 {
     for path in more {
         put_once(paths, *path)?;
@@ -161,7 +168,9 @@ fn put_package<'a>(
     path: &[u8],
     found: &mut Vec<&'a DecPcd>,
 ) -> Result<(), WantOfMemory>
-    ensures { OnOk result (map (λ l. l.now) found.new.items ≡ map (λ l. l.now) found.old.items ++ of_package arch (map declared_view lines.now) path.now) }
+    ensures { OnOk result (map (λ l. l.now) found.new.items
+        ≡ map (λ l. l.now) found.old.items ++ of_package arch (map declared_view lines.now)
+        path.now) }
 {
     for declared in lines {
         if is_from(arch, path, declared) {
@@ -181,7 +190,8 @@ fn by_packages<'a>(
     lines: &[DeclaredLine<'a>],
     paths: &[&[u8]],
 ) -> Result<Vec<&'a DecPcd>, WantOfMemory>
-    ensures { IfOk result (λ v. map (λ l. l.now) v.items ≡ by_packages arch (map declared_view lines.now) (map (λ p. p.now) paths.now)) }
+    ensures { IfOk result (λ v. map (λ l. l.now) v.items
+        ≡ by_packages arch (map declared_view lines.now) (map (λ p. p.now) paths.now)) }
 {
     let mut found = Vec::new(alloc);
     for path in paths {
@@ -219,7 +229,8 @@ pub fn declared_in<'a>(
 ) -> Result<Vec<&'a DecPcd>, WantOfMemory>
     requires tabled { IsTabled tables.now }
     requires kept { is_kept tables.now.marks.items pcd.now.items ≡ true }
-    ensures { IfOk result (λ v. map (λ l. l.now) v.items ≡ declared_in tables.now.parts.now pcd.now.items) }
+    ensures { IfOk result (λ v. map (λ l. l.now) v.items
+        ≡ declared_in tables.now.parts.now pcd.now.items) }
 {
     by_packages(
         alloc,
@@ -239,7 +250,8 @@ pub fn declared_for<'a>(
 ) -> Result<Vec<&'a DecPcd>, WantOfMemory>
     requires tabled { IsTabled tables.now }
     requires kept { is_kept tables.now.marks.items pcd.now.items ≡ true }
-    ensures { IfOk result (λ v. map (λ l. l.now) v.items ≡ declared_for tables.now.parts.now inf.now pcd.now.items) }
+    ensures { IfOk result (λ v. map (λ l. l.now) v.items
+        ≡ declared_for tables.now.parts.now inf.now pcd.now.items) }
 {
     let own = packages_of(alloc, tables.parts.module.arch, inf)?;
     by_packages(

@@ -65,7 +65,8 @@ pub fn counted<'a>(
     arches: &[Arch],
     lines: &[StatedLine<'a>],
 ) -> Result<Vec<StatedLine<'a>>, WantOfMemory>
-    ensures { IfOk result (λ v. map stated_view v.items ≡ filter (counts arches.now) (map stated_view lines.now)) }
+    ensures { IfOk result (λ v. map stated_view v.items
+        ≡ filter (counts arches.now) (map stated_view lines.now)) }
 {
     let mut found = Vec::new(alloc);
     for stated in lines {
@@ -91,7 +92,9 @@ fn rows_by<'a>(
     requires kind { sought.now.kind ≡ Some kind }
     requires picked { map (λ s. s.now) picked.now ≡ chosen ask.now }
     requires walks { All (λ s. WalkEnds ask.now.platform.skus s.now.name) picked.now }
-    ensures { Answers result (rows_by ask.now sought.now.name.now.items (map stated_view lines.now) (map (λ s. s.now) sets.now) (Some kind)) }
+    ensures { Answers result
+        (rows_by ask.now sought.now.name.now.items (map stated_view lines.now)
+        (map (λ s. s.now) sets.now) (Some kind)) }
 {
     if !is_dynamic(kind) {
         return Ok(Rows::new(alloc));
@@ -127,7 +130,9 @@ fn rows_at<'a>(
     requires uses { Grouped use_view use_name (uses_in ask.now.modules) uses.now }
     requires lines { Grouped stated_view stated_name (stated_in ask.now.platform) lines.now }
     requires sets { Grouped (λ s. s.now) set_name (platform_sets ask.now) sets.now }
-    ensures { Answers result (rows_at ask.now (uses_in ask.now.modules) (stated_in ask.now.platform) sought.now.name.now.items) }
+    ensures { Answers result
+        (rows_at ask.now (uses_in ask.now.modules) (stated_in ask.now.platform)
+        sought.now.name.now.items) }
 {
     let pcd = sought.name;
     let lines = group(lines, pcd);
@@ -153,7 +158,9 @@ fn all_rows<'a>(
     requires uses { Grouped use_view use_name (uses_in ask.now.modules) uses.now }
     requires lines { Grouped stated_view stated_name (stated_in ask.now.platform) lines.now }
     requires sets { Grouped (λ s. s.now) set_name (platform_sets ask.now) sets.now }
-    ensures { Answers result (all_rows (map (rows_at ask.now (uses_in ask.now.modules) (stated_in ask.now.platform)) (map (λ s. s.name.now.items) all.now))) }
+    ensures { Answers result
+        (all_rows (map (rows_at ask.now (uses_in ask.now.modules) (stated_in ask.now.platform))
+        (map (λ s. s.name.now.items) all.now))) }
 {
     let mut rows = Rows::new(alloc);
     for sought in all {
@@ -178,7 +185,8 @@ fn chosen_by<'a>(
     choice: &[u8],
     skus: &'a [Sku],
 ) -> Result<Vec<&'a Sku>, WantOfMemory>
-    ensures { IfOk result (λ v. map (λ s. s.now) v.items ≡ filter (is_chosen (wanted words.now choice.now)) skus.now) }
+    ensures { IfOk result (λ v. map (λ s. s.now) v.items
+        ≡ filter (is_chosen (wanted words.now choice.now)) skus.now) }
 {
     match words {
         [] => {
@@ -209,7 +217,9 @@ fn rows_of_modules<'a>(
 ) -> Result<Rows<PcdRow>, Refusal>
     requires picked { map (λ s. s.now) picked.now ≡ chosen ask.now }
     requires walks { All (λ s. WalkEnds ask.now.platform.skus s.now.name) picked.now }
-    ensures { Answers result (all_rows (map (rows_at ask.now (uses_in ask.now.modules) (stated_in ask.now.platform)) (names_of (uses_in ask.now.modules)))) }
+    ensures { Answers result
+        (all_rows (map (rows_at ask.now (uses_in ask.now.modules) (stated_in ask.now.platform))
+        (names_of (uses_in ask.now.modules)))) }
 {
     let names = names_of_modules(alloc, ask.modules.items())?;
     let uses = all_uses_by_name(alloc, ask.modules.items())?;
@@ -221,7 +231,9 @@ fn rows_of_modules<'a>(
 
 fn values_of(alloc: Global, ask: &PlatformAsk) -> Result<Rows<PcdRow>, Refusal>
     requires { SkusEnd ask.now.platform.skus }
-    ensures { Answers result (all_rows (map (rows_at ask.now (uses_in ask.now.modules) (stated_in ask.now.platform)) (names_of (uses_in ask.now.modules)))) }
+    ensures { Answers result
+        (all_rows (map (rows_at ask.now (uses_in ask.now.modules) (stated_in ask.now.platform))
+        (names_of (uses_in ask.now.modules)))) }
 {
     let picked = chosen_of(alloc, ask)?;
     rows_of_modules(alloc, ask, picked.as_slice())
@@ -237,9 +249,9 @@ fn words_known(alloc: Global, ask: &PlatformAsk) -> Result<(), Refusal>
     skus_known(alloc, ask.platform.value(), ask.skus.items())
 }
 
-/// The values of a platform's dynamic PCDs, PCD by PCD in the order of their names, for each chosen SKU. Or the first
-/// fault: SkuUnknown of the words, and then PCD by PCD those of `resolve_module`, for every PCD that a module uses; those of
-/// values come for dynamic PCDs alone.
+/// The values of a platform's dynamic PCDs, PCD by PCD in the order of their names, for each chosen
+/// SKU. Or the first fault: SkuUnknown of the words, and then PCD by PCD those of `resolve_module`,
+/// for every PCD that a module uses; those of values come for dynamic PCDs alone.
 #[tactic(auto, unfolding(crate::specs::Platform::platform_values))]
 pub fn resolve_platform(alloc: Global, permit: Permit, ask: &PlatformAsk) -> Result<Values, Refusal>
     requires { SkusEnd ask.now.platform.skus }

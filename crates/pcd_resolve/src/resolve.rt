@@ -37,11 +37,16 @@ fn rows_at<'a>(
     requires tabled { IsTabled tables.now }
     requires parts { tables.now.parts.now ≡ ask.now.parts }
     requires uses { Grouped use_view use_name (uses_of_module ask.now.parts) uses.now }
-    requires lines { GroupedAt tables.now.marks.items stated_view stated_name (stated_in ask.now.platform) lines.now }
-    requires sets { GroupedAt tables.now.marks.items (λ s. s.now) set_name (sets_in ask.now) sets.now }
-    requires dynamic { GroupedAt tables.now.marks.items (λ r. r.now) row_name ask.now.dynamic.rows dynamic.now }
+    requires lines { GroupedAt tables.now.marks.items stated_view stated_name
+        (stated_in ask.now.platform) lines.now }
+    requires sets { GroupedAt tables.now.marks.items (λ s. s.now) set_name (sets_in ask.now)
+        sets.now }
+    requires dynamic { GroupedAt tables.now.marks.items (λ r. r.now) row_name ask.now.dynamic.rows
+        dynamic.now }
     requires kept { is_kept tables.now.marks.items pcd.now.items ≡ true }
-    ensures { Answers result (rows_in ask.now (uses_of_module ask.now.parts) (stated_in ask.now.platform) pcd.now.items) }
+    ensures { Answers result
+        (rows_in ask.now (uses_of_module ask.now.parts) (stated_in ask.now.platform)
+        pcd.now.items) }
 {
     let declared = declared_in(alloc, tables, pcd)?;
     rows_of(
@@ -82,11 +87,16 @@ fn all_rows<'a>(
     requires tabled { IsTabled tables.now }
     requires parts { tables.now.parts.now ≡ ask.now.parts }
     requires uses { Grouped use_view use_name (uses_of_module ask.now.parts) uses.now }
-    requires lines { GroupedAt tables.now.marks.items stated_view stated_name (stated_in ask.now.platform) lines.now }
-    requires sets { GroupedAt tables.now.marks.items (λ s. s.now) set_name (sets_in ask.now) sets.now }
-    requires dynamic { GroupedAt tables.now.marks.items (λ r. r.now) row_name ask.now.dynamic.rows dynamic.now }
+    requires lines { GroupedAt tables.now.marks.items stated_view stated_name
+        (stated_in ask.now.platform) lines.now }
+    requires sets { GroupedAt tables.now.marks.items (λ s. s.now) set_name (sets_in ask.now)
+        sets.now }
+    requires dynamic { GroupedAt tables.now.marks.items (λ r. r.now) row_name ask.now.dynamic.rows
+        dynamic.now }
     requires kept { AllKept tables.now.marks.items (map (λ n. n.items) names.now) }
-    ensures { Answers result (all_rows (map (rows_in ask.now (uses_of_module ask.now.parts) (stated_in ask.now.platform)) (map (λ n. n.items) names.now))) }
+    ensures { Answers result
+        (all_rows (map (rows_in ask.now (uses_of_module ask.now.parts) (stated_in ask.now.platform))
+        (map (λ n. n.items) names.now))) }
 {
     let mut rows = Rows::new(alloc);
     for pcd in names {
@@ -101,7 +111,8 @@ fn sets_of_ask<'a>(
     marks: &[bool],
     ask: &'a ModuleAsk,
 ) -> Result<IndexMap<Vec<u8>, Vec<&'a PcdSet>>, WantOfMemory>
-    ensures { IfOk result (λ table. GroupedAt marks.now (λ s. s.now) set_name (sets_in ask.now) table) }
+    ensures { IfOk result
+        (λ table. GroupedAt marks.now (λ s. s.now) set_name (sets_in ask.now) table) }
 {
     sets_by_name(
         alloc,
@@ -122,7 +133,9 @@ fn rows_by_tables<'a>(
     requires parts { tables.now.parts.now ≡ ask.now.parts }
     requires uses { Grouped use_view use_name (uses_of_module ask.now.parts) uses.now }
     requires kept { AllKept tables.now.marks.items (map (λ n. n.items) names.now) }
-    ensures { Answers result (all_rows (map (rows_in ask.now (uses_of_module ask.now.parts) (stated_in ask.now.platform)) (map (λ n. n.items) names.now))) }
+    ensures { Answers result
+        (all_rows (map (rows_in ask.now (uses_of_module ask.now.parts) (stated_in ask.now.platform))
+        (map (λ n. n.items) names.now))) }
 {
     let marks = tables.marks.as_slice();
     let lines = lines_by_name(alloc, marks, ask.platform.value())?;
@@ -132,7 +145,9 @@ fn rows_by_tables<'a>(
 }
 
 fn values_of(alloc: Global, ask: &ModuleAsk) -> Result<Rows<PcdRow>, Refusal>
-    ensures { Answers result (all_rows (map (rows_in ask.now (uses_of_module ask.now.parts) (stated_in ask.now.platform)) (names_of (uses_of_module ask.now.parts)))) }
+    ensures { Answers result
+        (all_rows (map (rows_in ask.now (uses_of_module ask.now.parts) (stated_in ask.now.platform))
+        (names_of (uses_of_module ask.now.parts)))) }
 {
     let names = names_of_module(alloc, &ask.parts)?;
     let marks = marks_of(alloc, &ask.parts, names.as_slice())?;
@@ -141,9 +156,9 @@ fn values_of(alloc: Global, ask: &ModuleAsk) -> Result<Rows<PcdRow>, Refusal>
     rows_by_tables(alloc, ask, names.as_slice(), &tables, &uses)
 }
 
-/// The values of a module, PCD by PCD in the order of their names, or the first fault: NotDeclared, DatumConflict,
-/// DynamicInComponent, SkuOnFixed, KindConflict, KindAsked, and then that of the value. Those of dynamic PCDs are the
-/// rows that `ask` has of them.
+/// The values of a module, PCD by PCD in the order of their names, or the first fault: NotDeclared,
+/// DatumConflict, DynamicInComponent, SkuOnFixed, KindConflict, KindAsked, and then that of the
+/// value. Those of dynamic PCDs are the rows that `ask` has of them.
 #[tactic(auto, unfolding(crate::specs::Rows::module_values))]
 pub fn resolve_module(alloc: Global, permit: Permit, ask: &ModuleAsk) -> Result<Values, Refusal>
     ensures { Answers result (module_values ask.now) }

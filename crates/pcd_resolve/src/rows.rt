@@ -118,7 +118,9 @@ fn fixed_row<'a>(
     kind: Kind,
     line: Option<&'a DecPcd>,
 ) -> Result<Rows<PcdRow>, Refusal>
-    ensures { Answers result (fixed_row user.now (map use_view uses.now) (map stated_view lines.now) (map (λ s. s.now) sets.now) kind (option_copied line.entry)) }
+    ensures { Answers result
+        (fixed_row user.now (map use_view uses.now) (map stated_view lines.now)
+        (map (λ s. s.now) sets.now) kind (option_copied line.entry)) }
 {
     let Some(line) = line else {
         return Ok(Rows::new(alloc));
@@ -147,7 +149,10 @@ fn rows_by_kind<'a>(
     dynamic: &[&PcdRow],
     kind: Kind,
 ) -> Result<Rows<PcdRow>, Refusal>
-    ensures { Answers result (rows_by_kind user.now (map use_view uses.now) (map stated_view lines.now) (map (λ l. l.now) declared.now) (map (λ s. s.now) sets.now) (map (λ r. r.now) dynamic.now) (Some kind)) }
+    ensures { Answers result
+        (rows_by_kind user.now (map use_view uses.now) (map stated_view lines.now)
+        (map (λ l. l.now) declared.now) (map (λ s. s.now) sets.now) (map (λ r. r.now) dynamic.now)
+        (Some kind)) }
 {
     if is_dynamic(kind) {
         return Ok(copies(alloc, dynamic)?);
@@ -168,7 +173,10 @@ pub fn rows_of<'a>(
     sets: &[&'a PcdSet],
     dynamic: &[&PcdRow],
 ) -> Result<Rows<PcdRow>, Refusal>
-    ensures { Answers result (rows_of pcd.now user.now (map use_view uses.now) (map stated_view lines.now) (map (λ l. l.now) declared.now) (map (λ s. s.now) sets.now) (map (λ r. r.now) dynamic.now)) }
+    ensures { Answers result
+        (rows_of pcd.now user.now (map use_view uses.now) (map stated_view lines.now)
+        (map (λ l. l.now) declared.now) (map (λ s. s.now) sets.now)
+        (map (λ r. r.now) dynamic.now)) }
 {
     match checked_kind(alloc, pcd, uses, lines)? {
         Some(kind) => rows_by_kind(alloc, user, uses, lines, declared, sets, dynamic, kind),

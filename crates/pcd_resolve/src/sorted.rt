@@ -28,7 +28,8 @@ fn insert(names: &mut BTreeSet<Vec<u8>>, name: Vec<u8>) -> Result<(), WantOfMemo
 }
 
 fn put_name(names: &mut BTreeSet<Vec<u8>>, name: Vec<u8>) -> Result<(), WantOfMemory>
-    ensures { OnOk result (map (λ n. n.items) names.new.keys ≡ insert_key (slice_cmp nat_cmp) (map (λ n. n.items) names.old.keys) name.items) }
+    ensures { OnOk result (map (λ n. n.items) names.new.keys
+        ≡ insert_key (slice_cmp nat_cmp) (map (λ n. n.items) names.old.keys) name.items) }
 {
     insert(names, name)?;
     Ok(())
@@ -41,7 +42,9 @@ fn put_use(
     parts: &ModuleParts,
     at: &UseAt<'_>,
 ) -> Result<(), WantOfMemory>
-    ensures { OnOk result (map (λ n. n.items) names.new.keys ≡ insert_key (slice_cmp nat_cmp) (map (λ n. n.items) names.old.keys) (use_name (at_view parts.now at.now))) }
+    ensures { OnOk result (map (λ n. n.items) names.new.keys
+        ≡ insert_key (slice_cmp nat_cmp) (map (λ n. n.items) names.old.keys)
+        (use_name (at_view parts.now at.now))) }
 {
     let name = dotted(alloc, &at.line.pcd)?;
     put_name(names, name)?;
@@ -54,7 +57,8 @@ fn put_uses(
     parts: &ModuleParts,
     uses: &[UseAt<'_>],
 ) -> Result<(), WantOfMemory>
-    ensures { OnOk result (map (λ n. n.items) names.new.keys ≡ with_names (map (λ n. n.items) names.old.keys) (map (at_view parts.now) uses.now)) }
+    ensures { OnOk result (map (λ n. n.items) names.new.keys
+        ≡ with_names (map (λ n. n.items) names.old.keys) (map (at_view parts.now) uses.now)) }
 {
     for at in uses {
         put_use(alloc, names, parts, at)?;
@@ -67,7 +71,8 @@ fn put_module(
     names: &mut BTreeSet<Vec<u8>>,
     parts: &ModuleParts,
 ) -> Result<(), WantOfMemory>
-    ensures { OnOk result (map (λ n. n.items) names.new.keys ≡ with_names (map (λ n. n.items) names.old.keys) (uses_of_module parts.now)) }
+    ensures { OnOk result (map (λ n. n.items) names.new.keys
+        ≡ with_names (map (λ n. n.items) names.old.keys) (uses_of_module parts.now)) }
 {
     let uses = uses_of_module(alloc, parts)?;
     put_uses(alloc, names, parts, uses.as_slice())?;
@@ -79,7 +84,8 @@ fn put_modules(
     names: &mut BTreeSet<Vec<u8>>,
     modules: &[ModuleParts],
 ) -> Result<(), WantOfMemory>
-    ensures { OnOk result (map (λ n. n.items) names.new.keys ≡ with_names (map (λ n. n.items) names.old.keys) (flat_map uses_of_module modules.now)) }
+    ensures { OnOk result (map (λ n. n.items) names.new.keys
+        ≡ with_names (map (λ n. n.items) names.old.keys) (flat_map uses_of_module modules.now)) }
 {
     for parts in modules {
         put_module(alloc, names, parts)?;

@@ -1,5 +1,6 @@
-//! The lines that give the PCDs of a platform's modules their types and their tokens. Modules are looked at one by one, each
-//! by tables of its own that are let go again, and only as long as a line isn't found.
+//! The lines that give the PCDs of a platform's modules their types and their tokens. Modules are
+//! looked at one by one, each by tables of its own that are let go again, and only as long as a
+//! line isn't found.
 ghost use Rattle.std.specs.Prelude.{◌≡◌, [], true, Some, fold, map, option_copied, IfOk};
 ghost use Rattle.std.specs.List.{All, list_any};
 ghost use Rattle.build_base.specs.First.{or_else};
@@ -25,8 +26,8 @@ use doc_types::pcd::Kind;
 use indexmap::IndexMap;
 use std::alloc::Global;
 
-/// A PCD of modules: its kind, and of the lines by which the modules' packages declare it the first one of the kind and
-/// the first one.
+/// A PCD of modules: its kind, and of the lines by which the modules' packages declare it the first
+/// one of the kind and the first one.
 #[derive(Clone, Copy)]
 pub struct Sought<'n, 'a> {
     pub name: &'n Vec<u8>,
@@ -45,7 +46,8 @@ fn of_some<'a>(kind: Option<Kind>, lines: &[&'a DecPcd]) -> Option<&'a DecPcd>
 }
 
 fn or_else<'a>(first: Option<&'a DecPcd>, second: Option<&'a DecPcd>) -> Option<&'a DecPcd>
-    ensures { option_copied result ≡ or_else (option_copied first.entry) (option_copied second.entry) }
+    ensures { option_copied result ≡ or_else (option_copied first.entry)
+        (option_copied second.entry) }
 {
     match first {
         Some(line) => Some(line),
@@ -56,7 +58,9 @@ fn or_else<'a>(first: Option<&'a DecPcd>, second: Option<&'a DecPcd>) -> Option<
 /// The line that gives a PCD its type and its token.
 #[tactic(auto, using(crate::proofs::SoughtLemmas::declared_among))]
 pub fn declaration<'a>(kind: Kind, one: &Sought<'_, 'a>) -> Option<&'a DecPcd>
-    ensures { (ask : Ask) → one.now.kind ≡ Some kind → sought_view one.now ≡ found ask one.now.name.now.items → option_copied result ≡ declaration_among kind one.now.name.now.items ask.modules }
+    ensures { (ask : Ask) → one.now.kind ≡ Some kind
+        → sought_view one.now ≡ found ask one.now.name.now.items
+        → option_copied result ≡ declaration_among kind one.now.name.now.items ask.modules }
 {
     or_else(one.line, one.first)
 }
@@ -86,7 +90,8 @@ fn any_open(all: &[Sought<'_, '_>]) -> bool
 }
 
 fn mark_open(marks: &mut Vec<bool>, one: &Sought<'_, '_>)
-    ensures { marks.new.items ≡ with_marks marks.old.items (front_if (is_open (sought_view one.now)) (sought_view one.now).name []) }
+    ensures { marks.new.items ≡ with_marks marks.old.items
+        (front_if (is_open (sought_view one.now)) (sought_view one.now).name []) }
 {
     if is_open(one) {
         mark(marks, one.name.as_slice());
@@ -104,7 +109,9 @@ fn mark_all_open(marks: &mut Vec<bool>, all: &[Sought<'_, '_>])
 }
 
 fn open_marks(alloc: Global, all: &[Sought<'_, '_>]) -> Result<Vec<bool>, WantOfMemory>
-    ensures { IfOk result (λ marks. All (λ s. is_open (sought_view s) ≡ true → is_kept marks.items s.name.now.items ≡ true) all.now) }
+    ensures { IfOk result
+        (λ marks. All (λ s. is_open (sought_view s) ≡ true
+        → is_kept marks.items s.name.now.items ≡ true) all.now) }
 {
     let mut marks = no_marks(alloc)?;
     mark_all_open(&mut marks, all);
@@ -130,7 +137,8 @@ fn looked<'n, 'a>(
     one: &Sought<'n, 'a>,
 ) -> Result<Sought<'n, 'a>, WantOfMemory>
     requires tabled { IsTabled tables.now }
-    requires kept { is_open (sought_view one.now) ≡ true → is_kept tables.now.marks.items one.now.name.now.items ≡ true }
+    requires kept { is_open (sought_view one.now) ≡ true
+        → is_kept tables.now.marks.items one.now.name.now.items ≡ true }
     ensures { IfOk result (λ s. sought_view s ≡ look tables.now.parts.now (sought_view one.now)) }
 {
     if !is_open(one) {
@@ -146,8 +154,10 @@ fn looked_by<'n, 'a>(
     all: &[Sought<'n, 'a>],
 ) -> Result<Vec<Sought<'n, 'a>>, WantOfMemory>
     requires tabled { IsTabled tables.now }
-    requires kept { All (λ s. is_open (sought_view s) ≡ true → is_kept tables.now.marks.items s.name.now.items ≡ true) all.now }
-    ensures { IfOk result (λ v. map sought_view v.items ≡ map (look tables.now.parts.now) (map sought_view all.now)) }
+    requires kept { All (λ s. is_open (sought_view s) ≡ true
+        → is_kept tables.now.marks.items s.name.now.items ≡ true) all.now }
+    ensures { IfOk result (λ v. map sought_view v.items
+        ≡ map (look tables.now.parts.now) (map sought_view all.now)) }
 {
     let mut more = Vec::new(alloc);
     for one in all {
@@ -164,7 +174,8 @@ fn looked_in<'n, 'a>(
     parts: &'a ModuleParts,
     all: &[Sought<'n, 'a>],
 ) -> Result<Vec<Sought<'n, 'a>>, WantOfMemory>
-    ensures { IfOk result (λ v. map sought_view v.items ≡ look_each (map sought_view all.now) parts.now) }
+    ensures { IfOk result (λ v. map sought_view v.items
+        ≡ look_each (map sought_view all.now) parts.now) }
 {
     let marks = open_marks(alloc, all)?;
     let tables = tables_of(alloc, parts, marks)?;
@@ -177,7 +188,8 @@ fn looked_further<'n, 'a>(
     parts: &'a ModuleParts,
     all: Vec<Sought<'n, 'a>>,
 ) -> Result<Vec<Sought<'n, 'a>>, WantOfMemory>
-    ensures { IfOk result (λ v. map sought_view v.items ≡ look_each (map sought_view all.entry.items) parts.now) }
+    ensures { IfOk result (λ v. map sought_view v.items
+        ≡ look_each (map sought_view all.entry.items) parts.now) }
 {
     if !any_open(all.as_slice()) {
         return Ok(all);
@@ -191,7 +203,8 @@ fn looked_among<'n, 'a>(
     modules: &'a [ModuleParts],
     start: Vec<Sought<'n, 'a>>,
 ) -> Result<Vec<Sought<'n, 'a>>, WantOfMemory>
-    ensures { IfOk result (λ v. map sought_view v.items ≡ fold look_each (map sought_view start.entry.items) modules.now) }
+    ensures { IfOk result (λ v. map sought_view v.items
+        ≡ fold look_each (map sought_view start.entry.items) modules.now) }
 {
     let mut all = start;
     let mut left = modules;
@@ -230,7 +243,8 @@ fn begun<'n, 'a>(
 ) -> Result<Vec<Sought<'n, 'a>>, WantOfMemory>
     requires uses { Grouped use_view use_name (uses_in ask.now.modules) uses.now }
     requires lines { Grouped stated_view stated_name (stated_in ask.now.platform) lines.now }
-    ensures { IfOk result (λ v. map sought_view v.items ≡ map (begun ask.now) (map (λ n. n.items) names.now)) }
+    ensures { IfOk result (λ v. map sought_view v.items
+        ≡ map (begun ask.now) (map (λ n. n.items) names.now)) }
 {
     let mut all = Vec::new(alloc);
     for name in names {
@@ -252,8 +266,10 @@ pub fn sought_of<'n, 'a>(
 ) -> Result<Vec<Sought<'n, 'a>>, WantOfMemory>
     requires uses { Grouped use_view use_name (uses_in ask.now.modules) uses.now }
     requires lines { Grouped stated_view stated_name (stated_in ask.now.platform) lines.now }
-    ensures names { IfOk result (λ v. map (λ s. s.name.now.items) v.items ≡ map (λ n. n.items) names.now) }
-    ensures found { IfOk result (λ v. All (λ s. sought_view s ≡ found ask.now s.name.now.items) v.items) }
+    ensures names { IfOk result (λ v. map (λ s. s.name.now.items) v.items
+        ≡ map (λ n. n.items) names.now) }
+    ensures found { IfOk result
+        (λ v. All (λ s. sought_view s ≡ found ask.now s.name.now.items) v.items) }
 {
     let start = begun(alloc, ask, names, uses, lines)?;
     let all = looked_among(alloc, ask.modules.items(), start)?;

@@ -30,7 +30,9 @@ fn add_line<'a>(
     home: Option<&'a Component>,
     line: &'a PcdLine,
 ) -> Result<(), WantOfMemory>
-    ensures { (xs : List Stated) → GroupedAt marks.now stated_view stated_name xs table.old → OnOk result (GroupedAt marks.now stated_view stated_name (xs ++ at_home (option_map (λ h. h.now) home.entry) line.now ∷ []) table.new) }
+    ensures { (xs : List Stated) → GroupedAt marks.now stated_view stated_name xs table.old
+        → OnOk result (GroupedAt marks.now stated_view stated_name
+        (xs ++ at_home (option_map (λ h. h.now) home.entry) line.now ∷ []) table.new) }
 {
     if !may_be_kept(marks, &line.pcd) {
         return Ok(());
@@ -47,7 +49,9 @@ fn add_lines<'a>(
     home: Option<&'a Component>,
     lines: &'a [PcdLine],
 ) -> Result<(), WantOfMemory>
-    ensures { (xs : List Stated) → GroupedAt marks.now stated_view stated_name xs table.old → OnOk result (GroupedAt marks.now stated_view stated_name (xs ++ map (at_home (option_map (λ h. h.now) home.entry)) lines.now) table.new) }
+    ensures { (xs : List Stated) → GroupedAt marks.now stated_view stated_name xs table.old
+        → OnOk result (GroupedAt marks.now stated_view stated_name
+        (xs ++ map (at_home (option_map (λ h. h.now) home.entry)) lines.now) table.new) }
 {
     for line in lines {
         add_line(alloc, marks, table, home, line)?;
@@ -61,7 +65,9 @@ fn add_component<'a>(
     table: &mut IndexMap<Vec<u8>, Vec<StatedLine<'a>>>,
     one: &'a Component,
 ) -> Result<(), WantOfMemory>
-    ensures { (xs : List Stated) → GroupedAt marks.now stated_view stated_name xs table.old → OnOk result (GroupedAt marks.now stated_view stated_name (xs ++ map (at_home (Some one.now)) one.now.pcds) table.new) }
+    ensures { (xs : List Stated) → GroupedAt marks.now stated_view stated_name xs table.old
+        → OnOk result (GroupedAt marks.now stated_view stated_name
+        (xs ++ map (at_home (Some one.now)) one.now.pcds) table.new) }
 {
     add_lines(alloc, marks, table, Some(one), one.pcds.items())?;
     Ok(())
@@ -73,7 +79,9 @@ fn add_components<'a>(
     table: &mut IndexMap<Vec<u8>, Vec<StatedLine<'a>>>,
     homes: &'a [Component],
 ) -> Result<(), WantOfMemory>
-    ensures { (xs : List Stated) → GroupedAt marks.now stated_view stated_name xs table.old → OnOk result (GroupedAt marks.now stated_view stated_name (xs ++ flat_map (λ one. map (at_home (Some one)) one.pcds) homes.now) table.new) }
+    ensures { (xs : List Stated) → GroupedAt marks.now stated_view stated_name xs table.old
+        → OnOk result (GroupedAt marks.now stated_view stated_name
+        (xs ++ flat_map (λ one. map (at_home (Some one)) one.pcds) homes.now) table.new) }
 {
     for one in homes {
         add_component(alloc, marks, table, one)?;
@@ -87,7 +95,8 @@ fn add_set<'a>(
     table: &mut IndexMap<Vec<u8>, Vec<&'a PcdSet>>,
     set: &'a PcdSet,
 ) -> Result<(), WantOfMemory>
-    ensures { (xs : List Set) → GroupedAt marks.now (λ s. s.now) set_name xs table.old → OnOk result (GroupedAt marks.now (λ s. s.now) set_name (xs ++ set.now ∷ []) table.new) }
+    ensures { (xs : List Set) → GroupedAt marks.now (λ s. s.now) set_name xs table.old
+        → OnOk result (GroupedAt marks.now (λ s. s.now) set_name (xs ++ set.now ∷ []) table.new) }
 {
     if !may_be_kept(marks, &set.pcd) {
         return Ok(());
@@ -103,7 +112,9 @@ fn add_sets<'a>(
     table: &mut IndexMap<Vec<u8>, Vec<&'a PcdSet>>,
     sets: &'a [PcdSet],
 ) -> Result<(), WantOfMemory>
-    ensures { (xs : List Set) → GroupedAt marks.now (λ s. s.now) set_name xs table.old → OnOk result (GroupedAt marks.now (λ s. s.now) set_name (xs ++ map (λ s. s) sets.now) table.new) }
+    ensures { (xs : List Set) → GroupedAt marks.now (λ s. s.now) set_name xs table.old
+        → OnOk result (GroupedAt marks.now (λ s. s.now) set_name (xs ++ map (λ s. s) sets.now)
+        table.new) }
 {
     for set in sets {
         add_set(alloc, marks, table, set)?;
@@ -117,7 +128,8 @@ fn add_row<'a>(
     table: &mut IndexMap<Vec<u8>, Vec<&'a PcdRow>>,
     row: &'a PcdRow,
 ) -> Result<(), WantOfMemory>
-    ensures { (xs : List Row) → GroupedAt marks.now (λ r. r.now) row_name xs table.old → OnOk result (GroupedAt marks.now (λ r. r.now) row_name (xs ++ row.now ∷ []) table.new) }
+    ensures { (xs : List Row) → GroupedAt marks.now (λ r. r.now) row_name xs table.old
+        → OnOk result (GroupedAt marks.now (λ r. r.now) row_name (xs ++ row.now ∷ []) table.new) }
 {
     if !may_be_kept(marks, &row.pcd) {
         return Ok(());
@@ -133,7 +145,9 @@ fn add_rows<'a>(
     table: &mut IndexMap<Vec<u8>, Vec<&'a PcdRow>>,
     rows: &'a [PcdRow],
 ) -> Result<(), WantOfMemory>
-    ensures { (xs : List Row) → GroupedAt marks.now (λ r. r.now) row_name xs table.old → OnOk result (GroupedAt marks.now (λ r. r.now) row_name (xs ++ map (λ r. r) rows.now) table.new) }
+    ensures { (xs : List Row) → GroupedAt marks.now (λ r. r.now) row_name xs table.old
+        → OnOk result (GroupedAt marks.now (λ r. r.now) row_name (xs ++ map (λ r. r) rows.now)
+        table.new) }
 {
     for row in rows {
         add_row(alloc, marks, table, row)?;
@@ -148,7 +162,9 @@ fn add_declared<'a>(
     from: &'a Path,
     line: &'a DecPcd,
 ) -> Result<(), WantOfMemory>
-    ensures { (xs : List Declared) → GroupedAt marks.now declared_view declared_name xs table.old → OnOk result (GroupedAt marks.now declared_view declared_name (xs ++ line_from from.now line.now ∷ []) table.new) }
+    ensures { (xs : List Declared) → GroupedAt marks.now declared_view declared_name xs table.old
+        → OnOk result (GroupedAt marks.now declared_view declared_name
+        (xs ++ line_from from.now line.now ∷ []) table.new) }
 {
     if !may_be_kept(marks, &line.pcd) {
         return Ok(());
@@ -165,7 +181,9 @@ fn add_declarations<'a>(
     from: &'a Path,
     lines: &'a [DecPcd],
 ) -> Result<(), WantOfMemory>
-    ensures { (xs : List Declared) → GroupedAt marks.now declared_view declared_name xs table.old → OnOk result (GroupedAt marks.now declared_view declared_name (xs ++ map (line_from from.now) lines.now) table.new) }
+    ensures { (xs : List Declared) → GroupedAt marks.now declared_view declared_name xs table.old
+        → OnOk result (GroupedAt marks.now declared_view declared_name
+        (xs ++ map (line_from from.now) lines.now) table.new) }
 {
     for line in lines {
         add_declared(alloc, marks, table, from, line)?;
@@ -179,7 +197,9 @@ fn add_package<'a>(
     table: &mut IndexMap<Vec<u8>, Vec<DeclaredLine<'a>>>,
     held: &'a Package,
 ) -> Result<(), WantOfMemory>
-    ensures { (xs : List Declared) → GroupedAt marks.now declared_view declared_name xs table.old → OnOk result (GroupedAt marks.now declared_view declared_name (xs ++ map (line_from held.now.path) held.now.doc.pcds) table.new) }
+    ensures { (xs : List Declared) → GroupedAt marks.now declared_view declared_name xs table.old
+        → OnOk result (GroupedAt marks.now declared_view declared_name
+        (xs ++ map (line_from held.now.path) held.now.doc.pcds) table.new) }
 {
     add_declarations(
         alloc,
@@ -197,7 +217,9 @@ fn add_packages<'a>(
     table: &mut IndexMap<Vec<u8>, Vec<DeclaredLine<'a>>>,
     decs: &'a [Package],
 ) -> Result<(), WantOfMemory>
-    ensures { (xs : List Declared) → GroupedAt marks.now declared_view declared_name xs table.old → OnOk result (GroupedAt marks.now declared_view declared_name (xs ++ flat_map (λ held. map (line_from held.path) held.doc.pcds) decs.now) table.new) }
+    ensures { (xs : List Declared) → GroupedAt marks.now declared_view declared_name xs table.old
+        → OnOk result (GroupedAt marks.now declared_view declared_name
+        (xs ++ flat_map (λ held. map (line_from held.path) held.doc.pcds) decs.now) table.new) }
 {
     for held in decs {
         add_package(alloc, marks, table, held)?;
@@ -212,7 +234,8 @@ pub fn declared_by_name<'a>(
     marks: &[bool],
     decs: &'a [Package],
 ) -> Result<IndexMap<Vec<u8>, Vec<DeclaredLine<'a>>>, WantOfMemory>
-    ensures { IfOk result (λ table. GroupedAt marks.now declared_view declared_name (package_lines decs.now) table) }
+    ensures { IfOk result
+        (λ table. GroupedAt marks.now declared_view declared_name (package_lines decs.now) table) }
 {
     let mut table = IndexMap::new(alloc);
     add_packages(alloc, marks, &mut table, decs)?;
@@ -225,7 +248,10 @@ fn lines_of<'a>(
     lines: &'a [PcdLine],
     homes: &'a [Component],
 ) -> Result<IndexMap<Vec<u8>, Vec<StatedLine<'a>>>, WantOfMemory>
-    ensures { IfOk result (λ table. GroupedAt marks.now stated_view stated_name (map (at_home None) lines.now ++ flat_map (λ one. map (at_home (Some one)) one.pcds) homes.now) table) }
+    ensures { IfOk result
+        (λ table. GroupedAt marks.now stated_view stated_name
+        (map (at_home None) lines.now ++ flat_map (λ one. map (at_home (Some one)) one.pcds)
+        homes.now) table) }
 {
     let mut table = IndexMap::new(alloc);
     add_lines(alloc, marks, &mut table, None, lines)?;
@@ -240,7 +266,8 @@ pub fn lines_by_name<'a>(
     marks: &[bool],
     platform: &'a PlatformDoc,
 ) -> Result<IndexMap<Vec<u8>, Vec<StatedLine<'a>>>, WantOfMemory>
-    ensures { IfOk result (λ table. GroupedAt marks.now stated_view stated_name (stated_in platform.now) table) }
+    ensures { IfOk result
+        (λ table. GroupedAt marks.now stated_view stated_name (stated_in platform.now) table) }
 {
     lines_of(
         alloc,
@@ -255,7 +282,8 @@ pub fn all_lines<'a>(
     alloc: Global,
     platform: &'a PlatformDoc,
 ) -> Result<IndexMap<Vec<u8>, Vec<StatedLine<'a>>>, WantOfMemory>
-    ensures { IfOk result (λ table. Grouped stated_view stated_name (stated_in platform.now) table) }
+    ensures { IfOk result
+        (λ table. Grouped stated_view stated_name (stated_in platform.now) table) }
 {
     lines_by_name(alloc, &[], platform)
 }
@@ -267,7 +295,8 @@ pub fn sets_by_name<'a>(
     words: &'a [PcdSet],
     sets: &'a [PcdSet],
 ) -> Result<IndexMap<Vec<u8>, Vec<&'a PcdSet>>, WantOfMemory>
-    ensures { IfOk result (λ table. GroupedAt marks.now (λ s. s.now) set_name (words.now ++ sets.now) table) }
+    ensures { IfOk result
+        (λ table. GroupedAt marks.now (λ s. s.now) set_name (words.now ++ sets.now) table) }
 {
     let mut table = IndexMap::new(alloc);
     add_sets(alloc, marks, &mut table, words)?;

@@ -58,8 +58,11 @@ fn add_use<'a>(
     at: &UseAt<'a>,
 ) -> Result<(), WantOfMemory>
     requires tabled { IsTabled tables.now }
-    requires kept { is_kept tables.now.marks.items (use_name (at_view tables.now.parts.now at.now)) ≡ true }
-    ensures { (xs : List Use) → Grouped use_view use_name xs table.old → OnOk result (Grouped use_view use_name (xs ++ at_view tables.now.parts.now at.now ∷ []) table.new) }
+    requires kept { is_kept tables.now.marks.items (use_name (at_view tables.now.parts.now at.now))
+        ≡ true }
+    ensures { (xs : List Use) → Grouped use_view use_name xs table.old
+        → OnOk result (Grouped use_view use_name (xs ++ at_view tables.now.parts.now at.now ∷ [])
+        table.new) }
 {
     let name = name_of(alloc, tables, at)?;
     let used = use_of(alloc, tables, at, &name)?;
@@ -74,8 +77,11 @@ fn add_uses<'a>(
     uses: &[UseAt<'a>],
 ) -> Result<(), WantOfMemory>
     requires tabled { IsTabled tables.now }
-    requires kept { AllKept tables.now.marks.items (map use_name (map (at_view tables.now.parts.now) uses.now)) }
-    ensures { (xs : List Use) → Grouped use_view use_name xs table.old → OnOk result (Grouped use_view use_name (xs ++ map (at_view tables.now.parts.now) uses.now) table.new) }
+    requires kept { AllKept tables.now.marks.items
+        (map use_name (map (at_view tables.now.parts.now) uses.now)) }
+    ensures { (xs : List Use) → Grouped use_view use_name xs table.old
+        → OnOk result (Grouped use_view use_name (xs ++ map (at_view tables.now.parts.now) uses.now)
+        table.new) }
 {
     for at in uses {
         add_use(alloc, table, tables, at)?;
@@ -89,8 +95,11 @@ fn add_module<'a>(
     tables: &ModuleTables<'a>,
 ) -> Result<(), WantOfMemory>
     requires tabled { IsTabled tables.now }
-    requires kept { AllKept tables.now.marks.items (map use_name (uses_of_module tables.now.parts.now)) }
-    ensures { (xs : List Use) → Grouped use_view use_name xs table.old → OnOk result (Grouped use_view use_name (xs ++ uses_of_module tables.now.parts.now) table.new) }
+    requires kept { AllKept tables.now.marks.items
+        (map use_name (uses_of_module tables.now.parts.now)) }
+    ensures { (xs : List Use) → Grouped use_view use_name xs table.old
+        → OnOk result (Grouped use_view use_name (xs ++ uses_of_module tables.now.parts.now)
+        table.new) }
 {
     let uses = uses_of_module(alloc, tables.parts)?;
     add_uses(alloc, table, tables, uses.as_slice())?;
@@ -103,7 +112,8 @@ fn add_parts<'a>(
     table: &mut IndexMap<Vec<u8>, Vec<UseLine<'a>>>,
     parts: &'a ModuleParts,
 ) -> Result<(), WantOfMemory>
-    ensures { (xs : List Use) → Grouped use_view use_name xs table.old → OnOk result (Grouped use_view use_name (xs ++ uses_of_module parts.now) table.new) }
+    ensures { (xs : List Use) → Grouped use_view use_name xs table.old
+        → OnOk result (Grouped use_view use_name (xs ++ uses_of_module parts.now) table.new) }
 {
     let marks = marks_of(alloc, parts, &[])?;
     let tables = tables_of(alloc, parts, marks)?;
@@ -116,7 +126,9 @@ fn add_modules<'a>(
     table: &mut IndexMap<Vec<u8>, Vec<UseLine<'a>>>,
     modules: &'a [ModuleParts],
 ) -> Result<(), WantOfMemory>
-    ensures { (xs : List Use) → Grouped use_view use_name xs table.old → OnOk result (Grouped use_view use_name (xs ++ flat_map uses_of_module modules.now) table.new) }
+    ensures { (xs : List Use) → Grouped use_view use_name xs table.old
+        → OnOk result (Grouped use_view use_name (xs ++ flat_map uses_of_module modules.now)
+        table.new) }
 {
     for parts in modules {
         add_parts(alloc, table, parts)?;
@@ -130,15 +142,18 @@ pub fn uses_by_name<'a>(
     tables: &ModuleTables<'a>,
 ) -> Result<IndexMap<Vec<u8>, Vec<UseLine<'a>>>, WantOfMemory>
     requires tabled { IsTabled tables.now }
-    requires kept { AllKept tables.now.marks.items (map use_name (uses_of_module tables.now.parts.now)) }
-    ensures { IfOk result (λ table. Grouped use_view use_name (uses_of_module tables.now.parts.now) table) }
+    requires kept { AllKept tables.now.marks.items
+        (map use_name (uses_of_module tables.now.parts.now)) }
+    ensures { IfOk result
+        (λ table. Grouped use_view use_name (uses_of_module tables.now.parts.now) table) }
 {
     let mut table = IndexMap::new(alloc);
     add_module(alloc, &mut table, tables)?;
     Ok(table)
 }
 
-/// The uses by modules by their names. The tables of a module are let go before those of the next one are made.
+/// The uses by modules by their names. The tables of a module are let go before those of the next
+/// one are made.
 pub fn all_uses_by_name<'a>(
     alloc: Global,
     modules: &'a [ModuleParts],

@@ -18,7 +18,10 @@ fn put_line<'a>(
     line: &'a UsedPcd,
     uses: &mut Vec<UseAt<'a>>,
 ) -> Result<(), WantOfMemory>
-    ensures { OnOk result (map (at_view parts.now) uses.new.items ≡ map (at_view parts.now) uses.old.items ++ map (use_of parts.now inf.now) (filter (λ l. serves l.arch (arch_of parts.now)) (line.now ∷ []))) }
+    ensures { OnOk result (map (at_view parts.now) uses.new.items
+        ≡ map (at_view parts.now) uses.old.items
+        ++ map (use_of parts.now inf.now)
+        (filter (λ l. serves l.arch (arch_of parts.now)) (line.now ∷ []))) }
 {
     if serves(line.arch, parts.module.arch) {
         if uses.push(UseAt { inf, line }).is_err() {
@@ -34,7 +37,10 @@ fn put_lines<'a>(
     lines: &'a [UsedPcd],
     uses: &mut Vec<UseAt<'a>>,
 ) -> Result<(), WantOfMemory>
-    ensures { OnOk result (map (at_view parts.now) uses.new.items ≡ map (at_view parts.now) uses.old.items ++ map (use_of parts.now inf.now) (filter (λ l. serves l.arch (arch_of parts.now)) lines.now)) }
+    ensures { OnOk result (map (at_view parts.now) uses.new.items
+        ≡ map (at_view parts.now) uses.old.items
+        ++ map (use_of parts.now inf.now)
+        (filter (λ l. serves l.arch (arch_of parts.now)) lines.now)) }
 {
     for line in lines {
         put_line(parts, inf, line, uses)?;
@@ -48,7 +54,8 @@ fn put_inf<'a>(
     inf: &'a InfDoc,
     uses: &mut Vec<UseAt<'a>>,
 ) -> Result<(), WantOfMemory>
-    ensures { OnOk result (map (at_view parts.now) uses.new.items ≡ map (at_view parts.now) uses.old.items ++ uses_by parts.now inf.now) }
+    ensures { OnOk result (map (at_view parts.now) uses.new.items
+        ≡ map (at_view parts.now) uses.old.items ++ uses_by parts.now inf.now) }
 {
     put_lines(parts, inf, inf.pcds.items(), uses)?;
     Ok(())
@@ -59,7 +66,8 @@ fn put_infs<'a>(
     infs: &'a [InfDoc],
     uses: &mut Vec<UseAt<'a>>,
 ) -> Result<(), WantOfMemory>
-    ensures { OnOk result (map (at_view parts.now) uses.new.items ≡ map (at_view parts.now) uses.old.items ++ flat_map (uses_by parts.now) infs.now) }
+    ensures { OnOk result (map (at_view parts.now) uses.new.items
+        ≡ map (at_view parts.now) uses.old.items ++ flat_map (uses_by parts.now) infs.now) }
 {
     for inf in infs {
         put_inf(parts, inf, uses)?;

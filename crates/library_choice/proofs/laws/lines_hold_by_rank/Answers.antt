@@ -1,5 +1,5 @@
 use Rattle.library_choice.specs.Lines.{weight}
-use Rattle.library_choice.proofs.BestLemmas.{best-greatest}
+use Rattle.build_base.proofs.BestLemmas.{best-greatest}
 use Rattle.library_choice.proofs.laws.lines_hold_by_rank.Goals as goal
 
 pub returns : goal.returns
