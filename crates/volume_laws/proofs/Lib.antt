@@ -1,0 +1,4 @@
+pub mod LikeLemmas
+pub mod PlanLemmas
+pub mod FileLemmas
+pub mod MovedLemmas

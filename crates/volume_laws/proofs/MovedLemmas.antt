@@ -1,0 +1,100 @@
+-- What is read of a volume whose modules are moved.
+use Rattle.std.proofs.Common.{◌≡◌, ℕ, List, [], ◌∷◌, length, All, Option, Some, None, Result, Ok, refl, ap, ◌∙◌, subst}
+use Rattle.std.proofs.lemmas.List.Elements.{All-nil, All-cons, All-head, All-tail}
+use Rattle.build_base.specs.First.{unless, with_front}
+use Rattle.build_base.specs.declared.fault.Fault.{Fault}
+use Rattle.doc_types.specs.declared.image.FileImage.{FileImage}
+use Rattle.doc_types.specs.declared.volume_head.VolumeHead.{VolumeHead}
+use Rattle.fv_compose.specs.Header.{first_end}
+use Rattle.fv_compose.specs.Turns.{next_end}
+use Rattle.fv_compose.specs.Volume.{place_fault, twice_fault, length_of, volume_of}
+use Rattle.fv_compose.specs.Places.{placed_at, placed_from, places_in, places_with, places_of}
+use Rattle.volume_reader.specs.Written.{Made, files_of, IsMade, IsWritten, written_list}
+use Rattle.volume_reader.proofs.WrittenLemmas.{written_head, written_found, written_listed}
+use Rattle.image_rebase.specs.Files.{moved_file, moved_files}
+use Rattle.image_rebase.specs.Rebase.{base_of, moved_volume, rebased}
+use Rattle.image_rebase.proofs.SameLemmas.{through}
+use Rattle.image_rebase.proofs.BodyLemmas.{fronted}
+use Rattle.volume_laws.specs.Moved.{AreBuilt, IsReadAlike}
+use Rattle.volume_laws.proofs.LikeLemmas.{AreLike, like_list}
+use Rattle.volume_laws.proofs.FileLemmas.{IsMoved, file_moved}
+
+-- files that are made of plans, and the same files with their modules moved
+record AreMoved (head : VolumeHead) (made : List Made) (files : List FileImage) : Type 0 where
+  now : List Made
+  files_are : files_of now ≡ files
+  made_are : All (IsMade head) now
+  like : AreLike made now
+
+none_moved : (head : VolumeHead) → AreMoved head [] []
+unfolding AreLike
+none_moved head = record { now = []; files_are = refl; made_are = All-nil (IsMade head); like = tt }
+
+one_moved : (head : VolumeHead) (one : Made) (made : List Made) (file : FileImage) (files : List FileImage) → IsMoved head one file → AreMoved head made files → AreMoved head (one ∷ made) (file ∷ files)
+unfolding AreLike
+one_moved head one made file files m r = record {
+  now = m.now ∷ r.now;
+  files_are = ap (λ f. f ∷ files_of r.now) m.file_is ∙ ap (λ z. file ∷ z) r.files_are;
+  made_are = All-cons (IsMade head) m.now r.now m.made_is r.made_are;
+  like = (m.like, r.like);
+}
+
+all_moved : (head : VolumeHead) (base size at : ℕ) (made : List Made) (files : List FileImage) → All (IsMade head) made
+    → moved_files head.ffs3 base (files_of made) (placed_from size at (files_of made)) ≡ Ok files → AreMoved head made files
+unfolding moved_files placed_from
+all_moved head base size at [] files a e = let s : [] ≡ files = cc in subst (AreMoved head []) s (none_moved head)
+all_moved head base size at (one ∷ made) files a e =
+    let start : ℕ = placed_at size at one.file in
+    let rest : Result (List FileImage) Fault = moved_files head.ffs3 base (files_of made) (placed_from size (next_end at one.file) (files_of made)) in
+    through (moved_file head.ffs3 base start one.file) (λ file. with_front (file ∷ []) rest) files e
+    (λ file b c.
+    fronted (file ∷ []) rest files c
+    (λ more d j.
+    subst (AreMoved head (one ∷ made)) j
+    (one_moved head one made file more (file_moved head one head.ffs3 base start file (All-head (IsMade head) one made a) b)
+    (all_moved head base size (next_end at one.file) made more (All-tail (IsMade head) one made a) d))))
+
+-- places are those of a volume of some length
+unless_same : {A F : Type 0} (fault : Option F) (x y : A) → unless fault x ≡ Ok y → x ≡ y
+unless_same None x y e = cc
+unless_same (Some f) x y e = absurd cc
+
+with_size : {P : Type 0} (head : VolumeHead) (files : List FileImage) (starts : List ℕ) (found : Option ℕ) → places_with head files found ≡ Ok starts → ((size : ℕ) → places_in head files size ≡ starts → P) → P
+with_size head files starts None e k = absurd cc
+with_size head files starts (Some size) e k = k size (unless_same (place_fault head files size) (places_in head files size) starts e)
+
+some_size : {P : Type 0} (head : VolumeHead) (files : List FileImage) (starts : List ℕ) → places_of head files ≡ Ok starts → ((size : ℕ) → places_in head files size ≡ starts → P) → P
+unfolding places_of
+some_size head files starts e k =
+    through (unless (twice_fault head files) (length_of head files)) (places_with head files) starts e (λ found a b. with_size head files starts found b k)
+
+-- the image of files that were moved is that of a volume that is written
+read_alike : (head : VolumeHead) (made : List Made) (files : List FileImage) (image : List ℕ) → AreBuilt head made → AreMoved head made files → volume_of head files ≡ Ok image → IsReadAlike head made image
+read_alike head made files image b m v =
+    let w : IsWritten head m.now image = record {
+      shape = b.shape;
+      attributes = b.attributes;
+      erased = b.erased;
+      name = b.name;
+      files = m.made_are;
+      image = ap (volume_of head) m.files_are ∙ v;
+    } in
+    record {
+      head_is = written_head head m.now image w;
+      found = written_found head m.now image w;
+      list = written_list head m.now (length image);
+      read = written_listed head m.now image w;
+      alike = like_list head made m.now (length image) m.like;
+    }
+
+pub moved_read : (head : VolumeHead) (made : List Made) (image : List ℕ) → AreBuilt head made → rebased head (files_of made) ≡ Ok image → IsReadAlike head made image
+unfolding rebased moved_volume
+moved_read head made image b e =
+    through (places_of head (files_of made)) (moved_volume head (files_of made)) image e
+    (λ starts o p.
+    through (moved_files head.ffs3 (base_of head) (files_of made) starts) (volume_of head) image p
+    (λ files m v.
+    some_size head (files_of made) starts o
+    (λ size s.
+    read_alike head made files image b
+    (all_moved head (base_of head) size (first_end head.name_guid) made files b.files (ap (moved_files head.ffs3 (base_of head) (files_of made)) s ∙ m)) v)))
