@@ -1,5 +1,6 @@
--- Which entries of a cache still hold that a build of an older edition left. An edition is a number in the text of a cache: it rises
--- where a definition of a step is changed. The rule is this project's own.
+-- Which entries of a cache still hold that a build of an older edition left. An edition is a number
+-- in the text of a cache: it rises where a definition of a step is changed. The rule is this
+-- project's own.
 use Rattle.std.specs.Prelude.{◌≡◌, ℕ, ◌&&◌, ◌||◌, not, Bool, true, false, nat_le, nat_lt, List, [], ◌∷◌, if◌then◌else◌}
 use Rattle.build_stages.specs.Stages.{Staged}
 use Rattle.step_engine.specs.declared.talk.Entry.{Entry}
@@ -48,4 +49,5 @@ abbrev pub AreOlder : ℕ → (Key → EdkStages) → Type 0
 AreOlder edition older = (k : Key) → is_same edition k ≡ true → older k ≡ stages_of k
 
 abbrev pub by_older : (Key → EdkStages) → Staged Key Out
-by_older older = record { stages = older; rank = rank_of; most = most_of; fits = fits; is_job = is_job }
+by_older older =
+    record { stages = older; rank = rank_of; most = most_of; fits = fits; is_job = is_job }

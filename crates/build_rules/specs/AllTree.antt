@@ -27,8 +27,8 @@ use Rattle.build_rules.specs.Outputs.{output_folder, outputs_of}
 use Rattle.build_rules.specs.Wanted.{wanted_of, is_marked}
 use Rattle.build_rules.specs.declared.wanted.Wanted.{Wanted}
 
--- the platform, the flash description, the architectures, the target, the tag, the file of the flash
--- description, the images that are wanted, and the report
+-- the platform, the flash description, the architectures, the target, the tag, the file of the
+-- flash description, the images that are wanted, and the report
 abbrev pub all_asks : List (Ask Key)
 all_asks =
     ask.Part key.Platform ∷ ask.Part key.Flash ∷ ask.Field 1 ∷ ask.Field 2 ∷ ask.Field 3
@@ -41,7 +41,8 @@ step_where false step = []
 -- steps by number, from one on, one for each of these whose number is marked
 unfoldable pub steps_from : {A : Type 0} → (ℕ → A → Key) → List Bool → ℕ → List A → List (Ask Key)
 steps_from step marks n [] = []
-steps_from step marks n (x ∷ xs) = step_where (is_marked marks n) (step n x) ++ steps_from step marks (n + 1) xs
+steps_from step marks n (x ∷ xs) = step_where (is_marked marks n) (step n x)
+    ++ steps_from step marks (n + 1) xs
 
 abbrev pub device_step : ℕ → DevicePlan → Key
 device_step n plan = key.Device n
@@ -49,7 +50,8 @@ device_step n plan = key.Device n
 -- the volumes that are wanted, by their numbers, and then the devices
 abbrev pub image_asks : FlashDoc → Wanted → List (Ask Key)
 image_asks flash wanted =
-    steps_from step_of wanted.volumes 0 flash.volumes ++ steps_from device_step wanted.devices 0 flash.devices
+    steps_from step_of wanted.volumes 0 flash.volumes
+    ++ steps_from device_step wanted.devices 0 flash.devices
 
 abbrev pub folder_in : PlatformDoc → List (Answer Out) → Result (List ℕ) Fault
 folder_in platform given =
@@ -75,15 +77,16 @@ abbrev pub report_part : Option (List ℕ) → List (Ask Key)
 report_part None = []
 report_part (Some path) = ask.Part key.Report ∷ []
 
--- the rows of dynamic PCDs, each module, the images that are wanted, the image of vital product data, where the platform has a line
--- of it, and last the report
+-- the rows of dynamic PCDs, each module, the images that are wanted, the image of vital product
+-- data, where the platform has a line of it, and last the report
 abbrev pub build_asks : Bool → List Module → FlashDoc → Wanted → Option (List ℕ) → List (Ask Key)
 build_asks vpd modules flash wanted report =
     ask.Part key.PlatformPcds ∷ build_module_asks modules ++ image_asks flash wanted
     ++ step_where vpd key.Vpd ++ report_part report
 
 -- modules, images of a flash description and the report, and then the files of the build
-abbrev pub files_stages : Bool → List ℕ → List Module → FlashDoc → Wanted → Option (List ℕ) → EdkStages
+abbrev pub files_stages : Bool → List ℕ → List Module → FlashDoc → Wanted → Option (List ℕ)
+    → EdkStages
 files_stages vpd folder modules flash wanted report =
     when (are_few (length flash.volumes) && are_few (length flash.devices))
     (stage (build_asks vpd modules flash wanted report)
@@ -96,7 +99,8 @@ all_given given =
     attempt (folder_in platform given) (λ folder.
     attempt (modules_in platform given) (λ modules.
     attempt (wanted_in flash given) (λ wanted.
-    attempt (report_in given) (λ report. files_stages (has_vpd platform) folder modules flash wanted report))))))
+    attempt (report_in given)
+    (λ report. files_stages (has_vpd platform) folder modules flash wanted report))))))
 
 abbrev pub all_stages : EdkStages
 all_stages = stage all_asks all_given

@@ -1,5 +1,5 @@
--- A volume that is moved to its base, by the answers of its step (UEFI PI specification, volume 3, section 3; how its modules are moved
--- is this project's own rule).
+-- A volume that is moved to its base, by the answers of its step (UEFI PI specification, volume 3,
+-- section 3; how its modules are moved is this project's own rule).
 use Rattle.std.specs.Prelude.{◌&&◌, List, Result, Err, if◌then◌else◌}
 use Rattle.std.specs.List.{list_all}
 use Rattle.build_base.specs.First.{and_then}
@@ -16,8 +16,10 @@ use Rattle.std.specs.Prelude.{ℕ}
 
 -- what can be made of files of their shape alone
 unfoldable pub moved : VolumeHead → List FileImage → Result (List ℕ) Fault
-moved head files = if head_fits head && list_all is_stated files then rebased head files else Err misfit
+moved head files = if head_fits head && list_all is_stated files then rebased head files
+    else Err misfit
 
 -- the volume of a head, whose files the answers are, moved to its base where it is to be
 unfoldable pub based_given : VolumeHead → List (Answer Out) → Result (List ℕ) Fault
-based_given head given = if is_based head then and_then (images_from given 0) (moved head) else volume_given head given
+based_given head given = if is_based head then and_then (images_from given 0) (moved head)
+    else volume_given head given

@@ -1,5 +1,5 @@
--- What the steps of files, volumes and devices ask, stage by stage, and what comes of the answers; the
--- rule is this project's own.
+-- What the steps of files, volumes and devices ask, stage by stage, and what comes of the answers;
+-- the rule is this project's own.
 use Rattle.std.specs.Prelude.{ℕ, Bool, true, false, List, [], ◌∷◌, length, codes, Option, Some, None, Result, Ok, Err, slice_get}
 use Rattle.build_base.specs.First.{and_then}
 use Rattle.build_base.specs.FaultText.{fault_of}
@@ -74,13 +74,15 @@ module_stages flash head line = stage (line_asks line) (module_from flash head l
 -- the modules of an a priori file, and then the file
 abbrev pub apriori_stages : VolumeHead → Place → Bool → List Member → EdkStages
 apriori_stages head at pei members =
-    stage (members_asks members) (λ given. end (given_as out.File (apriori_given head at pei members given)))
+    stage (members_asks members)
+    (λ given. end (given_as out.File (apriori_given head at pei members given)))
 
 -- a statement of a volume with this number and head
 abbrev pub item_stages : ℕ → FlashDoc → VolumeHead → Item → EdkStages
 item_stages v flash head (item.File plan) =
     when (sections_below v plan.sections)
-    (stage (file_asks flash.volumes plan) (λ given. end (given_as out.File (file_given flash head plan given))))
+    (stage (file_asks flash.volumes plan)
+    (λ given. end (given_as out.File (file_given flash head plan given))))
 item_stages v flash head (item.Apriori at pei members) = apriori_stages head at pei members
 item_stages v flash head (item.Inf line) = module_stages flash head line
 
@@ -102,11 +104,13 @@ image_by false head given = volume_given head given
 abbrev pub plan_stages : Bool → ℕ → VolumePlan → EdkStages
 plan_stages moved v plan =
     when (are_few (length plan.items))
-    (stage (item_asks v plan.items) (λ given. end (given_as out.Volume (image_by moved plan.head given))))
+    (stage (item_asks v plan.items)
+    (λ given. end (given_as out.Volume (image_by moved plan.head given))))
 
 abbrev pub volume_from : Bool → ℕ → List (Answer Out) → EdkStages
 volume_from moved v given =
-    attempt (flash_in given 0) (λ flash. attempt (volume_at flash v) (λ plan. plan_stages moved v plan))
+    attempt (flash_in given 0)
+    (λ flash. attempt (volume_at flash v) (λ plan. plan_stages moved v plan))
 
 abbrev pub volume_stages : Bool → ℕ → EdkStages
 volume_stages moved v = stage (ask.Part key.Flash ∷ []) (volume_from moved v)
@@ -114,11 +118,13 @@ volume_stages moved v = stage (ask.Part key.Flash ∷ []) (volume_from moved v)
 -- the path of the image of vital product data, where the platform has a line of it
 abbrev pub vpd_where : Bool → Result (List ℕ) Fault → Result (Option (List ℕ)) Fault
 vpd_where true folder =
-    and_then folder (λ below. and_then (path_below below (codes "FV/VPD.bin")) (λ path. Ok (Some path)))
+    and_then folder (λ below. and_then (path_below below (codes "FV/VPD.bin"))
+    (λ path. Ok (Some path)))
 vpd_where false folder = Ok None
 
 abbrev pub vpd_path : PlatformDoc → List ℕ → List ℕ → Result (Option (List ℕ)) Fault
-vpd_path platform target tag = vpd_where (has_vpd platform) (output_folder platform.output target tag)
+vpd_path platform target tag =
+    vpd_where (has_vpd platform) (output_folder platform.output target tag)
 
 -- its target and its tag stand behind the first two answers
 abbrev pub vpd_in : PlatformDoc → List (Answer Out) → Result (Option (List ℕ)) Fault
@@ -129,7 +135,8 @@ vpd_in platform given =
 abbrev pub regions_stages : List VolumePlan → Option (List ℕ) → DevicePlan → EdkStages
 regions_stages volumes vpd plan =
     when (regions_below plan.regions)
-    (stage (region_asks volumes vpd plan.regions) (λ given. end (given_as out.Device (device_given vpd plan given))))
+    (stage (region_asks volumes vpd plan.regions)
+    (λ given. end (given_as out.Device (device_given vpd plan given))))
 
 -- the flash description, the platform, the target and the tag
 abbrev pub device_asks : List (Ask Key)

@@ -1,5 +1,6 @@
--- What the steps of libraries and PCDs ask, stage by stage, and what comes of the answers; the rule is
--- this project's own. What they give is told by the EDK II DSC, INF, DEC and Build specifications.
+-- What the steps of libraries and PCDs ask, stage by stage, and what comes of the answers; the rule
+-- is this project's own. What they give is told by the EDK II DSC, INF, DEC and Build
+-- specifications.
 use Rattle.std.specs.Prelude.{ℕ, zero, suc, List, [], ◌∷◌, Result, Err}
 use Rattle.build_base.specs.First.{and_then}
 use Rattle.build_base.specs.declared.fault.Fault.{Fault}
@@ -89,7 +90,8 @@ modules_parts modules =
     bind (linked_stages modules) (λ linked.
     bind (described_stages linked) (λ described. parts_stages described))
 
--- the platform, the flash description, the architectures, the SKU and the values that the words give
+-- the platform, the flash description, the architectures, the SKU and the values that the words
+-- give
 abbrev pub pcds_asks : List (Ask Key)
 pcds_asks =
     ask.Part key.Platform ∷ ask.Part key.Flash ∷ ask.Field 1 ∷ ask.Field 4 ∷ ask.Field 6 ∷ []
@@ -118,8 +120,8 @@ pcds_stages = stage pcds_asks pcds_first
 
 -- The values of a module.
 
--- the platform, the flash description, the rows of dynamic PCDs, the module's libraries, and the values
--- that the words give
+-- the platform, the flash description, the rows of dynamic PCDs, the module's libraries, and the
+-- values that the words give
 abbrev pub values_asks : Module → List (Ask Key)
 values_asks m =
     ask.Part key.Platform ∷ ask.Part key.Flash ∷ ask.Part key.PlatformPcds
@@ -151,7 +153,8 @@ values_first m given =
     attempt (flash_in given 1) (λ flash.
     attempt (values_at given 2) (λ dynamic.
     attempt (choice_at given 3) (λ choice.
-    attempt (commands_in platform given 4) (λ commands. values_from m platform flash dynamic choice commands)))))
+    attempt (commands_in platform given 4)
+    (λ commands. values_from m platform flash dynamic choice commands)))))
 
 abbrev pub values_stages : Module → EdkStages
 values_stages m = stage (values_asks m) (values_first m)

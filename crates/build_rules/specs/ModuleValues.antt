@@ -1,6 +1,6 @@
--- The values of the steps of libraries and PCDs in a world: the instances of modules and what they have
--- called (EDK II DSC, INF and Build specifications, library classes), and the values of PCDs (EDK II
--- Build specification, PCD values), from the documents of the world.
+-- The values of the steps of libraries and PCDs in a world: the instances of modules and what they
+-- have called (EDK II DSC, INF and Build specifications, library classes), and the values of PCDs
+-- (EDK II Build specification, PCD values), from the documents of the world.
 use Rattle.std.specs.Prelude.{◌≡◌, ℕ, zero, suc, List, [], ◌∷◌, map, Result}
 use Rattle.build_base.specs.First.{and_then, all_ok}
 use Rattle.build_base.specs.World.{World, field}
@@ -49,7 +49,8 @@ chosen_after w (suc n) m platform infs =
 unfoldable pub choice_value : World → Module → Result Choice Fault
 choice_value w m =
     and_then (platform_value w) (λ platform.
-    and_then (and_then (inf_value w m.inf) alone) (λ infs. chosen_after w most_rounds m platform infs))
+    and_then (and_then (inf_value w m.inf) alone)
+    (λ infs. chosen_after w most_rounds m platform infs))
 
 abbrev pub linked_value : World → Module → Result Linked Fault
 linked_value w m = and_then (choice_value w m) (linked m)
@@ -66,11 +67,13 @@ packages_value w paths = all_ok (map (package_value w) paths)
 abbrev pub parts_value : World → Described → Result ModuleParts Fault
 parts_value w held = and_then (packages_value w held.packages) (parts held)
 
--- some modules: the libraries of all come before their descriptions, and these before their packages
+-- some modules: the libraries of all come before their descriptions, and these before their
+-- packages
 unfoldable pub modules_value : World → List Module → Result (List ModuleParts) Fault
 modules_value w modules =
     and_then (all_ok (map (linked_value w) modules)) (λ linked.
-    and_then (all_ok (map (described_value w) linked)) (λ described. all_ok (map (parts_value w) described)))
+    and_then (all_ok (map (described_value w) linked))
+    (λ described. all_ok (map (parts_value w) described)))
 
 -- the rows of dynamic PCDs, once both checks of the words hold
 unfoldable pub pcds_value : World → Result Values Fault

@@ -1,5 +1,5 @@
--- The steps of dependency expressions before conjunctions were simplified (edition 2), beside those of today. The rule is this project's
--- own.
+-- The steps of dependency expressions before conjunctions were simplified (edition 2), beside those
+-- of today. The rule is this project's own.
 use Rattle.std.specs.Prelude.{List}
 use Rattle.build_stages.specs.Stages.{bind, end, stage}
 use Rattle.build_stages.specs.Writing.{attempt}
@@ -19,7 +19,8 @@ use Rattle.build_rules.specs.Trees.{EdkStages, given_as}
 
 abbrev pub older_depex_from : Module → Choice → EdkStages
 older_depex_from m choice =
-    bind (module_parts m choice) (λ parts. end (given_as out.Depex (older_depex_given choice parts)))
+    bind (module_parts m choice)
+    (λ parts. end (given_as out.Depex (older_depex_given choice parts)))
 
 abbrev pub older_depex_first : Module → List (Answer Out) → EdkStages
 older_depex_first m given = attempt (choice_at given 0) (λ choice. older_depex_from m choice)

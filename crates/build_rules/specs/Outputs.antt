@@ -1,5 +1,6 @@
 -- The files that a build gives, and the steps that give their bytes (EDK II Build specification,
--- build output; that an image's file has the image's name in upper case is this project's own rule).
+-- build output; that an image's file has the image's name in upper case is this project's own
+-- rule).
 use Rattle.std.specs.Prelude.{ℕ, ◌+◌, ◌==◌, ◌&&◌, not, nat_le, Bool, true, false, List, [], ◌∷◌, ◌++◌, length, map, codes, Option, Some, None, Result, Ok, Err, if◌then◌else◌}
 use Rattle.std.specs.Char.{to_ascii_uppercase}
 use Rattle.std.specs.Option.{is_some}
@@ -28,17 +29,20 @@ use Rattle.build_rules.specs.declared.wanted.Wanted.{Wanted}
 -- the path of a file in a folder; the folders and names of a build can be joined
 unfoldable pub path_below : List ℕ → List ℕ → Result (List ℕ) Fault
 path_below folder rest =
-    if is_some (path_field rest) && nat_le (length folder + 1 + length rest) 2048 then Ok (folder ++ codes "/" ++ rest) else Err misfit
+    if is_some (path_field rest) && nat_le (length folder + 1 + length rest) 2048
+    then Ok (folder ++ codes "/" ++ rest) else Err misfit
 
 -- the folder of all outputs: OUTPUT_DIRECTORY/TARGET_TAG
 abbrev pub output_folder : List ℕ → List ℕ → List ℕ → Result (List ℕ) Fault
 output_folder output target tag =
-    path_below output (or_default target (codes "DEBUG") ++ codes "_" ++ or_default tag (codes "GCC"))
+    path_below output (or_default target (codes "DEBUG") ++ codes "_"
+    ++ or_default tag (codes "GCC"))
 
 -- the file of an image, whose extension begins with its dot
 abbrev pub image_output : List ℕ → List ℕ → List ℕ → Key → Result Output Fault
 image_output folder name extension from =
-    and_then (path_below folder (codes "FV/" ++ map to_ascii_uppercase name ++ extension)) (λ path. Ok (record { path = path; from = from; part = 0 }))
+    and_then (path_below folder (codes "FV/" ++ map to_ascii_uppercase name ++ extension))
+    (λ path. Ok (record { path = path; from = from; part = 0 }))
 
 abbrev pub image_where : Bool → List ℕ → List ℕ → List ℕ → Key → Result (List Output) Fault
 image_where true folder name extension from =
@@ -46,13 +50,15 @@ image_where true folder name extension from =
 image_where false folder name extension from = Ok []
 
 -- the files of the volumes that are marked, whose numbers begin with this one
-unfoldable pub volume_outputs : List ℕ → List Bool → ℕ → List VolumePlan → Result (List Output) Fault
+unfoldable pub volume_outputs : List ℕ → List Bool → ℕ → List VolumePlan
+    → Result (List Output) Fault
 volume_outputs folder marks n [] = Ok []
 volume_outputs folder marks n (plan ∷ plans) =
     and_then (image_where (is_marked marks n) folder plan.head.name (codes ".Fv") (step_of n plan))
     (λ outputs. with_front outputs (volume_outputs folder marks (n + 1) plans))
 
-unfoldable pub device_outputs : List ℕ → List Bool → ℕ → List DevicePlan → Result (List Output) Fault
+unfoldable pub device_outputs : List ℕ → List Bool → ℕ → List DevicePlan
+    → Result (List Output) Fault
 device_outputs folder marks n [] = Ok []
 device_outputs folder marks n (plan ∷ plans) =
     and_then (image_where (is_marked marks n) folder plan.name (codes ".fd") (key.Device n))
@@ -65,7 +71,8 @@ module_folder folder m =
 
 abbrev pub file_output : List ℕ → List ℕ → Key → ℕ → Result Output Fault
 file_output folder name from part =
-    and_then (path_below folder name) (λ path. Ok (record { path = path; from = from; part = part }))
+    and_then (path_below folder name)
+    (λ path. Ok (record { path = path; from = from; part = part }))
 
 unfoldable pub c_output : List ℕ → Module → Result Output Fault
 c_output folder m = file_output folder (codes "DEBUG/AutoGen.c") (key.Code m) 0
@@ -83,13 +90,16 @@ code_outputs folder m true =
 abbrev pub depex_outputs : List ℕ → Module → List ℕ → Bool → Result (List Output) Fault
 depex_outputs folder m name false = Ok []
 depex_outputs folder m name true =
-    and_then (file_output folder (codes "OUTPUT/" ++ name ++ codes ".depex") (key.Depex m) 0) (λ output. Ok (output ∷ []))
+    and_then (file_output folder (codes "OUTPUT/" ++ name ++ codes ".depex") (key.Depex m) 0)
+    (λ output. Ok (output ∷ []))
 
--- the files of a module, by its BASE_NAME, whether it has texts, and whether its expression has bytes
+-- the files of a module, by its BASE_NAME, whether it has texts, and whether its expression has
+-- bytes
 abbrev pub module_outputs : List ℕ → Module → List ℕ → Bool → Bool → Result (List Output) Fault
 module_outputs folder m name texts depex =
     and_then (module_folder folder m) (λ below.
-    and_then (code_outputs below m texts) (λ code. with_front code (depex_outputs below m name depex)))
+    and_then (code_outputs below m texts)
+    (λ code. with_front code (depex_outputs below m name depex)))
 
 abbrev pub base_of_out : Out → Result (List ℕ) Fault
 base_of_out (out.Inf inf) = Ok inf.base_name
@@ -117,7 +127,8 @@ named name texts = Ok (name, texts)
 
 -- the first two answers of a module: its BASE_NAME, and whether it has texts
 unfoldable pub named_at : List (Answer Out) → ℕ → Result (List ℕ × Bool) Fault
-named_at given i = and_then (base_at given i) (λ name. and_then (texts_at given (i + 1)) (named name))
+named_at given i = and_then (base_at given i)
+    (λ name. and_then (texts_at given (i + 1)) (named name))
 
 -- a module has three answers: its description, its texts and its expression
 unfoldable pub outputs_at : List ℕ → List (Answer Out) → ℕ → Module → Result (List Output) Fault
@@ -126,10 +137,12 @@ outputs_at folder given i m =
     and_then (bytes_at given (i + 2)) (λ depex. module_outputs folder m x.0 x.1 depex))
 
 -- the files of modules, whose answers begin at this place
-unfoldable pub modules_outputs : List ℕ → List (Answer Out) → ℕ → List Module → Result (List Output) Fault
+unfoldable pub modules_outputs : List ℕ → List (Answer Out) → ℕ → List Module
+    → Result (List Output) Fault
 modules_outputs folder given i [] = Ok []
 modules_outputs folder given i (m ∷ modules) =
-    and_then (outputs_at folder given i m) (λ outputs. with_front outputs (modules_outputs folder given (i + 3) modules))
+    and_then (outputs_at folder given i m)
+    (λ outputs. with_front outputs (modules_outputs folder given (i + 3) modules))
 
 -- the image of vital product data and its map
 unfoldable pub vpd_outputs : Bool → List ℕ → Result (List Output) Fault
@@ -142,12 +155,14 @@ abbrev pub report_output : Option (List ℕ) → List Output
 report_output None = []
 report_output (Some path) = record { path = path; from = key.Report; part = 0 } ∷ []
 
--- Module by module its files, whose answers stand behind the first; of the images that are wanted the volumes by their numbers, and
--- the devices as they stand in the flash description; then the image of vital product data and its map, where there are any; last
--- the report.
-unfoldable pub outputs_of : Bool → List ℕ → List Module → FlashDoc → Wanted → Option (List ℕ) → List (Answer Out) → Result (List Output) Fault
+-- Module by module its files, whose answers stand behind the first; of the images that are wanted
+-- the volumes by their numbers, and the devices as they stand in the flash description; then the
+-- image of vital product data and its map, where there are any; last the report.
+unfoldable pub outputs_of : Bool → List ℕ → List Module → FlashDoc → Wanted → Option (List ℕ)
+    → List (Answer Out) → Result (List Output) Fault
 outputs_of vpd folder modules flash wanted report given =
     and_then (modules_outputs folder given 1 modules) (λ texts.
     and_then (with_front texts (volume_outputs folder wanted.volumes 0 flash.volumes)) (λ volumes.
     and_then (with_front volumes (device_outputs folder wanted.devices 0 flash.devices)) (λ images.
-    and_then (with_front images (vpd_outputs vpd folder)) (λ outputs. Ok (outputs ++ report_output report)))))
+    and_then (with_front images (vpd_outputs vpd folder))
+    (λ outputs. Ok (outputs ++ report_output report)))))

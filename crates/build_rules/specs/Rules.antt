@@ -88,7 +88,8 @@ is_path_or_empty text = if is_empty text then true else is_some (path_field text
 abbrev pub is_job : List (List ℕ) → Bool
 is_job fields =
     is_some (path_field (slice_index_or fields 0 []))
-    && (is_path_or_empty (slice_index_or fields 7 []) && is_path_or_empty (slice_index_or fields 9 []))
+    && (is_path_or_empty (slice_index_or fields 7 [])
+    && is_path_or_empty (slice_index_or fields 9 []))
 
 abbrev pub edk : Staged Key Out
 edk = record { stages = stages_of; rank = rank_of; most = most_of; fits = fits; is_job = is_job }

@@ -26,26 +26,35 @@ use Rattle.build_rules.specs.TextBounds.{code_lower, depex_lower, report_lower, 
 use Rattle.build_rules.specs.Trees.{given_as, document_stages, root_in, macros_in, platform_given, platform_in, flash_root, flash_from, flash_given}
 use Rattle.build_rules.specs.Rules.{stages_of, rank_of, most_of, edk}
 
-document_lower : {A : Type 0} (variant : A → Out) (read : Lines → Result A Fault) (bound : ℕ) (macros fixed : List Macro) (path : List ℕ)
+document_lower : {A : Type 0} (variant : A → Out) (read : Lines → Result A Fault) (bound : ℕ)
+    (macros fixed : List Macro) (path : List ℕ)
     → AreLower rank_of bound (document_stages variant read macros fixed path)
 document_lower variant read bound macros fixed path =
-    bind_lower rank_of bound (lines_of path macros fixed) (λ lines. end (given_as variant (read lines)))
+    bind_lower rank_of bound (lines_of path macros fixed)
+    (λ lines. end (given_as variant (read lines)))
     (lines_lower Out rank_of bound most_files path macros fixed []) (λ lines. tt)
 
-document_within : {A : Type 0} (variant : A → Out) (read : Lines → Result A Fault) (macros fixed : List Macro) (path : List ℕ)
+document_within : {A : Type 0} (variant : A → Out) (read : Lines → Result A Fault)
+    (macros fixed : List Macro) (path : List ℕ)
     → IsWithin fits most_files (document_stages variant read macros fixed path)
 document_within variant read macros fixed path =
-    within_more fits (most_files + 0) most_files (document_stages variant read macros fixed path) (omega arith)
-    (bind_within fits most_files 0 (lines_of path macros fixed) (λ lines. end (given_as variant (read lines)))
+    within_more fits (most_files + 0) most_files (document_stages variant read macros fixed path)
+    (omega arith)
+    (bind_within fits most_files 0 (lines_of path macros fixed)
+    (λ lines. end (given_as variant (read lines)))
     (lines_within fits most_files path macros fixed []) (λ lines. tt))
 
-flash_lower : (platform : PlatformDoc) (fixed : List Macro) (root : Option (List ℕ)) → AreLower rank_of 3 (flash_from platform fixed root)
+flash_lower : (platform : PlatformDoc) (fixed : List Macro) (root : Option (List ℕ))
+    → AreLower rank_of 3 (flash_from platform fixed root)
 flash_lower platform fixed None = tt
-flash_lower platform fixed (Some path) = document_lower out.Flash flash_of 3 platform.macros fixed path
+flash_lower platform fixed (Some path) =
+    document_lower out.Flash flash_of 3 platform.macros fixed path
 
-flash_within : (platform : PlatformDoc) (fixed : List Macro) (root : Option (List ℕ)) → IsWithin fits most_files (flash_from platform fixed root)
+flash_within : (platform : PlatformDoc) (fixed : List Macro) (root : Option (List ℕ))
+    → IsWithin fits most_files (flash_from platform fixed root)
 flash_within platform fixed None = tt
-flash_within platform fixed (Some path) = document_within out.Flash flash_of platform.macros fixed path
+flash_within platform fixed (Some path) =
+    document_within out.Flash flash_of platform.macros fixed path
 
 -- a first batch, and then what two batches less one may ask
 first_of_two : most_files ≡ (1 + most_files) - 1
@@ -58,16 +67,20 @@ lower key.Platform = (
   All-cons (IsLower rank_of 2) (ask.Field 0) (ask.Field 2 ∷ ask.Field 3 ∷ ask.Field 5 ∷ []) tt
       (All-cons (IsLower rank_of 2) (ask.Field 2) (ask.Field 3 ∷ ask.Field 5 ∷ []) tt
       (all_two (IsLower rank_of 2) (ask.Field 3) (ask.Field 5) tt tt)),
-  λ given. attempt_lower rank_of 2 (root_in given) _ (λ path. attempt_lower rank_of 2 (macros_in given) _ (λ fixed.
+  λ given. attempt_lower rank_of 2 (root_in given) _
+      (λ path. attempt_lower rank_of 2 (macros_in given) _ (λ fixed.
       document_lower out.Platform platform_of 2 [] fixed path)),
 )
 lower key.Flash = (
-  All-cons (IsLower rank_of 3) (ask.Part key.Platform) (ask.Field 2 ∷ ask.Field 3 ∷ ask.Field 5 ∷ ask.Field 7 ∷ []) (omega arith)
+  All-cons (IsLower rank_of 3) (ask.Part key.Platform)
+      (ask.Field 2 ∷ ask.Field 3 ∷ ask.Field 5 ∷ ask.Field 7 ∷ []) (omega arith)
       (All-cons (IsLower rank_of 3) (ask.Field 2) (ask.Field 3 ∷ ask.Field 5 ∷ ask.Field 7 ∷ []) tt
       (All-cons (IsLower rank_of 3) (ask.Field 3) (ask.Field 5 ∷ ask.Field 7 ∷ []) tt
       (all_two (IsLower rank_of 3) (ask.Field 5) (ask.Field 7) tt tt))),
-  λ given. attempt_lower rank_of 3 (platform_in given 0) _ (λ platform. attempt_lower rank_of 3 (macros_in given) _ (λ fixed.
-      attempt_lower rank_of 3 (flash_root platform given) _ (λ root. flash_lower platform fixed root))),
+  λ given. attempt_lower rank_of 3 (platform_in given 0) _
+      (λ platform. attempt_lower rank_of 3 (macros_in given) _ (λ fixed.
+      attempt_lower rank_of 3 (flash_root platform given) _
+      (λ root. flash_lower platform fixed root))),
 )
 lower (key.Choice m) = choice_lower m
 lower key.PlatformPcds = pcds_lower
@@ -88,14 +101,17 @@ within (key.Inf path) = document_within out.Inf module_of [] [] path
 within key.Platform = (
   omega arith,
   λ given fit. subst (λ m. IsWithin fits m (platform_given given)) first_of_two
-      (attempt_within fits most_files (root_in given) _ (λ path. attempt_within fits most_files (macros_in given) _ (λ fixed.
+      (attempt_within fits most_files (root_in given) _
+      (λ path. attempt_within fits most_files (macros_in given) _ (λ fixed.
       document_within out.Platform platform_of [] fixed path))),
 )
 within key.Flash = (
   omega arith,
   λ given fit. subst (λ m. IsWithin fits m (flash_given given)) first_of_two
-      (attempt_within fits most_files (platform_in given 0) _ (λ platform. attempt_within fits most_files (macros_in given) _ (λ fixed.
-      attempt_within fits most_files (flash_root platform given) _ (λ root. flash_within platform fixed root)))),
+      (attempt_within fits most_files (platform_in given 0) _
+      (λ platform. attempt_within fits most_files (macros_in given) _ (λ fixed.
+      attempt_within fits most_files (flash_root platform given) _
+      (λ root. flash_within platform fixed root)))),
 )
 within (key.Choice m) = choice_within m
 within key.PlatformPcds = pcds_within

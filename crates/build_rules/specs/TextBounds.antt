@@ -1,5 +1,5 @@
--- The bounds of the steps of texts, dependency expressions and the report: what they ask is of lower rank, and how many
--- batches they ask.
+-- The bounds of the steps of texts, dependency expressions and the report: what they ask is of
+-- lower rank, and how many batches they ask.
 use Rattle.std.proofs.Common.{ℕ, ◌<◌, arith, List, [], ◌∷◌, All}
 use Rattle.std.specs.List.{flat_map}
 use Rattle.std.proofs.lemmas.List.Elements.{All-nil, All-cons, All-append}
@@ -20,17 +20,22 @@ use Rattle.build_rules.specs.Fits.{fits}
 
 pub code_lower : (m : Module) → AreLower rank_of 7 (code_stages m)
 code_lower m = (
-  All-cons (IsLower rank_of 7) (ask.Part key.Platform) (ask.Part (key.Choice m) ∷ ask.Part (key.Values m) ∷ []) (omega arith)
-      (all_two (IsLower rank_of 7) (ask.Part (key.Choice m)) (ask.Part (key.Values m)) (omega arith) (omega arith)),
-  λ given. attempt_lower rank_of 7 (platform_in given 0) _ (λ platform. attempt_lower rank_of 7 (choice_at given 1) _ (λ choice.
+  All-cons (IsLower rank_of 7) (ask.Part key.Platform)
+      (ask.Part (key.Choice m) ∷ ask.Part (key.Values m) ∷ []) (omega arith)
+      (all_two (IsLower rank_of 7) (ask.Part (key.Choice m)) (ask.Part (key.Values m)) (omega arith)
+      (omega arith)),
+  λ given. attempt_lower rank_of 7 (platform_in given 0) _
+      (λ platform. attempt_lower rank_of 7 (choice_at given 1) _ (λ choice.
       attempt_lower rank_of 7 (values_at given 2) _ (λ values.
-      bind_lower rank_of 7 (module_parts m choice) _ (module_lower 7 (omega arith) m choice) (λ parts. tt)))),
+      bind_lower rank_of 7 (module_parts m choice) _ (module_lower 7 (omega arith) m choice)
+      (λ parts. tt)))),
 )
 
 pub code_within : (m : Module) → IsWithin fits 3 (code_stages m)
 code_within m = (
   omega arith,
-  λ given fit. attempt_within fits 2 (platform_in given 0) _ (λ platform. attempt_within fits 2 (choice_at given 1) _ (λ choice.
+  λ given fit. attempt_within fits 2 (platform_in given 0) _
+      (λ platform. attempt_within fits 2 (choice_at given 1) _ (λ choice.
       attempt_within fits 2 (values_at given 2) _ (λ values.
       bind_within fits 2 0 (module_parts m choice) _ (module_within m choice) (λ parts. tt)))),
 )
@@ -39,7 +44,8 @@ pub depex_lower : (m : Module) → AreLower rank_of 7 (depex_stages m)
 depex_lower m = (
   all_one (IsLower rank_of 7) (ask.Part (key.Choice m)) (omega arith),
   λ given. attempt_lower rank_of 7 (choice_at given 0) _ (λ choice.
-      bind_lower rank_of 7 (module_parts m choice) _ (module_lower 7 (omega arith) m choice) (λ parts. tt)),
+      bind_lower rank_of 7 (module_parts m choice) _ (module_lower 7 (omega arith) m choice)
+      (λ parts. tt)),
 )
 
 pub depex_within : (m : Module) → IsWithin fits 3 (depex_stages m)
@@ -49,22 +55,28 @@ depex_within m = (
       bind_within fits 2 0 (module_parts m choice) _ (module_within m choice) (λ parts. tt)),
 )
 
-told_lower : (bound : ℕ) → 6 < bound → (modules : List Module) → All (IsLower rank_of bound) (flat_map told_asks modules)
+told_lower : (bound : ℕ) → 6 < bound → (modules : List Module)
+    → All (IsLower rank_of bound) (flat_map told_asks modules)
 told_lower bound h [] = All-nil (IsLower rank_of bound)
 told_lower bound h (m ∷ modules) =
     All-append (IsLower rank_of bound) (told_asks m) (flat_map told_asks modules)
-    (all_two (IsLower rank_of bound) (ask.Part (key.Choice m)) (ask.Part (key.Values m)) (omega (arith, h)) (omega (arith, h)))
+    (all_two (IsLower rank_of bound) (ask.Part (key.Choice m)) (ask.Part (key.Values m))
+    (omega (arith, h)) (omega (arith, h)))
     (told_lower bound h modules)
 
 pub report_lower : (bound : ℕ) → 6 < bound → AreLower rank_of bound report_stages
 report_lower bound h = (
-  All-cons (IsLower rank_of bound) (ask.Part key.Platform) (ask.Field 1 ∷ ask.Field 2 ∷ ask.Field 3 ∷ ask.Field 4 ∷ []) (omega (arith, h))
-      (All-cons (IsLower rank_of bound) (ask.Field 1) (ask.Field 2 ∷ ask.Field 3 ∷ ask.Field 4 ∷ []) tt
+  All-cons (IsLower rank_of bound) (ask.Part key.Platform)
+      (ask.Field 1 ∷ ask.Field 2 ∷ ask.Field 3 ∷ ask.Field 4 ∷ []) (omega (arith, h))
+      (All-cons (IsLower rank_of bound) (ask.Field 1) (ask.Field 2 ∷ ask.Field 3 ∷ ask.Field 4 ∷ [])
+      tt
       (All-cons (IsLower rank_of bound) (ask.Field 2) (ask.Field 3 ∷ ask.Field 4 ∷ []) tt
       (all_two (IsLower rank_of bound) (ask.Field 3) (ask.Field 4) tt tt))),
-  λ given. attempt_lower rank_of bound (platform_in given 0) _ (λ platform. attempt_lower rank_of bound (told_modules_in platform given) _ (λ modules.
+  λ given. attempt_lower rank_of bound (platform_in given 0) _
+      (λ platform. attempt_lower rank_of bound (told_modules_in platform given) _ (λ modules.
       attempt_lower rank_of bound (heading_in platform given) _ (λ heading. (
-        All-cons (IsLower rank_of bound) (ask.Part key.PlatformPcds) (flat_map told_asks modules) (omega (arith, h)) (told_lower bound h modules),
+        All-cons (IsLower rank_of bound) (ask.Part key.PlatformPcds) (flat_map told_asks modules)
+            (omega (arith, h)) (told_lower bound h modules),
         λ told. tt,
       )))),
 )
@@ -72,6 +84,8 @@ report_lower bound h = (
 pub report_within : IsWithin fits 2 report_stages
 report_within = (
   omega arith,
-  λ given fit. attempt_within fits 1 (platform_in given 0) _ (λ platform. attempt_within fits 1 (told_modules_in platform given) _ (λ modules.
-      attempt_within fits 1 (heading_in platform given) _ (λ heading. (omega arith, λ told fit_too. tt)))),
+  λ given fit. attempt_within fits 1 (platform_in given 0) _
+      (λ platform. attempt_within fits 1 (told_modules_in platform given) _ (λ modules.
+      attempt_within fits 1 (heading_in platform given) _
+      (λ heading. (omega arith, λ told fit_too. tt)))),
 )

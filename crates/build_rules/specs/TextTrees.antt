@@ -1,5 +1,6 @@
--- What the steps of texts, dependency expressions and the report ask, stage by stage, and what comes of the answers; the
--- rule is this project's own. What they give is told by the EDK II Build specification and the UEFI PI specification.
+-- What the steps of texts, dependency expressions and the report ask, stage by stage, and what
+-- comes of the answers; the rule is this project's own. What they give is told by the EDK II Build
+-- specification and the UEFI PI specification.
 use Rattle.std.specs.Prelude.{ℕ, List, [], ◌∷◌, Result, Ok}
 use Rattle.build_base.specs.First.{and_then}
 use Rattle.build_base.specs.declared.fault.Fault.{Fault}
@@ -34,7 +35,8 @@ code_asks m = ask.Part key.Platform ∷ ask.Part (key.Choice m) ∷ ask.Part (ke
 
 abbrev pub code_from : Module → PlatformDoc → Choice → Values → EdkStages
 code_from m platform choice values =
-    bind (module_parts m choice) (λ parts. end (given_as out.Code (code_given platform choice values parts)))
+    bind (module_parts m choice)
+    (λ parts. end (given_as out.Code (code_given platform choice values parts)))
 
 abbrev pub code_first : Module → List (Answer Out) → EdkStages
 code_first m given =
@@ -83,7 +85,8 @@ heading_in platform given =
 
 abbrev pub told_stages : PlatformDoc → Heading → List Module → EdkStages
 told_stages platform heading modules =
-    stage (report_asks modules) (λ given. end (given_as out.Report (report_given platform heading modules given)))
+    stage (report_asks modules)
+    (λ given. end (given_as out.Report (report_given platform heading modules given)))
 
 -- the check of the words' architectures comes before the modules are asked for
 abbrev pub told_in : PlatformDoc → List (Answer Out) → EdkStages

@@ -1,5 +1,6 @@
--- The values of the steps of texts, dependency expressions and the report in a world (EDK II Build specification, AutoGen
--- files and build report; UEFI PI specification, volumes 1 and 2), from the documents and the values of the world.
+-- The values of the steps of texts, dependency expressions and the report in a world (EDK II Build
+-- specification, AutoGen files and build report; UEFI PI specification, volumes 1 and 2), from the
+-- documents and the values of the world.
 use Rattle.std.specs.Prelude.{◌≡◌, ℕ, List, map, Option, Result}
 use Rattle.build_base.specs.First.{and_then, all_ok}
 use Rattle.build_base.specs.World.{World, field}
@@ -52,7 +53,8 @@ heading_value w platform = heading_by platform (field w 2) (field w 3) (field w 
 unfoldable pub report_value : World → Result (List ℕ) Fault
 report_value w =
     and_then (platform_value w) (λ platform.
-    and_then (report_modules platform (field w 1)) (told_text w platform (heading_value w platform)))
+    and_then (report_modules platform (field w 1))
+    (told_text w platform (heading_value w platform)))
 
 -- the steps give these
 abbrev pub GivesCode : World → Module → Type 0

@@ -90,7 +90,8 @@ some_path (Err fault) = Err fault
 
 -- the file that a field names, or else the platform, if any
 unfoldable pub flash_named : Option (List ℕ) → List ℕ → Result (Option (List ℕ)) Fault
-flash_named stated text = if length text == 0 then Ok stated else some_path (path_named (path_field text))
+flash_named stated text = if length text == 0 then Ok stated
+    else some_path (path_named (path_field text))
 
 abbrev pub flash_root : PlatformDoc → List (Answer Out) → Result (Option (List ℕ)) Fault
 flash_root platform given = and_then (field_at given 4) (flash_named platform.flash)

@@ -1,6 +1,6 @@
 -- The values of the steps of a build in a world: what the lines of documents come to (EDK II DSC,
--- FDF, DEC and INF specifications), and what images come to by the files of the world and by the values
--- of the steps that they ask.
+-- FDF, DEC and INF specifications), and what images come to by the files of the world and by the
+-- values of the steps that they ask.
 use Rattle.std.specs.Prelude.{◌≡◌, ℕ, ◌==◌, ◌&&◌, Bool, true, false, List, [], length, map, Option, Some, None, Result, Ok, Err, if◌then◌else◌}
 use Rattle.build_base.specs.First.{and_then, first_of, or_fault}
 use Rattle.build_base.specs.World.{World, got, field}
@@ -83,7 +83,8 @@ flash_of_file w platform (Some path) =
 
 unfoldable pub flash_value : World → Result FlashDoc Fault
 flash_value w =
-    and_then (platform_value w) (λ platform. flash_of_file w platform (flash_file platform.flash (field w 7)))
+    and_then (platform_value w) (λ platform.
+    flash_of_file w platform (flash_file platform.flash (field w 7)))
 
 -- the right answers to asks in a world
 abbrev pub answers_in : World → List (Ask Key) → List (Answer Out)
@@ -94,7 +95,8 @@ unfoldable pub fault_asked : World → List (Ask Key) → Option Fault
 fault_asked w asks = first_of (map fault_in (answers_in w asks))
 
 -- what comes of the answers to asks, where no step that is asked has a fault
-abbrev pub by_answers : {A : Type 0} → World → List (Ask Key) → (List (Answer Out) → Result A Fault) → Result A Fault
+abbrev pub by_answers : {A : Type 0} → World → List (Ask Key) → (List (Answer Out) → Result A Fault)
+    → Result A Fault
 by_answers w asks f = or_fault (fault_asked w asks) (f (answers_in w asks))
 
 -- what has its shape; in a world it has
@@ -113,7 +115,8 @@ module_file w flash head line =
 
 abbrev pub item_value : World → ℕ → FlashDoc → VolumeHead → Item → Result FileImage Fault
 item_value w v flash head (item.File plan) =
-    if_shaped (sections_below v plan.sections) (by_answers w (file_asks flash.volumes plan) (file_given flash head plan))
+    if_shaped (sections_below v plan.sections)
+    (by_answers w (file_asks flash.volumes plan) (file_given flash head plan))
 item_value w v flash head (item.Apriori at pei members) =
     by_answers w (members_asks members) (apriori_given head at pei members)
 item_value w v flash head (item.Inf line) = module_file w flash head line
@@ -127,16 +130,19 @@ file_value w v i =
 
 abbrev pub planned_value : World → Bool → ℕ → VolumePlan → Result (List ℕ) Fault
 planned_value w moved v plan =
-    if_shaped (are_few (length plan.items)) (by_answers w (item_asks v plan.items) (image_by moved plan.head))
+    if_shaped (are_few (length plan.items))
+    (by_answers w (item_asks v plan.items) (image_by moved plan.head))
 
 -- the image of volume v, as it stands or moved to its base
 unfoldable pub volume_value : World → Bool → ℕ → Result (List ℕ) Fault
 volume_value w moved v =
     and_then (flash_value w) (λ flash. and_then (volume_at flash v) (planned_value w moved v))
 
-abbrev pub regions_value : World → List VolumePlan → Option (List ℕ) → DevicePlan → Result (List ℕ) Fault
+abbrev pub regions_value : World → List VolumePlan → Option (List ℕ) → DevicePlan
+    → Result (List ℕ) Fault
 regions_value w volumes vpd plan =
-    if_shaped (regions_below plan.regions) (by_answers w (region_asks volumes vpd plan.regions) (device_given vpd plan))
+    if_shaped (regions_below plan.regions)
+    (by_answers w (region_asks volumes vpd plan.regions) (device_given vpd plan))
 
 abbrev pub numbered_value : World → ℕ → FlashDoc → PlatformDoc → Result (List ℕ) Fault
 numbered_value w d flash platform =
@@ -145,27 +151,34 @@ numbered_value w d flash platform =
 
 -- the image of device d
 unfoldable pub device_value : World → ℕ → Result (List ℕ) Fault
-device_value w d = and_then (flash_value w) (λ flash. and_then (platform_value w) (numbered_value w d flash))
+device_value w d = and_then (flash_value w)
+    (λ flash. and_then (platform_value w) (numbered_value w d flash))
 
-abbrev pub files_value : World → Bool → List ℕ → List Module → FlashDoc → Wanted → Option (List ℕ) → Result (List Output) Fault
+abbrev pub files_value : World → Bool → List ℕ → List Module → FlashDoc → Wanted → Option (List ℕ)
+    → Result (List Output) Fault
 files_value w vpd folder modules flash wanted report =
     if_shaped (are_few (length flash.volumes) && are_few (length flash.devices))
-    (by_answers w (build_asks vpd modules flash wanted report) (outputs_of vpd folder modules flash wanted report))
+    (by_answers w (build_asks vpd modules flash wanted report)
+    (outputs_of vpd folder modules flash wanted report))
 
-abbrev pub wanted_value : World → Bool → List ℕ → List Module → FlashDoc → Result (List Output) Fault
+abbrev pub wanted_value : World → Bool → List ℕ → List Module → FlashDoc
+    → Result (List Output) Fault
 wanted_value w vpd folder modules flash =
-    and_then (wanted_of flash (field w 8)) (λ wanted. files_value w vpd folder modules flash wanted (flash_file None (field w 9)))
+    and_then (wanted_of flash (field w 8))
+    (λ wanted. files_value w vpd folder modules flash wanted (flash_file None (field w 9)))
 
--- The files of the build: each module's, each volume's and each device's that is wanted, the image of vital product data and its
--- map, where the platform has a line of it, and last the report. The first fault is that the words name an image that there
--- isn't; then one of the rows of dynamic PCDs; module by module of its description, its texts or its expression; of a volume, of
--- a device, of vital product data, or of the report.
+-- The files of the build: each module's, each volume's and each device's that is wanted, the image
+-- of vital product data and its map, where the platform has a line of it, and last the report. The
+-- first fault is that the words name an image that there isn't; then one of the rows of dynamic
+-- PCDs; module by module of its description, its texts or its expression; of a volume, of a device,
+-- of vital product data, or of the report.
 unfoldable pub all_value : World → Result (List Output) Fault
 all_value w =
     and_then (platform_value w) (λ platform.
     and_then (flash_value w) (λ flash.
     and_then (output_folder platform.output (field w 2) (field w 3)) (λ folder.
-    and_then (built_modules platform (field w 1)) (λ modules. wanted_value w (has_vpd platform) folder modules flash))))
+    and_then (built_modules platform (field w 1))
+    (λ modules. wanted_value w (has_vpd platform) folder modules flash))))
 
 -- the step of a document gives its value
 abbrev pub GivesPackage : World → List ℕ → Type 0

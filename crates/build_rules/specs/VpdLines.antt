@@ -1,4 +1,5 @@
--- Whether a platform has lines of vital product data (EDK II DSC specification, [PcdsDynamicVpd] sections).
+-- Whether a platform has lines of vital product data (EDK II DSC specification, [PcdsDynamicVpd]
+-- sections).
 use Rattle.std.specs.Prelude.{Bool}
 use Rattle.std.specs.List.{list_any}
 use Rattle.doc_types.specs.declared.platform.PlatformDoc.{PlatformDoc}

@@ -1,4 +1,5 @@
--- What the step of the image of vital product data asks, and what comes of the answers; the rule is this project's own.
+-- What the step of the image of vital product data asks, and what comes of the answers; the rule is
+-- this project's own.
 use Rattle.std.specs.Prelude.{List, [], ◌∷◌, Result}
 use Rattle.build_base.specs.First.{and_then}
 use Rattle.build_base.specs.declared.fault.Fault.{Fault}
@@ -25,7 +26,8 @@ abbrev pub vpd_asks : List (Ask Key)
 vpd_asks = ask.Part key.Platform ∷ ask.Part key.PlatformPcds ∷ ask.Field 1 ∷ []
 
 abbrev pub placed : PlatformDoc → Values → List Arch → Result Vpd Fault
-placed platform values arches = vpd_of (record { platform = platform; values = values; arches = arches })
+placed platform values arches =
+    vpd_of (record { platform = platform; values = values; arches = arches })
 
 abbrev pub arches_at : PlatformDoc → List (Answer Out) → Result (List Arch) Fault
 arches_at platform given = and_then (field_at given 2) (arches_built platform)
@@ -34,7 +36,8 @@ abbrev pub vpd_from : List (Answer Out) → EdkStages
 vpd_from given =
     attempt (platform_in given 0) (λ platform.
     attempt (values_at given 1) (λ values.
-    attempt (arches_at platform given) (λ arches. end (given_as out.Vpd (placed platform values arches)))))
+    attempt (arches_at platform given)
+    (λ arches. end (given_as out.Vpd (placed platform values arches)))))
 
 abbrev pub vpd_stages : EdkStages
 vpd_stages = stage vpd_asks vpd_from

@@ -1,4 +1,5 @@
--- The value of the step of the image of vital product data in a world; the rule is this project's own.
+-- The value of the step of the image of vital product data in a world; the rule is this project's
+-- own.
 use Rattle.std.specs.Prelude.{◌≡◌, Result}
 use Rattle.build_base.specs.First.{and_then}
 use Rattle.build_base.specs.World.{World, field}

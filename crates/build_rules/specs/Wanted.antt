@@ -1,5 +1,6 @@
--- Which images a build makes (EDK II Build specification, options -r and -i). That the volumes in the regions of a wanted
--- device are made with it, and that names are compared without regard to case, is this project's own rule.
+-- Which images a build makes (EDK II Build specification, options -r and -i). That the volumes in
+-- the regions of a wanted device are made with it, and that names are compared without regard to
+-- case, is this project's own rule.
 use Rattle.std.specs.Prelude.{ℕ, ◌+◌, ◌==◌, ◌||◌, Bool, true, false, if◌then◌else◌, List, [], ◌∷◌, ◌++◌, length, map, drop, replicate, slice_index_or, codes, Option, Some, None, Result, Ok}
 use Rattle.std.specs.List.{flat_map, slice_split}
 use Rattle.std.specs.Option.{is_some}
@@ -58,7 +59,8 @@ held_volumes lines devices =
 abbrev pub device_marks : List (List ℕ) → List DevicePlan → List Bool
 device_marks lines devices = map (λ plan. is_among lines (device_line plan)) devices
 
--- Volumes, whose numbers begin with this one, are marked where a line names them or where they are among those that are held.
+-- Volumes, whose numbers begin with this one, are marked where a line names them or where they are
+-- among those that are held.
 unfoldable pub volume_marks : List (List ℕ) → List ℕ → ℕ → List VolumePlan → List Bool
 volume_marks lines held n [] = []
 volume_marks lines held n (plan ∷ plans) =
@@ -72,7 +74,8 @@ wanted_by flash lines = record {
 
 -- the images that lines want, or the fault of the first line that names none
 abbrev pub wanted_among : FlashDoc → List (List ℕ) → Result Wanted Fault
-wanted_among flash lines = or_fault (first_fault (image_unknown flash) lines) (Ok (wanted_by flash lines))
+wanted_among flash lines = or_fault (first_fault (image_unknown flash) lines)
+    (Ok (wanted_by flash lines))
 
 abbrev pub all_wanted : FlashDoc → Wanted
 all_wanted flash = record {
@@ -83,7 +86,8 @@ all_wanted flash = record {
 -- those of the lines that line feeds join, and all where there is none
 unfoldable pub wanted_of : FlashDoc → List ℕ → Result Wanted Fault
 wanted_of flash text =
-    if length text == 0 then Ok (all_wanted flash) else wanted_among flash (slice_split (λ byte. byte == 10) text)
+    if length text == 0 then Ok (all_wanted flash)
+    else wanted_among flash (slice_split (λ byte. byte == 10) text)
 
 -- a volume or a device is made where its number is marked
 abbrev pub is_marked : List Bool → ℕ → Bool

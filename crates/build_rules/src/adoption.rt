@@ -54,21 +54,24 @@ fn stays(edition: u32, key: &Key) -> bool
 // Leaves the entries that stay, by a test that tells them.
 fn keep_staying<F: Fn(&Key) -> bool>(edition: u32, cache: &mut Cache<Key, Out>, wanted: &F)
     requires callable { F.IsAlwaysCallable wanted.now }
-    requires right { (k : KeyOf) (b : Bool) → FnReturnsAt F.Fn wanted.now k b → b ≡ stays edition k }
+    requires right { (k : KeyOf) (b : Bool) → FnReturnsAt F.Fn wanted.now k b
+        → b ≡ stays edition k }
     ensures { cache.new ≡ adopted edition cache.old }
 {
     cache.keep(wanted);
 }
 
-/// The entries of a cache that still hold, where a build of this edition left it: all of the newest, 5; of 4 all but those of
-/// images and of the whole build; of 3 but that of vital product data too; of 2 but those of dependency expressions too. It takes no
-/// memory.
+/// The entries of a cache that still hold, where a build of this edition left it: all of the
+/// newest, 5; of 4 all but those of images and of the whole build; of 3 but that of vital product
+/// data too; of 2 but those of dependency expressions too. It takes no memory.
 pub fn adopt(edition: u32, cache: Cache<Key, Out>) -> Cache<Key, Out>
     requires least { 2 ≤ edition }
     requires most { edition ≤ 5 }
     ensures kept { result ≡ adopted edition cache }
     ensures newest { edition ≡ 5 → result ≡ cache }
-    ensures sound { edition < 5 → (older : KeyOf → EdkStages) → AreOlder edition older → AreSound (meaning_of key_cmp (by_older older)) cache → AreSound (meaning_of key_cmp edk) result }
+    ensures sound { edition < 5 → (older : KeyOf → EdkStages) → AreOlder edition older
+        → AreSound (meaning_of key_cmp (by_older older)) cache
+        → AreSound (meaning_of key_cmp edk) result }
 {
     let mut cache = cache;
     keep_staying(

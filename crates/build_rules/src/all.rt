@@ -107,8 +107,8 @@ fn push_report(asks: &mut Rows<Ask<Key>>, report: &Option<Path>) -> Result<(), W
     }
 }
 
-// The rows of dynamic PCDs, each module, the volumes that are wanted by their numbers, the devices, the image of vital product
-// data, where there is one, and then the report.
+// The rows of dynamic PCDs, each module, the volumes that are wanted by their numbers, the devices,
+// the image of vital product data, where there is one, and then the report.
 fn build_asks(
     alloc: Global,
     vpd: bool,
@@ -119,7 +119,8 @@ fn build_asks(
 ) -> Result<Rows<Ask<Key>>, WantOfMemory>
     requires volumes { length flash.now.volumes < 65536 }
     requires devices { length flash.now.devices < 65536 }
-    ensures { IfOk result (λ asks. asks ≡ build_asks vpd modules.now flash.now wanted.now report.now) }
+    ensures { IfOk result
+        (λ asks. asks ≡ build_asks vpd modules.now flash.now wanted.now report.now) }
 {
     let mut asks = Rows::new(alloc);
     asks.push(Ask::Part(Key::PlatformPcds))?;
@@ -183,7 +184,8 @@ fn files(
     report: &Option<Path>,
     permit: Permit,
 ) -> Result<Out, Stop<Key>>
-    ensures { Comes known.now (files_stages vpd folder.now modules.now flash.now wanted.now report.now) result }
+    ensures { Comes known.now
+        (files_stages vpd folder.now modules.now flash.now wanted.now report.now) result }
 {
     if are_few(flash.volumes.items().len()) && are_few(flash.devices.items().len()) {
         let asks = build_asks(alloc, vpd, modules, flash, wanted, report)?;

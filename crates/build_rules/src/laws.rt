@@ -15,8 +15,9 @@ ghost use Rattle.build_rules.specs.TextValues.{GivesCode, GivesDepex, GivesRepor
 ghost use Rattle.build_rules.specs.VpdValues.{GivesVpd};
 ghost use Rattle.build_rules.specs.Values.{GivesPackage, GivesModule, GivesPlatform, GivesFlash, GivesFile, GivesVolume, GivesBased, GivesDevice, GivesAll};
 
-/// The steps of edition 2, whatever those of images and of the whole build were, are older definitions: dependency expressions
-/// whose conjunctions aren't simplified, and of all other kinds today's.
+/// The steps of edition 2, whatever those of images and of the whole build were, are older
+/// definitions: dependency expressions whose conjunctions aren't simplified, and of all other kinds
+/// today's.
 #[tactic(auto, using(crate::proofs::OlderLemmas::second_is_older))]
 pub fn second_edition_is_older()
     ensures { (images : KeyOf → EdkStages) → AreOlder 2 (second_edition images) }
@@ -49,8 +50,9 @@ pub fn libraries_are_chosen()
     ensures { (w : World) (m : Module) → IsWorld (meaning_of key_cmp edk) w → GivesChoice w m }
 {}
 
-/// The step of dynamic PCDs gives their rows, or the first fault: of the platform, the flash description,
-/// the words' SKU, the words' architectures, libraries, descriptions, packages, and then of the values.
+/// The step of dynamic PCDs gives their rows, or the first fault: of the platform, the flash
+/// description, the words' SKU, the words' architectures, libraries, descriptions, packages, and
+/// then of the values.
 pub fn dynamic_values_are_resolved()
     ensures { (w : World) → IsWorld (meaning_of key_cmp edk) w → GivesPcds w }
 {}
@@ -65,20 +67,21 @@ pub fn texts_are_made()
     ensures { (w : World) (m : Module) → IsWorld (meaning_of key_cmp edk) w → GivesCode w m }
 {}
 
-/// The step of a module's dependency expression gives its bytes, or the first fault: of the libraries, of a
-/// description, of a package, and then of the expression.
+/// The step of a module's dependency expression gives its bytes, or the first fault: of the
+/// libraries, of a description, of a package, and then of the expression.
 pub fn expressions_are_compiled()
     ensures { (w : World) (m : Module) → IsWorld (meaning_of key_cmp edk) w → GivesDepex w m }
 {}
 
-/// The step of the report gives it, or the first fault: of the platform, of the words' architectures, of the
-/// rows of dynamic PCDs, and then module by module of its libraries and its values.
+/// The step of the report gives it, or the first fault: of the platform, of the words'
+/// architectures, of the rows of dynamic PCDs, and then module by module of its libraries and its
+/// values.
 pub fn reports_are_told()
     ensures { (w : World) → IsWorld (meaning_of key_cmp edk) w → GivesReport w }
 {}
 
-/// The step of an item gives its file, or the first fault: of a volume that it holds, then of a file that
-/// it asks for, then of the file itself.
+/// The step of an item gives its file, or the first fault: of a volume that it holds, then of a
+/// file that it asks for, then of the file itself.
 pub fn files_are_made()
     ensures { (w : World) (v i : ℕ) → IsWorld (meaning_of key_cmp edk) w → GivesFile w v i }
 {}
@@ -88,25 +91,27 @@ pub fn volumes_are_made()
     ensures { (w : World) (v : ℕ) → IsWorld (meaning_of key_cmp edk) w → GivesVolume w v }
 {}
 
-/// The step of a volume that is moved to its base gives its image so moved, or the first fault: of its files, of itself as it
-/// stands, and then of a module that is moved. Of a volume that isn't to be moved it gives what stands.
+/// The step of a volume that is moved to its base gives its image so moved, or the first fault: of
+/// its files, of itself as it stands, and then of a module that is moved. Of a volume that isn't to
+/// be moved it gives what stands.
 pub fn volumes_are_moved()
     ensures { (w : World) (v : ℕ) → IsWorld (meaning_of key_cmp edk) w → GivesBased w v }
 {}
 
-/// The step of a device gives its image, or the first fault: of the flash description, of the platform, of a volume that it
-/// holds, then of a file that it asks for, then of the device itself.
+/// The step of a device gives its image, or the first fault: of the flash description, of the
+/// platform, of a volume that it holds, then of a file that it asks for, then of the device itself.
 pub fn devices_are_made()
     ensures { (w : World) (d : ℕ) → IsWorld (meaning_of key_cmp edk) w → GivesDevice w d }
 {}
 
-/// The step of vital product data gives its image, its map and its places, or the first fault: of the platform, of the rows of
-/// dynamic PCDs, of the words' architectures, and then of the places.
+/// The step of vital product data gives its image, its map and its places, or the first fault: of
+/// the platform, of the rows of dynamic PCDs, of the words' architectures, and then of the places.
 pub fn vital_data_is_placed()
     ensures { (w : World) → IsWorld (meaning_of key_cmp edk) w → GivesVpd w }
 {}
 
-/// The whole build gives its files, or the first fault of a module, a volume, a device or the report.
+/// The whole build gives its files, or the first fault of a module, a volume, a device or the
+/// report.
 pub fn builds_give_their_files()
     ensures { (w : World) → IsWorld (meaning_of key_cmp edk) w → GivesAll w }
 {}

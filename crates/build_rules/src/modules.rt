@@ -37,8 +37,8 @@ use step_engine::Ask;
 use step_pack::{Key, Out};
 use text_steps::report::values_at;
 
-/// The most rounds in which the libraries of a module are found: each but the last makes at least one of
-/// 1,025 instances known.
+/// The most rounds in which the libraries of a module are found: each but the last makes at least
+/// one of 1,025 instances known.
 const MOST_ROUNDS: u32 = 1026;
 
 // The descriptions that a round asks for, behind those that are known.
@@ -49,8 +49,10 @@ fn round(
     paths: &[Path],
     permit: Permit,
 ) -> Result<(Rows<InfDoc>, Permit), Stop<Key>>
-    ensures value { Gives (λ x. x.0) result (advance_at key_cmp fits known.now (round_stages infs paths.now)) }
-    ensures known { (path : List ℕ) → is_known infs path ≡ true → IfOk result (λ x. is_known x.0 path ≡ true) }
+    ensures value { Gives (λ x. x.0) result
+        (advance_at key_cmp fits known.now (round_stages infs paths.now)) }
+    ensures known { (path : List ℕ) → is_known infs path ≡ true
+        → IfOk result (λ x. is_known x.0 path ≡ true) }
 {
     let asks = inf_asks(alloc, paths)?;
     let (given, permit) = gather(alloc, &EdkRules, known, asks.items(), permit)?;
@@ -67,7 +69,8 @@ fn chosen(
 ) -> Result<Out, Stop<Key>>
     requires known { is_known infs.now «module».now.inf ≡ true }
     requires closed { wanted «module».now platform.now infs.now ≡ [] }
-    ensures { GivesIn (λ out. out) result (given_as out.Choice (choice «module».now platform.now infs.now)) }
+    ensures { GivesIn (λ out. out) result
+        (given_as out.Choice (choice «module».now platform.now infs.now)) }
 {
     Ok(Out::Choice(choose(alloc, permit, module, platform, infs)?))
 }
@@ -130,7 +133,8 @@ fn linked(
     modules: &[Module],
     permit: Permit,
 ) -> Result<(Rows<Linked>, Permit), Stop<Key>>
-    ensures { Gives (λ x. x.0) result (advance_at key_cmp fits known.now (linked_stages modules.now)) }
+    ensures { Gives (λ x. x.0) result
+        (advance_at key_cmp fits known.now (linked_stages modules.now)) }
 {
     let asks = choice_asks(alloc, modules)?;
     let (given, permit) = gather(alloc, &EdkRules, known, asks.items(), permit)?;
@@ -143,7 +147,8 @@ fn described(
     modules: &[Linked],
     permit: Permit,
 ) -> Result<(Rows<Described>, Permit), Stop<Key>>
-    ensures { Gives (λ x. x.0) result (advance_at key_cmp fits known.now (described_stages modules.now)) }
+    ensures { Gives (λ x. x.0) result
+        (advance_at key_cmp fits known.now (described_stages modules.now)) }
 {
     let asks = linked_asks(alloc, modules)?;
     let (given, permit) = gather(alloc, &EdkRules, known, asks.items(), permit)?;
@@ -156,7 +161,8 @@ fn parts(
     modules: &[Described],
     permit: Permit,
 ) -> Result<(Rows<ModuleParts>, Permit), Stop<Key>>
-    ensures { Gives (λ x. x.0) result (advance_at key_cmp fits known.now (parts_stages modules.now)) }
+    ensures { Gives (λ x. x.0) result
+        (advance_at key_cmp fits known.now (parts_stages modules.now)) }
 {
     let asks = package_asks(alloc, modules)?;
     let (given, permit) = gather(alloc, &EdkRules, known, asks.items(), permit)?;
@@ -171,7 +177,8 @@ fn modules_parts(
     modules: &[Module],
     permit: Permit,
 ) -> Result<(Rows<ModuleParts>, Permit), Stop<Key>>
-    ensures { Gives (λ x. x.0) result (advance_at key_cmp fits known.now (modules_parts modules.now)) }
+    ensures { Gives (λ x. x.0) result
+        (advance_at key_cmp fits known.now (modules_parts modules.now)) }
 {
     let (linked, permit) = linked(alloc, known, modules, permit)?;
     let (described, permit) = described(alloc, known, linked.items(), permit)?;
@@ -247,7 +254,8 @@ fn one_described(
     linked: &Linked,
     permit: Permit,
 ) -> Result<(Described, Permit), Stop<Key>>
-    ensures { Gives (λ x. x.0) result (advance_at key_cmp fits known.now (one_described linked.now)) }
+    ensures { Gives (λ x. x.0) result
+        (advance_at key_cmp fits known.now (one_described linked.now)) }
 {
     let asks = inf_asks(alloc, linked.paths.items())?;
     let (given, permit) = gather(alloc, &EdkRules, known, asks.items(), permit)?;
@@ -261,7 +269,8 @@ fn one_parts(
     described: &Described,
     permit: Permit,
 ) -> Result<(ModuleParts, Permit), Stop<Key>>
-    ensures { Gives (λ x. x.0) result (advance_at key_cmp fits known.now (one_parts described.now)) }
+    ensures { Gives (λ x. x.0) result
+        (advance_at key_cmp fits known.now (one_parts described.now)) }
 {
     let asks = dec_asks(alloc, described.packages.items())?;
     let (given, permit) = gather(alloc, &EdkRules, known, asks.items(), permit)?;
@@ -278,7 +287,8 @@ pub fn module_parts(
     choice: &Choice,
     permit: Permit,
 ) -> Result<(ModuleParts, Permit), Stop<Key>>
-    ensures { Gives (λ x. x.0) result (advance_at key_cmp fits known.now (module_parts «module».now choice.now)) }
+    ensures { Gives (λ x. x.0) result
+        (advance_at key_cmp fits known.now (module_parts «module».now choice.now)) }
 {
     let linked = linked_module(alloc, module, choice)?;
     let (described, permit) = one_described(alloc, known, &linked, permit)?;
@@ -297,7 +307,8 @@ fn values_from(
     commands: Rows<PcdSet>,
     permit: Permit,
 ) -> Result<Out, Stop<Key>>
-    ensures { Comes known.now (values_from «module».now platform.now flash.now dynamic.now choice.now commands) result }
+    ensures { Comes known.now
+        (values_from «module».now platform.now flash.now dynamic.now choice.now commands) result }
 {
     let (parts, permit) = module_parts(alloc, known, module, choice, permit)?;
     let values = values_given(alloc, permit, platform, flash, commands, dynamic, parts)?;

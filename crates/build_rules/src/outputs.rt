@@ -43,7 +43,8 @@ pub fn path_below(alloc: Global, folder: &Path, rest: &[u8]) -> Result<Path, Sto
 }
 
 fn folder_name(alloc: Global, target: &[u8], tag: &[u8]) -> Result<Vec<u8>, WantOfMemory>
-    ensures { IfOk result (λ name. name.items ≡ or_default target.now (codes "DEBUG") ++ codes "_" ++ or_default tag.now (codes "GCC")) }
+    ensures { IfOk result (λ name. name.items ≡ or_default target.now (codes "DEBUG") ++ codes "_"
+        ++ or_default tag.now (codes "GCC")) }
 {
     let mut name = Vec::from_slice(alloc, or_default(target, b"DEBUG".as_slice()))?;
     name.extend_from_slice(b"_")?;
@@ -85,7 +86,8 @@ fn push_name(text: &mut Vec<u8>, name: &[u8]) -> Result<(), WantOfMemory>
 }
 
 fn image_name(alloc: Global, name: &[u8], extension: &[u8]) -> Result<Vec<u8>, WantOfMemory>
-    ensures { IfOk result (λ v. v.items ≡ codes "FV/" ++ map to_ascii_uppercase name.now ++ extension.now) }
+    ensures { IfOk result (λ v. v.items ≡ codes "FV/" ++ map to_ascii_uppercase name.now
+        ++ extension.now) }
 {
     let mut text = Vec::from_slice(alloc, b"FV/")?;
     push_name(&mut text, name)?;
@@ -100,7 +102,8 @@ fn image_output(
     extension: &[u8],
     from: Key,
 ) -> Result<Output, Stop<Key>>
-    ensures { GivesIn (λ output. output) result (image_output folder.now name.now extension.now from) }
+    ensures { GivesIn (λ output. output) result
+        (image_output folder.now name.now extension.now from) }
 {
     let rest = image_name(alloc, name, extension)?;
     let path = path_below(alloc, folder, rest.as_slice())?;
@@ -119,7 +122,9 @@ fn volume_where(
     plan: &VolumePlan,
     number: u32,
 ) -> Result<Rows<Output>, Stop<Key>>
-    ensures { GivesIn (λ outputs. outputs) result (image_where is_wanted folder.now plan.now.head.name (codes ".Fv") (step_of number plan.now)) }
+    ensures { GivesIn (λ outputs. outputs) result
+        (image_where is_wanted folder.now plan.now.head.name (codes ".Fv")
+        (step_of number plan.now)) }
 {
     let mut outputs = Rows::new(alloc);
     if is_wanted {
@@ -139,7 +144,8 @@ fn device_where(
     plan: &DevicePlan,
     number: u32,
 ) -> Result<Rows<Output>, Stop<Key>>
-    ensures { GivesIn (λ outputs. outputs) result (image_where is_wanted folder.now plan.now.name (codes ".fd") (Key.Device number)) }
+    ensures { GivesIn (λ outputs. outputs) result
+        (image_where is_wanted folder.now plan.now.name (codes ".fd") (Key.Device number)) }
 {
     let mut outputs = Rows::new(alloc);
     if is_wanted {
@@ -160,7 +166,8 @@ fn push_volumes(
     texts: Rows<Output>,
 ) -> Result<Rows<Output>, Stop<Key>>
     requires { length plans.now < 65536 }
-    ensures { GivesIn (λ outputs. outputs) result (with_front texts (volume_outputs folder.now marks.now 0 plans.now)) }
+    ensures { GivesIn (λ outputs. outputs) result
+        (with_front texts (volume_outputs folder.now marks.now 0 plans.now)) }
 {
     let mut outputs = texts;
     let mut number: u32 = 0;
@@ -184,7 +191,8 @@ fn push_devices(
     volumes: Rows<Output>,
 ) -> Result<Rows<Output>, Stop<Key>>
     requires { length plans.now < 65536 }
-    ensures { GivesIn (λ outputs. outputs) result (with_front volumes (device_outputs folder.now marks.now 0 plans.now)) }
+    ensures { GivesIn (λ outputs. outputs) result
+        (with_front volumes (device_outputs folder.now marks.now 0 plans.now)) }
 {
     let mut outputs = volumes;
     let mut number: u32 = 0;
@@ -227,7 +235,8 @@ fn code_output(
     name: &[u8],
     part: u8,
 ) -> Result<Output, Stop<Key>>
-    ensures { GivesIn (λ output. output) result (file_output folder.now name.now (key.Code «module».now) part) }
+    ensures { GivesIn (λ output. output) result
+        (file_output folder.now name.now (key.Code «module».now) part) }
 {
     let code = Key::Code(module.copy(alloc)?);
     file_output(alloc, folder, name, code, part)
@@ -271,7 +280,8 @@ fn code_outputs(
     module: &Module,
     with_texts: bool,
 ) -> Result<Rows<Output>, Stop<Key>>
-    ensures { GivesIn (λ outputs. outputs) result (code_outputs folder.now «module».now with_texts) }
+    ensures { GivesIn (λ outputs. outputs) result
+        (code_outputs folder.now «module».now with_texts) }
 {
     if with_texts {
         return both_texts(alloc, folder, module);
@@ -297,7 +307,8 @@ fn push_depex(
     with_bytes: bool,
     texts: Rows<Output>,
 ) -> Result<Rows<Output>, Stop<Key>>
-    ensures { GivesIn (λ outputs. outputs) result (with_front texts (depex_outputs folder.now «module».now name.now with_bytes)) }
+    ensures { GivesIn (λ outputs. outputs) result
+        (with_front texts (depex_outputs folder.now «module».now name.now with_bytes)) }
 {
     let mut outputs = texts;
     if with_bytes {
@@ -316,7 +327,8 @@ fn module_outputs(
     with_texts: bool,
     with_bytes: bool,
 ) -> Result<Rows<Output>, Stop<Key>>
-    ensures { GivesIn (λ outputs. outputs) result (module_outputs folder.now «module».now name.now with_texts with_bytes) }
+    ensures { GivesIn (λ outputs. outputs) result
+        (module_outputs folder.now «module».now name.now with_texts with_bytes) }
 {
     let below = module_folder(alloc, folder, module)?;
     let texts = code_outputs(alloc, &below, module, with_texts)?;
@@ -374,7 +386,8 @@ fn bytes_at(given: &Given<'_, Out>, place: usize) -> Result<(bool, usize), Stop<
     Ok((has_bytes(out)?, next))
 }
 
-// The BASE_NAME of a module and whether it has texts, by its first two answers at a place, and the place behind them.
+// The BASE_NAME of a module and whether it has texts, by its first two answers at a place, and the
+// place behind them.
 #[tactic(auto, unfolding(crate::specs::Outputs::named_at))]
 fn named_at<'a>(given: &Given<'a, Out>, place: usize) -> Result<(&'a [u8], bool, usize), Stop<Key>>
     ensures value { GivesIn (λ x. (x.0.now, x.1)) result (named_at given.now place) }
@@ -422,7 +435,8 @@ fn modules_outputs(
     modules: &[Module],
     given: &Given<'_, Out>,
 ) -> Result<Rows<Output>, Stop<Key>>
-    ensures { GivesIn (λ outputs. outputs) result (modules_outputs folder.now given.now 1 modules.now) }
+    ensures { GivesIn (λ outputs. outputs) result
+        (modules_outputs folder.now given.now 1 modules.now) }
 {
     let mut outputs = Rows::new(alloc);
     let mut at = 1;
@@ -473,8 +487,8 @@ fn push_report(
     }
 }
 
-/// The files of a build: those of each module, the volumes that are wanted by their numbers, the devices, the image of vital
-/// product data and its map, where there are any, and last the report.
+/// The files of a build: those of each module, the volumes that are wanted by their numbers, the
+/// devices, the image of vital product data and its map, where there are any, and last the report.
 #[tactic(auto, unfolding(crate::specs::Outputs::outputs_of))]
 pub fn outputs_of(
     alloc: Global,
@@ -488,7 +502,8 @@ pub fn outputs_of(
 ) -> Result<Rows<Output>, Stop<Key>>
     requires volumes { length flash.now.volumes < 65536 }
     requires devices { length flash.now.devices < 65536 }
-    ensures { GivesIn (λ outputs. outputs) result (outputs_of vpd folder.now modules.now flash.now wanted.now report.now given.now) }
+    ensures { GivesIn (λ outputs. outputs) result
+        (outputs_of vpd folder.now modules.now flash.now wanted.now report.now given.now) }
 {
     let texts = modules_outputs(alloc, folder, modules, given)?;
     let marks = wanted.volumes.items();

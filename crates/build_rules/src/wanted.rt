@@ -349,7 +349,8 @@ fn lines_of(alloc: Global, text: &[u8]) -> Result<Rows<Text>, WantOfMemory>
     each_text(alloc, parts.as_slice())
 }
 
-/// The images that a field of the words wants, all where it is empty, or the fault of its first line that names none.
+/// The images that a field of the words wants, all where it is empty, or the fault of its first
+/// line that names none.
 #[tactic(auto, unfolding(crate::specs::Wanted::wanted_of))]
 pub fn wanted_of(alloc: Global, flash: &FlashDoc, text: &[u8]) -> Result<Wanted, Stop<Key>>
     ensures { GivesIn (λ wanted. wanted) result (wanted_of flash.now text.now) }

@@ -1,4 +1,5 @@
--- AutoGen.h and AutoGen.c of a module (EDK II Build specification, AutoGen files). Their rows are this project's own.
+-- AutoGen.h and AutoGen.c of a module (EDK II Build specification, AutoGen files). Their rows are
+-- this project's own.
 use Rattle.std.specs.Prelude.{ℕ, Bool, false, ◌&&◌, if◌then◌else◌, List, [], ◌∷◌, ◌++◌, Result, Ok, codes}
 use Rattle.std.specs.Int.{w32, to_le_bytes}
 use Rattle.std.specs.List.{flat_map}
@@ -65,11 +66,13 @@ macro_name pcd = pcd.space ++ codes "_" ++ pcd.name
 
 -- `#define PCD_VALUE_Space_Name V`
 abbrev pub value_line : PcdRow → List ℕ
-value_line row = define_value ++ macro_name row.pcd ++ codes " " ++ printed row.datum row.value ++ codes "\n"
+value_line row = define_value ++ macro_name row.pcd ++ codes " " ++ printed row.datum row.value
+    ++ codes "\n"
 
 -- `#define PCD_TOKEN_Space_Name 0xT`
 abbrev pub token_line : PcdRow → List ℕ
-token_line row = define_token ++ macro_name row.pcd ++ codes " " ++ number_text (to_le_bytes w32 row.token) ++ codes "\n"
+token_line row = define_token ++ macro_name row.pcd ++ codes " "
+    ++ number_text (to_le_bytes w32 row.token) ++ codes "\n"
 
 abbrev pub same_pcd : PcdName → PcdName → Bool
 same_pcd first second = bytes_eq first.space second.space && bytes_eq first.name second.name
@@ -79,9 +82,11 @@ abbrev pub goes_on : PcdName → List PcdRow → Bool
 goes_on pcd [] = false
 goes_on pcd (row ∷ rows) = same_pcd pcd row.pcd
 
--- The rows of a PCD stand together. One of a dynamic kind has a row for each SKU, and its token stands once, where they end.
+-- The rows of a PCD stand together. One of a dynamic kind has a row for each SKU, and its token
+-- stands once, where they end.
 unfoldable pub pcd_line : PcdRow → List PcdRow → List ℕ
-pcd_line row rows = if is_dynamic row.kind then (if goes_on row.pcd rows then [] else token_line row) else value_line row
+pcd_line row rows = if is_dynamic row.kind
+    then (if goes_on row.pcd rows then [] else token_line row) else value_line row
 
 unfoldable pub pcd_lines : List PcdRow → List ℕ
 pcd_lines [] = []
@@ -89,7 +94,8 @@ pcd_lines (row ∷ rows) = pcd_line row rows ++ pcd_lines rows
 
 unfoldable pub header_text : CodeAsk → List ℕ
 header_text ask =
-    title ask.parts.«module» ++ base_name_line (base_name ask.parts.infs) ++ file_guid_line ask.file_guid
+    title ask.parts.«module» ++ base_name_line (base_name ask.parts.infs)
+    ++ file_guid_line ask.file_guid
     ++ pcd_lines ask.values.rows
 
 -- AutoGen.c.
@@ -128,7 +134,8 @@ include_line = codes "#include \"AutoGen.h\"\n"
 
 unfoldable pub source_text : CodeAsk → List Found → List ℕ
 source_text ask named =
-    title ask.parts.«module» ++ include_line ++ flat_map guid_line (by_name named) ++ constructor_list ask.choice
+    title ask.parts.«module» ++ include_line ++ flat_map guid_line (by_name named)
+    ++ constructor_list ask.choice
     ++ destructor_list ask.choice ++ entry_point_list ask.parts.infs
 
 abbrev pub texts_of : CodeAsk → List Found → Texts

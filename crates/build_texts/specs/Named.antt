@@ -1,5 +1,6 @@
--- The GUIDs that the names of a module's INF files stand for (EDK II INF specification, [Guids], [Protocols] and [Ppis]).
--- Which of several lines counts, and the order of the names, are this project's own rules.
+-- The GUIDs that the names of a module's INF files stand for (EDK II INF specification, [Guids],
+-- [Protocols] and [Ppis]). Which of several lines counts, and the order of the names, are this
+-- project's own rules.
 use Rattle.std.specs.Prelude.{ℕ, Bool, ◌&&◌, if◌then◌else◌, List, [], ◌∷◌, map, filter, Option, Some, None, Result, Ok, Err}
 use Rattle.std.specs.BTreeMap.{insert_entry}
 use Rattle.std.specs.Cmp.Lexicographic.{slice_cmp}
@@ -62,7 +63,8 @@ found named (Some guid) = Ok ((named.name, guid) ∷ [])
 -- what a line of an INF with these packages names; a line of another architecture names nothing
 unfoldable pub line_guids : Arch → List Declared → List (List ℕ) → Named → Result (List Found) Fault
 line_guids arch lines paths named =
-    if serves named.arch arch then found named (first_guid arch (lines_of named.name lines) paths) else Ok []
+    if serves named.arch arch then found named (first_guid arch (lines_of named.name lines) paths)
+    else Ok []
 
 -- what all give, or the first fault
 abbrev pub all_of : List (Result (List Found) Fault) → Result (List Found) Fault
@@ -74,7 +76,8 @@ inf_guids arch lines inf = all_of (map (line_guids arch lines (packages_of arch 
 
 -- what the INF files of a module name, file by file and line by line, or the first fault
 unfoldable pub module_guids : ModuleParts → Result (List Found) Fault
-module_guids parts = all_of (map (inf_guids parts.«module».arch (package_lines parts.decs)) parts.infs)
+module_guids parts =
+    all_of (map (inf_guids parts.«module».arch (package_lines parts.decs)) parts.infs)
 
 -- names in ascending order of their bytes, each once, with the GUID of the first of its lines
 unfoldable pub by_name : List Found → List Found

@@ -1,5 +1,5 @@
--- The report of a build: the platform, its SKUs, and the values, libraries and constructors of its modules (EDK II Build
--- specification, build report). Its rows are this project's own.
+-- The report of a build: the platform, its SKUs, and the values, libraries and constructors of its
+-- modules (EDK II Build specification, build report). Its rows are this project's own.
 use Rattle.std.specs.Prelude.{ℕ, if◌then◌else◌, List, [], ◌++◌, codes, decimal}
 use Rattle.std.specs.List.{flat_map}
 use Rattle.doc_types.specs.declared.choice.Call.{Call}
@@ -16,7 +16,8 @@ use Rattle.build_texts.specs.Words.{arch_word, kind_word, datum_word, source_wor
 
 -- `platform NAME guid`
 unfoldable pub platform_line : PlatformDoc → List ℕ
-platform_line platform = codes "platform " ++ platform.name ++ codes " " ++ guid_text platform.guid ++ codes "\n"
+platform_line platform = codes "platform " ++ platform.name ++ codes " " ++ guid_text platform.guid
+    ++ codes "\n"
 
 -- `target TARGET_TAG`
 unfoldable pub target_line : List ℕ → List ℕ → List ℕ

@@ -1,5 +1,5 @@
--- The words of the texts: of architectures, and of kinds, types and sources of PCDs (EDK II DSC, DEC and INF
--- specifications). The words of sources are this project's own.
+-- The words of the texts: of architectures, and of kinds, types and sources of PCDs (EDK II DSC,
+-- DEC and INF specifications). The words of sources are this project's own.
 use Rattle.std.specs.Prelude.{ℕ, ◌==◌, if◌then◌else◌, List, [], codes}
 use Rattle.doc_types.specs.declared.arch.Arch.{Arch}
 use Rattle.doc_types.specs.declared.arch.Arch.TheVariants.{Common, Ia32, X64, Arm, Aarch64, Riscv64, Loongarch64, Ebc}
@@ -33,8 +33,9 @@ datum_word U64 = codes "UINT64"
 datum_word Boolean = codes "BOOLEAN"
 datum_word Void = codes "VOID*"
 
--- What stated a value, by its rank: the build's words, a component, what a device's keys and regions give by themselves,
--- SET below a device, a volume or a rule, SET in [Defines], the platform, a module, a package. No other rank is one.
+-- What stated a value, by its rank: the build's words, a component, what a device's keys and
+-- regions give by themselves, SET below a device, a volume or a rule, SET in [Defines], the
+-- platform, a module, a package. No other rank is one.
 abbrev pub source_word : ℕ → List ℕ
 source_word rank =
     if rank == 1 then codes "COMMAND"

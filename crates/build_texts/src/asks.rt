@@ -8,7 +8,8 @@ use doc_types::values::Values;
 use shared_value::Shared;
 use std::alloc::Global;
 
-/// For the texts of one module. `file_guid` is that of its component where this states one, else that of its INF file.
+/// For the texts of one module. `file_guid` is that of its component where this states one, else
+/// that of its INF file.
 #[derive(Debug, Drop)]
 pub struct CodeAsk {
     pub file_guid: Guid,
@@ -25,7 +26,8 @@ pub struct ModuleReport {
     pub values: Shared<Values>,
 }
 
-/// For the report of a build: `skus` are the chosen ones, `dynamic` the values of the platform's dynamic PCDs.
+/// For the report of a build: `skus` are the chosen ones, `dynamic` the values of the platform's
+/// dynamic PCDs.
 #[derive(Debug, Drop)]
 pub struct ReportAsk {
     pub platform: Shared<PlatformDoc>,

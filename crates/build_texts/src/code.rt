@@ -10,8 +10,9 @@ use build_base::{Permit, Refusal};
 use doc_types::texts::Texts;
 use std::alloc::Global;
 
-/// AutoGen.c and AutoGen.h of a module; or 511 for the first name of a GUID, by the INF files in order and then by their
-/// lines, that no package of its INF file declares for the module's architecture.
+/// AutoGen.c and AutoGen.h of a module; or 511 for the first name of a GUID, by the INF files in
+/// order and then by their lines, that no package of its INF file declares for the module's
+/// architecture.
 #[tactic(auto, unfolding(crate::specs::Code::code_texts))]
 pub fn code_texts(alloc: Global, permit: Permit, ask: &CodeAsk) -> Result<Texts, Refusal>
     ensures { Answers result (code_texts ask.now) }

@@ -32,7 +32,8 @@ pub fn put_number(alloc: Global, out: &mut Vec<u8>, bytes: &[u8]) -> Result<(), 
 }
 
 fn put_rest(alloc: Global, out: &mut Vec<u8>, bytes: &[u8]) -> Result<(), WantOfMemory>
-    ensures { OnOk result (out.new.items ≡ out.old.items ++ flat_map (λ c. codes ", " ++ number_text (c ∷ [])) bytes.now) }
+    ensures { OnOk result (out.new.items ≡ out.old.items
+        ++ flat_map (λ c. codes ", " ++ number_text (c ∷ [])) bytes.now) }
 {
     let mut left = bytes;
     while let [byte, rest @ ..] = left {
@@ -64,14 +65,16 @@ fn put_first(alloc: Global, out: &mut Vec<u8>, guid: &[u8; 16]) -> Result<(), Wa
 }
 
 fn put_second(alloc: Global, out: &mut Vec<u8>, guid: &[u8; 16]) -> Result<(), WantOfMemory>
-    ensures { OnOk result (out.new.items ≡ out.old.items ++ number_text (take 2 (drop 4 guid.now))) }
+    ensures { OnOk result (out.new.items ≡ out.old.items
+        ++ number_text (take 2 (drop 4 guid.now))) }
 {
     put_number(alloc, out, &guid[4..6])?;
     Ok(())
 }
 
 fn put_third(alloc: Global, out: &mut Vec<u8>, guid: &[u8; 16]) -> Result<(), WantOfMemory>
-    ensures { OnOk result (out.new.items ≡ out.old.items ++ number_text (take 2 (drop 6 guid.now))) }
+    ensures { OnOk result (out.new.items ≡ out.old.items
+        ++ number_text (take 2 (drop 6 guid.now))) }
 {
     put_number(alloc, out, &guid[6..8])?;
     Ok(())

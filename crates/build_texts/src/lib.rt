@@ -1,5 +1,5 @@
-//! The texts that a build writes beside its images: AutoGen.c and AutoGen.h of each module, and the report (EDK II Build
-//! specification).
+//! The texts that a build writes beside its images: AutoGen.c and AutoGen.h of each module, and the
+//! report (EDK II Build specification).
 #![tactic(auto)]
 
 pub mod asks;

@@ -62,7 +62,9 @@ fn line_guid<'a>(
     named: &'a Named,
 ) -> Result<Option<FoundGuid<'a>>, Refusal>
     requires kept { is_kept marks.now named.now.name ≡ true }
-    ensures { (lines : List Declared) → GroupedAt marks.now declared_view declared_name lines table.now → AnswersAs given result (line_guids arch lines (map (λ p. p.now) paths.now) named.now) }
+    ensures { (lines : List Declared)
+        → GroupedAt marks.now declared_view declared_name lines table.now
+        → AnswersAs given result (line_guids arch lines (map (λ p. p.now) paths.now) named.now) }
 {
     if !serves(named.arch, arch) {
         return Ok(None);
@@ -95,7 +97,10 @@ fn lines_guids<'a>(
     names: &'a [Named],
 ) -> Result<Vec<FoundGuid<'a>>, Refusal>
     requires kept { All (λ n. is_kept marks.now n.name ≡ true) names.now }
-    ensures { (lines : List Declared) → GroupedAt marks.now declared_view declared_name lines table.now → AnswersAs (λ v. seen v.items) result (all_of (map (line_guids arch lines (map (λ p. p.now) paths.now)) names.now)) }
+    ensures { (lines : List Declared)
+        → GroupedAt marks.now declared_view declared_name lines table.now
+        → AnswersAs (λ v. seen v.items) result
+        (all_of (map (line_guids arch lines (map (λ p. p.now) paths.now)) names.now)) }
 {
     let mut guids = Vec::new(alloc);
     for named in names {
@@ -114,7 +119,9 @@ fn inf_guids<'a>(
     inf: &'a InfDoc,
 ) -> Result<Vec<FoundGuid<'a>>, Refusal>
     requires kept { All (λ n. is_kept marks.now n.name ≡ true) inf.now.guids }
-    ensures { (lines : List Declared) → GroupedAt marks.now declared_view declared_name lines table.now → AnswersAs (λ v. seen v.items) result (inf_guids arch lines inf.now) }
+    ensures { (lines : List Declared)
+        → GroupedAt marks.now declared_view declared_name lines table.now
+        → AnswersAs (λ v. seen v.items) result (inf_guids arch lines inf.now) }
 {
     let paths = packages_of(alloc, arch, inf)?;
     lines_guids(
@@ -148,7 +155,9 @@ fn infs_guids<'a>(
     infs: &'a [InfDoc],
 ) -> Result<Vec<FoundGuid<'a>>, Refusal>
     requires kept { All (λ inf. All (λ n. is_kept marks.now n.name ≡ true) inf.guids) infs.now }
-    ensures { (lines : List Declared) → GroupedAt marks.now declared_view declared_name lines table.now → AnswersAs (λ v. seen v.items) result (all_of (map (inf_guids arch lines) infs.now)) }
+    ensures { (lines : List Declared)
+        → GroupedAt marks.now declared_view declared_name lines table.now
+        → AnswersAs (λ v. seen v.items) result (all_of (map (inf_guids arch lines) infs.now)) }
 {
     let mut guids = Vec::new(alloc);
     for inf in infs {
@@ -180,7 +189,8 @@ fn mark_infs(marks: &mut Vec<bool>, infs: &[InfDoc])
 
 // Marks with the names of all lines.
 fn guid_marks(alloc: Global, infs: &[InfDoc]) -> Result<Vec<bool>, WantOfMemory>
-    ensures { IfOk result (λ marks. All (λ inf. All (λ n. is_kept marks.items n.name ≡ true) inf.guids) infs.now) }
+    ensures { IfOk result
+        (λ marks. All (λ inf. All (λ n. is_kept marks.items n.name ≡ true) inf.guids) infs.now) }
 {
     let mut marks = no_marks(alloc)?;
     mark_infs(&mut marks, infs);
@@ -225,15 +235,16 @@ fn put_entry(
     name: &[u8],
     guid: Guid,
 ) -> Result<(), WantOfMemory>
-    ensures { OnOk result (map entry_view table.new.entries ≡ insert_entry (slice_cmp nat_cmp) (map entry_view table.old.entries) name.now guid) }
+    ensures { OnOk result (map entry_view table.new.entries
+        ≡ insert_entry (slice_cmp nat_cmp) (map entry_view table.old.entries) name.now guid) }
 {
     let name = Vec::from_slice(alloc, name)?;
     insert(table, name, guid)?;
     Ok(())
 }
 
-/// The names in ascending order, each with the GUID of the first of its lines: the lines go in from the last one on, and
-/// each takes the place of one of its name.
+/// The names in ascending order, each with the GUID of the first of its lines: the lines go in from
+/// the last one on, and each takes the place of one of its name.
 #[tactic(auto, using(crate::proofs::EntryLemmas::by_name_step, crate::proofs::EntryLemmas::by_name_end))]
 pub fn by_name(
     alloc: Global,

@@ -1,4 +1,5 @@
-//! The packages of a module, and the lines by which they declare the names of GUIDs, where these are marked.
+//! The packages of a module, and the lines by which they declare the names of GUIDs, where these
+//! are marked.
 ghost use Rattle.std.specs.Prelude.{◌≡◌, ◌++◌, ◌∷◌, [], List, map, IfOk, OnOk};
 ghost use Rattle.std.specs.List.{flat_map};
 ghost use Rattle.build_texts.specs.Named.{Declared, declared_name, first_guid, guid_from, is_from, line_from, package_lines};
@@ -29,7 +30,9 @@ fn add_line<'a>(
     from: &'a Path,
     line: &'a NamedGuid,
 ) -> Result<(), WantOfMemory>
-    ensures { (xs : List Declared) → GroupedAt marks.now declared_view declared_name xs table.old → OnOk result (GroupedAt marks.now declared_view declared_name (xs ++ line_from from.now line.now ∷ []) table.new) }
+    ensures { (xs : List Declared) → GroupedAt marks.now declared_view declared_name xs table.old
+        → OnOk result (GroupedAt marks.now declared_view declared_name
+        (xs ++ line_from from.now line.now ∷ []) table.new) }
 {
     if !is_kept(marks, line.name.bytes()) {
         return Ok(());
@@ -46,7 +49,9 @@ fn add_lines<'a>(
     from: &'a Path,
     lines: &'a [NamedGuid],
 ) -> Result<(), WantOfMemory>
-    ensures { (xs : List Declared) → GroupedAt marks.now declared_view declared_name xs table.old → OnOk result (GroupedAt marks.now declared_view declared_name (xs ++ map (line_from from.now) lines.now) table.new) }
+    ensures { (xs : List Declared) → GroupedAt marks.now declared_view declared_name xs table.old
+        → OnOk result (GroupedAt marks.now declared_view declared_name
+        (xs ++ map (line_from from.now) lines.now) table.new) }
 {
     for line in lines {
         add_line(alloc, marks, table, from, line)?;
@@ -60,7 +65,9 @@ fn add_package<'a>(
     table: &mut IndexMap<Vec<u8>, Vec<DeclaredGuid<'a>>>,
     held: &'a Package,
 ) -> Result<(), WantOfMemory>
-    ensures { (xs : List Declared) → GroupedAt marks.now declared_view declared_name xs table.old → OnOk result (GroupedAt marks.now declared_view declared_name (xs ++ map (line_from held.now.path) held.now.doc.guids) table.new) }
+    ensures { (xs : List Declared) → GroupedAt marks.now declared_view declared_name xs table.old
+        → OnOk result (GroupedAt marks.now declared_view declared_name
+        (xs ++ map (line_from held.now.path) held.now.doc.guids) table.new) }
 {
     add_lines(
         alloc,
@@ -78,7 +85,9 @@ fn add_packages<'a>(
     table: &mut IndexMap<Vec<u8>, Vec<DeclaredGuid<'a>>>,
     decs: &'a [Package],
 ) -> Result<(), WantOfMemory>
-    ensures { (xs : List Declared) → GroupedAt marks.now declared_view declared_name xs table.old → OnOk result (GroupedAt marks.now declared_view declared_name (xs ++ flat_map (λ held. map (line_from held.path) held.doc.guids) decs.now) table.new) }
+    ensures { (xs : List Declared) → GroupedAt marks.now declared_view declared_name xs table.old
+        → OnOk result (GroupedAt marks.now declared_view declared_name
+        (xs ++ flat_map (λ held. map (line_from held.path) held.doc.guids) decs.now) table.new) }
 {
     for held in decs {
         add_package(alloc, marks, table, held)?;
@@ -93,7 +102,8 @@ pub fn lines_by_name<'a>(
     marks: &[bool],
     decs: &'a [Package],
 ) -> Result<IndexMap<Vec<u8>, Vec<DeclaredGuid<'a>>>, WantOfMemory>
-    ensures { IfOk result (λ table. GroupedAt marks.now declared_view declared_name (package_lines decs.now) table) }
+    ensures { IfOk result
+        (λ table. GroupedAt marks.now declared_view declared_name (package_lines decs.now) table) }
 {
     let mut table = IndexMap::new(alloc);
     add_packages(alloc, marks, &mut table, decs)?;

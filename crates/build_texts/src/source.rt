@@ -22,7 +22,8 @@ fn put_guid(
     name: &[u8],
     guid: &[u8; 16],
 ) -> Result<(), WantOfMemory>
-    ensures { OnOk result (out.new.items ≡ out.old.items ++ guid_line (name.now, record { 0 = guid.now })) }
+    ensures { OnOk result (out.new.items ≡ out.old.items
+        ++ guid_line (name.now, record { 0 = guid.now })) }
 {
     out.extend_from_slice(b"GUID ")?;
     out.extend_from_slice(name)?;
@@ -37,7 +38,8 @@ fn put_guids(
     out: &mut Vec<u8>,
     table: BTreeMap<Vec<u8>, Guid>,
 ) -> Result<(), WantOfMemory>
-    ensures { OnOk result (out.new.items ≡ out.old.items ++ flat_map guid_line (map entry_view table.entries)) }
+    ensures { OnOk result (out.new.items ≡ out.old.items
+        ++ flat_map guid_line (map entry_view table.entries)) }
 {
     for (name, guid) in table {
         put_guid(alloc, out, name.as_slice(), &guid.0)?;
@@ -46,7 +48,8 @@ fn put_guids(
 }
 
 fn put_named(alloc: Global, out: &mut Vec<u8>, named: &[FoundGuid<'_>]) -> Result<(), WantOfMemory>
-    ensures { OnOk result (out.new.items ≡ out.old.items ++ flat_map guid_line (by_name (seen named.now))) }
+    ensures { OnOk result (out.new.items ≡ out.old.items
+        ++ flat_map guid_line (by_name (seen named.now))) }
 {
     let table = by_name(alloc, named)?;
     put_guids(alloc, out, table)?;
@@ -133,7 +136,8 @@ fn entry_points(infs: &[InfDoc]) -> &[Named]
 
 #[tactic(auto, unfolding(crate::specs::Code::function))]
 fn put_entry_list(out: &mut Vec<u8>, name: &[u8], listed: &[Named]) -> Result<(), AllocError>
-    ensures { OnOk result (out.new.items ≡ out.old.items ++ function name.now (entries listed.now)) }
+    ensures { OnOk result (out.new.items ≡ out.old.items
+        ++ function name.now (entries listed.now)) }
 {
     put_head(out, name)?;
     put_entries(out, listed)?;

@@ -1,5 +1,5 @@
--- The command that reads the words of a build, and the words that it takes (EDK II Build specification, options of
--- `build`).
+-- The command that reads the words of a build, and the words that it takes (EDK II Build
+-- specification, options of `build`).
 use Rattle.std.specs.Prelude.{ℕ, Bool, true, false, List, [], ◌∷◌, Some, codes}
 use Rattle.clap.specs.Words.{App, Kinds, Row, Rule, Text, fault_of, matches_of, new_rule}
 use Rattle.clap.specs.Simple.{new_shape}
@@ -19,10 +19,11 @@ abbrev pub long_option : Text → ArgAction → Rule
 long_option name action = record (new_rule name) { long = Some name; action = Some action }
 
 abbrev pub short_option : Text → ℕ → ArgAction → Rule
-short_option name letter action = record (new_rule name) { short = Some letter; action = Some action }
+short_option name letter action =
+    record (new_rule name) { short = Some letter; action = Some action }
 
--- of an option that is Set only one value is taken, of one that is Append any number; the number of workers has a
--- letter alone
+-- of an option that is Set only one value is taken, of one that is Append any number; the number of
+-- workers has a letter alone
 abbrev pub build_rules : List Rule
 build_rules =
     option_of (codes "platform") 112 Set true ∷
@@ -39,7 +40,8 @@ build_rules =
     long_option (codes "pcd") Append ∷ []
 
 abbrev pub bare_app : App
-bare_app = record { top = record (new_shape (codes "build")) { disable_help_flag = true }; subs = [] }
+bare_app =
+    record { top = record (new_shape (codes "build")) { disable_help_flag = true }; subs = [] }
 
 -- the command, of which the first word is its name
 unfoldable pub build_app : App

@@ -13,7 +13,8 @@ use Rattle.meta_lexer.specs.Words.{is_identifier}
 -- letters, digits, `_` and `-`
 unfoldable pub is_name_byte : ℕ → Bool
 is_name_byte byte =
-    is_between 97 122 byte || is_between 65 90 byte || is_between 48 57 byte || byte == 95 || byte == 45
+    is_between 97 122 byte || is_between 65 90 byte || is_between 48 57 byte || byte == 95
+    || byte == 45
 
 -- the name of a target, a tag, a SKU or an image: 1 to 64 such bytes
 unfoldable pub is_name : List ℕ → Bool
@@ -25,7 +26,8 @@ equals_at text = position_or_len (λ byte. byte == 61) text
 
 -- a macro: `NAME=VALUE` or `NAME`; a value is on one line of bytes that may stand in a file
 unfoldable pub is_define : List ℕ → Bool
-is_define text = is_identifier (take (equals_at text) text) && list_all is_plain (drop (equals_at text) text)
+is_define text = is_identifier (take (equals_at text) text)
+    && list_all is_plain (drop (equals_at text) text)
 
 -- the value of a PCD: `Space.Name=Value`
 unfoldable pub is_setting : List ℕ → Bool
@@ -48,7 +50,8 @@ unfoldable pub workers_of : List ℕ → Option ℕ
 workers_of [] = None
 workers_of (a ∷ []) = if is_between 49 57 a then Some (a - 48) else None
 workers_of (a ∷ (b ∷ [])) =
-    if is_between 49 57 a && is_between 48 57 b && nat_le (10 * (a - 48) + (b - 48)) 64 then Some (10 * (a - 48) + (b - 48)) else None
+    if is_between 49 57 a && is_between 48 57 b && nat_le (10 * (a - 48) + (b - 48)) 64
+    then Some (10 * (a - 48) + (b - 48)) else None
 workers_of (a ∷ (b ∷ (c ∷ rest))) = None
 
 -- as many workers as a build may have

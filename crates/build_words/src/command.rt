@@ -24,7 +24,9 @@ fn with_option<'a>(
     letter: char,
     action: ArgAction,
 ) -> Result<Command<'a>, AllocError>
-    ensures { IfOk result (λ c. app_of c ≡ with_rule (app_of command.entry) (option_of name.entry.now letter action false)) }
+    ensures { IfOk result
+        (λ c. app_of c ≡ with_rule (app_of command.entry)
+        (option_of name.entry.now letter action false)) }
 {
     with_arg(
         command,
@@ -41,7 +43,9 @@ fn with_needed<'a>(
     name: &'a str,
     letter: char,
 ) -> Result<Command<'a>, AllocError>
-    ensures { IfOk result (λ c. app_of c ≡ with_rule (app_of command.entry) (option_of name.entry.now letter ArgAction.Set true)) }
+    ensures { IfOk result
+        (λ c. app_of c ≡ with_rule (app_of command.entry)
+        (option_of name.entry.now letter ArgAction.Set true)) }
 {
     with_arg(
         command,
@@ -59,7 +63,8 @@ fn with_long<'a>(
     name: &'a str,
     action: ArgAction,
 ) -> Result<Command<'a>, AllocError>
-    ensures { IfOk result (λ c. app_of c ≡ with_rule (app_of command.entry) (long_option name.entry.now action)) }
+    ensures { IfOk result
+        (λ c. app_of c ≡ with_rule (app_of command.entry) (long_option name.entry.now action)) }
 {
     with_arg(command, Arg::new(alloc, name).long(name).action(action))
 }
@@ -71,7 +76,9 @@ fn with_short<'a>(
     letter: char,
     action: ArgAction,
 ) -> Result<Command<'a>, AllocError>
-    ensures { IfOk result (λ c. app_of c ≡ with_rule (app_of command.entry) (short_option name.entry.now letter action)) }
+    ensures { IfOk result
+        (λ c. app_of c ≡ with_rule (app_of command.entry)
+        (short_option name.entry.now letter action)) }
 {
     with_arg(command, Arg::new(alloc, name).short(letter).action(action))
 }
@@ -104,7 +111,8 @@ pub fn build_command<'a>(alloc: Global) -> Result<Command<'a>, AllocError>
 
 /// What the command finds in the words, or nothing where it doesn't take them.
 pub fn parse<'a>(alloc: Global, words: &'a [String]) -> Result<Option<ArgMatches<'a>>, WantOfMemory>
-    ensures taken { IfOk result (λ r. MatchOption r (is_taken (map string_bytes words.entry.now) ≡ false)
+    ensures taken { IfOk result
+        (λ r. MatchOption r (is_taken (map string_bytes words.entry.now) ≡ false)
         (λ _. is_taken (map string_bytes words.entry.now) ≡ true)) }
     ensures rows { IfOk result (λ r. MatchOption r ⊤
         (λ m. rows_of (found_of m) ≡ rows_in (map string_bytes words.entry.now))) }

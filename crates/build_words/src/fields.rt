@@ -10,7 +10,8 @@ use std::alloc::Global;
 
 // Appends a text, after a line feed where it isn't the first.
 fn push_text(out: &mut Vec<u8>, first: bool, text: &[u8]) -> Result<(), WantOfMemory>
-    ensures { OnOk result (out.new.items ≡ out.old.items ++ (if first then text.now else 10 ∷ text.now)) }
+    ensures { OnOk result (out.new.items ≡ out.old.items
+        ++ (if first then text.now else 10 ∷ text.now)) }
 {
     if !first {
         out.extend_from_slice(b"\n")?;
@@ -103,7 +104,8 @@ fn push_path(
 }
 
 fn push_names(alloc: Global, fields: &mut Rows<Text>, names: &Names) -> Result<(), WantOfMemory>
-    ensures { OnOk result (fields.new ≡ fields.old ++ or_empty names.now.target ∷ or_empty names.now.tag ∷ or_empty names.now.sku ∷ []) }
+    ensures { OnOk result (fields.new ≡ fields.old ++ or_empty names.now.target
+        ∷ or_empty names.now.tag ∷ or_empty names.now.sku ∷ []) }
 {
     push_name(alloc, fields, &names.target)?;
     push_name(alloc, fields, &names.tag)?;
@@ -115,14 +117,16 @@ fn push_settings(
     fields: &mut Rows<Text>,
     settings: &Settings,
 ) -> Result<(), WantOfMemory>
-    ensures { OnOk result (fields.new ≡ fields.old ++ join_with_byte 10 settings.now.defines ∷ join_with_byte 10 settings.now.pcds ∷ []) }
+    ensures { OnOk result (fields.new ≡ fields.old ++ join_with_byte 10 settings.now.defines
+        ∷ join_with_byte 10 settings.now.pcds ∷ []) }
 {
     push_joined(alloc, fields, settings.defines.items())?;
     push_joined(alloc, fields, settings.pcds.items())
 }
 
 fn push_images(alloc: Global, fields: &mut Rows<Text>, images: &Images) -> Result<(), WantOfMemory>
-    ensures { OnOk result (fields.new ≡ fields.old ++ join_with_byte 10 (image_lines images.now) ∷ []) }
+    ensures { OnOk result (fields.new ≡ fields.old ++ join_with_byte 10 (image_lines images.now)
+        ∷ []) }
 {
     let lines = image_lines(alloc, images)?;
     push_joined(alloc, fields, lines.items())

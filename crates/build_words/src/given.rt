@@ -18,7 +18,8 @@ pub fn value<'a>(matches: &ArgMatches<'a>, name: &str) -> Option<&'a str>
 }
 
 fn values<'m, 'a>(matches: &'m ArgMatches<'a>, name: &str) -> Option<&'m [&'a str]>
-    ensures { option_map (λ s. map (λ v. v.now) s.now) result ≡ all_of name.now (rows_of (found_of matches.now)) }
+    ensures { option_map (λ s. map (λ v. v.now) s.now) result
+        ≡ all_of name.now (rows_of (found_of matches.now)) }
 {
     matches.get_strs(name)
 }
@@ -34,7 +35,8 @@ fn texts(alloc: Global, values: &[&str]) -> Result<Rows<Text>, WantOfMemory>
 }
 
 fn texts_or_none(alloc: Global, values: Option<&[&str]>) -> Result<Rows<Text>, WantOfMemory>
-    ensures { IfOk result (λ r. r ≡ unwrap_or (option_map (λ s. map (λ v. v.now) s.now) values.entry) []) }
+    ensures { IfOk result
+        (λ r. r ≡ unwrap_or (option_map (λ s. map (λ v. v.now) s.now) values.entry) []) }
 {
     match values {
         None => Ok(Rows::new(alloc)),

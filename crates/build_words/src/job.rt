@@ -2,8 +2,8 @@
 use crate::workers::Workers;
 use build_base::{Path, Rows, Text};
 
-/// The files that the words name: the platform's, the flash description's in place of the one that the
-/// platform names, and the report's.
+/// The files that the words name: the platform's, the flash description's in place of the one that
+/// the platform names, and the report's.
 #[derive(Debug, Drop)]
 pub struct Files {
     pub platform: Path,
@@ -19,7 +19,8 @@ pub struct Names {
     pub sku: Option<Text>,
 }
 
-/// The macros `NAME` or `NAME=VALUE` and the PCDs `Space.Name=Value` that the words set, in their order.
+/// The macros `NAME` or `NAME=VALUE` and the PCDs `Space.Name=Value` that the words set, in their
+/// order.
 #[derive(Debug, Drop)]
 pub struct Settings {
     pub defines: Rows<Text>,
@@ -45,7 +46,8 @@ pub struct Job {
     pub workers: Workers,
 }
 
-// Written out, so that a caller that lets a job go has one call here and not a case for each option.
+// Written out, so that a caller that lets a job go has one call here and not a case for each
+// option.
 impl Drop for Job {
     fn drop(self) {
         let Job {

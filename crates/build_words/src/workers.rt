@@ -45,7 +45,8 @@ impl Workers {
         Workers { number: 1 }
     }
 
-    /// As many as a decimal number without a leading zero says, or none where it isn't one from 1 to 64.
+    /// As many as a decimal number without a leading zero says, or none where it isn't one from 1
+    /// to 64.
     pub fn named(text: &[u8]) -> Option<Workers>
         ensures { result ≡ workers_of text.now }
     {

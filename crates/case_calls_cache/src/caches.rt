@@ -22,7 +22,8 @@ fn entry_of(alloc: Global, line: &[u8]) -> Result<Entry<Key, Out>, Stop> {
     Ok(Entry { key, talk, result })
 }
 
-/// The text of the cache of a file's keys, one on each line, as the file `packed`. Each gives its line.
+/// The text of the cache of a file's keys, one on each line, as the file `packed`. Each gives its
+/// line.
 pub fn call_pack(page: &mut Page, files: &[Output], path: &str) -> Result<(), Stop> {
     let alloc = page.alloc();
     let mut cache = Cache::new(alloc);
@@ -42,7 +43,8 @@ fn tell_entries(page: &mut Page, entries: &[Entry<Key, Out>]) {
     }
 }
 
-/// The keys of the cache whose text a file is, which is packed again as the file `packed`; or `none`.
+/// The keys of the cache whose text a file is, which is packed again as the file `packed`; or
+/// `none`.
 pub fn call_unpack(page: &mut Page, files: &[Output], path: &str) -> Result<(), Stop> {
     let alloc = page.alloc();
     match unpack(alloc, file_of(files, path)?)? {

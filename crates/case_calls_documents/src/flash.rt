@@ -1,4 +1,5 @@
-//! A flash description as rows; what stands in a device, a volume or a file has a blank more in front. Numbers are decimal.
+//! A flash description as rows; what stands in a device, a volume or a file has a blank more in
+//! front. Numbers are decimal.
 
 use crate::rows::{begin, pcd};
 use build_base::{Guid, Place, Text};

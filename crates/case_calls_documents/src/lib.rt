@@ -1,4 +1,5 @@
-//! Calls of what reads documents. A document is told as lines of standard output, one for each of its rows.
+//! Calls of what reads documents. A document is told as lines of standard output, one for each of
+//! its rows.
 #![tactic(auto)]
 
 mod flash;

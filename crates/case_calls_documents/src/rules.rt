@@ -41,8 +41,8 @@ fn tell_items(
     Ok(())
 }
 
-/// The architecture of each module of the volumes, and the number of its rule, up to the first that has none, for the
-/// words `TYPE PLATFORM FLASH`.
+/// The architecture of each module of the volumes, and the number of its rule, up to the first that
+/// has none, for the words `TYPE PLATFORM FLASH`.
 pub fn call_modules(page: &mut Page, files: &[Output], words: &str) -> Result<(), Stop> {
     let alloc = page.alloc();
     let (module_type, rest) = first_word(words);

@@ -1,5 +1,6 @@
-//! A call that makes a file. The call's file has one thing a line: `name GUID`, `type NUMBER`, `align NUMBER`, `whole PATH`
-//! or lines `section KIND ALIGN SHIFT PATH [GUID]`, and the words `fixed`, `checksum`, `ffs3`, `erase0`.
+//! A call that makes a file. The call's file has one thing a line: `name GUID`, `type NUMBER`,
+//! `align NUMBER`, `whole PATH` or lines `section KIND ALIGN SHIFT PATH [GUID]`, and the words
+//! `fixed`, `checksum`, `ffs3`, `erase0`.
 
 use crate::words::{bytes_of, guid_of, middle, other_form, small};
 use build_base::{Book, Guid, Rows};

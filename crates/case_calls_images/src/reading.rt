@@ -59,8 +59,8 @@ fn tell_volume(page: &mut Page, list: &VolumeList) {
     }
 }
 
-/// What the volume holds that a file begins with, row by row; or `wrong` and the place of its first wrong file, with the
-/// status 1.
+/// What the volume holds that a file begins with, row by row; or `wrong` and the place of its first
+/// wrong file, with the status 1.
 pub fn call_read_volume(page: &mut Page, files: &[Output], path: &str) -> Result<(), Stop> {
     let bytes = file_of(files, path)?;
     if !is_head(bytes) {

@@ -1,5 +1,5 @@
-//! Calls that make a volume. The call's file has one thing a line: `block NUMBER`, `size NUMBER`, `guid GUID`, `base NUMBER`, lines
-//! `file GUID ALIGN PATH`, and the words `ffs3`, `erase0`.
+//! Calls that make a volume. The call's file has one thing a line: `block NUMBER`, `size NUMBER`,
+//! `guid GUID`, `base NUMBER`, lines `file GUID ALIGN PATH`, and the words `ffs3`, `erase0`.
 
 use crate::words::{bytes_of, count, guid_of, middle, other_form};
 use build_base::bytes::fill;

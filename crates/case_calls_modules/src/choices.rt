@@ -78,7 +78,8 @@ fn tell_rounds(
     Err(Stop::Wrong(Wrong::Line("the choice wants too many files")))
 }
 
-/// The rounds in which INF files are wanted, and then the choice, for the words `ARCH PLATFORM MODULE`.
+/// The rounds in which INF files are wanted, and then the choice, for the words `ARCH PLATFORM
+/// MODULE`.
 pub fn call_choose(page: &mut Page, files: &[Output], words: &str) -> Result<(), Stop> {
     let alloc = page.alloc();
     let (arch, rest) = first_word(words);

@@ -1,7 +1,8 @@
 //! Calls on dependency expressions.
 //!
-//! The file of a call has a line `inf` for each INF file, and below it what that file adds to the expression:
-//! a line `guid NAME GUID` for a name that its packages declare, a line `depex TERMS` for a section.
+//! The file of a call has a line `inf` for each INF file, and below it what that file adds to the
+//! expression: a line `guid NAME GUID` for a name that its packages declare, a line `depex TERMS`
+//! for a section.
 
 use crate::words::{guid_of, other_form, text_of_word, texts_of, type_of};
 use build_base::{Book, Path, Place, Rows, Same};
@@ -103,7 +104,8 @@ fn tell_code(page: &mut Page, found: ModuleType, groups: &Rows<DepexGroup>) -> R
     Ok(())
 }
 
-/// The file `code`, or the fault, of the expression of a module of the type that the first word names.
+/// The file `code`, or the fault, of the expression of a module of the type that the first word
+/// names.
 pub fn call_compile(page: &mut Page, files: &[Output], words: &str) -> Result<(), Stop> {
     let (found, path) = first_word(words);
     let found = type_of(found)?;

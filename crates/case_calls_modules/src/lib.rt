@@ -1,5 +1,5 @@
-//! Calls of what is found for modules and the platform: libraries, dependency expressions, values of PCDs,
-//! the image of vital product data.
+//! Calls of what is found for modules and the platform: libraries, dependency expressions, values
+//! of PCDs, the image of vital product data.
 #![tactic(auto)]
 
 mod asking;

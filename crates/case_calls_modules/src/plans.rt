@@ -1,5 +1,6 @@
-//! What a text asks of the values of a platform: `platform DSC`, `package DEC`, `module ARCH INF INF ..`, `arch NAME`,
-//! `sku NAME` for a SKU of the build's words, and `set RANK PATH LINE PCD VALUE`.
+//! What a text asks of the values of a platform: `platform DSC`, `package DEC`, `module ARCH INF
+//! INF ..`, `arch NAME`, `sku NAME` for a SKU of the build's words, and `set RANK PATH LINE PCD
+//! VALUE`.
 
 use crate::words::{arch_of, number_of, other_form, pcd_of, text_of_word};
 use build_base::{Path, Rows, Same, Text};

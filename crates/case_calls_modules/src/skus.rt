@@ -46,7 +46,8 @@ fn rows_of(alloc: Global, sets: &[PcdSet]) -> Result<Rows<SkuRow>, Stop> {
     Ok(rows.copy(alloc)?)
 }
 
-/// The value of each SKU, where the sets of the call's file name SKUs by PCDs of the token space `sku`.
+/// The value of each SKU, where the sets of the call's file name SKUs by PCDs of the token space
+/// `sku`.
 pub fn call_sku_value(page: &mut Page, files: &[Output], path: &str) -> Result<(), Stop> {
     let alloc = page.alloc();
     let ask = ask_of(alloc, files, path)?;

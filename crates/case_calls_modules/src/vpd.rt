@@ -47,7 +47,8 @@ fn made(alloc: Global, ask: &VpdAsk) -> Result<Vpd, Stop> {
     copied(alloc, &vpd)
 }
 
-/// The places of a platform's VPD lines, their image and its map, from the values of its dynamic PCDs, or the first fault.
+/// The places of a platform's VPD lines, their image and its map, from the values of its dynamic
+/// PCDs, or the first fault.
 pub fn call_vpd(page: &mut Page, files: &[Output], path: &str) -> Result<(), Stop> {
     let alloc = page.alloc();
     let ask = ask_of(alloc, files, path)?;

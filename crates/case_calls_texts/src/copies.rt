@@ -1,5 +1,5 @@
-//! Copies of what was read. A call goes on with the copy, so that a copy that isn't made, or is another value, shows in
-//! every case of it.
+//! Copies of what was read. A call goes on with the copy, so that a copy that isn't made, or is
+//! another value, shows in every case of it.
 
 ghost use Rattle.std.specs.Prelude.{◌≡◌, IfOk};
 

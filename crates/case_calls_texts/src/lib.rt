@@ -1,4 +1,5 @@
-//! Calls of what reads texts and lines of a document, and what the calls of other crates read their files by.
+//! Calls of what reads texts and lines of a document, and what the calls of other crates read their
+//! files by.
 #![tactic(auto)]
 
 mod copies;

@@ -81,7 +81,8 @@ fn tell_tokens(page: &mut Page, tokens: &[Token]) {
     }
 }
 
-/// The tokens of a file's one line, each with its span; or the code of its fault and where that begins.
+/// The tokens of a file's one line, each with its span; or the code of its fault and where that
+/// begins.
 pub fn call_tokens(page: &mut Page, files: &[Output], path: &str) -> Result<(), Stop> {
     let text = file_of(files, path)?.trim_ascii();
     match tokens(page.alloc(), text) {

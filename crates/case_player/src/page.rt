@@ -1,5 +1,5 @@
-//! What a call tells, row by row. Once memory was wanting, nothing more is told: so what tells a row has no way out, and is
-//! quick to prove.
+//! What a call tells, row by row. Once memory was wanting, nothing more is told: so what tells a
+//! row has no way out, and is quick to prove.
 
 use crate::stop::Stop;
 use crate::told::{Output, Told};

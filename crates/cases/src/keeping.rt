@@ -1,5 +1,5 @@
-//! Runs one after the other with one keeper in memory, as the lines of a file of the case say. Each run tells a
-//! line: its status, what is kept then, and what it wrote to the streams.
+//! Runs one after the other with one keeper in memory, as the lines of a file of the case say. Each
+//! run tells a line: its status, what is kept then, and what it wrote to the streams.
 
 use crate::building::build_with;
 use build_base::memory_sink::SinkFail;

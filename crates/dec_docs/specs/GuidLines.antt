@@ -17,21 +17,25 @@ use Rattle.dec_docs.specs.declared.rows.Said.TheVariants.{Row}
 
 -- a macro that isn't defined
 abbrev pub words_fault : Taken → List ℕ → List ℕ → Option Fault
-words_fault line name value = first_of (undefined_macro line.at name ∷ undefined_macro line.at value ∷ [])
+words_fault line name value =
+    first_of (undefined_macro line.at name ∷ undefined_macro line.at value ∷ [])
 
 -- a line that declares no name of a GUID
 abbrev pub bad_line : Taken → Fault
 bad_line line = fault_of 202 line.at line.text
 
 abbrev pub pair_fault : Taken → List ℕ → List ℕ → Option GuidBytes → Option Fault
-pair_fault line name value guid = if is_identifier name then wanted guid (fault_of 202 line.at value) else Some (bad_line line)
+pair_fault line name value guid = if is_identifier name
+    then wanted guid (fault_of 202 line.at value) else Some (bad_line line)
 
 abbrev pub field_faults : Taken → List ℕ → Option (List ℕ × List ℕ) → List (Option Fault)
-field_faults line field (Some p) = words_fault line p.0 p.1 ∷ pair_fault line p.0 p.1 (guid_of_braces p.1) ∷ []
+field_faults line field (Some p) = words_fault line p.0 p.1
+    ∷ pair_fault line p.0 p.1 (guid_of_braces p.1) ∷ []
 field_faults line field None = undefined_macro line.at field ∷ Some (bad_line line) ∷ []
 
 abbrev pub named_guid : Taken → Arch → List ℕ → Option GuidBytes → Option Said
-named_guid line arch name (Some guid) = Some (Row (row.Guid (record { at = line.at; arch = arch; name = name; guid = guid })))
+named_guid line arch name (Some guid) =
+    Some (Row (row.Guid (record { at = line.at; arch = arch; name = name; guid = guid })))
 named_guid line arch name None = None
 
 abbrev pub field_row : Taken → Arch → Option (List ℕ × List ℕ) → Option Said
@@ -43,7 +47,8 @@ guid_field line = first_text (field_texts line.text)
 
 -- in the first field; others are read past
 unfoldable pub guid_line_faults : Taken → List (Option Fault)
-guid_line_faults line = of_read_line line (field_faults line (guid_field line) (halves 61 (guid_field line)))
+guid_line_faults line = of_read_line line
+    (field_faults line (guid_field line) (halves 61 (guid_field line)))
 
 unfoldable pub guid_line_row : Taken → Arch → Option Said
 guid_line_row line arch = field_row line arch (halves 61 (guid_field line))

@@ -24,8 +24,11 @@ key_named word = lookup keys word
 
 -- a line of another key is read past
 abbrev pub key_faults : Taken → Option key_type.DecKey → List ℕ → List (Option Fault)
-key_faults line (Some key.Name) value = of_read_line line (fault_in (segment_name line.at value) ∷ [])
-key_faults line (Some key.Guid) value = of_read_line line (undefined_macro line.at value ∷ wanted (guid_of value) (fault_of 202 line.at value) ∷ [])
+key_faults line (Some key.Name) value =
+    of_read_line line (fault_in (segment_name line.at value) ∷ [])
+key_faults line (Some key.Guid) value =
+    of_read_line line (undefined_macro line.at value
+    ∷ wanted (guid_of value) (fault_of 202 line.at value) ∷ [])
 key_faults line None value = []
 
 abbrev pub key_row : Option key_type.DecKey → List ℕ → Option Said

@@ -76,7 +76,12 @@ nothing = record { name = None; guid = None; rows = [] }
 -- with more that is said: the last value of each key, and all rows
 unfoldable pub with_rows : Stated → List Said → Stated
 with_rows stated said =
-    record { name = last_or stated.name (flat_map name_in said); guid = last_or stated.guid (flat_map guid_in said); rows = stated.rows ++ flat_map row_said said }
+    record {
+      name = last_or stated.name (flat_map name_in said);
+      guid =
+          last_or stated.guid (flat_map guid_in said);
+      rows = stated.rows ++ flat_map row_said said;
+    }
 
 abbrev pub guid_rows : Declared → List NamedGuid
 guid_rows (row.Guid guid) = guid ∷ []
@@ -88,12 +93,21 @@ pcd_rows (row.Pcd pcd) = pcd ∷ []
 
 abbrev pub with_required : List ℕ → List ℕ → GuidBytes → List Declared → DecDoc
 with_required root name guid rows =
-    record { at = record { path = root; line = 0 }; name = name; guid = guid; guids = flat_map guid_rows rows; pcds = flat_map pcd_rows rows }
+    record {
+      at = record { path = root; line = 0 };
+      name = name;
+      guid = guid;
+      guids =
+          flat_map guid_rows rows;
+      pcds = flat_map pcd_rows rows;
+    }
 
-abbrev pub required : List ℕ → List Declared → Option (List ℕ) → Option GuidBytes → Result DecDoc Fault
+abbrev pub required : List ℕ → List Declared → Option (List ℕ) → Option GuidBytes
+    → Result DecDoc Fault
 required root rows None guid = Err (missing_key 201 root (codes "PACKAGE_NAME"))
 required root rows (Some name) None = Err (missing_key 201 root (codes "PACKAGE_GUID"))
-required root rows (Some name) (Some guid) = unless (repeats_fault rows) (with_required root name guid rows)
+required root rows (Some name) (Some guid) =
+    unless (repeats_fault rows) (with_required root name guid rows)
 
 -- the document, where each key is stated and no row may not stand below another
 unfoldable pub document_of : List ℕ → Stated → Result DecDoc Fault

@@ -24,17 +24,21 @@ bad_line line = fault_of 203 line.at line.text
 
 -- a macro that isn't defined, in the fields before the token
 abbrev pub words_fault : Taken → List ℕ → List ℕ → List ℕ → Option Fault
-words_fault line name default datum = first_of (undefined_macro line.at name ∷ undefined_macro line.at default ∷ undefined_macro line.at datum ∷ [])
+words_fault line name default datum =
+    first_of (undefined_macro line.at name ∷ undefined_macro line.at default
+    ∷ undefined_macro line.at datum ∷ [])
 
 -- a name, a default that isn't empty and a type
 abbrev pub parts_fault : Taken → Option PcdName → List ℕ → Option Datum → Option Fault
-parts_fault line (Some pcd) default (Some datum) = if length default == 0 then Some (bad_line line) else None
+parts_fault line (Some pcd) default (Some datum) =
+    if length default == 0 then Some (bad_line line) else None
 parts_fault line (Some pcd) default None = Some (bad_line line)
 parts_fault line None default datum = Some (bad_line line)
 
 -- a token of at most 32 bits
 abbrev pub token_fault : Taken → List ℕ → Option ℕ → Option Fault
-token_fault line token (Some number) = if nat_lt number 4294967296 then None else Some (fault_of 205 line.at token)
+token_fault line token (Some number) = if nat_lt number 4294967296 then None
+    else Some (fault_of 205 line.at token)
 token_fault line token None = None
 
 abbrev pub token_of : Option ℕ → Option ℕ
@@ -49,18 +53,34 @@ other_faults line fields = first_fault (undefined_macro line.at) fields ∷ Some
 abbrev pub fields_faults : Taken → List (List ℕ) → List (Option Fault)
 fields_faults line (name ∷ default ∷ datum ∷ token ∷ []) =
     wanted (number_of token) (fault_of 113 line.at token) ∷ words_fault line name default datum ∷
-    parts_fault line (pcd_name_of name) default (datum_named datum) ∷ token_fault line token (number_of token) ∷ []
+    parts_fault line (pcd_name_of name) default (datum_named datum)
+    ∷ token_fault line token (number_of token) ∷ []
 fields_faults line fields = other_faults line fields
 
-abbrev pub made_pcd : Taken → Arch → Kind → Option PcdName → List ℕ → Option Datum → Option ℕ → Option Said
+abbrev pub made_pcd : Taken → Arch → Kind → Option PcdName → List ℕ → Option Datum → Option ℕ
+    → Option Said
 made_pcd line arch kind (Some pcd) default (Some datum) (Some token) =
-    Some (Row (row.Pcd (record { at = line.at; arch = arch; kind = kind; pcd = pcd; default = default; datum = datum; token = token })))
+    Some
+    (Row
+    (row.Pcd
+    (record {
+      at = line.at;
+      arch = arch;
+      kind = kind;
+      pcd = pcd;
+      default = default;
+      datum =
+          datum;
+      token = token;
+    })))
 made_pcd line arch kind (Some pcd) default (Some datum) None = None
 made_pcd line arch kind (Some pcd) default None token = None
 made_pcd line arch kind None default datum token = None
 
 abbrev pub fields_row : Taken → Arch → Kind → List (List ℕ) → Option Said
-fields_row line arch kind (name ∷ default ∷ datum ∷ token ∷ []) = made_pcd line arch kind (pcd_name_of name) default (datum_named datum) (token_of (number_of token))
+fields_row line arch kind (name ∷ default ∷ datum ∷ token ∷ []) =
+    made_pcd line arch kind (pcd_name_of name) default (datum_named datum)
+    (token_of (number_of token))
 fields_row line arch kind fields = None
 
 unfoldable pub pcd_line_faults : Taken → List (Option Fault)

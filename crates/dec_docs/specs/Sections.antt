@@ -15,11 +15,15 @@ use Rattle.dec_docs.specs.declared.section.Entry.{Entry}
 -- the sections; the last four are read past
 abbrev pub sections : List (List ℕ × Option DecSection)
 sections =
-    (codes "Defines", Some Defines) ∷ (codes "Guids", Some Guids) ∷ (codes "Protocols", Some Guids) ∷ (codes "Ppis", Some Guids) ∷
-    (codes "PcdsFeatureFlag", Some (Pcds FeatureFlag)) ∷ (codes "PcdsFixedAtBuild", Some (Pcds FixedAtBuild)) ∷
-    (codes "PcdsPatchableInModule", Some (Pcds PatchableInModule)) ∷ (codes "PcdsDynamic", Some (Pcds Dynamic)) ∷
+    (codes "Defines", Some Defines) ∷ (codes "Guids", Some Guids) ∷ (codes "Protocols", Some Guids)
+    ∷ (codes "Ppis", Some Guids) ∷
+    (codes "PcdsFeatureFlag", Some (Pcds FeatureFlag))
+    ∷ (codes "PcdsFixedAtBuild", Some (Pcds FixedAtBuild)) ∷
+    (codes "PcdsPatchableInModule", Some (Pcds PatchableInModule))
+    ∷ (codes "PcdsDynamic", Some (Pcds Dynamic)) ∷
     (codes "PcdsDynamicEx", Some (Pcds DynamicEx)) ∷
-    (codes "Includes", None) ∷ (codes "LibraryClasses", None) ∷ (codes "Packages", None) ∷ (codes "UserExtensions", None) ∷ []
+    (codes "Includes", None) ∷ (codes "LibraryClasses", None) ∷ (codes "Packages", None)
+    ∷ (codes "UserExtensions", None) ∷ []
 
 unfoldable pub section_named : List ℕ → Option (Option DecSection)
 section_named name = lookup sections name

@@ -9,8 +9,8 @@ use doc_types::pcd::Kind;
 use meta_lexer::head::Head;
 use meta_lexer::lookup;
 
-/// What the lines of a section declare: keys of the package, GUIDs ([Guids], [Protocols], [Ppis]) or PCDs of
-/// one kind.
+/// What the lines of a section declare: keys of the package, GUIDs ([Guids], [Protocols], [Ppis])
+/// or PCDs of one kind.
 #[derive(Clone, Copy, Debug, PartialEq, Eq)]
 pub enum DecSection {
     Defines,

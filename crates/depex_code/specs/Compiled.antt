@@ -1,4 +1,5 @@
--- The expression of a module: the tree that its INF's sections and its libraries' stand for, or the first fault.
+-- The expression of a module: the tree that its INF's sections and its libraries' stand for, or the
+-- first fault.
 use Rattle.std.specs.Prelude.{◌&&◌, ◌++◌, ℕ, Bool, true, false, nat_lt, if◌then◌else◌, List, [], ◌∷◌, map, drop, Option, Some, None, Result, Ok, Err, codes}
 use Rattle.std.specs.List.{filter}
 use Rattle.std.specs.Str.{str_eq_ignore_ascii_case}
@@ -32,7 +33,8 @@ map_ok f (Err e) = Err e
 
 -- Terms.
 
--- 502: no line declares the name; 503: SOR is not at the front, or a BEFORE or AFTER may not stand here
+-- 502: no line declares the name; 503: SOR is not at the front, or a BEFORE or AFTER may not stand
+-- here
 abbrev pub own_code : Bool → Token → Option ℕ
 own_code edge (token.Name None) = Some 502
 own_code edge (token.Edge e) = if edge then None else Some 503
@@ -44,17 +46,20 @@ abbrev pub term_code : Bool → Bool → Token → Option ℕ
 term_code begun edge k = if begun then own_code edge k else Some 501
 
 -- the first fault of the terms, each with those before it
-unfoldable pub terms_fault : Place → List NamedGuid → Bool → List Token → List (List ℕ) → Option Fault
+unfoldable pub terms_fault : Place → List NamedGuid → Bool → List Token → List (List ℕ)
+    → Option Fault
 terms_fault at guids edge before [] = None
 terms_fault at guids edge before (term ∷ terms) =
     or_else
-    (option_map (λ code. fault_of code at term) (term_code (is_begun (before ++ token_of guids term ∷ [])) edge (token_of guids term)))
+    (option_map (λ code. fault_of code at term)
+    (term_code (is_begun (before ++ token_of guids term ∷ [])) edge (token_of guids term)))
     (terms_fault at guids edge (before ++ token_of guids term ∷ []) terms)
 
 -- the tree of the terms; 501 at the end where they are no expression yet
 unfoldable pub terms_tree : Place → List NamedGuid → Bool → List (List ℕ) → Result Tree Fault
 terms_tree at guids edge terms =
-    or_fault (terms_fault at guids edge [] terms) (value_or (fault_of 501 at (codes "end")) (expression (map (token_of guids) terms)))
+    or_fault (terms_fault at guids edge [] terms)
+    (value_or (fault_of 501 at (codes "end")) (expression (map (token_of guids) terms)))
 
 -- Parts.
 
@@ -89,7 +94,8 @@ after_sor leave terms = if leave.sor && begins_with_sor terms then drop 1 terms 
 
 unfoldable pub part_tree : Leave → List NamedGuid → DepexPart → Result Tree Fault
 part_tree leave guids part =
-    terms_tree part.at guids (leave.edge && is_edge_part guids part.terms) (after_sor leave part.terms)
+    terms_tree part.at guids (leave.edge && is_edge_part guids part.terms)
+    (after_sor leave part.terms)
 
 -- Joins.
 
@@ -108,7 +114,8 @@ around front t = if front then sor t else t
 
 -- 504: the tree nests over 64, or has more than 4,096 opcodes
 abbrev pub over : ℕ → ℕ → Option (List ℕ)
-over deep count = if nat_lt 64 deep then Some (codes "65") else if nat_lt 4096 count then Some (codes "4097") else None
+over deep count = if nat_lt 64 deep then Some (codes "65") else if nat_lt 4096 count
+    then Some (codes "4097") else None
 
 unfoldable pub limit_fault : Place → Tree → Option Fault
 limit_fault at t = option_map (fault_of 504 at) (over (nest t) (opcodes t))
@@ -116,21 +123,26 @@ limit_fault at t = option_map (fault_of 504 at) (over (nest t) (opcodes t))
 abbrev pub no_leave : Leave
 no_leave = record { sor = false; edge = false }
 
--- The tree of one more part, joined to `own`, the group's parts before it; `whole` is the tree of the groups before.
--- All that is joined so far, with the SOR around it, keeps the limits.
-unfoldable pub next_tree : Bool → List NamedGuid → Option Tree → Leave → Option Tree → DepexPart → Result Tree Fault
+-- The tree of one more part, joined to `own`, the group's parts before it; `whole` is the tree of
+-- the groups before. All that is joined so far, with the SOR around it, keeps the limits.
+unfoldable pub next_tree : Bool → List NamedGuid → Option Tree → Leave → Option Tree → DepexPart
+    → Result Tree Fault
 next_tree front guids whole leave own part =
     and_then (part_tree leave guids part)
-    (λ t. or_fault (limit_fault part.at (around front (joined_to whole (joined_to own t)))) (Ok (joined_to own t)))
+    (λ t. or_fault (limit_fault part.at (around front (joined_to whole (joined_to own t))))
+    (Ok (joined_to own t)))
 
 -- the parts of one group, joined from the left to `own`; only the first one has the leave
-unfoldable pub parts_tree : Bool → List NamedGuid → Option Tree → Leave → Option Tree → List DepexPart → Result (Option Tree) Fault
+unfoldable pub parts_tree : Bool → List NamedGuid → Option Tree → Leave → Option Tree
+    → List DepexPart → Result (Option Tree) Fault
 parts_tree front guids whole leave own [] = Ok own
 parts_tree front guids whole leave own (part ∷ parts) =
-    and_then (next_tree front guids whole leave own part) (λ t. parts_tree front guids whole no_leave (Some t) parts)
+    and_then (next_tree front guids whole leave own part)
+    (λ t. parts_tree front guids whole no_leave (Some t) parts)
 
 -- the groups, joined from the left to `whole`; only the first one has the leave
-unfoldable pub groups_tree : Bool → Leave → Option Tree → List DepexGroup → Result (Option Tree) Fault
+unfoldable pub groups_tree : Bool → Leave → Option Tree → List DepexGroup
+    → Result (Option Tree) Fault
 groups_tree front leave whole [] = Ok whole
 groups_tree front leave whole (group ∷ groups) =
     and_then (parts_tree front group.guids whole leave None group.parts)
@@ -165,14 +177,16 @@ first_has_sor (part ∷ parts) = begins_with_sor part.terms
 -- the first group is the module's
 abbrev pub module_leave : ModuleType → List DepexGroup → Leave
 module_leave t [] = no_leave
-module_leave t (group ∷ groups) = record { sor = takes_words t; edge = takes_words t && is_single group.parts }
+module_leave t (group ∷ groups) =
+    record { sor = takes_words t; edge = takes_words t && is_single group.parts }
 
 abbrev pub has_front : Leave → List DepexGroup → Bool
 has_front leave [] = false
 has_front leave (group ∷ groups) = leave.sor && first_has_sor group.parts
 
 -- the tree of a module that has an expression, made by a function of the joined tree
-unfoldable pub module_tree : (Tree → Tree) → ModuleType → List DepexGroup → Result (Option Tree) Fault
+unfoldable pub module_tree : (Tree → Tree) → ModuleType → List DepexGroup
+    → Result (Option Tree) Fault
 module_tree made t groups =
     map_ok (option_map (λ w. around (has_front (module_leave t groups) groups) (made w)))
     (groups_tree (has_front (module_leave t groups) groups) (module_leave t groups) None groups)

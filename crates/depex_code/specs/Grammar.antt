@@ -89,6 +89,7 @@ abbrev pub IsBegun : List Token → Type 0
 IsBegun tokens = (more : List Token) × (t : Term) × IsTerm (tokens ++ more) t
 
 -- two functions that decide the grammar
-pub record IsGrammar (expression : List Token → Option Tree) (is_begun : List Token → Bool) : Type 0 where
+pub record IsGrammar (expression : List Token → Option Tree) (is_begun : List Token → Bool)
+    : Type 0 where
   pub stands : (tokens : List Token) → StandsFor tokens (expression tokens)
   pub begins : (tokens : List Token) → IsTrue (is_begun tokens) ↔ IsBegun tokens

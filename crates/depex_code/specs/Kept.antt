@@ -25,7 +25,8 @@ abbrev pub guids_view : List Guid → List (List ℕ)
 guids_view guids = map (λ g. g.0) guids
 
 abbrev pub form_view : Code → Form
-form_view code = record { bytes = code.bytes.items; guids = option_map (λ v. guids_view v.items) code.guids }
+form_view code =
+    record { bytes = code.bytes.items; guids = option_map (λ v. guids_view v.items) code.guids }
 
 abbrev pub piece_size : Piece → Size
 piece_size p = record { form = form_view p.code; reach = reach_view p.measure; alone = p.alone }
@@ -84,6 +85,8 @@ Steps next new None = next ≡ wrong
 Steps next new (Some s) = next ≡ state_of new s
 
 -- one more term leads to a state, or is at fault
-abbrev pub TermRead : Place → Bool → Token → List ℕ → State Size → List Waiting → Result Stage Refusal → Type 0
+abbrev pub TermRead : Place → Bool → Token → List ℕ → State Size → List Waiting
+    → Result Stage Refusal → Type 0
 TermRead at edge k term next new (Ok s) = (next ≡ state_of new s) × (own_code edge k ≡ None)
-TermRead at edge k term next new (Err e) = Finds e (option_map (λ code. fault_of code at term) (term_code (is_right next) edge k))
+TermRead at edge k term next new (Err e) =
+    Finds e (option_map (λ code. fault_of code at term) (term_code (is_right next) edge k))

@@ -18,4 +18,5 @@ HaveGuids (group ∷ groups) = AreGuids group.guids × HaveGuids groups
 -- what is read back from the bytes is the tree that was compiled, and nothing where there was none
 abbrev pub ReadsBack : ModuleType → List DepexGroup → Type 0
 ReadsBack t groups =
-    (bytes : List ℕ) → (read : Option Tree) → HaveGuids groups → compiled t groups ≡ Ok bytes → ReadBack bytes read → compiled_tree t groups ≡ Ok read
+    (bytes : List ℕ) → (read : Option Tree) → HaveGuids groups → compiled t groups ≡ Ok bytes
+    → ReadBack bytes read → compiled_tree t groups ≡ Ok read

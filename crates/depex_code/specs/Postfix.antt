@@ -43,7 +43,8 @@ opcode op ts = if nat_le op 2 then taking op [] ts else apply op ts
 abbrev pub step : State → ℕ → State
 step (ready ts) b = opcode b ts
 step (taking kind guid ts) b =
-    if length guid == 15 then ready (leaf kind (guid ++ b ∷ []) ∷ ts) else taking kind (guid ++ b ∷ []) ts
+    if length guid == 15 then ready (leaf kind (guid ++ b ∷ []) ∷ ts)
+    else taking kind (guid ++ b ∷ []) ts
 step stuck b = stuck
 
 unfoldable pub run : State → List ℕ → State
@@ -63,7 +64,8 @@ Applied op old new goes = apply op (trees old) ≡ (if goes then ready (trees ne
 
 -- one opcode is read, at one place and on to another, or the bytes have no tree
 abbrev pub Turned : List ℕ → ℕ → List Held → List Held → Option ℕ → Type 0
-Turned bytes at old new None = (ts : List Tree) → run (ready (trees old)) (drop at bytes) ≡ ready ts → ⊥
+Turned bytes at old new None = (ts : List Tree) → run (ready (trees old)) (drop at bytes) ≡ ready ts
+    → ⊥
 Turned bytes at old new (Some next) =
     (run (ready (trees old)) (drop at bytes) ≡ run (ready (trees new)) (drop next bytes))
     × (at < next) × (next ≤ length bytes) × (total (trees new) ≡ total (trees old) + 1)
@@ -71,7 +73,8 @@ Turned bytes at old new (Some next) =
 -- the trees of the bytes, at most so many opcodes
 abbrev pub Ran : List ℕ → ℕ → Option (List Held) → Type 0
 Ran bytes most None = (ts : List Tree) → run (ready []) bytes ≡ ready ts → total ts ≤ most → ⊥
-Ran bytes most (Some stack) = (run (ready []) bytes ≡ ready (trees stack)) × (total (trees stack) ≤ most)
+Ran bytes most (Some stack) = (run (ready []) bytes ≡ ready (trees stack))
+    × (total (trees stack) ≤ most)
 
 -- what is taken is the first of the trees
 abbrev pub trees_are : List Tree → Option Tree → List Tree → Type 0

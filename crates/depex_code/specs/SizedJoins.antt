@@ -36,18 +36,23 @@ reach_fault at r = option_map (fault_of 504 at) (over r.deep r.count)
 -- one more piece of a group
 abbrev pub next_piece : Bool → Option Size → Option Size → Place → Size → Result Size Fault
 next_piece front whole own at x =
-    or_fault (reach_fault at (around_reach front (join_to_reach whole (join_to_size own x)))) (Ok (join_to_size own x))
+    or_fault (reach_fault at (around_reach front (join_to_reach whole (join_to_size own x))))
+    (Ok (join_to_size own x))
 
-abbrev pub next_size : Bool → List NamedGuid → Option Size → Leave → Option Size → DepexPart → Result Size Fault
+abbrev pub next_size : Bool → List NamedGuid → Option Size → Leave → Option Size → DepexPart
+    → Result Size Fault
 next_size front guids whole leave own part =
     and_then (map_ok size_of (part_tree leave guids part)) (next_piece front whole own part.at)
 
-unfoldable pub parts_size : Bool → List NamedGuid → Option Size → Leave → Option Size → List DepexPart → Result (Option Size) Fault
+unfoldable pub parts_size : Bool → List NamedGuid → Option Size → Leave → Option Size
+    → List DepexPart → Result (Option Size) Fault
 parts_size front guids whole leave own [] = Ok own
 parts_size front guids whole leave own (part ∷ parts) =
-    and_then (next_size front guids whole leave own part) (λ x. parts_size front guids whole no_leave (Some x) parts)
+    and_then (next_size front guids whole leave own part)
+    (λ x. parts_size front guids whole no_leave (Some x) parts)
 
-unfoldable pub groups_size : Bool → Leave → Option Size → List DepexGroup → Result (Option Size) Fault
+unfoldable pub groups_size : Bool → Leave → Option Size → List DepexGroup
+    → Result (Option Size) Fault
 groups_size front leave whole [] = Ok whole
 groups_size front leave whole (group ∷ groups) =
     and_then (parts_size front group.guids whole leave None group.parts)

@@ -1,4 +1,5 @@
--- What the compiler keeps of a tree: its postfix form, its GUIDs where it is a conjunction, and how near it is to the limits.
+-- What the compiler keeps of a tree: its postfix form, its GUIDs where it is a conjunction, and how
+-- near it is to the limits.
 use Rattle.std.specs.Prelude.{ℕ, ◌+◌, ◌&&◌, min, max, Bool, true, false, nat_le, if◌then◌else◌, List, [], ◌∷◌, ◌++◌, Option, Some, None}
 use Rattle.build_base.specs.declared.guid.Guid.{Guid}
 use Rattle.depex_code.specs.declared.token.Joiner.{Joiner}
@@ -42,7 +43,8 @@ no_form = record { bytes = []; guids = None }
 
 -- nor is there a form
 abbrev pub sized : Bool → Form → Reach → Size
-sized alone form reach = record { form = if fits reach then form else no_form; reach = reach; alone = alone }
+sized alone form reach =
+    record { form = if fits reach then form else no_form; reach = reach; alone = alone }
 
 abbrev pub form_of : Tree → Form
 form_of t = record { bytes = post t; guids = conjuncts t }
@@ -62,13 +64,18 @@ abbrev pub prefix_bytes : Prefix → List ℕ → List ℕ
 prefix_bytes Not bytes = bytes ++ 5 ∷ []
 prefix_bytes Sor bytes = 9 ∷ bytes
 
-abbrev pub join_guids : Joiner → Option (List (List ℕ)) → Option (List (List ℕ)) → Option (List (List ℕ))
+abbrev pub join_guids : Joiner → Option (List (List ℕ)) → Option (List (List ℕ))
+    → Option (List (List ℕ))
 join_guids And a b = both_lists a b
 join_guids Or a b = None
 
 abbrev pub join_form : Joiner → Form → Form → Form
 join_form op a b =
-    record { bytes = a.bytes ++ b.bytes ++ join_code op ∷ []; guids = join_guids op a.guids b.guids }
+    record {
+      bytes = a.bytes ++ b.bytes ++ join_code op ∷ [];
+      guids =
+          join_guids op a.guids b.guids;
+    }
 
 abbrev pub join_size : Joiner → Size → Size → Size
 join_size op a b = sized false (join_form op a.form b.form) (join_reach a.reach b.reach)
@@ -81,7 +88,11 @@ prefix_size p a = sized false (prefix_form p a.form) (prefix_reach a.reach)
 
 abbrev pub leaf_size : Bool → List ℕ → Option (List (List ℕ)) → Size
 leaf_size alone bytes guids =
-    record { form = record { bytes = bytes; guids = guids }; reach = record { deep = 1; count = 1 }; alone = alone }
+    record {
+      form = record { bytes = bytes; guids = guids };
+      reach = record { deep = 1; count = 1 };
+      alone = alone;
+    }
 
 abbrev pub constant_size : Bool → Size
 constant_size true = leaf_size false (6 ∷ []) (Some [])

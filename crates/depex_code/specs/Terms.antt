@@ -1,6 +1,6 @@
--- A machine that reads terms one by one, with values of any kind. With trees as values it decides the grammar:
--- `expression` gives the tree that the terms stand for, and `is_begun` whether an expression begins with them.
--- What they mean is said by `IsGrammar` of Grammar.antt.
+-- A machine that reads terms one by one, with values of any kind. With trees as values it decides
+-- the grammar: `expression` gives the tree that the terms stand for, and `is_begun` whether an
+-- expression begins with them. What they mean is said by `IsGrammar` of Grammar.antt.
 use Rattle.std.specs.Prelude.{Bool, true, false, List, [], ◌∷◌, Option, Some, None, if◌then◌else◌}
 use Rattle.build_base.specs.declared.guid.Guid.{Guid}
 use Rattle.depex_code.specs.declared.token.Token.{Token}

@@ -1,4 +1,5 @@
--- Expressions as trees, their postfix form and their limits (UEFI PI specification, volumes 1 and 2).
+-- Expressions as trees, their postfix form and their limits (UEFI PI specification, volumes 1 and
+-- 2).
 use Rattle.std.specs.Prelude.{◌≡◌, ℕ, ◌+◌, ◌≤◌, max, Bool, true, false, if◌then◌else◌, List, [], ◌∷◌, ◌++◌, Option, Some, None, length, fold}
 use Rattle.std.specs.List.{list_any}
 use Rattle.std.specs.Str.{bytes_eq}
@@ -27,8 +28,8 @@ tree_of (Before guid) = before guid.0
 tree_of (After guid) = after guid.0
 tree_of (Sor' p a) = sor (tree_of a)
 
--- The postfix form. The opcodes are BEFORE 0, AFTER 1, PUSH 2, AND 3, OR 4, NOT 5, TRUE 6, FALSE 7 and
--- SOR 9, which stands in front.
+-- The postfix form. The opcodes are BEFORE 0, AFTER 1, PUSH 2, AND 3, OR 4, NOT 5, TRUE 6, FALSE 7
+-- and SOR 9, which stands in front.
 unfoldable pub post : Tree → List ℕ
 post (push guid) = 2 ∷ guid
 post (both a b) = post a ++ post b ++ 3 ∷ []
@@ -82,7 +83,8 @@ both_lists None y = None
 both_lists (Some xs) None = None
 both_lists (Some xs) (Some ys) = Some (xs ++ ys)
 
--- the GUIDs from left to right of a tree that has nothing but And, Push and True; none of another tree
+-- the GUIDs from left to right of a tree that has nothing but And, Push and True; none of another
+-- tree
 abbrev pub conjuncts : Tree → Option (List (List ℕ))
 conjuncts (push guid) = Some (guid ∷ [])
 conjuncts (both a b) = both_lists (conjuncts a) (conjuncts b)

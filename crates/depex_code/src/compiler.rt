@@ -89,9 +89,10 @@ fn module_bytes(
     }
 }
 
-/// The bytes of a module's dependency expression (UEFI PI specification, volumes 1 and 2). `groups` has the
-/// module's INF first, then its libraries'. A joined expression of nothing but AND, GUIDs and TRUE loses its
-/// repeats and its TRUE. Faults 501 to 504; a type without an expression has no bytes.
+/// The bytes of a module's dependency expression (UEFI PI specification, volumes 1 and 2). `groups`
+/// has the module's INF first, then its libraries'. A joined expression of nothing but AND, GUIDs
+/// and TRUE loses its repeats and its TRUE. Faults 501 to 504; a type without an expression has no
+/// bytes.
 #[tactic(auto, using(crate::proofs::TermFinish::grammar))]
 pub fn compile(
     alloc: Global,

@@ -41,7 +41,8 @@ fn and_new(
     guid: Guid,
 ) -> Result<(), WantOfMemory>
     ensures keys { OnOk result (seen.new.keys ≡ with_guid seen.old.keys guid.0) }
-    ensures bytes { bytes.old.items ≡ fold and_guid [] seen.old.keys → OnOk result (bytes.new.items ≡ fold and_guid [] seen.new.keys) }
+    ensures bytes { bytes.old.items ≡ fold and_guid [] seen.old.keys
+        → OnOk result (bytes.new.items ≡ fold and_guid [] seen.new.keys) }
 {
     if add(seen, guid.0)? {
         and_guid(bytes, guid)?;
@@ -50,7 +51,8 @@ fn and_new(
 }
 
 fn each_once(alloc: Global, guids: &[Guid]) -> Result<Vec<u8>, WantOfMemory>
-    ensures { IfOk result (λ v. v.items ≡ fold and_guid [] (fold with_guid [] (guids_view guids.now))) }
+    ensures { IfOk result
+        (λ v. v.items ≡ fold and_guid [] (fold with_guid [] (guids_view guids.now))) }
 {
     let mut seen = IndexSet::new(alloc);
     let mut bytes = Vec::new(alloc);
@@ -62,8 +64,8 @@ fn each_once(alloc: Global, guids: &[Guid]) -> Result<Vec<u8>, WantOfMemory>
     Ok(bytes)
 }
 
-/// The postfix form of the GUIDs, each at its first place alone, joined from the left by AND; TRUE where
-/// there is none.
+/// The postfix form of the GUIDs, each at its first place alone, joined from the left by AND; TRUE
+/// where there is none.
 pub fn conjunction(alloc: Global, guids: &[Guid]) -> Result<Vec<u8>, WantOfMemory>
     ensures { IfOk result (λ v. v.items ≡ and_bytes (guids_view guids.now)) }
 {

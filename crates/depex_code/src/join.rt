@@ -21,7 +21,8 @@ use std::alloc::Global;
 const TOO_DEEP: u16 = 504;
 
 fn join_to(alloc: Global, whole: Option<Piece>, piece: Piece) -> Result<Piece, WantOfMemory>
-    ensures { IfOk result (λ p. piece_size p ≡ join_to_size (option_map piece_size whole) (piece_size piece)) }
+    ensures { IfOk result (λ p. piece_size p
+        ≡ join_to_size (option_map piece_size whole) (piece_size piece)) }
 {
     match whole {
         None => Ok(piece),
@@ -36,7 +37,8 @@ fn join_to(alloc: Global, whole: Option<Piece>, piece: Piece) -> Result<Piece, W
 }
 
 fn join_to_measure(whole: &Option<Piece>, piece: &Piece) -> Measure
-    ensures { reach_view result ≡ join_to_reach (option_map piece_size whole.now) (piece_size piece.now) }
+    ensures { reach_view result ≡ join_to_reach (option_map piece_size whole.now)
+        (piece_size piece.now) }
 {
     match whole {
         None => piece.measure,
@@ -90,7 +92,9 @@ fn next_piece(
     at: &Place,
     piece: Piece,
 ) -> Result<Piece, Refusal>
-    ensures { AnswersAs piece_size result (next_piece front (option_map piece_size whole.now) (option_map piece_size own) at.now (piece_size piece)) }
+    ensures { AnswersAs piece_size result
+        (next_piece front (option_map piece_size whole.now) (option_map piece_size own) at.now
+        (piece_size piece)) }
 {
     let own = match join_to(alloc, own, piece) {
         Ok(own) => own,
@@ -112,7 +116,9 @@ fn next_part(
     own: Option<Piece>,
     part: &DepexPart,
 ) -> Result<Piece, Refusal>
-    ensures { AnswersAs piece_size result (next_size front guids.now (option_map piece_size whole.now) leave (option_map piece_size own) part.now) }
+    ensures { AnswersAs piece_size result
+        (next_size front guids.now (option_map piece_size whole.now) leave
+        (option_map piece_size own) part.now) }
 {
     match part_piece(alloc, leave, guids, part) {
         Ok(piece) => next_piece(alloc, front, whole, own, &part.at, piece),
@@ -128,7 +134,9 @@ fn joined_parts(
     leave: Leave,
     group: &DepexGroup,
 ) -> Result<Option<Piece>, Refusal>
-    ensures { AnswersAs (option_map piece_size) result (parts_size front group.now.guids (option_map piece_size whole.now) leave None group.now.parts) }
+    ensures { AnswersAs (option_map piece_size) result
+        (parts_size front group.now.guids (option_map piece_size whole.now) leave None
+        group.now.parts) }
 {
     let guids = group.guids.items();
     let mut own = None;
@@ -148,7 +156,8 @@ fn with_group(
     whole: Option<Piece>,
     own: Option<Piece>,
 ) -> Result<Option<Piece>, WantOfMemory>
-    ensures { IfOk result (λ w. option_map piece_size w ≡ with_group_size (option_map piece_size whole) (option_map piece_size own)) }
+    ensures { IfOk result (λ w. option_map piece_size w
+        ≡ with_group_size (option_map piece_size whole) (option_map piece_size own)) }
 {
     match own {
         None => Ok(whole),

@@ -1,6 +1,7 @@
 //! Which words a part may have.
 
-/// Whether SOR may stand at the front of a part, and whether BEFORE or AFTER may be the whole of it.
+/// Whether SOR may stand at the front of a part, and whether BEFORE or AFTER may be the whole of
+/// it.
 #[derive(Clone, Copy, Debug, PartialEq, Eq)]
 pub struct Leave {
     pub sor: bool,

@@ -49,7 +49,8 @@ pub fn put_guid(bytes: &mut Vec<u8>, opcode: u8, guid: Guid) -> Result<(), WantO
 }
 
 fn leaf(alone: bool, bytes: Vec<u8>, guids: Option<Vec<Guid>>) -> Piece
-    ensures { piece_size result ≡ leaf_size alone bytes.items (option_map (λ v. guids_view v.items) guids) }
+    ensures { piece_size result ≡ leaf_size alone bytes.items
+        (option_map (λ v. guids_view v.items) guids) }
 {
     let measure = Measure { deep: 1, count: 1 };
     Piece {
@@ -170,7 +171,9 @@ fn sized(alloc: Global, code: Code, measure: Measure) -> Piece
 }
 
 fn both_lists(a: Option<Vec<Guid>>, b: Option<Vec<Guid>>) -> Result<Option<Vec<Guid>>, WantOfMemory>
-    ensures { IfOk result (λ r. option_map (λ v. guids_view v.items) r ≡ both_lists (option_map (λ v. guids_view v.items) a) (option_map (λ v. guids_view v.items) b)) }
+    ensures { IfOk result (λ r. option_map (λ v. guids_view v.items) r
+        ≡ both_lists (option_map (λ v. guids_view v.items) a)
+        (option_map (λ v. guids_view v.items) b)) }
 {
     match (a, b) {
         (Some(a), Some(b)) => {
@@ -187,7 +190,9 @@ fn joined_guids(
     a: Option<Vec<Guid>>,
     b: Option<Vec<Guid>>,
 ) -> Result<Option<Vec<Guid>>, WantOfMemory>
-    ensures { IfOk result (λ r. option_map (λ v. guids_view v.items) r ≡ join_guids join (option_map (λ v. guids_view v.items) a) (option_map (λ v. guids_view v.items) b)) }
+    ensures { IfOk result (λ r. option_map (λ v. guids_view v.items) r
+        ≡ join_guids join (option_map (λ v. guids_view v.items) a)
+        (option_map (λ v. guids_view v.items) b)) }
 {
     match join {
         Joiner::And => both_lists(a, b),

@@ -1,4 +1,5 @@
-//! Opcodes of dependency expressions (UEFI PI specification, volumes 1 and 2), and this product's limits.
+//! Opcodes of dependency expressions (UEFI PI specification, volumes 1 and 2), and this product's
+//! limits.
 
 pub const BEFORE: u8 = 0;
 

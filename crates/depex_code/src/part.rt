@@ -46,7 +46,9 @@ fn turn(
     stage: Stage,
     term: &[u8],
 ) -> Result<Stage, Refusal>
-    ensures { TermRead at.now edge (token_of guids.now term.now) term.now (step sizes (state_of waits.old.items stage) (token_of guids.now term.now)) waits.new.items result }
+    ensures { TermRead at.now edge (token_of guids.now term.now) term.now
+        (step sizes (state_of waits.old.items stage) (token_of guids.now term.now)) waits.new.items
+        result }
 {
     let token = token(guids, term);
     let next = match step(alloc, waits, stage, token) {
@@ -71,7 +73,8 @@ fn finish(waits: &Vec<Waiting>, stage: Stage) -> Option<Piece>
 }
 
 fn whole(alloc: Global, at: &Place, waits: &Vec<Waiting>, stage: Stage) -> Result<Piece, Refusal>
-    ensures { AnswersAs piece_size result (value_or (fault_of 501 at.now (codes "end")) (ended (state_of waits.now.items stage))) }
+    ensures { AnswersAs piece_size result
+        (value_or (fault_of 501 at.now (codes "end")) (ended (state_of waits.now.items stage))) }
 {
     match finish(waits, stage) {
         Some(piece) => Ok(piece),
@@ -87,7 +90,8 @@ pub fn read_terms(
     edge: bool,
     terms: &[Text],
 ) -> Result<Piece, Refusal>
-    ensures { AnswersAs piece_size result (map_ok size_of (terms_tree at.now guids.now edge terms.now)) }
+    ensures { AnswersAs piece_size result
+        (map_ok size_of (terms_tree at.now guids.now edge terms.now)) }
 {
     let mut waits = Vec::new(alloc);
     let mut stage = Stage::Wanting;

@@ -57,7 +57,8 @@ fn put(stack: &mut Vec<Held>, held: Held) -> Result<(), WantOfMemory>
 }
 
 fn take(stack: &mut Vec<Held>) -> Option<Held>
-    ensures { trees_are (trees stack.old.items) (option_map (λ h. tree_of h.tree) result) (trees stack.new.items) }
+    ensures { trees_are (trees stack.old.items) (option_map (λ h. tree_of h.tree) result)
+        (trees stack.new.items) }
 {
     stack.pop()
 }
@@ -70,7 +71,8 @@ fn put_leaf(kind: u8, guid: Guid, stack: &mut Vec<Held>) -> Result<(), WantOfMem
 }
 
 fn join(alloc: Global, op: u8, stack: &mut Vec<Held>) -> Result<bool, WantOfMemory>
-    ensures { IfOk result (λ goes. join op (trees stack.old.items) ≡ (if goes then ready (trees stack.new.items) else stuck)) }
+    ensures { IfOk result (λ goes. join op (trees stack.old.items)
+        ≡ (if goes then ready (trees stack.new.items) else stuck)) }
 {
     let b = match take(stack) {
         Some(b) => b,
@@ -90,7 +92,8 @@ fn join(alloc: Global, op: u8, stack: &mut Vec<Held>) -> Result<bool, WantOfMemo
 }
 
 fn negate(alloc: Global, stack: &mut Vec<Held>) -> Result<bool, WantOfMemory>
-    ensures { IfOk result (λ goes. negate (trees stack.old.items) ≡ (if goes then ready (trees stack.new.items) else stuck)) }
+    ensures { IfOk result (λ goes. negate (trees stack.old.items)
+        ≡ (if goes then ready (trees stack.new.items) else stuck)) }
 {
     let operand = match take(stack) {
         Some(operand) => operand,
@@ -108,7 +111,8 @@ fn negate(alloc: Global, stack: &mut Vec<Held>) -> Result<bool, WantOfMemory>
 // True or False.
 fn put_constant(tree: Depex, stack: &mut Vec<Held>) -> Result<bool, WantOfMemory>
     requires { nest (tree_of tree) ≡ 1 }
-    ensures { IfOk result (λ goes. ready (tree_of tree ∷ trees stack.old.items) ≡ (if goes then ready (trees stack.new.items) else stuck)) }
+    ensures { IfOk result (λ goes. ready (tree_of tree ∷ trees stack.old.items)
+        ≡ (if goes then ready (trees stack.new.items) else stuck)) }
 {
     put(stack, Held { tree, deep: 1 })?;
     Ok(true)
@@ -184,8 +188,8 @@ fn turn(
     }
 }
 
-/// The trees of the bytes; None where they don't end with a whole opcode, have an opcode without its
-/// operands, or go past a limit.
+/// The trees of the bytes; None where they don't end with a whole opcode, have an opcode without
+/// its operands, or go past a limit.
 pub fn run(alloc: Global, bytes: &[u8], most: usize) -> Result<Option<Vec<Held>>, WantOfMemory>
     ensures { IfOk result (λ r. Ran bytes.now most (option_map (λ stack. stack.items) r)) }
 {

@@ -75,8 +75,8 @@ fn read_front(alloc: Global, front: &[u8]) -> Result<Option<Depex>, WantOfMemory
     Ok(read)
 }
 
-/// The tree whose bytes these are: at most 64 deep, and at most 4,096 opcodes before END. Only opcodes
-/// of the UEFI PI specification are read; SOR is one at the front alone.
+/// The tree whose bytes these are: at most 64 deep, and at most 4,096 opcodes before END. Only
+/// opcodes of the UEFI PI specification are read; SOR is one at the front alone.
 pub fn read_back(alloc: Global, bytes: &[u8]) -> Result<Option<Depex>, WantOfMemory>
     ensures { IfOk result (λ r. ReadBack bytes.now (option_map tree_of r)) }
 {

@@ -23,14 +23,16 @@ fn is_base(waits: &Vec<Waiting>) -> bool
 }
 
 fn pop(waits: &mut Vec<Waiting>) -> Option<Waiting>
-    ensures { Popped (waits_of waits.old.items) (option_map wait_view result) (waits_of waits.new.items) }
+    ensures { Popped (waits_of waits.old.items) (option_map wait_view result)
+        (waits_of waits.new.items) }
 {
     waits.pop()
 }
 
 // Takes off what takes an operand.
 fn take(waits: &mut Vec<Waiting>) -> Option<Waiting>
-    ensures { Took (waits_of waits.old.items) (option_map wait_view result) (waits_of waits.new.items) }
+    ensures { Took (waits_of waits.old.items) (option_map wait_view result)
+        (waits_of waits.new.items) }
 {
     if is_base(waits) {
         return None;
@@ -49,7 +51,8 @@ fn put(waits: &mut Vec<Waiting>, wait: Waiting) -> Result<(), WantOfMemory>
 
 // An operand is whole: the prefixes and the joiner before it take it.
 fn settled(alloc: Global, waits: &mut Vec<Waiting>, factor: Piece) -> Result<Piece, WantOfMemory>
-    ensures { IfOk result (λ v. settle sizes (waits_of waits.old.items) (piece_size factor) ≡ holding (waits_of waits.new.items) (piece_size v)) }
+    ensures { IfOk result (λ v. settle sizes (waits_of waits.old.items) (piece_size factor)
+        ≡ holding (waits_of waits.new.items) (piece_size v)) }
 {
     let mut value = factor;
     while let Some(wait) = take(waits) {
@@ -82,7 +85,8 @@ pub fn step(
     stage: Stage,
     token: Token,
 ) -> Result<Option<Stage>, WantOfMemory>
-    ensures { IfOk result (Steps (step sizes (state_of waits.old.items stage) token) waits.new.items) }
+    ensures { IfOk result
+        (Steps (step sizes (state_of waits.old.items stage) token) waits.new.items) }
 {
     match (stage, token) {
         (Stage::Wanting, Token::Name(guid)) => {

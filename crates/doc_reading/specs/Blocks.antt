@@ -1,4 +1,5 @@
--- Blocks of lines: sections between heads, statements and components between the lines that begin them.
+-- Blocks of lines: sections between heads, statements and components between the lines that begin
+-- them.
 use Rattle.std.specs.Prelude.{Bool, true, false, List, [], ◌∷◌, ◌++◌, Option, Some, None, if◌then◌else◌}
 use Rattle.doc_reading.specs.Grammar.{Read, entered, gave}
 use Rattle.doc_reading.specs.Reading.{last_of}
@@ -16,7 +17,8 @@ lines_until begins (l ∷ ls) = if begins l then [] else l ∷ lines_until begin
 -- the blocks; lines before the first of them are in none
 abbrev pub blocks : {L : Type 0} → (L → Bool) → List L → List (Block L)
 blocks begins [] = []
-blocks begins (l ∷ ls) = if begins l then record { first = l; rest = lines_until begins ls } ∷ blocks begins ls else blocks begins ls
+blocks begins (l ∷ ls) = if begins l then record { first = l; rest = lines_until begins ls }
+    ∷ blocks begins ls else blocks begins ls
 
 -- a block with one line more
 abbrev pub with_line : {L : Type 0} → Block L → L → Block L

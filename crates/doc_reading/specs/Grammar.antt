@@ -14,8 +14,8 @@ use Rattle.doc_reading.specs.declared.form.LineForm.TheVariants.{Blank, Heads, O
 use Rattle.doc_reading.specs.Forms.{form_of}
 use Rattle.doc_reading.specs.Gathering.{gathered, judged}
 
--- What a line came to: heads, with their line's place and the scopes that they enter, or the rows that it
--- gives below the heads, one for each scope.
+-- What a line came to: heads, with their line's place and the scopes that they enter, or the rows
+-- that it gives below the heads, one for each scope.
 pub data Read (S R : Type 0) : Type 0 where
   entered : Place → List S → Read S R
   gave : List R → Read S R
@@ -42,7 +42,8 @@ abbrev pub entry_of : {S R : Type 0} → Grammar S R → Taken → Head → Resu
 entry_of g line head = judged (g.head_faults line head) (g.scope_of head)
 
 -- the least of a line's faults below a head, or its row
-abbrev pub outcome_of : {S R : Type 0} → Grammar S R → List (Read S R) → Taken → S → Result (Option R) Fault
+abbrev pub outcome_of : {S R : Type 0} → Grammar S R → List (Read S R) → Taken → S
+    → Result (Option R) Fault
 outcome_of g above line scope = judged (g.faults above line scope) (g.row_of above line scope)
 
 abbrev pub scopes_in : {S R : Type 0} → Read S R → List (List S)
@@ -66,11 +67,13 @@ abbrev pub heads_entered : {S R : Type 0} → Grammar S R → Taken → List Hea
 heads_entered g line heads = gathered (map (entry_of g line) heads)
 
 -- what a line gives below its heads, or the least of its faults there
-abbrev pub rows_given : {S R : Type 0} → Grammar S R → List (Read S R) → Taken → List S → Result (List R) Fault
+abbrev pub rows_given : {S R : Type 0} → Grammar S R → List (Read S R) → Taken → List S
+    → Result (List R) Fault
 rows_given g above line scopes = gathered (map (outcome_of g above line) scopes)
 
 -- a line before the first head stands nowhere
-abbrev pub body_given : {S R : Type 0} → Grammar S R → List (Read S R) → Taken → Option (List S) → Result (List R) Fault
+abbrev pub body_given : {S R : Type 0} → Grammar S R → List (Read S R) → Taken → Option (List S)
+    → Result (List R) Fault
 body_given g above line None = Err (fault_of g.stray line.at line.text)
 body_given g above line (Some scopes) = rows_given g above line scopes
 
@@ -83,7 +86,8 @@ body_read (Ok rows) = gave rows ∷ []
 body_read (Err fault) = []
 
 -- what a line of this form comes to; a line with a fault comes to nothing
-abbrev pub form_read : {S R : Type 0} → Grammar S R → List (Read S R) → Taken → LineForm → List (Read S R)
+abbrev pub form_read : {S R : Type 0} → Grammar S R → List (Read S R) → Taken → LineForm
+    → List (Read S R)
 form_read g above line Blank = []
 form_read g above line (Heads heads) = entry_read line (heads_entered g line heads)
 form_read g above line OpenHead = []
@@ -98,7 +102,8 @@ abbrev pub read_of : {S R : Type 0} → Grammar S R → List Taken → List (Rea
 read_of g lines = fold (more_read g) [] lines
 
 -- the line's own fault
-abbrev pub form_fault : {S R : Type 0} → Grammar S R → List (Read S R) → Taken → LineForm → Option Fault
+abbrev pub form_fault : {S R : Type 0} → Grammar S R → List (Read S R) → Taken → LineForm
+    → Option Fault
 form_fault g above line Blank = None
 form_fault g above line (Heads heads) = fault_in (heads_entered g line heads)
 form_fault g above line OpenHead = Some (fault_of 111 line.at (codes "\""))
@@ -110,16 +115,20 @@ abbrev pub end_fault : {S R : Type 0} → Grammar S R → List (Read S R) → Ta
 end_fault g reads line last = if last then g.left_open reads line else None
 
 -- the fault by what stands above, and what is open below the last line
-abbrev pub open_fault : {S R : Type 0} → Grammar S R → List (Read S R) → Taken → Bool → LineForm → Option Fault
+abbrev pub open_fault : {S R : Type 0} → Grammar S R → List (Read S R) → Taken → Bool → LineForm
+    → Option Fault
 open_fault g above line last (Heads heads) =
-    lesser (g.at_heads above line heads) (end_fault g (above ++ form_read g above line (Heads heads)) line last)
+    lesser (g.at_heads above line heads)
+    (end_fault g (above ++ form_read g above line (Heads heads)) line last)
 open_fault g above line last OpenHead = None
 open_fault g above line last BadHead = None
 open_fault g above line last form = end_fault g (above ++ form_read g above line form) line last
 
 -- the least of both
-abbrev pub fault_as : {S R : Type 0} → Grammar S R → List (Read S R) → Taken → Bool → LineForm → Option Fault
-fault_as g above line last form = lesser (form_fault g above line form) (open_fault g above line last form)
+abbrev pub fault_as : {S R : Type 0} → Grammar S R → List (Read S R) → Taken → Bool → LineForm
+    → Option Fault
+fault_as g above line last form =
+    lesser (form_fault g above line form) (open_fault g above line last form)
 
 abbrev pub line_fault : {S R : Type 0} → Grammar S R → List Taken → Taken → Bool → Option Fault
 line_fault g above line last = fault_as g (read_of g above) line last (form_of line.text)
@@ -132,6 +141,8 @@ first_fault g lines = lines_fault (line_fault g) [] lines
 abbrev pub reading : {S R : Type 0} → Grammar S R → List Taken → Result (List (Read S R)) Fault
 reading g lines = unless (first_fault g lines) (read_of g lines)
 
--- the fault of the first line that has one; else what the lines come to as a whole: a document, or the first fault of the whole
-abbrev pub whole_read : {S R D : Type 0} → Grammar S R → (List (Read S R) → Result D Fault) → List Taken → Result D Fault
+-- the fault of the first line that has one; else what the lines come to as a whole: a document, or
+-- the first fault of the whole
+abbrev pub whole_read : {S R D : Type 0} → Grammar S R → (List (Read S R) → Result D Fault)
+    → List Taken → Result D Fault
 whole_read g made lines = or_fault (first_fault g lines) (made (read_of g lines))

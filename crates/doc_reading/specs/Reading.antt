@@ -6,11 +6,13 @@ abbrev pub is_empty : {L : Type 0} → List L → Bool
 is_empty [] = true
 is_empty (l ∷ ls) = false
 
--- The fault of the first line that has one. A line's fault depends on the lines above it, on the line and
--- on whether it is the last.
-abbrev pub lines_fault : {L F : Type 0} → (List L → L → Bool → Option F) → List L → List L → Option F
+-- The fault of the first line that has one. A line's fault depends on the lines above it, on the
+-- line and on whether it is the last.
+abbrev pub lines_fault : {L F : Type 0} → (List L → L → Bool → Option F) → List L → List L
+    → Option F
 lines_fault fault above [] = None
-lines_fault fault above (l ∷ ls) = or_else (fault above l (is_empty ls)) (lines_fault fault (above ++ l ∷ []) ls)
+lines_fault fault above (l ∷ ls) =
+    or_else (fault above l (is_empty ls)) (lines_fault fault (above ++ l ∷ []) ls)
 
 -- What each line gives, one after the other, where c is what the lines above come to.
 abbrev pub each : {C L R : Type 0} → (C → L → C) → (C → L → List R) → C → List L → List R

@@ -26,9 +26,11 @@ abbrev pub guid_found : ℕ → Place → List ℕ → Option Guid → Result Gu
 guid_found code at text (Some guid) = Ok guid
 guid_found code at text None = Err (fault_of code at text)
 
--- a GUID in registry form; a macro that isn't defined comes before a text that is none, whose code is given
+-- a GUID in registry form; a macro that isn't defined comes before a text that is none, whose code
+-- is given
 unfoldable pub guid_value : ℕ → Place → List ℕ → Result Guid Fault
-guid_value code at text = or_fault (undefined_macro at text) (guid_found code at text (guid_of text))
+guid_value code at text = or_fault (undefined_macro at text)
+    (guid_found code at text (guid_of text))
 
 -- kept as written
 unfoldable pub text_value : Place → List ℕ → Result (List ℕ) Fault
@@ -40,7 +42,8 @@ number_found at text (Ok (Number n)) = if holds_macro text then Err (fault_of 12
 number_found at text (Ok (Word word)) = Err (fault_of 124 at text)
 number_found at text (Err fault) = Err fault
 
--- a numeric field: an expression, in which a macro that isn't defined counts as 0 until the expression is judged
+-- a numeric field: an expression, in which a macro that isn't defined counts as 0 until the
+-- expression is judged
 unfoldable pub number_value : Place → List ℕ → Result ℕ Fault
 number_value at text = number_found at text (evaluation at text [])
 

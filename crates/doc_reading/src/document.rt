@@ -30,7 +30,8 @@ fn scopes_entered<F: Format>(
     line: &Taken,
     heads: &[Head],
 ) -> Result<Vec<F::Scope>, Refusal>
-    ensures { AnswersAs (λ scopes. scopes.items) result (heads_entered F.grammar line.now heads.now) }
+    ensures { AnswersAs (λ scopes. scopes.items) result
+        (heads_entered F.grammar line.now heads.now) }
 {
     let mut gathered = Gathered::new(alloc);
     for head in heads {

@@ -1,5 +1,5 @@
-//! How a document of any format is read from its lines: heads of sections, rows below them, blocks of lines, what
-//! a field states, and the least fault of a line.
+//! How a document of any format is read from its lines: heads of sections, rows below them, blocks
+//! of lines, what a field states, and the least fault of a line.
 #![tactic(auto)]
 
 pub mod document;

@@ -25,7 +25,8 @@ pub trait Whole: Format {
             Answers result (made lines.now above) };
 }
 
-/// The document of these lines, or its first fault: of the first line that has one, else of the whole.
+/// The document of these lines, or its first fault: of the first line that has one, else of the
+/// whole.
 pub fn read_whole<F: Whole + Drop>(
     alloc: Global,
     format: F,

@@ -1,4 +1,5 @@
--- The walk from a SKU to its parent, to that one's parent, and so on (EDK II DSC specification, section 3.5).
+-- The walk from a SKU to its parent, to that one's parent, and so on (EDK II DSC specification,
+-- section 3.5).
 use Rattle.std.specs.Prelude.{◌≡◌, ◌≤◌, ℕ, zero, suc, List, [], ◌∷◌, length, Option, Some, None, if◌then◌else◌, codes}
 use Rattle.std.specs.Option.{option_and_then}
 use Rattle.std.specs.Str.{bytes_eq}
@@ -7,7 +8,8 @@ use Rattle.doc_types.specs.declared.platform.Sku.{Sku}
 -- the parent that the first SKU of a name states
 abbrev pub stated_parent : List Sku → List ℕ → Option (List ℕ)
 stated_parent [] name = None
-stated_parent (sku ∷ skus) name = if bytes_eq sku.name name then Some sku.parent else stated_parent skus name
+stated_parent (sku ∷ skus) name = if bytes_eq sku.name name then Some sku.parent
+    else stated_parent skus name
 
 -- DEFAULT has none
 unfoldable pub parent : List Sku → List ℕ → Option (List ℕ)

@@ -10,9 +10,9 @@ use build_base::{Rows, Same, Text, WantOfMemory, all_same, copied};
 use shared_value::Shared;
 use std::alloc::Global;
 
-/// For the values of dynamic PCDs, which a platform has once: `commands` are the values that the build's words give,
-/// `skus` the SKUs that they choose, none where they leave the choice to the platform, and `arches` the architectures
-/// that are built.
+/// For the values of dynamic PCDs, which a platform has once: `commands` are the values that the
+/// build's words give, `skus` the SKUs that they choose, none where they leave the choice to the
+/// platform, and `arches` the architectures that are built.
 #[derive(Debug, Drop)]
 pub struct PlatformAsk {
     pub platform: Shared<PlatformDoc>,

@@ -17,8 +17,9 @@ pub struct Call {
     pub name: Text,
 }
 
-/// The library instances of a module, in the order in which they are found, and what they have called before
-/// and after its entry point. `library`: the module is itself a library, and nothing is chosen for it.
+/// The library instances of a module, in the order in which they are found, and what they have
+/// called before and after its entry point. `library`: the module is itself a library, and nothing
+/// is chosen for it.
 #[derive(Debug, Drop)]
 pub struct Choice {
     pub library: bool,

@@ -4,8 +4,8 @@ use crate::volume::{RuleDoc, VolumePlan};
 use build_base::{Path, Place, Rows, Same, Text, WantOfMemory, all_same, copied};
 use std::alloc::Global;
 
-/// What fills a region: nothing, bytes that the FDF file gives, a file of the tree, or the volume of a number,
-/// from 0.
+/// What fills a region: nothing, bytes that the FDF file gives, a file of the tree, or the volume
+/// of a number, from 0.
 #[derive(Debug, Drop)]
 pub enum RegionKind {
     Empty,
@@ -34,8 +34,8 @@ pub struct DevicePlan {
     pub regions: Rows<Region>,
 }
 
-/// What an FDF file says. `sets` are the values that it gives to PCDs, line by line. The volumes stand in the
-/// order of their numbers.
+/// What an FDF file says. `sets` are the values that it gives to PCDs, line by line. The volumes
+/// stand in the order of their numbers.
 #[derive(Debug, Drop)]
 pub struct FlashDoc {
     pub at: Place,

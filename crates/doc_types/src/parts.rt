@@ -13,8 +13,8 @@ pub struct Package {
     pub doc: Shared<DecDoc>,
 }
 
-/// A module, the descriptions of itself and of its library instances in first-found order, and the packages that
-/// they name. The first of `infs` is the module's own.
+/// A module, the descriptions of itself and of its library instances in first-found order, and the
+/// packages that they name. The first of `infs` is the module's own.
 #[derive(Debug, Drop)]
 pub struct ModuleParts {
     pub module: Module,

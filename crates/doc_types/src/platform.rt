@@ -6,7 +6,8 @@ use crate::together::three;
 use build_base::{Guid, Macro, Path, Place, Rows, Same, Text, WantOfMemory, all_same, copied};
 use std::alloc::Global;
 
-/// A SKU: its number, its name, and the SKU whose values it takes where it has none. DEFAULT has no parent.
+/// A SKU: its number, its name, and the SKU whose values it takes where it has none. DEFAULT has no
+/// parent.
 #[derive(Debug, Drop)]
 pub struct Sku {
     pub id: u64,
@@ -14,7 +15,8 @@ pub struct Sku {
     pub parent: Text,
 }
 
-/// A library class and the INF file of the library that serves it, for modules of an architecture and a type.
+/// A library class and the INF file of the library that serves it, for modules of an architecture
+/// and a type.
 #[derive(Debug, Drop)]
 pub struct LibraryLine {
     pub at: Place,
@@ -24,8 +26,8 @@ pub struct LibraryLine {
     pub instance: Path,
 }
 
-/// Where a PCD's value is kept at run time: by the database alone, in a variable, or in the region of vital
-/// product data. Texts stand as written; an `offset` that is none is chosen by the build.
+/// Where a PCD's value is kept at run time: by the database alone, in a variable, or in the region
+/// of vital product data. Texts stand as written; an `offset` that is none is chosen by the build.
 #[derive(Debug, Drop)]
 pub enum Store {
     Plain,
@@ -66,9 +68,10 @@ pub struct Component {
     pub pcds: Rows<PcdLine>,
 }
 
-/// What a DSC file says. `output` is its OUTPUT_DIRECTORY, `arches` its SUPPORTED_ARCHITECTURES as written,
-/// `sku_choice` its SKUID_IDENTIFIER as written, and `flash` its FLASH_DEFINITION. Each list stands line by line,
-/// and for each line by its section's heads. `macros` are those at its end.
+/// What a DSC file says. `output` is its OUTPUT_DIRECTORY, `arches` its SUPPORTED_ARCHITECTURES as
+/// written, `sku_choice` its SKUID_IDENTIFIER as written, and `flash` its FLASH_DEFINITION. Each
+/// list stands line by line, and for each line by its section's heads. `macros` are those at its
+/// end.
 #[derive(Debug, Drop)]
 pub struct PlatformDoc {
     pub at: Place,

@@ -1,4 +1,5 @@
-//! Names of the standard (UEFI PI specification, volume 3, sections 2.1, 2.2 and 3.2): kinds of sections, types of files, file systems.
+//! Names of the standard (UEFI PI specification, volume 3, sections 2.1, 2.2 and 3.2): kinds of
+//! sections, types of files, file systems.
 
 /// Kinds of sections.
 pub const EFI_SECTION_PE32: u8 = 0x10;

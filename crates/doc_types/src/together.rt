@@ -4,8 +4,8 @@ ghost use Rattle.std.specs.Prelude.{◌≡◌, IfOk};
 use build_base::{Same, WantOfMemory};
 use std::alloc::Global;
 
-/// Each of the three once more. A record of many fields is copied by such calls, since each field that may be refused
-/// lets go all that were copied before it.
+/// Each of the three once more. A record of many fields is copied by such calls, since each field
+/// that may be refused lets go all that were copied before it.
 pub fn three<A: Same + Drop, B: Same + Drop, C: Same + Drop>(
     first: &A,
     second: &B,

@@ -10,7 +10,8 @@ pub struct SkuRow {
     pub value: Text,
 }
 
-/// A PCD's value for one SKU: its token, the most bytes that it may have, and the rank of what stated it.
+/// A PCD's value for one SKU: its token, the most bytes that it may have, and the rank of what
+/// stated it.
 #[derive(Debug, Drop)]
 pub struct PcdRow {
     pub pcd: PcdName,

@@ -1,5 +1,5 @@
-//! The image of vital product data (EDK II DSC specification, [PcdsDynamicVpd] sections) and its map, whose formats are
-//! this project's own.
+//! The image of vital product data (EDK II DSC specification, [PcdsDynamicVpd] sections) and its
+//! map, whose formats are this project's own.
 use crate::pcd::PcdName;
 use build_base::{Rows, Same, Text, WantOfMemory, all_same, copied};
 use std::alloc::Global;

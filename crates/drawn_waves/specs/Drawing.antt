@@ -1,5 +1,6 @@
 -- The rule of a wave's table, and what each step on it tells. The rule is this project's own.
--- The table has one word, which is how many numbers were drawn, and a slot for each item of the wave.
+-- The table has one word, which is how many numbers were drawn, and a slot for each item of the
+-- wave.
 use Rattle.std.specs.Prelude.{◌≡◌, ℕ, zero, suc, ◌+◌, ◌-◌, ◌/◌, ◌^◌, ◌<◌, ◌≤◌, leb, cond, List, [], ◌∷◌, ◌++◌, map, length, slice_get, Option, Some, All, sum_by}
 use mathlib.Core.Option.{none, some}
 use mathlib.Core.Option as maybe
@@ -31,7 +32,8 @@ Sat I = Me (Option I) (Hand I)
 
 module _ {I : Type 0} where
   abbrev pub hand : ℕ → List ℕ → List I → ℕ → Hand I
-  hand share numbers items workers = record { share = share; numbers = numbers; items = items; workers = workers }
+  hand share numbers items workers =
+      record { share = share; numbers = numbers; items = items; workers = workers }
 
   -- what is left of a view that another one took over
   abbrev pub spent : Hand I
@@ -50,14 +52,16 @@ module _ {I : Type 0} where
   abbrev pub joined : Hand I → Hand I → Hand I
   joined v w = hand (v.share + w.share) (v.numbers ++ w.numbers) v.items v.workers
 
-  -- a view with a share is live: it knows the wave, and has at most as many numbers at or past the wave's length as its share. One without is spent
+  -- a view with a share is live: it knows the wave, and has at most as many numbers at or past the
+  -- wave's length as its share. One without is spent
   pub record IsHand (items : List I) (workers : ℕ) (v : Hand I) : Type 0 where
     pub idle : v.share ≡ 0 → v.numbers ≡ []
     pub items_are : 0 < v.share → v.items ≡ items
     pub workers_are : 0 < v.share → v.workers ≡ workers
     pub ends : count_past (length items) v.numbers ≤ v.share
 
-  -- The shares add up to the workers. However numbers are weighed, those of the views weigh what the numbers below the word weigh: they are these, each in one view and once there
+  -- The shares add up to the workers. However numbers are weighed, those of the views weigh what
+  -- the numbers below the word weigh: they are these, each in one view and once there
   pub record Drawn (items : List I) (workers : ℕ) (s : State (Option I) (Hand I)) : Type 0 where
     pub drawn : ℕ
     pub word_is : s.words ≡ drawn ∷ []
@@ -65,7 +69,8 @@ module _ {I : Type 0} where
     pub short : length items ≤ 2 ^ 62
     pub few : workers ≤ 64
     pub shares : sum_by (λ v. v.share) s.views ≡ workers
-    pub numbers : (weight : ℕ → ℕ) → sum_by (λ v. sum_by weight v.numbers) s.views ≡ sum_by weight (upto drawn)
+    pub numbers : (weight : ℕ → ℕ) → sum_by (λ v. sum_by weight v.numbers) s.views
+        ≡ sum_by weight (upto drawn)
     pub each : (seat : ℕ) (v : Hand I) → get_elem? s.views seat ≡ some v → IsHand items workers v
 
   -- the share and the wave are as before, and numbers were added at most
@@ -75,16 +80,19 @@ module _ {I : Type 0} where
     pub workers : w.workers ≡ v.workers
     pub numbers : (more : List ℕ) × (w.numbers ≡ v.numbers ++ more)
 
-  -- the number was drawn, which is greater than those before, and the slot with the item of that number was taken
+  -- the number was drawn, which is greater than those before, and the slot with the item of that
+  -- number was taken
   pub record Drew (m : Sat I) (number : ℕ) (after : Sat I) : Type 0 where
     pub view : after.0 ≡ gained m.0 number
     pub greater : All (λ x. x < number) m.0.numbers
-    pub slot : (item : I) → slice_get m.0.items number ≡ Some item → after.1 ≡ (number, Some item) ∷ m.1
+    pub slot : (item : I) → slice_get m.0.items number ≡ Some item
+        → after.1 ≡ (number, Some item) ∷ m.1
 
   -- nothing changed, and where the view has all shares its numbers are those below the word
   pub record Looked (m : Sat I) (word : ℕ) (after : Sat I) : Type 0 where
     pub same : after ≡ m
-    pub all : m.0.share ≡ m.0.workers → (weight : ℕ → ℕ) → sum_by weight m.0.numbers ≡ sum_by weight (upto word)
+    pub all : m.0.share ≡ m.0.workers → (weight : ℕ → ℕ)
+        → sum_by weight m.0.numbers ≡ sum_by weight (upto word)
 
   abbrev pub drew : Step (Option I) → Sat I → ℕ → Sat I → Type 0
   drew step m number after = Drew m number after

@@ -50,8 +50,11 @@ pub fn take_pieces<
     requires callable { AreCallable F.pre work.now (view seat).items }
     ensures seat { IsSeatOf table.now result.seat }
     ensures wave { HasTaken (view seat) (view result.seat) }
-    ensures numbers { IfOk result.results (λ taken. Ends pieces (view seat).numbers (map number_of taken.items) (view result.seat).numbers) }
-    ensures results { IfOk result.results (λ taken. All (IsPiece F.post work.now (view seat).items) taken.items) }
+    ensures numbers { IfOk result.results
+        (λ taken. Ends pieces (view seat).numbers (map number_of taken.items)
+        (view result.seat).numbers) }
+    ensures results { IfOk result.results
+        (λ taken. All (IsPiece F.post work.now (view seat).items) taken.items) }
 {
     let PieceSeat { mut seat } = seat;
     let mut results = Vec::new(alloc);
@@ -78,7 +81,8 @@ fn work_on<I, R: Drop, F: Fn(I) -> Result<R, WantOfMemory>>(
     work: &F,
 ) -> Result<(), WantOfMemory>
     requires { F.pre work.now item }
-    ensures { OnOk result (WorkedOn F.post work.now number item results.old.items results.new.items) }
+    ensures { OnOk result
+        (WorkedOn F.post work.now number item results.old.items results.new.items) }
 {
     let result = work(item)?;
     if results.push(Piece { number, result }).is_err() {

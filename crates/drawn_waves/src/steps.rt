@@ -128,7 +128,8 @@ pub(crate) fn join_seats<I>(
 /// How many numbers were drawn. Where the seat has all shares, its numbers are those below it.
 pub(crate) fn look<I>(table: &PieceTable<I>, seat: PieceSeat<I>) -> u64
     requires seat { IsSeatOf table.now seat }
-    ensures { (view seat).share ≡ (view seat).workers → (weight : ℕ → ℕ) → sum_by weight (view seat).numbers ≡ sum_by weight (upto result) }
+    ensures { (view seat).share ≡ (view seat).workers → (weight : ℕ → ℕ)
+        → sum_by weight (view seat).numbers ≡ sum_by weight (upto result) }
 {
     let PieceSeat { mut seat } = seat;
     table.table.shared.load::<Looks>(&mut seat, 0)

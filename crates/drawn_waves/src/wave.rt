@@ -75,7 +75,9 @@ fn share_out<
     requires callable { AreCallable F.pre work.now (view seat).items }
     ensures seat { IsSeatOf table.now result.seat }
     ensures wave { HasTaken (view seat) (view result.seat) }
-    ensures drawn { IfOk result.results (λ taken. HasDrawn F.post work.now (view seat).items (view result.seat).numbers taken.items) }
+    ensures drawn { IfOk result.results
+        (λ taken. HasDrawn F.post work.now (view seat).items (view result.seat).numbers
+        taken.items) }
 {
     if workers < 2 {
         return take_pieces(alloc, table, seat, pieces, gate, wave, work);
@@ -84,12 +86,22 @@ fn share_out<
     let theirs = workers / 2;
     let ours = workers - theirs;
     let front = move || -> Taken<I, R>
-        requires { IsSync H.row × IsSync F.row × IsSync G.row × IsSend I.row × IsSend R.row × IsSeatOf table.now seat × ((view seat).share ≡ ours) × ((view seat).numbers ≡ []) × (pieces ≡ length (view seat).items) × AreCallable F.pre work.now (view seat).items }
-        ensures { IsSeatOf table.entry.now result.seat × HasTaken (view seat) (view result.seat) × IfOk result.results (λ taken. HasDrawn F.post work.entry.now (view seat).items (view result.seat).numbers taken.items) }
+        requires { IsSync H.row × IsSync F.row × IsSync G.row × IsSend I.row × IsSend R.row
+            × IsSeatOf table.now seat × ((view seat).share ≡ ours) × ((view seat).numbers ≡ [])
+            × (pieces ≡ length (view seat).items) × AreCallable F.pre work.now (view seat).items }
+        ensures { IsSeatOf table.entry.now result.seat × HasTaken (view seat) (view result.seat)
+            × IfOk result.results
+            (λ taken. HasDrawn F.post work.entry.now (view seat).items (view result.seat).numbers
+            taken.items) }
     { share_out(rt, alloc, table, seat, ours, pieces, gate, wave, work) };
     let back = move || -> Taken<I, R>
-        requires { IsSync H.row × IsSync F.row × IsSync G.row × IsSend I.row × IsSend R.row × IsSeatOf table.now other × ((view other).share ≡ theirs) × ((view other).numbers ≡ []) × (pieces ≡ length (view other).items) × AreCallable F.pre work.now (view other).items }
-        ensures { IsSeatOf table.entry.now result.seat × HasTaken (view other) (view result.seat) × IfOk result.results (λ taken. HasDrawn F.post work.entry.now (view other).items (view result.seat).numbers taken.items) }
+        requires { IsSync H.row × IsSync F.row × IsSync G.row × IsSend I.row × IsSend R.row
+            × IsSeatOf table.now other × ((view other).share ≡ theirs) × ((view other).numbers ≡ [])
+            × (pieces ≡ length (view other).items) × AreCallable F.pre work.now (view other).items }
+        ensures { IsSeatOf table.entry.now result.seat × HasTaken (view other) (view result.seat)
+            × IfOk result.results
+            (λ taken. HasDrawn F.post work.entry.now (view other).items (view result.seat).numbers
+            taken.items) }
     { share_out(rt, alloc, table, other, theirs, pieces, gate, wave, work) };
     let (a, b) = join(rt, front, back);
     both(table, a, b)
@@ -104,7 +116,8 @@ fn both<I: Drop, R: Drop>(
     requires seats { IsSeatOf table.now first.seat × IsSeatOf table.now second.seat }
     ensures seat { IsSeatOf table.now result.seat }
     ensures view { view result.seat ≡ joined (view first.seat) (view second.seat) }
-    ensures results { IfOk result.results (λ all. Both (λ results. results.items) first.results second.results all.items) }
+    ensures results { IfOk result.results
+        (λ all. Both (λ results. results.items) first.results second.results all.items) }
 {
     let seat = join_seats(table, first.seat, second.seat);
     Taken {
@@ -136,7 +149,8 @@ fn all_drawn<I, R>(
 ) -> Result<Vec<Piece<R>>, WantOfMemory>
     requires seat { IsSeatOf table.now taken.seat }
     requires share { (view taken.seat).share ≡ (view taken.seat).workers }
-    requires drawn { IfOk taken.results (λ drawn. AreDrawn pieces (view taken.seat).numbers drawn.items) }
+    requires drawn { IfOk taken.results
+        (λ drawn. AreDrawn pieces (view taken.seat).numbers drawn.items) }
     ensures same { result ≡ taken.results }
     ensures all { IfOk result (λ drawn. AreAll pieces (map number_of drawn.items)) }
 {

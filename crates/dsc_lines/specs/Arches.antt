@@ -24,4 +24,5 @@ arch_value at word = arch_found at word (arch_named word)
 
 -- a macro that isn't defined comes before a word that is no architecture
 unfoldable pub arches_value : Place → List ℕ → Result (List Arch) Fault
-arches_value at text = or_fault (first_fault (undefined_macro at) (field_texts text)) (all_ok (map (arch_value at) (field_texts text)))
+arches_value at text = or_fault (first_fault (undefined_macro at) (field_texts text))
+    (all_ok (map (arch_value at) (field_texts text)))

@@ -1,4 +1,5 @@
--- The lines of [Components] (EDK II DSC specification, section 3.16). Which lines are out of place is this project's own rule.
+-- The lines of [Components] (EDK II DSC specification, section 3.16). Which lines are out of place
+-- is this project's own rule.
 use Rattle.std.specs.Prelude.{ℕ, ◌-◌, ◌==◌, Bool, true, false, ◌&&◌, if◌then◌else◌, List, [], ◌∷◌, length, take, slice_index, Option, Some, None, codes}
 use Rattle.std.specs.Option.{option_map}
 use Rattle.build_base.specs.FaultText.{fault_of}
@@ -30,17 +31,23 @@ use Rattle.dsc_lines.specs.PcdLines.{pcd_faults, pcd_of}
 
 abbrev pub tags : List (List ℕ × Tag)
 tags =
-    (codes "<LibraryClasses>", Libraries) ∷ (codes "<Defines>", Defines) ∷ (codes "<BuildOptions>", Passed) ∷
-    (codes "<PcdsFeatureFlag>", Pcds FeatureFlag Plain) ∷ (codes "<PcdsFixedAtBuild>", Pcds FixedAtBuild Plain) ∷
+    (codes "<LibraryClasses>", Libraries) ∷ (codes "<Defines>", Defines)
+    ∷ (codes "<BuildOptions>", Passed) ∷
+    (codes "<PcdsFeatureFlag>", Pcds FeatureFlag Plain)
+    ∷ (codes "<PcdsFixedAtBuild>", Pcds FixedAtBuild Plain) ∷
     (codes "<PcdsPatchableInModule>", Pcds PatchableInModule Plain) ∷
-    (codes "<PcdsDynamicDefault>", Pcds Dynamic Plain) ∷ (codes "<PcdsDynamicHii>", Pcds Dynamic Hii) ∷ (codes "<PcdsDynamicVpd>", Pcds Dynamic Vpd) ∷
-    (codes "<PcdsDynamicExDefault>", Pcds DynamicEx Plain) ∷ (codes "<PcdsDynamicExHii>", Pcds DynamicEx Hii) ∷
+    (codes "<PcdsDynamicDefault>", Pcds Dynamic Plain)
+    ∷ (codes "<PcdsDynamicHii>", Pcds Dynamic Hii)
+    ∷ (codes "<PcdsDynamicVpd>", Pcds Dynamic Vpd) ∷
+    (codes "<PcdsDynamicExDefault>", Pcds DynamicEx Plain)
+    ∷ (codes "<PcdsDynamicExHii>", Pcds DynamicEx Hii) ∷
     (codes "<PcdsDynamicExVpd>", Pcds DynamicEx Vpd) ∷ []
 
 unfoldable pub tag_named : List ℕ → Option Tag
 tag_named text = lookup tags text
 
--- `}` alone, a `}` with more behind it, a tag in `<` `>`, a line with `{` at its end, or another one
+-- `}` alone, a `}` with more behind it, a tag in `<` `>`, a line with `{` at its end, or another
+-- one
 unfoldable pub form_of : List ℕ → Form
 form_of text =
     if slice_index text 0 == 125 then (if length text == 1 then form.Closes else form.Misplaced)
@@ -50,7 +57,8 @@ form_of text =
 
 -- the path, without the brace
 unfoldable pub inf_text : List ℕ → List ℕ
-inf_text text = if slice_index text (length text - 1) == 123 then without_blanks (take (length text - 1) text) else text
+inf_text text = if slice_index text (length text - 1) == 123
+    then without_blanks (take (length text - 1) text) else text
 
 -- a brace, a tag or a line out of place
 abbrev pub out_of_place : Taken → List (Option Fault)
@@ -60,17 +68,20 @@ out_of_place line = of_read_line line (formless 224 line (field_texts line.text)
 abbrev pub inf_faults : Taken → List ℕ → List (Option Fault)
 inf_faults line inf =
     if length inf == 0 then out_of_place line
-    else of_read_line line (wanted (path_field (without_workspace inf)) (fault_of 101 line.at inf) ∷ [])
+    else of_read_line line (wanted (path_field (without_workspace inf)) (fault_of 101 line.at inf)
+    ∷ [])
 
 abbrev pub begun_faults : Taken → List (Option Fault)
 begun_faults line = inf_faults line (inf_text line.text)
 
 abbrev pub made_begun : Taken → Arch → Bool → Option (List ℕ) → Option Part
-made_begun line arch braced (Some inf) = Some (part.Begins (record { at = line.at; arch = arch; inf = inf; braced = braced }))
+made_begun line arch braced (Some inf) =
+    Some (part.Begins (record { at = line.at; arch = arch; inf = inf; braced = braced }))
 made_begun line arch braced None = None
 
 abbrev pub begun_part : Taken → Arch → Bool → Option Part
-begun_part line arch braced = made_begun line arch braced (path_field (without_workspace (inf_text line.text)))
+begun_part line arch braced =
+    made_begun line arch braced (path_field (without_workspace (inf_text line.text)))
 
 -- `FILE_GUID = guid`; a line of another key, or of none, is read past
 abbrev pub is_file_guid : List ℕ → Bool
@@ -78,11 +89,13 @@ is_file_guid key = same_word key (codes "FILE_GUID")
 
 abbrev pub define_faults : Taken → Option (List ℕ × List ℕ) → List (Option Fault)
 define_faults line (Some p) =
-    if is_file_guid p.0 then of_read_line line (undefined_macro line.at p.1 ∷ wanted (guid_of p.1) (fault_of 222 line.at p.1) ∷ []) else []
+    if is_file_guid p.0 then of_read_line line
+    (undefined_macro line.at p.1 ∷ wanted (guid_of p.1) (fault_of 222 line.at p.1) ∷ []) else []
 define_faults line None = []
 
 abbrev pub define_part : Arch → Option (List ℕ × List ℕ) → Option Part
-define_part arch (Some p) = if is_file_guid p.0 then option_map (part.FileGuid arch) (guid_of p.1) else None
+define_part arch (Some p) = if is_file_guid p.0 then option_map (part.FileGuid arch) (guid_of p.1)
+    else None
 define_part arch None = None
 
 -- a line below a tag is judged as one of the section of its name
@@ -95,7 +108,8 @@ tagged_faults line Passed = []
 abbrev pub tagged_part : Taken → Arch → Tag → Option Part
 tagged_part line arch Libraries = option_map part.Library (library_of line arch None)
 tagged_part line arch Defines = define_part arch (halves 61 line.text)
-tagged_part line arch (Pcds kind stored) = option_map part.Pcd (pcd_of line kind stored arch (codes "DEFAULT"))
+tagged_part line arch (Pcds kind stored) =
+    option_map part.Pcd (pcd_of line kind stored arch (codes "DEFAULT"))
 tagged_part line arch Passed = None
 
 abbrev pub found_faults : Taken → Option Tag → List (Option Fault)

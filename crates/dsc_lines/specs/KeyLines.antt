@@ -25,8 +25,10 @@ use Rattle.dsc_lines.specs.declared.rows.Said.TheVariants.{Key}
 
 abbrev pub keys : List (List ℕ × PlatformKey)
 keys =
-    (codes "PLATFORM_NAME", key.Name) ∷ (codes "PLATFORM_GUID", key.Guid) ∷ (codes "SUPPORTED_ARCHITECTURES", key.Arches) ∷
-    (codes "OUTPUT_DIRECTORY", key.Output) ∷ (codes "SKUID_IDENTIFIER", key.SkuChoice) ∷ (codes "FLASH_DEFINITION", key.Flash) ∷ []
+    (codes "PLATFORM_NAME", key.Name) ∷ (codes "PLATFORM_GUID", key.Guid)
+    ∷ (codes "SUPPORTED_ARCHITECTURES", key.Arches) ∷
+    (codes "OUTPUT_DIRECTORY", key.Output) ∷ (codes "SKUID_IDENTIFIER", key.SkuChoice)
+    ∷ (codes "FLASH_DEFINITION", key.Flash) ∷ []
 
 unfoldable pub key_named : List ℕ → Option PlatformKey
 key_named word = lookup keys word
@@ -37,16 +39,19 @@ row_with make (Ok value) = Some (Key (make value))
 row_with make (Err fault) = None
 
 abbrev pub guid_faults : Taken → List ℕ → List (Option Fault)
-guid_faults line value = undefined_macro line.at value ∷ wanted (guid_of value) (fault_of 222 line.at value) ∷ []
+guid_faults line value = undefined_macro line.at value
+    ∷ wanted (guid_of value) (fault_of 222 line.at value) ∷ []
 
 abbrev pub guid_row : List ℕ → Option Said
 guid_row value = option_map (λ guid. Key (value_of.Guid guid)) (guid_of value)
 
 abbrev pub output_faults : Taken → List ℕ → List (Option Fault)
-output_faults line value = wanted (path_field (without_workspace value)) (fault_of 101 line.at value) ∷ []
+output_faults line value = wanted (path_field (without_workspace value))
+    (fault_of 101 line.at value) ∷ []
 
 abbrev pub output_row : List ℕ → Option Said
-output_row value = option_map (λ folder. Key (value_of.Output folder)) (path_field (without_workspace value))
+output_row value = option_map (λ folder. Key (value_of.Output folder))
+    (path_field (without_workspace value))
 
 -- the faults of a key's value, one for each code
 abbrev pub key_faults : Taken → PlatformKey → List ℕ → List (Option Fault)
@@ -62,7 +67,8 @@ key_row line key.Name value = row_with value_of.Name (segment_name line.at value
 key_row line key.Guid value = guid_row value
 key_row line key.Arches value = row_with value_of.Arches (arches_value line.at value)
 key_row line key.Output value = output_row value
-key_row line key.SkuChoice value = row_with (λ choice. value_of.SkuChoice line.at choice) (text_value line.at value)
+key_row line key.SkuChoice value =
+    row_with (λ choice. value_of.SkuChoice line.at choice) (text_value line.at value)
 key_row line key.Flash value = row_with value_of.Flash (path_value line.at value)
 
 -- a line of another key is read past

@@ -20,15 +20,19 @@ class_fault line class = if is_identifier class then None else Some (fault_of 22
 -- the faults of a line with these fields, one for each code
 abbrev pub fields_faults : Taken → List (List ℕ) → List (Option Fault)
 fields_faults line (class ∷ path ∷ []) =
-    class_fault line class ∷ undefined_macro line.at class ∷ wanted (path_field (without_workspace path)) (fault_of 101 line.at path) ∷ []
+    class_fault line class ∷ undefined_macro line.at class
+    ∷ wanted (path_field (without_workspace path)) (fault_of 101 line.at path) ∷ []
 fields_faults line fields = formless 223 line fields
 
-abbrev pub made_library : Taken → Arch → Option ModuleType → List ℕ → Option (List ℕ) → Option LibraryLine
-made_library line arch kind class (Some instance) = Some (record { at = line.at; arch = arch; kind = kind; class = class; instance = instance })
+abbrev pub made_library : Taken → Arch → Option ModuleType → List ℕ → Option (List ℕ)
+    → Option LibraryLine
+made_library line arch kind class (Some instance) =
+    Some (record { at = line.at; arch = arch; kind = kind; class = class; instance = instance })
 made_library line arch kind class None = None
 
 abbrev pub fields_library : Taken → Arch → Option ModuleType → List (List ℕ) → Option LibraryLine
-fields_library line arch kind (class ∷ path ∷ []) = made_library line arch kind class (path_field (without_workspace path))
+fields_library line arch kind (class ∷ path ∷ []) =
+    made_library line arch kind class (path_field (without_workspace path))
 fields_library line arch kind fields = None
 
 unfoldable pub library_faults : Taken → List (Option Fault)

@@ -1,4 +1,5 @@
--- The faults of a line of a DSC file below a head, and what it says there (EDK II DSC specification, chapter 3).
+-- The faults of a line of a DSC file below a head, and what it says there (EDK II DSC
+-- specification, chapter 3).
 use Rattle.std.specs.Prelude.{ℕ, List, Option}
 use Rattle.std.specs.Option.{option_map}
 use Rattle.build_base.specs.declared.fault.Fault.{Fault}
@@ -14,7 +15,8 @@ use Rattle.dsc_lines.specs.LibraryLines.{library_faults, library_of}
 use Rattle.dsc_lines.specs.PcdLines.{pcd_faults, pcd_of}
 use Rattle.dsc_lines.specs.SkuLines.{sku_faults, sku_of}
 
--- the faults of a line below a head, one for each code, where SKUs of these names stand above and this is open
+-- the faults of a line below a head, one for each code, where SKUs of these names stand above and
+-- this is open
 abbrev pub scope_faults : List (List ℕ) → Open → Taken → Scope → List (Option Fault)
 scope_faults names standing line Defines = key_line_faults line
 scope_faults names standing line SkuIds = sku_faults names line

@@ -88,8 +88,10 @@ is_hii_front variable guid = is_variable variable && is_identifier guid
 
 abbrev pub is_hii_form : List (List ℕ) → Bool
 is_hii_form (name ∷ variable ∷ guid ∷ offset ∷ []) = is_hii_front variable guid
-is_hii_form (name ∷ variable ∷ guid ∷ offset ∷ default ∷ []) = is_hii_front variable guid && is_written default
-is_hii_form (name ∷ variable ∷ guid ∷ offset ∷ default ∷ attributes ∷ []) = is_hii_front variable guid && is_written default && is_written attributes
+is_hii_form (name ∷ variable ∷ guid ∷ offset ∷ default ∷ []) =
+    is_hii_front variable guid && is_written default
+is_hii_form (name ∷ variable ∷ guid ∷ offset ∷ default ∷ attributes ∷ []) =
+    is_hii_front variable guid && is_written default && is_written attributes
 is_hii_form fields = false
 
 -- `Name|Offset` and up to two further fields, which mean what the type of the PCD says
@@ -105,13 +107,15 @@ is_form Hii fields = is_hii_form fields
 is_form Vpd fields = is_vpd_form fields
 
 abbrev pub form_fault : Taken → StoreKind → Option PcdName → List (List ℕ) → Option Fault
-form_fault line kind (Some pcd) fields = if is_form kind fields then None else Some (fault_of 225 line.at line.text)
+form_fault line kind (Some pcd) fields = if is_form kind fields then None
+    else Some (fault_of 225 line.at line.text)
 form_fault line kind None fields = Some (fault_of 225 line.at line.text)
 
 -- the faults of a line with these fields, one for each code
 abbrev pub fields_faults : Taken → StoreKind → List (List ℕ) → List (Option Fault)
 fields_faults line kind fields =
-    number_fault line (number_field kind fields) ∷ first_fault (undefined_macro line.at) fields ∷ form_fault line kind (pcd_name_of (first_text fields)) fields ∷ []
+    number_fault line (number_field kind fields) ∷ first_fault (undefined_macro line.at) fields
+    ∷ form_fault line kind (pcd_name_of (first_text fields)) fields ∷ []
 
 -- what the fields of a line say
 abbrev pub plain_value : List (List ℕ) → Option (List ℕ)
@@ -150,7 +154,8 @@ attributes_in (default ∷ attributes ∷ fields) = attributes
 attributes_in fields = []
 
 abbrev pub hii_store : List (List ℕ) → Store
-hii_store (name ∷ variable ∷ guid ∷ offset ∷ fields) = store.Hii variable guid (unwrap_or (small_of offset) 0) (attributes_in fields)
+hii_store (name ∷ variable ∷ guid ∷ offset ∷ fields) =
+    store.Hii variable guid (unwrap_or (small_of offset) 0) (attributes_in fields)
 hii_store fields = store.Plain
 
 abbrev pub vpd_store : List (List ℕ) → Store
@@ -162,7 +167,8 @@ store_in Plain fields = store.Plain
 store_in Hii fields = hii_store fields
 store_in Vpd fields = vpd_store fields
 
-abbrev pub made_pcd : Taken → Kind → StoreKind → Arch → List ℕ → Option PcdName → List (List ℕ) → Option PcdLine
+abbrev pub made_pcd : Taken → Kind → StoreKind → Arch → List ℕ → Option PcdName → List (List ℕ)
+    → Option PcdLine
 made_pcd line kind stored arch sku (Some pcd) fields =
     Some (record {
       at = line.at;
@@ -178,7 +184,8 @@ made_pcd line kind stored arch sku (Some pcd) fields =
 made_pcd line kind stored arch sku None fields = None
 
 abbrev pub fields_pcd : Taken → Kind → StoreKind → Arch → List ℕ → List (List ℕ) → Option PcdLine
-fields_pcd line kind stored arch sku fields = made_pcd line kind stored arch sku (pcd_name_of (first_text fields)) fields
+fields_pcd line kind stored arch sku fields =
+    made_pcd line kind stored arch sku (pcd_name_of (first_text fields)) fields
 
 unfoldable pub pcd_faults : Taken → StoreKind → List (Option Fault)
 pcd_faults line stored = of_read_line line (fields_faults line stored (field_texts line.text))

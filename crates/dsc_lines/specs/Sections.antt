@@ -1,4 +1,5 @@
--- The sections of a DSC file, their qualifiers, and what their heads enter (EDK II DSC specification, sections 2.2 and 3).
+-- The sections of a DSC file, their qualifiers, and what their heads enter (EDK II DSC
+-- specification, sections 2.2 and 3).
 use Rattle.std.specs.Prelude.{ℕ, nat_lt, if◌then◌else◌, List, [], ◌∷◌, length, Option, Some, None, codes}
 use Rattle.std.specs.Option.{option_map}
 use Rattle.build_base.specs.FaultText.{fault_of}
@@ -25,13 +26,19 @@ use Rattle.dsc_lines.specs.declared.section.Scope.TheVariants as scope
 -- a section that stands for None is read past
 abbrev pub sections : List (List ℕ × Option Section)
 sections =
-    (codes "Defines", Some Defines) ∷ (codes "SkuIds", Some SkuIds) ∷ (codes "LibraryClasses", Some Libraries) ∷ (codes "Components", Some Components) ∷
-    (codes "PcdsFeatureFlag", Some (Pcds FeatureFlag Plain)) ∷ (codes "PcdsFixedAtBuild", Some (Pcds FixedAtBuild Plain)) ∷
+    (codes "Defines", Some Defines) ∷ (codes "SkuIds", Some SkuIds)
+    ∷ (codes "LibraryClasses", Some Libraries) ∷ (codes "Components", Some Components) ∷
+    (codes "PcdsFeatureFlag", Some (Pcds FeatureFlag Plain))
+    ∷ (codes "PcdsFixedAtBuild", Some (Pcds FixedAtBuild Plain)) ∷
     (codes "PcdsPatchableInModule", Some (Pcds PatchableInModule Plain)) ∷
-    (codes "PcdsDynamicDefault", Some (Pcds Dynamic Plain)) ∷ (codes "PcdsDynamicHii", Some (Pcds Dynamic Hii)) ∷ (codes "PcdsDynamicVpd", Some (Pcds Dynamic Vpd)) ∷
-    (codes "PcdsDynamicExDefault", Some (Pcds DynamicEx Plain)) ∷ (codes "PcdsDynamicExHii", Some (Pcds DynamicEx Hii)) ∷
+    (codes "PcdsDynamicDefault", Some (Pcds Dynamic Plain))
+    ∷ (codes "PcdsDynamicHii", Some (Pcds Dynamic Hii))
+    ∷ (codes "PcdsDynamicVpd", Some (Pcds Dynamic Vpd)) ∷
+    (codes "PcdsDynamicExDefault", Some (Pcds DynamicEx Plain))
+    ∷ (codes "PcdsDynamicExHii", Some (Pcds DynamicEx Hii)) ∷
     (codes "PcdsDynamicExVpd", Some (Pcds DynamicEx Vpd)) ∷
-    (codes "BuildOptions", None) ∷ (codes "UserExtensions", None) ∷ (codes "DefaultStores", None) ∷ (codes "Packages", None) ∷ []
+    (codes "BuildOptions", None) ∷ (codes "UserExtensions", None) ∷ (codes "DefaultStores", None)
+    ∷ (codes "Packages", None) ∷ []
 
 unfoldable pub section_named : List ℕ → Option (Option Section)
 section_named name = lookup sections name
@@ -55,7 +62,8 @@ sku_word [] = codes "DEFAULT"
 
 -- a qualifier too many
 abbrev pub qualifiers_fault : Taken → ℕ → List (List ℕ) → Option Fault
-qualifiers_fault line most qualifiers = if nat_lt most (length qualifiers) then Some (fault_of 114 line.at line.text) else None
+qualifiers_fault line most qualifiers = if nat_lt most (length qualifiers)
+    then Some (fault_of 114 line.at line.text) else None
 
 abbrev pub arch_fault : Taken → List (List ℕ) → Option Arch → Option Fault
 arch_fault line qualifiers arch = wanted arch (fault_of 227 line.at (first_text qualifiers))
@@ -67,9 +75,13 @@ type_fault line kind = wanted kind (fault_of 114 line.at line.text)
 abbrev pub section_faults : Taken → Section → List (List ℕ) → List (Option Fault)
 section_faults line Defines qualifiers = qualifiers_fault line 0 qualifiers ∷ []
 section_faults line SkuIds qualifiers = qualifiers_fault line 0 qualifiers ∷ []
-section_faults line Libraries qualifiers = qualifiers_fault line 2 qualifiers ∷ type_fault line (type_word qualifiers) ∷ arch_fault line qualifiers (arch_word qualifiers) ∷ []
-section_faults line Components qualifiers = qualifiers_fault line 1 qualifiers ∷ arch_fault line qualifiers (arch_word qualifiers) ∷ []
-section_faults line (Pcds kind store) qualifiers = qualifiers_fault line 2 qualifiers ∷ arch_fault line qualifiers (arch_word qualifiers) ∷ []
+section_faults line Libraries qualifiers =
+    qualifiers_fault line 2 qualifiers ∷ type_fault line (type_word qualifiers)
+    ∷ arch_fault line qualifiers (arch_word qualifiers) ∷ []
+section_faults line Components qualifiers =
+    qualifiers_fault line 1 qualifiers ∷ arch_fault line qualifiers (arch_word qualifiers) ∷ []
+section_faults line (Pcds kind store) qualifiers =
+    qualifiers_fault line 2 qualifiers ∷ arch_fault line qualifiers (arch_word qualifiers) ∷ []
 
 abbrev pub libraries_scope : Option Arch → Option (Option ModuleType) → Option Scope
 libraries_scope (Some arch) (Some kind) = Some (scope.Libraries arch kind)
@@ -81,7 +93,8 @@ components_scope (Some arch) = Some (scope.Components arch)
 components_scope None = None
 
 abbrev pub pcds_scope : Kind → StoreKind → Option Arch → List ℕ → Option Scope
-pcds_scope kind store (Some arch) sku = Some (scope.Pcds (record { kind = kind; store = store; arch = arch; sku = sku }))
+pcds_scope kind store (Some arch) sku =
+    Some (scope.Pcds (record { kind = kind; store = store; arch = arch; sku = sku }))
 pcds_scope kind store None sku = None
 
 abbrev pub section_scope : Section → List (List ℕ) → Option Scope
@@ -89,9 +102,11 @@ section_scope Defines qualifiers = Some scope.Defines
 section_scope SkuIds qualifiers = Some scope.SkuIds
 section_scope Libraries qualifiers = libraries_scope (arch_word qualifiers) (type_word qualifiers)
 section_scope Components qualifiers = components_scope (arch_word qualifiers)
-section_scope (Pcds kind store) qualifiers = pcds_scope kind store (arch_word qualifiers) (sku_word qualifiers)
+section_scope (Pcds kind store) qualifiers =
+    pcds_scope kind store (arch_word qualifiers) (sku_word qualifiers)
 
-abbrev pub named_faults : Taken → Option (Option Section) → List ℕ → List (List ℕ) → List (Option Fault)
+abbrev pub named_faults : Taken → Option (Option Section) → List ℕ → List (List ℕ)
+    → List (Option Fault)
 named_faults line (Some (Some section)) name qualifiers = section_faults line section qualifiers
 named_faults line (Some None) name qualifiers = []
 named_faults line None name qualifiers = Some (fault_of 226 line.at name) ∷ []

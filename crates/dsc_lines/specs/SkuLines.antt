@@ -1,4 +1,5 @@
--- The lines of [SkuIds]: `number|Name` and `number|Name|Parent` (EDK II DSC specification, section 3.5).
+-- The lines of [SkuIds]: `number|Name` and `number|Name|Parent` (EDK II DSC specification, section
+-- 3.5).
 use Rattle.std.specs.Prelude.{ℕ, suc, ◌==◌, ◌&&◌, ◌||◌, not, Bool, true, false, nat_lt, nat_le, if◌then◌else◌, List, [], ◌∷◌, length, Option, Some, None, Result, Ok, Err, codes}
 use Rattle.std.specs.List.{list_all}
 use Rattle.std.specs.Option.{option_map}
@@ -28,7 +29,8 @@ is_default text = bytes_eq text (codes "DEFAULT")
 -- where a name stands first among some
 unfoldable pub place_of : List ℕ → List (List ℕ) → Option ℕ
 place_of name [] = None
-place_of name (other ∷ names) = if bytes_eq other name then Some 0 else option_map suc (place_of name names)
+place_of name (other ∷ names) = if bytes_eq other name then Some 0
+    else option_map suc (place_of name names)
 
 abbrev pub name_field : List (List ℕ) → List ℕ
 name_field (number ∷ name ∷ fields) = name
@@ -61,22 +63,27 @@ is_sku_form number fields = false
 
 -- a line of another form, or with a name that stands above
 abbrev pub sku_fault : Taken → Option ℕ → List (List ℕ) → Bool → Option Fault
-sku_fault line number fields taken = if is_sku_form number fields && not taken then None else Some (fault_of 231 line.at line.text)
+sku_fault line number fields taken = if is_sku_form number fields && not taken then None
+    else Some (fault_of 231 line.at line.text)
 
 abbrev pub faults_with : Taken → List (List ℕ) → Bool → Result ℕ Fault → List (Option Fault)
-faults_with line fields taken number = fault_in number ∷ others_fault line fields ∷ sku_fault line (number_in number) fields taken ∷ []
+faults_with line fields taken number =
+    fault_in number ∷ others_fault line fields ∷ sku_fault line (number_in number) fields taken ∷ []
 
 -- the faults of a line with these fields, one for each code; its number is an expression
 abbrev pub fields_faults : Taken → List (List ℕ) → Bool → List (Option Fault)
-fields_faults line fields taken = faults_with line fields taken (number_value line.at (first_text fields))
+fields_faults line fields taken =
+    faults_with line fields taken (number_value line.at (first_text fields))
 
 abbrev pub root_parent : List ℕ → List ℕ
 root_parent name = if is_default name then [] else codes "DEFAULT"
 
 -- a SKU without a written parent has DEFAULT
 abbrev pub numbered_sku : Taken → ℕ → List (List ℕ) → Option SkuLine
-numbered_sku line id (field ∷ name ∷ []) = Some (record { at = line.at; sku = record { id = id; name = name; parent = root_parent name } })
-numbered_sku line id (field ∷ name ∷ parent ∷ []) = Some (record { at = line.at; sku = record { id = id; name = name; parent = parent } })
+numbered_sku line id (field ∷ name ∷ []) =
+    Some (record { at = line.at; sku = record { id = id; name = name; parent = root_parent name } })
+numbered_sku line id (field ∷ name ∷ parent ∷ []) =
+    Some (record { at = line.at; sku = record { id = id; name = name; parent = parent } })
 numbered_sku line id fields = None
 
 abbrev pub sku_with : Taken → List (List ℕ) → Result ℕ Fault → Option SkuLine
@@ -88,7 +95,9 @@ fields_sku line fields = sku_with line fields (number_value line.at (first_text 
 
 -- the faults of a line below lines with these names
 unfoldable pub sku_faults : List (List ℕ) → Taken → List (Option Fault)
-sku_faults above line = of_read_line line (fields_faults line (field_texts line.text) (is_there (place_of (name_field (field_texts line.text)) above)))
+sku_faults above line = of_read_line line
+    (fields_faults line (field_texts line.text)
+    (is_there (place_of (name_field (field_texts line.text)) above)))
 
 unfoldable pub sku_of : Taken → Option SkuLine
 sku_of line = fields_sku line (field_texts line.text)

@@ -1,4 +1,5 @@
--- What the lines above left open in [Components]: the last of them that opens, tags or closes says it.
+-- What the lines above left open in [Components]: the last of them that opens, tags or closes says
+-- it.
 use Rattle.std.specs.Prelude.{if◌then◌else◌, List, [], ◌∷◌}
 use Rattle.std.specs.List.{flat_map}
 use Rattle.dsc_lines.specs.declared.open_mark.Open.{Open}

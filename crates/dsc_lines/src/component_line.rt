@@ -168,7 +168,9 @@ fn is_file_guid(key: &[u8]) -> bool
 }
 
 fn define_part(alloc: Global, line: &Taken, arch: Arch) -> Result<Option<Part>, Refusal>
-    ensures { Answers result (judged (define_faults line.now (halves 61 line.now.text)) (define_part arch (halves 61 line.now.text))) }
+    ensures { Answers result
+        (judged (define_faults line.now (halves 61 line.now.text))
+        (define_part arch (halves 61 line.now.text))) }
 {
     let Some((key, value)) = halves(b'=', line.text.bytes()) else {
         return Ok(None);
@@ -205,7 +207,9 @@ fn tagged_part(alloc: Global, line: &Taken, arch: Arch, tag: Tag) -> Result<Opti
 
 // The line of a tag.
 fn found_tag(alloc: Global, line: &Taken) -> Result<Option<Part>, Refusal>
-    ensures { Answers result (judged (found_faults line.now (tag_named line.now.text)) (option_map Tagged (tag_named line.now.text))) }
+    ensures { Answers result
+        (judged (found_faults line.now (tag_named line.now.text))
+        (option_map Tagged (tag_named line.now.text))) }
 {
     match tag_named(line.text.bytes()) {
         Some(tag) => Ok(Some(Part::Tagged(tag))),
@@ -226,7 +230,8 @@ fn shut_part(alloc: Global, line: &Taken, arch: Arch, form: Form) -> Result<Opti
 }
 
 fn untagged_part(alloc: Global, line: &Taken, form: Form) -> Result<Option<Part>, Refusal>
-    ensures { Answers result (judged (untagged_faults line.now form) (untagged_part line.now form)) }
+    ensures { Answers result
+        (judged (untagged_faults line.now form) (untagged_part line.now form)) }
 {
     match form {
         Form::Plain => misplaced(alloc, line),
@@ -256,7 +261,8 @@ fn below_part(
     tag: Tag,
     form: Form,
 ) -> Result<Option<Part>, Refusal>
-    ensures { Answers result (judged (below_faults line.now tag form) (below_part line.now arch tag form)) }
+    ensures { Answers result
+        (judged (below_faults line.now tag form) (below_part line.now arch tag form)) }
 {
     match form {
         Form::Plain => tagged_part(alloc, line, arch, tag),
@@ -274,7 +280,9 @@ fn standing_part(
     standing: Open,
     form: Form,
 ) -> Result<Option<Part>, Refusal>
-    ensures { Answers result (judged (standing_faults line.now standing form) (standing_part line.now arch standing form)) }
+    ensures { Answers result
+        (judged (standing_faults line.now standing form)
+        (standing_part line.now arch standing form)) }
 {
     match standing {
         Open::Shut => shut_part(alloc, line, arch, form),
@@ -291,7 +299,8 @@ pub fn component_line(
     arch: Arch,
     standing: Open,
 ) -> Result<Option<Part>, Refusal>
-    ensures { Answers result (judged (component_faults line.now standing) (component_part line.now arch standing)) }
+    ensures { Answers result
+        (judged (component_faults line.now standing) (component_part line.now arch standing)) }
 {
     standing_part(alloc, line, arch, standing, form_of(line.text.bytes()))
 }

@@ -70,7 +70,8 @@ fn key_said(
     key: PlatformKey,
     value: &[u8],
 ) -> Result<Option<Said>, Refusal>
-    ensures { Answers result (judged (key_faults line.now key value.now) (key_row line.now key value.now)) }
+    ensures { Answers result
+        (judged (key_faults line.now key value.now) (key_row line.now key value.now)) }
 {
     match key {
         PlatformKey::Name => {
@@ -100,7 +101,8 @@ fn pair_said(
     key: Option<PlatformKey>,
     value: &[u8],
 ) -> Result<Option<Said>, Refusal>
-    ensures { Answers result (judged (pair_faults line.now key value.now) (pair_row line.now key value.now)) }
+    ensures { Answers result
+        (judged (pair_faults line.now key value.now) (pair_row line.now key value.now)) }
 {
     match key {
         Some(key) => {

@@ -1,5 +1,5 @@
-//! The lines of a platform's description: what a head enters and each line below it says, or the least of its faults (EDK II DSC
-//! specification).
+//! The lines of a platform's description: what a head enters and each line below it says, or the
+//! least of its faults (EDK II DSC specification).
 #![tactic(auto)]
 
 pub mod arches;

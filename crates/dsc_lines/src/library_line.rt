@@ -57,7 +57,9 @@ fn two_fields(
     class: &[u8],
     path: &[u8],
 ) -> Result<Option<LibraryLine>, Refusal>
-    ensures { Answers result (judged (fields_faults line.now (class.now ∷ path.now ∷ [])) (fields_library line.now arch kind (class.now ∷ path.now ∷ []))) }
+    ensures { Answers result
+        (judged (fields_faults line.now (class.now ∷ path.now ∷ []))
+        (fields_library line.now arch kind (class.now ∷ path.now ∷ []))) }
 {
     let instance = path_field(alloc, without_workspace(path))?;
     least_of_three(
@@ -76,7 +78,9 @@ fn library_fields(
     kind: Option<ModuleType>,
     fields: &[Text],
 ) -> Result<Option<LibraryLine>, Refusal>
-    ensures { Answers result (judged (fields_faults line.now fields.now) (fields_library line.now arch kind fields.now)) }
+    ensures { Answers result
+        (judged (fields_faults line.now fields.now)
+        (fields_library line.now arch kind fields.now)) }
 {
     match fields {
         [class, path] => two_fields(alloc, line, arch, kind, class.bytes(), path.bytes()),

@@ -26,7 +26,10 @@ pub fn line_row(
     standing: Open,
     scope: &Scope,
 ) -> Result<Option<Said>, Refusal>
-    ensures { (above : List (List ℕ)) → Placed above names.now → Answers result (judged (line_faults above standing line.now scope.now) (line_row standing line.now scope.now)) }
+    ensures { (above : List (List ℕ)) → Placed above names.now
+        → Answers result
+        (judged (line_faults above standing line.now scope.now)
+        (line_row standing line.now scope.now)) }
 {
     match scope {
         Scope::Defines => key_line(alloc, line),

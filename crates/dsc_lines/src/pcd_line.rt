@@ -87,7 +87,9 @@ fn pcd_fields(
     sku: &[u8],
     fields: &[Text],
 ) -> Result<Option<PcdLine>, Refusal>
-    ensures { Answers result (judged (fields_faults line.now stored fields.now) (fields_pcd line.now kind stored arch sku.now fields.now)) }
+    ensures { Answers result
+        (judged (fields_faults line.now stored fields.now)
+        (fields_pcd line.now kind stored arch sku.now fields.now)) }
 {
     let pcd = pcd_name_of(alloc, first_text(fields))?;
     least_of_three(
@@ -109,7 +111,8 @@ pub fn pcd_line(
     arch: Arch,
     sku: &[u8],
 ) -> Result<Option<PcdLine>, Refusal>
-    ensures { Answers result (judged (pcd_faults line.now stored) (pcd_of line.now kind stored arch sku.now)) }
+    ensures { Answers result
+        (judged (pcd_faults line.now stored) (pcd_of line.now kind stored arch sku.now)) }
 {
     open_quote(alloc, &line.at, line.text.bytes())?;
     let fields = field_texts(alloc, line.text.bytes())?;

@@ -217,7 +217,10 @@ fn enter_pcds(
     store: StoreKind,
     qualifiers: &[Text],
 ) -> Result<Option<Scope>, Refusal>
-    ensures { Answers result (judged (qualifiers_fault line.now 2 qualifiers.now ∷ arch_fault line.now qualifiers.now (arch_word qualifiers.now) ∷ []) (pcds_scope kind store (arch_word qualifiers.now) (sku_word qualifiers.now))) }
+    ensures { Answers result
+        (judged (qualifiers_fault line.now 2 qualifiers.now
+        ∷ arch_fault line.now qualifiers.now (arch_word qualifiers.now) ∷ [])
+        (pcds_scope kind store (arch_word qualifiers.now) (sku_word qualifiers.now))) }
 {
     let arch = arch_word(qualifiers);
     least_of_two(
@@ -234,7 +237,9 @@ fn enter_section(
     section: Section,
     qualifiers: &[Text],
 ) -> Result<Option<Scope>, Refusal>
-    ensures { Answers result (judged (section_faults line.now section qualifiers.now) (section_scope section qualifiers.now)) }
+    ensures { Answers result
+        (judged (section_faults line.now section qualifiers.now)
+        (section_scope section qualifiers.now)) }
 {
     match section {
         Section::Defines => {
@@ -274,7 +279,9 @@ fn enter_named(
     name: &[u8],
     qualifiers: &[Text],
 ) -> Result<Option<Scope>, Refusal>
-    ensures { Answers result (judged (named_faults line.now section name.now qualifiers.now) (named_scope section qualifiers.now)) }
+    ensures { Answers result
+        (judged (named_faults line.now section name.now qualifiers.now)
+        (named_scope section qualifiers.now)) }
 {
     match section {
         Some(Some(section)) => enter_section(alloc, line, section, qualifiers),

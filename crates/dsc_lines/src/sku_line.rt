@@ -125,7 +125,13 @@ fn made_sku(
     name: &[u8],
     parent: &[u8],
 ) -> Result<SkuLine, WantOfMemory>
-    ensures { IfOk result (λ s. s ≡ record { at = line.now.at; sku = record { id = id; name = name.now; parent = parent.now } }) }
+    ensures { IfOk result
+        (λ s. s
+        ≡ record {
+          at = line.now.at;
+          sku =
+              record { id = id; name = name.now; parent = parent.now };
+        }) }
 {
     Ok(SkuLine {
         at: line.at.copy(alloc)?,
@@ -164,7 +170,8 @@ fn sku_fields(
     fields: &[Text],
     taken: bool,
 ) -> Result<Option<SkuLine>, Refusal>
-    ensures { Answers result (judged (fields_faults line.now fields.now taken) (fields_sku line.now fields.now)) }
+    ensures { Answers result
+        (judged (fields_faults line.now fields.now taken) (fields_sku line.now fields.now)) }
 {
     match number_value(alloc, &line.at, first_text(fields)) {
         Ok(id) => {
@@ -191,7 +198,8 @@ fn is_taken(
     names: &IndexMap<Vec<u8>, usize>,
     fields: &[Text],
 ) -> Result<bool, WantOfMemory>
-    ensures { (above : List (List ℕ)) → Placed above names.now → IfOk result (λ t. t ≡ is_there (place_of (name_field fields.now) above)) }
+    ensures { (above : List (List ℕ)) → Placed above names.now
+        → IfOk result (λ t. t ≡ is_there (place_of (name_field fields.now) above)) }
 {
     match place_of(alloc, names, name_field(fields))? {
         Some(_) => Ok(true),
@@ -206,7 +214,8 @@ pub fn sku_line(
     line: &Taken,
     names: &IndexMap<Vec<u8>, usize>,
 ) -> Result<Option<SkuLine>, Refusal>
-    ensures { (above : List (List ℕ)) → Placed above names.now → Answers result (judged (sku_faults above line.now) (sku_of line.now)) }
+    ensures { (above : List (List ℕ)) → Placed above names.now
+        → Answers result (judged (sku_faults above line.now) (sku_of line.now)) }
 {
     open_quote(alloc, &line.at, line.text.bytes())?;
     let fields = field_texts(alloc, line.text.bytes())?;

@@ -10,7 +10,8 @@ use indexmap::IndexMap;
 use std::alloc::Global;
 
 fn place_at(table: &IndexMap<Vec<u8>, usize>, name: &Vec<u8>) -> Option<usize>
-    ensures { (names : List (List ℕ)) → Placed names table.now → result ≡ place_of name.now.items names }
+    ensures { (names : List (List ℕ)) → Placed names table.now
+        → result ≡ place_of name.now.items names }
 {
     match table.get(name) {
         Some(place) => Some(*place),
@@ -24,7 +25,8 @@ pub fn place_of(
     table: &IndexMap<Vec<u8>, usize>,
     name: &[u8],
 ) -> Result<Option<usize>, WantOfMemory>
-    ensures { (names : List (List ℕ)) → Placed names table.now → IfOk result (λ place. place ≡ place_of name.now names) }
+    ensures { (names : List (List ℕ)) → Placed names table.now
+        → IfOk result (λ place. place ≡ place_of name.now names) }
 {
     let key = Vec::from_slice(alloc, name)?;
     Ok(place_at(table, &key))
@@ -35,7 +37,8 @@ fn insert_place(
     key: Vec<u8>,
     place: usize,
 ) -> Result<(), WantOfMemory>
-    ensures { OnOk result ((q : Bytes ℕ) → get same_key table.new q ≡ cond (same_key key q) (Some place) (get same_key table.old q)) }
+    ensures { OnOk result ((q : Bytes ℕ) → get same_key table.new q
+        ≡ cond (same_key key q) (Some place) (get same_key table.old q)) }
 {
     match table.insert(key, place) {
         Ok(_) => Ok(()),
@@ -50,7 +53,8 @@ pub fn add_name(
     name: &[u8],
     place: usize,
 ) -> Result<(), WantOfMemory>
-    ensures { (names : List (List ℕ)) → place ≡ length names → Placed names table.old → OnOk result (Placed (names ++ name.now ∷ []) table.new) }
+    ensures { (names : List (List ℕ)) → place ≡ length names → Placed names table.old
+        → OnOk result (Placed (names ++ name.now ∷ []) table.new) }
 {
     let key = Vec::from_slice(alloc, name)?;
     match place_at(table, &key) {

@@ -104,7 +104,9 @@ abbrev pub components_of : List (Read Scope Said) → List Component
 components_of reads = flat_map block_components (blocks begins (lines_of reads))
 
 -- the components of all blocks but the last, and the parts of that
-pub data BlocksHeld (lines : List (List Part)) (done : List Component) (first rest : List Part) : Type 0 where
+pub data BlocksHeld (lines : List (List Part)) (done : List Component) (first rest : List Part)
+    : Type 0 where
   none : blocks begins lines ≡ [] → done ≡ [] → first ≡ [] → BlocksHeld lines done first rest
-  some : (front : List (Block (List Part))) (block : Block (List Part)) → blocks begins lines ≡ front ++ block ∷ [] → done ≡ flat_map block_components front
+  some : (front : List (Block (List Part))) (block : Block (List Part))
+      → blocks begins lines ≡ front ++ block ∷ [] → done ≡ flat_map block_components front
       → first ≡ block.first → rest ≡ all_parts block.rest → BlocksHeld lines done first rest

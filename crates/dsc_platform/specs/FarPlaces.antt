@@ -1,4 +1,5 @@
--- Where walks by parents come to after many steps, in tables by places. A SKU on a circle is where some walk comes to, however long.
+-- Where walks by parents come to after many steps, in tables by places. A SKU on a circle is where
+-- some walk comes to, however long.
 use Rattle.std.specs.Prelude.{◌≡◌, ℕ, zero, suc, Bool, true, false, List, set, slice_get, Option, Some, None}
 use Rattle.dsc_platform.specs.SkuWalks.{next_of, is_loop}
 
@@ -28,4 +29,5 @@ with_mark marks (Some place) = set marks place true
 
 -- a place without a mark is on no circle
 abbrev pub Unlooped : List (Option ℕ) → List Bool → Type 0
-Unlooped parents marks = (place : ℕ) → slice_get marks place ≡ Some false → is_loop parents place ≡ false
+Unlooped parents marks = (place : ℕ) → slice_get marks place ≡ Some false
+    → is_loop parents place ≡ false

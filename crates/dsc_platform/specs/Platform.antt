@@ -45,7 +45,8 @@ dsc_grammar =
       head_faults = λ line head. head_faults line head;
       scope_of = λ head. scope_of head;
       stray = 226;
-      faults = λ above line scope. line_faults (names_in (rows_of above)) (open_below (rows_of above)) line scope;
+      faults = λ above line scope. line_faults (names_in (rows_of above))
+          (open_below (rows_of above)) line scope;
       row_of = λ above line scope. line_row (open_below (rows_of above)) line scope;
       at_heads = λ above line heads. open_fault line (open_below (rows_of above));
       left_open = λ above line. open_fault line (open_below (rows_of above));
@@ -62,7 +63,8 @@ abbrev pub skus_of : List SkuLine → List sku_type.Sku
 skus_of lines = front_of lines ++ map (λ line. line.sku) lines
 
 -- the folder of outputs is the stated one, or `Build/` and the platform's name
-abbrev pub with_required : Lines → Options → List SkuLine → List LibraryLine → List PcdLine → List Component → List ℕ → GuidBytes → List Arch → PlatformDoc
+abbrev pub with_required : Lines → Options → List SkuLine → List LibraryLine → List PcdLine
+    → List Component → List ℕ → GuidBytes → List Arch → PlatformDoc
 with_required lines options skus libraries pcds components name guid arches =
     record {
       at = record { path = lines.root; line = 0 };
@@ -81,23 +83,32 @@ with_required lines options skus libraries pcds components name guid arches =
 
 -- the faults of the whole, in the order of their codes
 abbrev pub whole_fault : List SkuLine → List Component → List SkuUse → Option Fault
-whole_fault skus components uses = first_of (repeats_fault components ∷ uses_fault (names_of skus) uses ∷ loops_fault skus ∷ [])
+whole_fault skus components uses =
+    first_of (repeats_fault components ∷ uses_fault (names_of skus) uses ∷ loops_fault skus ∷ [])
 
-abbrev pub required : Lines → Stated → List Component → List SkuUse → Option (List ℕ) → Option GuidBytes → Option (List Arch) → Result PlatformDoc Fault
-required lines stated components uses None guid arches = Err (missing_key 221 lines.root (codes "PLATFORM_NAME"))
-required lines stated components uses (Some name) None arches = Err (missing_key 221 lines.root (codes "PLATFORM_GUID"))
-required lines stated components uses (Some name) (Some guid) None = Err (missing_key 221 lines.root (codes "SUPPORTED_ARCHITECTURES"))
+abbrev pub required : Lines → Stated → List Component → List SkuUse → Option (List ℕ)
+    → Option GuidBytes → Option (List Arch) → Result PlatformDoc Fault
+required lines stated components uses None guid arches =
+    Err (missing_key 221 lines.root (codes "PLATFORM_NAME"))
+required lines stated components uses (Some name) None arches =
+    Err (missing_key 221 lines.root (codes "PLATFORM_GUID"))
+required lines stated components uses (Some name) (Some guid) None =
+    Err (missing_key 221 lines.root (codes "SUPPORTED_ARCHITECTURES"))
 required lines stated components uses (Some name) (Some guid) (Some arches) =
     unless (whole_fault stated.skus components uses)
-    (with_required lines stated.keys.options stated.skus stated.libraries stated.pcds components name guid arches)
+    (with_required lines stated.keys.options stated.skus stated.libraries stated.pcds components
+    name guid arches)
 
 -- the document, where each required key is stated and nothing is at fault in the whole
-unfoldable pub document_of : Lines → Stated → List Component → List SkuUse → Result PlatformDoc Fault
-document_of lines stated components uses = required lines stated components uses stated.keys.name stated.keys.guid stated.keys.arches
+unfoldable pub document_of : Lines → Stated → List Component → List SkuUse
+    → Result PlatformDoc Fault
+document_of lines stated components uses =
+    required lines stated components uses stated.keys.name stated.keys.guid stated.keys.arches
 
 -- what lines that come to this make
 unfoldable pub platform_made : Lines → List (Read Scope Said) → Result PlatformDoc Fault
-platform_made lines reads = document_of lines (with_rows nothing (rows_of reads)) (components_of reads) (uses_of reads)
+platform_made lines reads = document_of lines (with_rows nothing (rows_of reads))
+    (components_of reads) (uses_of reads)
 
 -- the fault of the first line that has one, else the document, where it is whole
 unfoldable pub platform_of : Lines → Result PlatformDoc Fault

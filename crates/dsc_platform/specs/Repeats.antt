@@ -30,15 +30,18 @@ abbrev pub repeats : Component → Component → Bool
 repeats old component = bytes_eq old.inf component.inf && meets old.arch component.arch
 
 abbrev pub repeat_fault : List Component → Component → Option Fault
-repeat_fault above component = if list_any (λ old. repeats old component) above then Some (fault_of 228 component.at component.inf) else None
+repeat_fault above component = if list_any (λ old. repeats old component) above
+    then Some (fault_of 228 component.at component.inf) else None
 
 -- the first that repeats one above it
 unfoldable pub repeats_fault : List Component → Option Fault
-repeats_fault components = lines_fault (λ above component last. repeat_fault above component) [] components
+repeats_fault components = lines_fault (λ above component last. repeat_fault above component) []
+    components
 
 abbrev pub arch_at : List ℕ → Component → List Arch
 arch_at inf component = if bytes_eq component.inf inf then component.arch ∷ [] else []
 
 -- a table gives the architectures of each module above
 abbrev pub Arched : {S : Type 0} → List Component → HashMap (Vec ℕ) (List Arch) S → Type 0
-Arched above table = (key : Vec ℕ) → unwrap_or (get same_key table key) [] ≡ flat_map (arch_at key.items) above
+Arched above table = (key : Vec ℕ) → unwrap_or (get same_key table key) []
+    ≡ flat_map (arch_at key.items) above

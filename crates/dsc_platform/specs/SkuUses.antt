@@ -1,4 +1,5 @@
--- That each SKU that is named is one of [SkuIds]. The order of the places is this project's own rule.
+-- That each SKU that is named is one of [SkuIds]. The order of the places is this project's own
+-- rule.
 use Rattle.std.specs.Prelude.{ℕ, Bool, true, false, ◌&&◌, ◌||◌, if◌then◌else◌, List, [], ◌∷◌, Option, Some, None, codes}
 use Rattle.std.specs.List.{flat_map, list_any}
 use Rattle.build_base.specs.First.{or_else}
@@ -24,7 +25,8 @@ head_uses at (scope.Pcds p) = record { at = at; text = p.sku; chosen = false } �
 head_uses at head = []
 
 abbrev pub parent_uses : Place → List ℕ → List ℕ → List SkuUse
-parent_uses at name parent = if is_default name then [] else record { at = at; text = parent; chosen = false } ∷ []
+parent_uses at name parent = if is_default name then []
+    else record { at = at; text = parent; chosen = false } ∷ []
 
 -- a SKU names its parent, and SKUID_IDENTIFIER those of the platform
 abbrev pub row_uses : Said → List SkuUse
@@ -48,17 +50,20 @@ unknown at names name = if is_known names name then None else Some (fault_of 229
 
 -- `ALL`, or names with `|` between them
 abbrev pub chosen_unknown : Place → List (List ℕ) → List ℕ → Option Fault
-chosen_unknown at names text = if same_word text (codes "ALL") then None else first_fault (unknown at names) (field_texts text)
+chosen_unknown at names text = if same_word text (codes "ALL") then None
+    else first_fault (unknown at names) (field_texts text)
 
 abbrev pub use_fault : List (List ℕ) → SkuUse → Option Fault
-use_fault names use_ = if use_.chosen then chosen_unknown use_.at names use_.text else unknown use_.at names use_.text
+use_fault names use_ = if use_.chosen then chosen_unknown use_.at names use_.text
+    else unknown use_.at names use_.text
 
 abbrev pub is_chosen : SkuUse → Bool
 is_chosen use_ = use_.chosen
 
 -- a SKUID_IDENTIFIER that a later one overrides names none
 abbrev pub standing_fault : List (List ℕ) → SkuUse → List SkuUse → Option Fault
-standing_fault names use_ later = if use_.chosen && list_any is_chosen later then None else use_fault names use_
+standing_fault names use_ later = if use_.chosen && list_any is_chosen later then None
+    else use_fault names use_
 
 -- the first name that is no SKU's
 abbrev pub uses_fault : List (List ℕ) → List SkuUse → Option Fault

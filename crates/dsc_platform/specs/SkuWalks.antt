@@ -1,4 +1,5 @@
--- That each SKU's walk by parents comes to DEFAULT (EDK II DSC specification, section 3.5). Which line is told is this project's own rule.
+-- That each SKU's walk by parents comes to DEFAULT (EDK II DSC specification, section 3.5). Which
+-- line is told is this project's own rule.
 use Rattle.std.specs.Prelude.{ℕ, suc, zero, ◌+◌, ◌==◌, Bool, true, false, ◌||◌, if◌then◌else◌, List, [], ◌∷◌, map, length, slice_get, Option, Some, None}
 use Rattle.build_base.specs.First.{or_else}
 use Rattle.build_base.specs.FaultText.{fault_of}
@@ -26,18 +27,21 @@ next_of parents place = joined (slice_get parents place)
 unfoldable pub comes_by : List (Option ℕ) → ℕ → ℕ → Option ℕ → Bool
 comes_by parents target zero place = false
 comes_by parents target (suc steps) None = false
-comes_by parents target (suc steps) (Some place) = (place == target) || comes_by parents target steps (next_of parents place)
+comes_by parents target (suc steps) (Some place) =
+    (place == target) || comes_by parents target steps (next_of parents place)
 
 -- a walk that meets its start does so within as many steps as there are SKUs
 abbrev pub is_loop : List (Option ℕ) → ℕ → Bool
 is_loop parents place = comes_by parents place (length parents) (next_of parents place)
 
 abbrev pub loop_fault : List (Option ℕ) → ℕ → SkuLine → Option Fault
-loop_fault parents place line = if is_loop parents place then Some (fault_of 230 line.at line.sku.name) else None
+loop_fault parents place line = if is_loop parents place
+    then Some (fault_of 230 line.at line.sku.name) else None
 
 abbrev pub loops_from : List (Option ℕ) → ℕ → List SkuLine → Option Fault
 loops_from parents place [] = None
-loops_from parents place (line ∷ lines) = or_else (loop_fault parents place line) (loops_from parents (place + 1) lines)
+loops_from parents place (line ∷ lines) =
+    or_else (loop_fault parents place line) (loops_from parents (place + 1) lines)
 
 -- the first SKU whose walk meets its start
 unfoldable pub loops_fault : List SkuLine → Option Fault

@@ -1,4 +1,5 @@
--- What the lines state, components apart. The last line of a key holds; the other lists stand in the order of the lines.
+-- What the lines state, components apart. The last line of a key holds; the other lists stand in
+-- the order of the lines.
 use Rattle.std.specs.Prelude.{ℕ, List, [], ◌∷◌, ◌++◌, map, Option, None}
 use Rattle.std.specs.List.{flat_map}
 use Rattle.build_base.specs.declared.guid.Guid.{Guid as GuidBytes}
@@ -66,7 +67,14 @@ keys_with keys rows =
 abbrev pub nothing : Stated
 nothing =
     record {
-      keys = record { name = None; guid = None; arches = None; options = record { output = None; sku_choice = None; flash = None } };
+      keys =
+          record {
+            name = None;
+            guid = None;
+            arches = None;
+            options =
+                record { output = None; sku_choice = None; flash = None };
+          };
       skus = [];
       libraries = [];
       pcds = [];

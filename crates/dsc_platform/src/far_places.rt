@@ -62,8 +62,8 @@ fn marked(alloc: Global, far: &[Option<usize>]) -> Result<Vec<bool>, WantOfMemor
     Ok(marks)
 }
 
-/// Marks the places to which long walks lead. A place without a mark is on no circle. The work grows with the number of
-/// places, and with its logarithm.
+/// Marks the places to which long walks lead. A place without a mark is on no circle. The work
+/// grows with the number of places, and with its logarithm.
 #[tactic(auto, using(crate::proofs::FarLemmas::unmarked))]
 pub fn marks_of(alloc: Global, parents: &[Option<usize>]) -> Result<Vec<bool>, WantOfMemory>
     ensures { IfOk result (λ marks. Unlooped parents.now marks.items) }

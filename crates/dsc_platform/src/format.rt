@@ -22,8 +22,9 @@ use indexmap::IndexMap;
 use meta_lexer::head::Head;
 use std::alloc::Global;
 
-/// What is kept of the lines above: what they state, what they left open, where each SKU stands, the SKUs
-/// that they name, the components of all blocks but the last, and the parts of the last one.
+/// What is kept of the lines above: what they state, what they left open, where each SKU stands,
+/// the SKUs that they name, the components of all blocks but the last, and the parts of the last
+/// one.
 #[derive(Drop)]
 pub struct DscFormat {
     pub alloc: Global,
@@ -99,7 +100,10 @@ fn take_parts(
     rest: &mut Vec<Part>,
     parts: Vec<Part>,
 ) -> Result<(), WantOfMemory>
-    ensures { (lines : List (List PartRow)) → BlocksHeld lines done.old first.old.items rest.old.items → OnOk result (BlocksHeld (lines ++ parts.items ∷ []) done.new first.new.items rest.new.items) }
+    ensures { (lines : List (List PartRow))
+        → BlocksHeld lines done.old first.old.items rest.old.items
+        → OnOk result (BlocksHeld (lines ++ parts.items ∷ []) done.new first.new.items
+        rest.new.items) }
 {
     if begins(parts.as_slice()) {
         push_block(alloc, done, first.as_slice(), rest.as_slice())?;
@@ -153,7 +157,8 @@ impl Format for DscFormat {
     }
 
     fn keep(&mut self, rows: Vec<Said>) -> Result<(), WantOfMemory>
-        ensures { (above : List (Read Scope Said)) → Holds above self.old → OnOk result (Holds (above ++ gave rows.items ∷ []) self.new) }
+        ensures { (above : List (Read Scope Said)) → Holds above self.old
+            → OnOk result (Holds (above ++ gave rows.items ∷ []) self.new) }
     {
         self.standing = standing_below(self.standing, rows.as_slice());
         push_rows(self.alloc, &mut self.uses, rows.as_slice())?;

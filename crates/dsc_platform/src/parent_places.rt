@@ -15,7 +15,8 @@ fn parent_place(
     names: &IndexMap<Vec<u8>, usize>,
     line: &SkuLine,
 ) -> Result<Option<usize>, WantOfMemory>
-    ensures { (ns : List (List ℕ)) → Placed ns names.now → IfOk result (λ place. place ≡ parent_place ns line.now) }
+    ensures { (ns : List (List ℕ)) → Placed ns names.now
+        → IfOk result (λ place. place ≡ parent_place ns line.now) }
 {
     if is_default(line.sku.name.bytes()) {
         return Ok(None);
@@ -40,7 +41,8 @@ pub fn parents_among(
     names: &IndexMap<Vec<u8>, usize>,
     skus: &[SkuLine],
 ) -> Result<Vec<Option<usize>>, WantOfMemory>
-    ensures { (ns : List (List ℕ)) → Placed ns names.now → IfOk result (λ parents. parents.items ≡ map (parent_place ns) skus.now) }
+    ensures { (ns : List (List ℕ)) → Placed ns names.now
+        → IfOk result (λ parents. parents.items ≡ map (parent_place ns) skus.now) }
 {
     let mut parents = Vec::new(alloc);
     for line in skus {

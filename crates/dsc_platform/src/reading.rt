@@ -102,7 +102,8 @@ fn check_whole(
     components: &[Component],
     uses: &[SkuUse],
 ) -> Result<(), Refusal>
-    ensures { Placed (names_of skus.now) names.now → Checks result (whole_fault skus.now components.now uses.now) }
+    ensures { Placed (names_of skus.now) names.now
+        → Checks result (whole_fault skus.now components.now uses.now) }
 {
     check_repeats(alloc, components)?;
     check_uses(alloc, names, uses)?;
@@ -122,7 +123,9 @@ fn make_document(
     guid: Guid,
     arches: Rows<Arch>,
 ) -> Result<NamedPlatform, WantOfMemory>
-    ensures { IfOk result (λ d. d ≡ with_required lines.now options skus.now libraries pcds components name guid arches) }
+    ensures { IfOk result
+        (λ d. d ≡ with_required lines.now options skus.now libraries pcds components name guid
+        arches) }
 {
     let Options {
         output,
@@ -164,7 +167,8 @@ fn end_blocks(format: DscFormat) -> Result<Ended, WantOfMemory>
     ensures stated { IfOk result (λ e. e.stated ≡ format.stated) }
     ensures names { IfOk result (λ e. e.names ≡ format.names) }
     ensures uses { IfOk result (λ e. e.uses ≡ format.uses) }
-    ensures components { IfOk result (λ e. e.components ≡ format.done ++ built format.first.items format.rest.items) }
+    ensures components { IfOk result
+        (λ e. e.components ≡ format.done ++ built format.first.items format.rest.items) }
 {
     let DscFormat {
         alloc,
@@ -188,7 +192,8 @@ fn end_blocks(format: DscFormat) -> Result<Ended, WantOfMemory>
 // The document, where each required key is stated and nothing is at fault in the whole.
 #[tactic(auto, unfolding(crate::specs::Platform::document_of))]
 fn document(alloc: Global, lines: &Lines, ended: Ended) -> Result<NamedPlatform, Refusal>
-    ensures { Placed (names_of ended.stated.skus) ended.names → Answers result (document_of lines.now ended.stated ended.components ended.uses) }
+    ensures { Placed (names_of ended.stated.skus) ended.names
+        → Answers result (document_of lines.now ended.stated ended.components ended.uses) }
 {
     let Ended {
         stated,
@@ -258,8 +263,8 @@ impl Whole for DscFormat {
     }
 }
 
-/// The platform that these lines describe, or the first fault: of the first line that has one, else of the
-/// whole, at its root's line 0 where a required key isn't stated.
+/// The platform that these lines describe, or the first fault: of the first line that has one, else
+/// of the whole, at its root's line 0 where a required key isn't stated.
 #[tactic(auto, unfolding(crate::specs::Platform::platform_of), using(crate::proofs::ShapeOfLines::skus_end))]
 pub fn read_platform(alloc: Global, permit: Permit, lines: &Lines) -> Result<PlatformDoc, Refusal>
     ensures value { Answers result (platform_of lines.now) }

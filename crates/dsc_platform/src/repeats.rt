@@ -40,7 +40,8 @@ fn any_meets(arches: &[Arch], arch: Arch) -> bool
 
 // Whether a component repeats one of those in a table.
 fn is_repeated(table: &IndexMap<Vec<u8>, Rows<Arch>>, key: &Vec<u8>, component: &Component) -> bool
-    ensures { (above : List Part) → key.now.items ≡ component.now.inf → Arched above table.now → result ≡ list_any (λ old. repeats old component.now) above }
+    ensures { (above : List Part) → key.now.items ≡ component.now.inf → Arched above table.now
+        → result ≡ list_any (λ old. repeats old component.now) above }
 {
     match table.get(key) {
         Some(arches) => any_meets(arches.items(), component.arch),
@@ -55,7 +56,8 @@ fn take_arches(
     key: &Vec<u8>,
 ) -> Rows<Arch>
     ensures arches { result ≡ unwrap_or (get same_key table.old key.now) [] }
-    ensures others { (other : Bytes ℕ) → get same_key table.new other ≡ cond (same_key key.now other) None (get same_key table.old other) }
+    ensures others { (other : Bytes ℕ) → get same_key table.new other
+        ≡ cond (same_key key.now other) None (get same_key table.old other) }
 {
     match table.swap_remove(key) {
         Some(arches) => arches,
@@ -70,7 +72,8 @@ fn add_component(
     key: Vec<u8>,
     component: &Component,
 ) -> Result<(), WantOfMemory>
-    ensures { (above : List Part) → key.items ≡ component.now.inf → Arched above table.old → OnOk result (Arched (above ++ component.now ∷ []) table.new) }
+    ensures { (above : List Part) → key.items ≡ component.now.inf → Arched above table.old
+        → OnOk result (Arched (above ++ component.now ∷ []) table.new) }
 {
     let mut arches = take_arches(alloc, table, &key);
     arches.push(component.arch)?;
@@ -92,8 +95,10 @@ fn check_component(
     table: &mut IndexMap<Vec<u8>, Rows<Arch>>,
     component: &Component,
 ) -> Result<(), Refusal>
-    ensures fault { (above : List Part) → Arched above table.old → Checks result (repeat_fault above component.now) }
-    ensures table { (above : List Part) → Arched above table.old → OnOk result (Arched (above ++ component.now ∷ []) table.new) }
+    ensures fault { (above : List Part) → Arched above table.old
+        → Checks result (repeat_fault above component.now) }
+    ensures table { (above : List Part) → Arched above table.old
+        → OnOk result (Arched (above ++ component.now ∷ []) table.new) }
 {
     let key = key_of(alloc, component)?;
     if is_repeated(table, &key, component) {

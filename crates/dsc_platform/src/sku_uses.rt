@@ -33,7 +33,8 @@ fn push_use(
     text: &Text,
     chosen: bool,
 ) -> Result<(), WantOfMemory>
-    ensures { OnOk result (uses.new ≡ uses.old ++ record { at = at.now; text = text.now; chosen = chosen } ∷ []) }
+    ensures { OnOk result (uses.new ≡ uses.old
+        ++ record { at = at.now; text = text.now; chosen = chosen } ∷ []) }
 {
     uses.push(SkuUse {
         at: at.copy(alloc)?,
@@ -112,7 +113,8 @@ fn is_known(
     names: &IndexMap<Vec<u8>, usize>,
     name: &[u8],
 ) -> Result<bool, WantOfMemory>
-    ensures { (ns : List (List ℕ)) → Placed ns names.now → IfOk result (λ known. known ≡ is_known ns name.now) }
+    ensures { (ns : List (List ℕ)) → Placed ns names.now
+        → IfOk result (λ known. known ≡ is_known ns name.now) }
 {
     if is_default(name) {
         return Ok(true);
@@ -129,7 +131,8 @@ fn check_name(
     at: &Place,
     name: &[u8],
 ) -> Result<(), Refusal>
-    ensures { (ns : List (List ℕ)) → Placed ns names.now → Checks result (unknown at.now ns name.now) }
+    ensures { (ns : List (List ℕ)) → Placed ns names.now
+        → Checks result (unknown at.now ns name.now) }
 {
     let known = is_known(alloc, names, name)?;
     if known {
@@ -144,7 +147,8 @@ fn check_names(
     at: &Place,
     fields: &[Text],
 ) -> Result<(), Refusal>
-    ensures { (ns : List (List ℕ)) → Placed ns names.now → Checks result (first_fault (unknown at.now ns) fields.now) }
+    ensures { (ns : List (List ℕ)) → Placed ns names.now
+        → Checks result (first_fault (unknown at.now ns) fields.now) }
 {
     for field in fields {
         if let Err(refusal) = check_name(alloc, names, at, field.bytes()) {
@@ -160,7 +164,8 @@ fn check_choice(
     at: &Place,
     text: &[u8],
 ) -> Result<(), Refusal>
-    ensures { (ns : List (List ℕ)) → Placed ns names.now → Checks result (chosen_unknown at.now ns text.now) }
+    ensures { (ns : List (List ℕ)) → Placed ns names.now
+        → Checks result (chosen_unknown at.now ns text.now) }
 {
     if same_word(text, b"ALL".as_slice()) {
         return Ok(());
@@ -180,7 +185,8 @@ fn check_use(alloc: Global, names: &IndexMap<Vec<u8>, usize>, sku: &SkuUse) -> R
 
 // What a check finds, else what was found before.
 fn found_first(check: Result<(), Refusal>, found: Result<(), Refusal>) -> Result<(), Refusal>
-    ensures { (first second : Option Found) → Checks check first → Checks found second → Checks result (or_else first second) }
+    ensures { (first second : Option Found) → Checks check first → Checks found second
+        → Checks result (or_else first second) }
 {
     match check {
         Ok(()) => found,
@@ -194,7 +200,8 @@ fn check_standing(
     sku: &SkuUse,
     overridden: bool,
 ) -> Result<(), Refusal>
-    ensures { (ns : List (List ℕ)) → Placed ns names.now → Checks result (if sku.now.chosen && overridden then None else use_fault ns sku.now) }
+    ensures { (ns : List (List ℕ)) → Placed ns names.now
+        → Checks result (if sku.now.chosen && overridden then None else use_fault ns sku.now) }
 {
     if sku.chosen && overridden {
         return Ok(());
@@ -202,7 +209,8 @@ fn check_standing(
     check_use(alloc, names, sku)
 }
 
-/// Refuses the first name that is no SKU's. It goes from the last to the first, since the last SKUID_IDENTIFIER counts alone.
+/// Refuses the first name that is no SKU's. It goes from the last to the first, since the last
+/// SKUID_IDENTIFIER counts alone.
 pub fn check_uses(
     alloc: Global,
     names: &IndexMap<Vec<u8>, usize>,

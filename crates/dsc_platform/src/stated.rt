@@ -96,7 +96,8 @@ fn push_sku(
     sku: SkuLine,
 ) -> Result<(), WantOfMemory>
     ensures skus { OnOk result (skus.new ≡ skus.old ++ sku ∷ []) }
-    ensures names { Placed (names_of skus.old) names.old → OnOk result (Placed (names_of skus.new) names.new) }
+    ensures names { Placed (names_of skus.old) names.old
+        → OnOk result (Placed (names_of skus.new) names.new) }
 {
     add_name(alloc, names, sku.sku.name.bytes(), skus.items().len())?;
     skus.push(sku)?;
@@ -112,7 +113,8 @@ fn keep_row(
     row: Said,
 ) -> Result<(), WantOfMemory>
     ensures stated { OnOk result (stated.new ≡ with_rows stated.old (row ∷ [])) }
-    ensures names { Placed (names_of stated.old.skus) names.old → OnOk result (Placed (names_of stated.new.skus) names.new) }
+    ensures names { Placed (names_of stated.old.skus) names.old
+        → OnOk result (Placed (names_of stated.new.skus) names.new) }
     ensures parts { OnOk result (parts.new.items ≡ parts.old.items ++ parts_in row) }
 {
     match row {
@@ -149,8 +151,10 @@ pub fn keep_rows(
     rows: Vec<Said>,
 ) -> Result<(), WantOfMemory>
     ensures stated { OnOk result (stated.new ≡ with_rows stated.old rows.items) }
-    ensures names { Placed (names_of stated.old.skus) names.old → OnOk result (Placed (names_of stated.new.skus) names.new) }
-    ensures parts { OnOk result (parts.new.items ≡ parts.old.items ++ flat_map parts_in rows.items) }
+    ensures names { Placed (names_of stated.old.skus) names.old
+        → OnOk result (Placed (names_of stated.new.skus) names.new) }
+    ensures parts { OnOk result (parts.new.items
+        ≡ parts.old.items ++ flat_map parts_in rows.items) }
 {
     for row in rows {
         keep_row(alloc, stated, names, parts, row)?;

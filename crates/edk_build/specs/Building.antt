@@ -38,7 +38,8 @@ pub record IsCounted (w : World) (cache : List (Entry Key Out)) (steps needed : 
   pub all : IsNeededCount means w key.All needed
 
 -- what a build that came to its end has done, where this cache was left before it
-pub record IsBuilt (w : World) (cache : List (Entry Key Out)) (label : Label) (status : Status) (old new : Option (List Emission)) : Type 0 where
+pub record IsBuilt (w : World) (cache : List (Entry Key Out)) (label : Label) (status : Status)
+    (old new : Option (List Emission)) : Type 0 where
   pub steps : ℕ
   pub needed : ℕ
   pub counted : IsCounted w cache steps needed
@@ -46,7 +47,8 @@ pub record IsBuilt (w : World) (cache : List (Entry Key Out)) (label : Label) (s
   pub written : Spelled old new (emitted label (outcome w) steps (needed - steps))
 
 -- what a build has done whose last emission failed
-pub record IsCutShort (w : World) (cache : List (Entry Key Out)) (label : Label) (old new : Option (List Emission)) : Type 0 where
+pub record IsCutShort (w : World) (cache : List (Entry Key Out)) (label : Label)
+    (old new : Option (List Emission)) : Type 0 where
   pub steps : ℕ
   pub needed : ℕ
   pub counted : IsCounted w cache steps needed
@@ -71,11 +73,14 @@ IsOwn status cache = (r : Outcome Out) × IsEntryOf key.All r cache × (status �
 -- what a build leaves: no other cache has its entries
 pub record Leaves (w : World) (old new : List (Entry Key Out)) : Type 0 where
   pub left : IsLeft means w old key.All new
-  pub only : (other : List (Entry Key Out)) → AreInOrder key_cmp other → IsLeft means w old key.All other → other ≡ new
+  pub only : (other : List (Entry Key Out)) → AreInOrder key_cmp other
+      → IsLeft means w old key.All other → other ≡ new
   pub full : IsFull means w key.All new
 
--- what the engine brought in a world: the top step's value, the cache that is left, and how many steps ran and were reused
-pub record IsBrought (w : World) (old : List (Entry Key Out)) (result : Outcome Out) (left : List (Entry Key Out)) (steps reused : ℕ) : Type 0 where
+-- what the engine brought in a world: the top step's value, the cache that is left, and how many
+-- steps ran and were reused
+pub record IsBrought (w : World) (old : List (Entry Key Out)) (result : Outcome Out)
+    (left : List (Entry Key Out)) (steps reused : ℕ) : Type 0 where
   pub needed : ℕ
   pub value : result ≡ value_in w key.All
   pub agrees : AgreesOnGood result (value_in w) left

@@ -35,7 +35,8 @@ back_of tells status = if tells then codes ", status " ++ status_digit status el
 -- how many steps ran and how many were reused, in a line
 unfoldable pub summary : Label → Status → ℕ → ℕ → List ℕ
 summary label status steps reused =
-    front_of label.folder ++ decimal steps ++ codes " steps, " ++ decimal reused ++ codes " reused" ++ back_of label.tells_status status
+    front_of label.folder ++ decimal steps ++ codes " steps, " ++ decimal reused ++ codes " reused"
+    ++ back_of label.tells_status status
     ++ codes "\n"
 
 -- each file, or the text of the fault to standard error

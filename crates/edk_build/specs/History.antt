@@ -1,5 +1,6 @@
--- What a replay does: edits and builds in the order of a script's lines, each build over the tree's files
--- after the edits above it, from the cache that the build above it left. The rule is this project's own.
+-- What a replay does: edits and builds in the order of a script's lines, each build over the tree's
+-- files after the edits above it, from the cache that the build above it left. The rule is this
+-- project's own.
 use Rattle.std.specs.Prelude.{◌≡◌, ◌⊎◌, ◌+◌, ◌-◌, ◌++◌, ℕ, List, [], ◌∷◌, Option, Some, None, decimal, true, Contains}
 use Rattle.std.specs.Option.{IfSome, IsSomeAnd}
 use Rattle.build_base.specs.Outside.{Files, Emission, got_of}
@@ -44,7 +45,12 @@ label_of k = record { folder = Some (decimal k); tells_status = true }
 
 -- after one more edit
 abbrev pub after_edit : Stand → List ℕ → Option (List ℕ) → Stand
-after_edit s path bytes = record { edits = s.edits ++ record { path = path; bytes = bytes } ∷ []; cache = s.cache; builds = s.builds }
+after_edit s path bytes =
+    record {
+      edits = s.edits ++ record { path = path; bytes = bytes } ∷ [];
+      cache = s.cache;
+      builds = s.builds;
+    }
 
 -- after one more build, which left this cache
 abbrev pub after_build : Stand → List (Entry Key Out) → Stand
@@ -62,12 +68,15 @@ pub record Gives (w : World) (s : Stand) (outputs : List Output) : Type 0 where
   pub list : outputs ≡ emitted (label_of (s.builds + 1)) (outcome w) steps (needed - steps)
 
 -- and which cache it leaves
-pub record GivesAndLeaves (w : World) (s : Stand) (outputs : List Output) (cache : List (Entry Key Out)) : Type 0 where
+pub record GivesAndLeaves (w : World) (s : Stand) (outputs : List Output)
+    (cache : List (Entry Key Out)) : Type 0 where
   pub gives : Gives w s outputs
   pub leaves : Leaves w s.cache cache
 
--- a build came to its end: what it gave, where the tree tells what it holds, and the steps that it ran
-pub record IsBuild (held : Option Files) (job : Job) (s : Stand) (a : List Key) (outputs : List Output) (next : Stand) (b : List Key) : Type 0 where
+-- a build came to its end: what it gave, where the tree tells what it holds, and the steps that it
+-- ran
+pub record IsBuild (held : Option Files) (job : Job) (s : Stand) (a : List Key)
+    (outputs : List Output) (next : Stand) (b : List Key) : Type 0 where
   pub told : IfSome held (λ files. GivesAndLeaves (world_at files s job) s outputs next.cache)
   pub ran : Ran (setting means (over s.edits held) (job_fields job) s.cache) key.All a b
   pub all : RanAll (setting means (over s.edits held) (job_fields job) s.cache) key.All a b
@@ -77,20 +86,26 @@ pub record IsBuild (held : Option Files) (job : Job) (s : Stand) (a : List Key) 
 -- a file got the bytes that another one has in the tree
 abbrev pub IsPut : Option Files → List ℕ → List ℕ → Stand → Stand → Type 0
 IsPut held path from s next =
-    (bytes : List ℕ) × IfSome held (λ files. got_of file_limit (files from) ≡ File bytes) × (next ≡ after_edit s path (Some bytes))
+    (bytes : List ℕ) × IfSome held (λ files. got_of file_limit (files from) ≡ File bytes)
+    × (next ≡ after_edit s path (Some bytes))
 
 -- an order was carried out at a stand: what it emitted, the next stand, and what the book became
-abbrev pub IsDone : Option Files → Order → Stand → List Key → List Output → Stand → List Key → Type 0
-IsDone held (Put path from) s a outputs next b = IsPut held path from s next × (outputs ≡ []) × (b ≡ a)
-IsDone held (Drop path) s a outputs next b = (next ≡ after_edit s path None) × (outputs ≡ []) × (b ≡ a)
+abbrev pub IsDone : Option Files → Order → Stand → List Key → List Output → Stand → List Key
+    → Type 0
+IsDone held (Put path from) s a outputs next b = IsPut held path from s next × (outputs ≡ [])
+    × (b ≡ a)
+IsDone held (Drop path) s a outputs next b = (next ≡ after_edit s path None) × (outputs ≡ [])
+    × (b ≡ a)
 IsDone held (Build job) s a outputs next b = IsBuild held job s a outputs next b
 
 -- lines were carried out, one after the other
-unfoldable pub AreDone : Option Files → List ScriptLine → Stand → List Key → List Output → Stand → List Key → Type 0
+unfoldable pub AreDone : Option Files → List ScriptLine → Stand → List Key → List Output → Stand
+    → List Key → Type 0
 AreDone held [] s a outputs next b = (next ≡ s) × (outputs ≡ []) × (b ≡ a)
 AreDone held (line ∷ lines) s a outputs next b =
     (front : List Output) × (mid : Stand) × (now : List Key) × (back : List Output)
-    × IsDone held line.order s a front mid now × AreDone held lines mid now back next b × (outputs ≡ front ++ back)
+    × IsDone held line.order s a front mid now × AreDone held lines mid now back next b
+    × (outputs ≡ front ++ back)
 
 abbrev pub too_long : List ℕ → Fault
 too_long path = fault_of 102 (record { path = path; line = 0 }) path
@@ -108,7 +123,8 @@ from_fault at number from TooLong = Some (too_long from)
 
 -- the fault of an order: bytes are put from no file, or from one that is too long
 abbrev pub order_fault : Files → List ℕ → ℕ → Order → Option Fault
-order_fault files at number (Put path from) = from_fault at number from (got_of file_limit (files from))
+order_fault files at number (Put path from) =
+    from_fault at number from (got_of file_limit (files from))
 order_fault files at number _ = None
 
 abbrev pub fault_outputs : Fault → List Output
@@ -117,28 +133,37 @@ fault_outputs fault = text ToErr (fault_text fault) ∷ []
 -- the fault of an order is told
 abbrev pub IsFaulty : Option Files → List ℕ → ℕ → Order → List Output → Type 0
 IsFaulty held at number order outputs =
-    IfSome held (λ files. IsSomeAnd (order_fault files at number order) (λ fault. outputs ≡ fault_outputs fault))
+    IfSome held (λ files. IsSomeAnd (order_fault files at number order)
+    (λ fault. outputs ≡ fault_outputs fault))
 
 -- what an order emits, where the last emission of a run failed
 abbrev pub IsLast : Option Files → List ℕ → ℕ → Order → Stand → List Output → Type 0
-IsLast held at number (Build job) s outputs = IfSome held (λ files. Gives (world_at files s job) s outputs)
+IsLast held at number (Build job) s outputs =
+    IfSome held (λ files. Gives (world_at files s job) s outputs)
 IsLast held at number order s outputs = IsFaulty held at number order outputs
 
 -- of an order that wasn't carried out, the book has steps of its build
 abbrev pub HasBegun : Option Files → Order → Stand → List Key → List Key → Type 0
-HasBegun held (Build job) s a b = Ran (setting means (over s.edits held) (job_fields job) s.cache) key.All a b
+HasBegun held (Build job) s a b =
+    Ran (setting means (over s.edits held) (job_fields job) s.cache) key.All a b
 HasBegun held _ s a b = b ≡ a
 
 -- a replay stopped at an order, which had emitted this
-abbrev pub StopsAt : Option Files → List ℕ → ScriptLine → Status → Stand → List Key → List Output → List Key → Type 0
-StopsAt held at line answer.FileFault s a outputs b = IsFaulty held at line.number line.order outputs × (b ≡ a)
-StopsAt held at line answer.ReadFault s a outputs b = (outputs ≡ []) × HasBegun held line.order s a b
-StopsAt held at line answer.WriteFault s a outputs b = IsLast held at line.number line.order s outputs × HasBegun held line.order s a b
-StopsAt held at line answer.WantOfMemory s a outputs b = (outputs ≡ []) × HasBegun held line.order s a b
+abbrev pub StopsAt : Option Files → List ℕ → ScriptLine → Status → Stand → List Key → List Output
+    → List Key → Type 0
+StopsAt held at line answer.FileFault s a outputs b =
+    IsFaulty held at line.number line.order outputs × (b ≡ a)
+StopsAt held at line answer.ReadFault s a outputs b = (outputs ≡ [])
+    × HasBegun held line.order s a b
+StopsAt held at line answer.WriteFault s a outputs b =
+    IsLast held at line.number line.order s outputs × HasBegun held line.order s a b
+StopsAt held at line answer.WantOfMemory s a outputs b = (outputs ≡ [])
+    × HasBegun held line.order s a b
 StopsAt held at line _ s a outputs b = ⊥
 
 -- an order was carried out, and what it emitted is written
-pub record WasDone (held : Option Files) (order : Order) (s : Stand) (a : List Key) (next : Stand) (b : List Key) (old new : Option (List Emission)) : Type 0 where
+pub record WasDone (held : Option Files) (order : Order) (s : Stand) (a : List Key) (next : Stand)
+    (b : List Key) (old new : Option (List Emission)) : Type 0 where
   pub outputs : List Output
   pub done : IsDone held order s a outputs next b
   pub written : IfSome held (λ files. Spelled old new outputs)
@@ -149,19 +174,22 @@ Written answer.WriteFault old new outputs = SpelledCut old new outputs
 Written _ old new outputs = Spelled old new outputs
 
 -- a replay stopped at a line, and what that emitted is written
-pub record HasStopped (held : Option Files) (at : List ℕ) (line : ScriptLine) (status : Status) (s : Stand) (a b : List Key) (old new : Option (List Emission)) : Type 0 where
+pub record HasStopped (held : Option Files) (at : List ℕ) (line : ScriptLine) (status : Status)
+    (s : Stand) (a b : List Key) (old new : Option (List Emission)) : Type 0 where
   pub outputs : List Output
   pub stopped : StopsAt held at line status s a outputs b
   pub written : IfSome held (λ files. Written status old new outputs)
 
 -- a replay ended with these lines left
-abbrev pub EndsAt : Option Files → List ℕ → List ScriptLine → Status → Stand → List Key → List Output → List Key → Type 0
+abbrev pub EndsAt : Option Files → List ℕ → List ScriptLine → Status → Stand → List Key
+    → List Output → List Key → Type 0
 EndsAt held at [] status s a outputs b = (status ≡ answer.Done) × (outputs ≡ []) × (b ≡ a)
 EndsAt held at (line ∷ lines) status s a outputs b = StopsAt held at line status s a outputs b
 
--- The history of a script: lines that were carried out, and how it ended. After status 0 that is all lines,
--- and after status 1 the lines above one whose fault was told.
-pub record History (held : Option Files) (at : List ℕ) (lines : List ScriptLine) (status : Status) (a : List Key) (outputs : List Output) (b : List Key) : Type 0 where
+-- The history of a script: lines that were carried out, and how it ended. After status 0 that is
+-- all lines, and after status 1 the lines above one whose fault was told.
+pub record History (held : Option Files) (at : List ℕ) (lines : List ScriptLine) (status : Status)
+    (a : List Key) (outputs : List Output) (b : List Key) : Type 0 where
   pub above : List ScriptLine
   pub left : List ScriptLine
   pub whole : lines ≡ above ++ left
@@ -187,25 +215,31 @@ IsUnread answer.WantOfMemory = Unit {0}
 IsUnread _ = ⊥
 
 -- what a script comes to that is in the grammar, or isn't
-abbrev pub Follows : Option Files → List ℕ → Option (List ScriptLine) → Status → List Key → List Key → Option (List Emission) → Option (List Emission) → Type 0
+abbrev pub Follows : Option Files → List ℕ → Option (List ScriptLine) → Status → List Key → List Key
+    → Option (List Emission) → Option (List Emission) → Type 0
 Follows held at (Some lines) status a b old new =
-    (outputs : List Output) × History held at lines status a outputs b × IfSome held (λ files. Written status old new outputs)
+    (outputs : List Output) × History held at lines status a outputs b
+    × IfSome held (λ files. Written status old new outputs)
 Follows held at None status a b old new = (status ≡ answer.Usage) × (b ≡ a)
 
 -- what comes of what was got as the script
-abbrev pub Comes : Option Files → List ℕ → Got → Status → List Key → List Key → Option (List Emission) → Option (List Emission) → Type 0
+abbrev pub Comes : Option Files → List ℕ → Got → Status → List Key → List Key
+    → Option (List Emission) → Option (List Emission) → Type 0
 Comes held at (File bytes) status a b old new = Follows held at (script_of bytes) status a b old new
 Comes held at Absent status a b old new = IsTold (script_absent at) status old new × (b ≡ a)
 Comes held at TooLong status a b old new = IsTold (too_long at) status old new × (b ≡ a)
 
-abbrev pub IsUntouched : Status → List Key → List Key → Option (List Emission) → Option (List Emission) → Type 0
+abbrev pub IsUntouched : Status → List Key → List Key → Option (List Emission)
+    → Option (List Emission) → Type 0
 IsUntouched status a b old new = IsUnread status × (b ≡ a) × (new ≡ old)
 
 -- what a replay did: nothing, or what comes of the script that the tree has
-abbrev pub IsReplayed : Option Files → List ℕ → Status → List Key → List Key → Option (List Emission) → Option (List Emission) → Type 0
+abbrev pub IsReplayed : Option Files → List ℕ → Status → List Key → List Key
+    → Option (List Emission) → Option (List Emission) → Type 0
 IsReplayed held at status a b old new =
     IsUntouched status a b old new
-    ⊎ ((script : Got) × IfSome held (λ files. script ≡ got_of file_limit (files at)) × Comes held at script status a b old new)
+    ⊎ ((script : Got) × IfSome held (λ files. script ≡ got_of file_limit (files at))
+    × Comes held at script status a b old new)
 
 abbrev pub script_in : Got → Option (List ScriptLine)
 script_in (File bytes) = script_of bytes
@@ -217,7 +251,8 @@ IsMisspelt (File bytes) = script_of bytes ≡ None
 IsMisspelt _ = ⊥
 
 abbrev pub HasNoFault : Files → List ℕ → List ScriptLine → Type 0
-HasNoFault files at lines = (line : ScriptLine) → Contains lines line → order_fault files at line.number line.order ≡ None
+HasNoFault files at lines = (line : ScriptLine) → Contains lines line
+    → order_fault files at line.number line.order ≡ None
 
 -- status 2 comes of words, or of a script, that aren't in the grammar
 abbrev pub IsUsage : Option Files → Option Command → Type 0
@@ -225,10 +260,13 @@ IsUsage held None = Unit {0}
 IsUsage held (Some (command.Build job)) = ⊥
 IsUsage held (Some (command.Selftest n)) = ⊥
 IsUsage held (Some (command.Volinfo at)) = ⊥
-IsUsage held (Some (command.Replay at)) = IfSome held (λ files. IsMisspelt (got_of file_limit (files at)))
+IsUsage held (Some (command.Replay at)) =
+    IfSome held (λ files. IsMisspelt (got_of file_limit (files at)))
 
--- Where the script is in the grammar, no line has a fault and no object failed, the replay is done or memory was wanting.
+-- Where the script is in the grammar, no line has a fault and no object failed, the replay is done
+-- or memory was wanting.
 abbrev pub IsReplayComplete : Files → List ℕ → Type 0 → Type 0 → Status → Type 0
 IsReplayComplete files at tree_failed sink_failed status =
     IfSome (script_in (got_of file_limit (files at))) (λ lines.
-    HasNoFault files at lines → (tree_failed → ⊥) → (sink_failed → ⊥) → (status ≡ answer.Done) ⊎ (status ≡ answer.WantOfMemory))
+    HasNoFault files at lines → (tree_failed → ⊥) → (sink_failed → ⊥) → (status ≡ answer.Done)
+    ⊎ (status ≡ answer.WantOfMemory))

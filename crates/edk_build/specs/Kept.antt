@@ -1,6 +1,7 @@
--- What is kept from one run to the next: the text of a cache. One of an older edition stands for the entries that still hold. Where nothing is
--- kept, or bytes that are the text of no cache, as those that a store left that failed, it stands for the empty cache. The rule is this
--- project's own.
+-- What is kept from one run to the next: the text of a cache. One of an older edition stands for
+-- the entries that still hold. Where nothing is kept, or bytes that are the text of no cache, as
+-- those that a store left that failed, it stands for the empty cache. The rule is this project's
+-- own.
 use Rattle.std.specs.Prelude.{◌≡◌, ◌⊎◌, ℕ, List, [], Option, Some, None}
 use Rattle.std.specs.Option.{IfSome}
 use Rattle.build_rules.specs.Adopting.{adopted}
@@ -37,7 +38,8 @@ IsSoundKept kept = (cache : List (Entry Key Out)) → StandsFor kept cache → A
 
 -- of the cache that what is kept stands for, where the keeper tells it, and else of some cache
 abbrev pub OfKept : Option (Option (List ℕ)) → (List (Entry Key Out) → Type 0) → Type 0
-OfKept told P = (cache : List (Entry Key Out)) × IfSome told (λ kept. StandsFor kept cache) × P cache
+OfKept told P = (cache : List (Entry Key Out)) × IfSome told (λ kept. StandsFor kept cache)
+    × P cache
 
 -- where both tell what they keep, and it stood for no unsound cache before, it stands for none now
 abbrev pub StaysSound : Option (Option (List ℕ)) → Option (Option (List ℕ)) → Type 0

@@ -1,5 +1,5 @@
--- What a build does that begins with the cache that is kept: it writes its outputs, stores the text of the cache that it leaves, and
--- writes its summary.
+-- What a build does that begins with the cache that is kept: it writes its outputs, stores the text
+-- of the cache that it leaves, and writes its summary.
 use Rattle.std.specs.Prelude.{◌≡◌, ◌⊎◌, ◌-◌, ◌++◌, ◌∷◌, [], ℕ, List, Option, Some, Ok, Err}
 use Rattle.std.specs.Option.{IfSome}
 use Rattle.build_base.specs.Keeping.{Stores}
@@ -30,7 +30,8 @@ pub record Told : Type 0 where
   pub keeper : ℕ
 
 abbrev pub told : Option (List Emission) → Option (Option (List ℕ)) → ℕ → ℕ → Told
-told written kept sink keeper = record { written = written; kept = kept; sink = sink; keeper = keeper }
+told written kept sink keeper =
+    record { written = written; kept = kept; sink = sink; keeper = keeper }
 
 -- all outputs were written, the text was stored, and the last line was written
 pub record WroteAll (outputs : List Output) (line stored : List ℕ) (old new : Told) : Type 0 where
@@ -46,7 +47,8 @@ pub record FailedBefore (outputs : List Output) (old new : Told) : Type 0 where
   pub sink : Rose old.sink new.sink
   pub keeper : new.keeper ≡ old.keeper
 
--- the store failed: all outputs were written, and what was kept, nothing or a prefix of the text is kept
+-- the store failed: all outputs were written, and what was kept, nothing or a prefix of the text is
+-- kept
 pub record FailedAtStore (outputs : List Output) (stored : List ℕ) (old new : Told) : Type 0 where
   pub written : Spelled old.written new.written outputs
   pub kept : Stores old.kept new.kept stored (Err Failed)
@@ -54,13 +56,17 @@ pub record FailedAtStore (outputs : List Output) (stored : List ℕ) (old new : 
   pub keeper : Rose old.keeper new.keeper
 
 -- what is told grew by these outputs and by a prefix of a text
-abbrev pub SpelledThenCut : Option (List Emission) → Option (List Emission) → List Output → Target → List ℕ → Type 0
+abbrev pub SpelledThenCut : Option (List Emission) → Option (List Emission) → List Output → Target
+    → List ℕ → Type 0
 SpelledThenCut old new outputs target bytes =
     (emissions : List Emission) × (front : List ℕ) × (rest : List ℕ)
-    × Spells outputs emissions × (bytes ≡ front ++ rest) × Grew old new (emissions ++ (target, front) ∷ [])
+    × Spells outputs emissions × (bytes ≡ front ++ rest)
+    × Grew old new (emissions ++ (target, front) ∷ [])
 
--- the sink failed at the last line: all outputs and a prefix of the line were written, and the text is kept
-pub record FailedBehind (outputs : List Output) (line stored : List ℕ) (old new : Told) : Type 0 where
+-- the sink failed at the last line: all outputs and a prefix of the line were written, and the text
+-- is kept
+pub record FailedBehind (outputs : List Output) (line stored : List ℕ) (old new : Told)
+    : Type 0 where
   pub written : SpelledThenCut old.written new.written outputs ToOut line
   pub kept : Stores old.kept new.kept stored (Ok tt)
   pub sink : Rose old.sink new.sink
@@ -69,33 +75,42 @@ pub record FailedBehind (outputs : List Output) (line stored : List ℕ) (old ne
 -- the first call that failed was the last
 abbrev pub HasFailed : List Output → List ℕ → List ℕ → Told → Told → Type 0
 HasFailed outputs line stored old new =
-    FailedBefore outputs old new ⊎ FailedAtStore outputs stored old new ⊎ FailedBehind outputs line stored old new
+    FailedBefore outputs old new ⊎ FailedAtStore outputs stored old new
+    ⊎ FailedBehind outputs line stored old new
 
--- what a build makes before its first emission: its outputs, its last line and the text of the cache that it leaves
-pub record Makes (given : Outcome Out) (left : List (Entry Key Out)) (steps reused : ℕ) (outputs : List Output) (line stored : List ℕ) : Type 0 where
+-- what a build makes before its first emission: its outputs, its last line and the text of the
+-- cache that it leaves
+pub record Makes (given : Outcome Out) (left : List (Entry Key Out)) (steps reused : ℕ)
+    (outputs : List Output) (line stored : List ℕ) : Type 0 where
   pub stored_is : IsCacheText left stored
-  pub outputs_are : (value : Key → Outcome Out) → AgreesOnGood given value left → outputs ≡ outputs_of plain (files_by value given)
+  pub outputs_are : (value : Key → Outcome Out) → AgreesOnGood given value left
+      → outputs ≡ outputs_of plain (files_by value given)
   pub line_is : line ≡ summary plain (result_status given) steps reused
 
 -- and what comes of them
-abbrev pub AsMade : Outcome Out → List (Entry Key Out) → ℕ → ℕ → (List Output → List ℕ → List ℕ → Type 0) → Type 0
+abbrev pub AsMade : Outcome Out → List (Entry Key Out) → ℕ → ℕ
+    → (List Output → List ℕ → List ℕ → Type 0) → Type 0
 AsMade given left steps reused P =
-    (outputs : List Output) × (line : List ℕ) × (stored : List ℕ) × Makes given left steps reused outputs line stored × P outputs line stored
+    (outputs : List Output) × (line : List ℕ) × (stored : List ℕ)
+    × Makes given left steps reused outputs line stored × P outputs line stored
 
--- A build came to its end that began with this cache: what is kept then is the text of the cache that it left, and what that and the
--- status are, also where the tree tells nothing.
-pub record HasEnded (held : Option Files) (job : Job) (cache : List (Entry Key Out)) (status : Status) (old new : Told) : Type 0 where
+-- A build came to its end that began with this cache: what is kept then is the text of the cache
+-- that it left, and what that and the status are, also where the tree tells nothing.
+pub record HasEnded (held : Option Files) (job : Job) (cache : List (Entry Key Out))
+    (status : Status) (old new : Told) : Type 0 where
   pub left : List (Entry Key Out)
   pub stored : List ℕ
   pub stored_is : IsCacheText left stored
   pub kept : IfSome new.kept (λ kept. kept ≡ Some stored)
   pub own : IsOwn status left
   pub sound : AreSound means cache → AreSound means left
-  pub built : IfSome held (λ files. AreSound means cache → IsBuilt (world_of files job) cache plain status old.written new.written)
+  pub built : IfSome held (λ files. AreSound means cache
+      → IsBuilt (world_of files job) cache plain status old.written new.written)
   pub leaves : IfSome held (λ files. AreSound means cache → Leaves (world_of files job) cache left)
 
 -- what a build was to write and store in a world
-pub record Comes (w : World) (cache : List (Entry Key Out)) (outputs : List Output) (line : List ℕ) (left : List (Entry Key Out)) : Type 0 where
+pub record Comes (w : World) (cache : List (Entry Key Out)) (outputs : List Output) (line : List ℕ)
+    (left : List (Entry Key Out)) : Type 0 where
   pub steps : ℕ
   pub needed : ℕ
   pub counted : IsCounted w cache steps needed
@@ -104,7 +119,8 @@ pub record Comes (w : World) (cache : List (Entry Key Out)) (outputs : List Outp
   pub leaves : Leaves w cache left
 
 -- a build stopped at a failed call that began with this cache
-pub record HasStopped (held : Option Files) (job : Job) (cache : List (Entry Key Out)) (old new : Told) : Type 0 where
+pub record HasStopped (held : Option Files) (job : Job) (cache : List (Entry Key Out))
+    (old new : Told) : Type 0 where
   pub outputs : List Output
   pub line : List ℕ
   pub left : List (Entry Key Out)
@@ -112,5 +128,7 @@ pub record HasStopped (held : Option Files) (job : Job) (cache : List (Entry Key
   pub stored_is : IsCacheText left stored
   pub failed : HasFailed outputs line stored old new
   pub sound : AreSound means cache → AreSound means left
-  pub comes : IfSome held (λ files. AreSound means cache → Comes (world_of files job) cache outputs line left)
-  pub cut : IfSome held (λ files. AreSound means cache → IsCutShort (world_of files job) cache plain old.written new.written)
+  pub comes : IfSome held (λ files. AreSound means cache
+      → Comes (world_of files job) cache outputs line left)
+  pub cut : IfSome held (λ files. AreSound means cache
+      → IsCutShort (world_of files job) cache plain old.written new.written)

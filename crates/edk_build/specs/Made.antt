@@ -24,11 +24,13 @@ abbrev pub ready_outputs : Ready → List Output
 ready_outputs ready = made_outputs ready.made ++ text ToOut ready.summary ∷ []
 
 -- it is that of an outcome
-pub record IsMade (made : Made) (label : Label) (outcome : Result (List FilePair) Fault) : Type 0 where
+pub record IsMade (made : Made) (label : Label) (outcome : Result (List FilePair) Fault)
+    : Type 0 where
   pub status : made_status made ≡ status_of outcome
   pub outputs : made_outputs made ≡ outputs_of label outcome
 
 -- what is emitted is all of it
-pub record IsReady (ready : Ready) (label : Label) (outcome : Result (List FilePair) Fault) (steps reused : ℕ) : Type 0 where
+pub record IsReady (ready : Ready) (label : Label) (outcome : Result (List FilePair) Fault)
+    (steps reused : ℕ) : Type 0 where
   pub status : made_status ready.made ≡ status_of outcome
   pub outputs : ready_outputs ready ≡ emitted label outcome steps reused

@@ -45,7 +45,8 @@ outputs_in _ = []
 
 -- the file of an output, where each step has this value
 abbrev pub pair_of : (Key → Outcome Out) → Output → FilePair
-pair_of value output = record { path = output.path; bytes = outcome_bytes (value output.from) output.part }
+pair_of value output =
+    record { path = output.path; bytes = outcome_bytes (value output.from) output.part }
 
 -- all files, or the fault of the top step
 abbrev pub files_by : (Key → Outcome Out) → Outcome Out → Result (List FilePair) Fault

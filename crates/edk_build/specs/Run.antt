@@ -20,4 +20,5 @@ plain = record { folder = None; tells_status = false }
 -- Where there is no fault and no object failed, the build is done or memory was wanting.
 abbrev pub IsComplete : World → Type 0 → Type 0 → Status → Type 0
 IsComplete w tree_failed sink_failed status =
-    IsOk (outcome w) → (tree_failed → ⊥) → (sink_failed → ⊥) → (status ≡ Done) ⊎ (status ≡ WantOfMemory)
+    IsOk (outcome w) → (tree_failed → ⊥) → (sink_failed → ⊥) → (status ≡ Done)
+    ⊎ (status ≡ WantOfMemory)

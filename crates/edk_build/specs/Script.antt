@@ -26,9 +26,11 @@ build_of words = option_map Build (words_job words)
 -- the order of some words: `drop PATH`, `put PATH FROM`, or the words of a build
 unfoldable pub order_of : List (List ℕ) → Option Order
 order_of (command ∷ path ∷ []) =
-    if same_text command (codes "drop") then drop_of (path_field path) else build_of (command ∷ path ∷ [])
+    if same_text command (codes "drop") then drop_of (path_field path)
+    else build_of (command ∷ path ∷ [])
 order_of (command ∷ path ∷ from ∷ []) =
-    if same_text command (codes "put") then put_of (path_field path) (path_field from) else build_of (command ∷ path ∷ from ∷ [])
+    if same_text command (codes "put") then put_of (path_field path) (path_field from)
+    else build_of (command ∷ path ∷ from ∷ [])
 order_of words = build_of words
 
 -- what a line holds: nothing, or an order
@@ -49,13 +51,16 @@ lines_at number None = []
 lines_at number (Some order) = script_line number order ∷ []
 
 -- with what the first line holds in front
-abbrev pub with_content : ℕ → Option (Option Order) → Option (List ScriptLine) → Option (List ScriptLine)
+abbrev pub with_content : ℕ → Option (Option Order) → Option (List ScriptLine)
+    → Option (List ScriptLine)
 with_content number None more = None
-with_content number (Some content) more = option_map (λ lines. lines_at number content ++ lines) more
+with_content number (Some content) more =
+    option_map (λ lines. lines_at number content ++ lines) more
 
 -- a script has at most 1,000 lines
 abbrev pub line_content : Piece → Option (Option Order)
-line_content piece = if nat_le piece.number 1000 then content_in (without_return piece.bytes) else None
+line_content piece = if nat_le piece.number 1000 then content_in (without_return piece.bytes)
+    else None
 
 unfoldable pub lines_among : List Piece → Option (List ScriptLine)
 lines_among [] = Some []

@@ -1,5 +1,5 @@
--- What a selftest does: three builds of one workspace, the third of them after an edit, each from the cache that the one
--- before it left. The rule is this project's own.
+-- What a selftest does: three builds of one workspace, the third of them after an edit, each from
+-- the cache that the one before it left. The rule is this project's own.
 use Rattle.std.specs.Prelude.{◌≡◌, ◌⊎◌, ◌-◌, ◌++◌, ℕ, List, [], ◌∷◌, Option, Some, None, false, codes}
 use Rattle.build_base.specs.Outside.{Files, Emission}
 use Rattle.build_base.specs.Spelling.{Output, Spelled}
@@ -55,17 +55,20 @@ pub record Gives (t : Turn) (cache : List (Entry Key Out)) (outputs : List Outpu
   pub steps : ℕ
   pub needed : ℕ
   pub counted : IsCounted (world_of t.files selftest_job) cache steps needed
-  pub list : outputs ≡ emitted (label_named t.name) (outcome (world_of t.files selftest_job)) steps (needed - steps)
+  pub list : outputs ≡ emitted (label_named t.name) (outcome (world_of t.files selftest_job)) steps
+      (needed - steps)
 
 -- the steps that it ran, or some of them
 abbrev pub RanSome : Turn → List (Entry Key Out) → List Key → List Key → Type 0
 RanSome t cache a b = Ran (setting means (Some t.files) (job_fields selftest_job) cache) key.All a b
 
 abbrev pub RanEach : Turn → List (Entry Key Out) → List Key → List Key → Type 0
-RanEach t cache a b = RanAll (setting means (Some t.files) (job_fields selftest_job) cache) key.All a b
+RanEach t cache a b = RanAll (setting means (Some t.files) (job_fields selftest_job) cache) key.All
+    a b
 
 -- a build came to its end: what it emitted, the cache that it left, and what the book became
-pub record IsDone (t : Turn) (cache : List (Entry Key Out)) (a : List Key) (outputs : List Output) (next : List (Entry Key Out)) (b : List Key) : Type 0 where
+pub record IsDone (t : Turn) (cache : List (Entry Key Out)) (a : List Key) (outputs : List Output)
+    (next : List (Entry Key Out)) (b : List Key) : Type 0 where
   pub gives : Gives t cache outputs
   pub leaves : Leaves (world_of t.files selftest_job) cache next
   pub ran : RanSome t cache a b
@@ -73,39 +76,49 @@ pub record IsDone (t : Turn) (cache : List (Entry Key Out)) (a : List Key) (outp
   pub sound : AreSound means next
 
 -- and it is written
-pub record WasDone (t : Turn) (cache : List (Entry Key Out)) (a : List Key) (next : List (Entry Key Out)) (b : List Key) (old new : Option (List Emission)) : Type 0 where
+pub record WasDone (t : Turn) (cache : List (Entry Key Out)) (a : List Key)
+    (next : List (Entry Key Out)) (b : List Key) (old new : Option (List Emission)) : Type 0 where
   pub outputs : List Output
   pub done : IsDone t cache a outputs next b
   pub written : Spelled old new outputs
 
 -- a build stopped: the sink failed in what it emits, or memory was wanting before that
-abbrev pub StopsAt : Turn → Status → List (Entry Key Out) → List Key → List Output → List Key → Type 0
+abbrev pub StopsAt : Turn → Status → List (Entry Key Out) → List Key → List Output → List Key
+    → Type 0
 StopsAt t answer.WriteFault cache a outputs b = Gives t cache outputs × RanSome t cache a b
 StopsAt t answer.WantOfMemory cache a outputs b = (outputs ≡ []) × RanSome t cache a b
 StopsAt t _ cache a outputs b = ⊥
 
-pub record HasStopped (t : Turn) (status : Status) (cache : List (Entry Key Out)) (a b : List Key) (old new : Option (List Emission)) : Type 0 where
+pub record HasStopped (t : Turn) (status : Status) (cache : List (Entry Key Out)) (a b : List Key)
+    (old new : Option (List Emission)) : Type 0 where
   pub outputs : List Output
   pub stopped : StopsAt t status cache a outputs b
   pub written : Written status old new outputs
 
--- Builds one after the other, each from the cache that the one before it left: all came to their end, or one stopped.
-unfoldable pub AreBuilt : List Turn → Status → List (Entry Key Out) → List Key → List Output → List Key → Type 0
+-- Builds one after the other, each from the cache that the one before it left: all came to their
+-- end, or one stopped.
+unfoldable pub AreBuilt : List Turn → Status → List (Entry Key Out) → List Key → List Output
+    → List Key → Type 0
 AreBuilt [] status cache a outputs b = (status ≡ answer.Done) × (outputs ≡ []) × (b ≡ a)
 AreBuilt (t ∷ turns) status cache a outputs b =
     StopsAt t status cache a outputs b
-    ⊎ ((front : List Output) × (mid : List (Entry Key Out)) × (now : List Key) × (back : List Output)
-    × IsDone t cache a front mid now × AreBuilt turns status mid now back b × (outputs ≡ front ++ back))
+    ⊎ ((front : List Output) × (mid : List (Entry Key Out)) × (now : List Key)
+    × (back : List Output)
+    × IsDone t cache a front mid now × AreBuilt turns status mid now back b
+    × (outputs ≡ front ++ back))
 
 -- what they emitted is written, or a cut of it where the sink failed
-pub record WereBuilt (turns : List Turn) (status : Status) (cache : List (Entry Key Out)) (a b : List Key) (old new : Option (List Emission)) : Type 0 where
+pub record WereBuilt (turns : List Turn) (status : Status) (cache : List (Entry Key Out))
+    (a b : List Key) (old new : Option (List Emission)) : Type 0 where
   pub outputs : List Output
   pub built : AreBuilt turns status cache a outputs b
   pub written : Written status old new outputs
 
 -- a selftest with n modules begins with no cache
-abbrev pub IsSelftest : ℕ → Status → List Key → List Key → Option (List Emission) → Option (List Emission) → Type 0
-IsSelftest n status a b old new = WereBuilt (first_turn n ∷ second_turn n ∷ third_turn n ∷ []) status [] a b old new
+abbrev pub IsSelftest : ℕ → Status → List Key → List Key → Option (List Emission)
+    → Option (List Emission) → Type 0
+IsSelftest n status a b old new =
+    WereBuilt (first_turn n ∷ second_turn n ∷ third_turn n ∷ []) status [] a b old new
 
 -- it is done, the sink failed, or memory was wanting
 abbrev pub IsSelftestStatus : Status → Type 0
@@ -116,4 +129,5 @@ IsSelftestStatus _ = ⊥
 
 -- Where the sink didn't fail, it is done or memory was wanting.
 abbrev pub IsSelftestComplete : Type 0 → Status → Type 0
-IsSelftestComplete sink_failed status = (sink_failed → ⊥) → (status ≡ answer.Done) ⊎ (status ≡ answer.WantOfMemory)
+IsSelftestComplete sink_failed status = (sink_failed → ⊥) → (status ≡ answer.Done)
+    ⊎ (status ≡ answer.WantOfMemory)

@@ -1,4 +1,5 @@
--- What the words `volinfo IMAGE` tell: the listing of a file of the tree, or why there is none. The rule is this project's own.
+-- What the words `volinfo IMAGE` tell: the listing of a file of the tree, or why there is none. The
+-- rule is this project's own.
 use Rattle.std.specs.Prelude.{◌≡◌, ◌⊎◌, ℕ, List, [], ◌∷◌, Option, Result, Ok, Err}
 use Rattle.std.specs.Option.{IfSome}
 use Rattle.build_base.specs.Outside.{Files, Emission, got_of}
@@ -30,12 +31,16 @@ IsListed lines answer.WriteFault old new = SpelledCut old new (listing_outputs l
 IsListed lines answer.WantOfMemory old new = new ≡ old
 IsListed lines _ old new = ⊥
 
-abbrev pub Tells : Result (List ℕ) Fault → Status → Option (List Emission) → Option (List Emission) → Type 0
+abbrev pub Tells : Result (List ℕ) Fault → Status → Option (List Emission) → Option (List Emission)
+    → Type 0
 Tells (Ok lines) status old new = IsListed lines status old new
 Tells (Err fault) status old new = IsTold fault status old new
 
--- the file wasn't read, and nothing was written; or what comes of the file that the tree has was told
-abbrev pub IsVolinfo : Option Files → List ℕ → Status → Option (List Emission) → Option (List Emission) → Type 0
+-- the file wasn't read, and nothing was written; or what comes of the file that the tree has was
+-- told
+abbrev pub IsVolinfo : Option Files → List ℕ → Status → Option (List Emission)
+    → Option (List Emission) → Type 0
 IsVolinfo held at status old new =
     (IsUnread status × (new ≡ old))
-    ⊎ ((got : Got) × IfSome held (λ files. got ≡ got_of file_limit (files at)) × Tells (listing_got at got) status old new)
+    ⊎ ((got : Got) × IfSome held (λ files. got ≡ got_of file_limit (files at))
+    × Tells (listing_got at got) status old new)

@@ -45,9 +45,12 @@ fn emit<S: Sink>(
     ensures ends { (value : Key → Outcome Out) → AgreesOnGood given.now value cache.now →
         IfOk result (λ s. s ≡ status_of (files_by value given.now)) }
     ensures written { (value : Key → Outcome Out) → AgreesOnGood given.now value cache.now →
-        OnOk result (Spelled (S.written sink.old) (S.written sink.new) (emitted label.now (files_by value given.now) steps reused)) }
+        OnOk result (Spelled (S.written sink.old) (S.written sink.new)
+        (emitted label.now (files_by value given.now) steps reused)) }
     ensures cut { (value : Key → Outcome Out) → AgreesOnGood given.now value cache.now →
-        IfWriteFault result (SpelledCut (S.written sink.old) (S.written sink.new) (emitted label.now (files_by value given.now) steps reused)) }
+        IfWriteFault result
+        (SpelledCut (S.written sink.old) (S.written sink.new)
+        (emitted label.now (files_by value given.now) steps reused)) }
     ensures own { IfOk result (λ s. s ≡ result_status given.now) }
     ensures count { OnOk result (S.faults sink.new ≡ S.faults sink.old) }
     ensures read_fault { IfReadFault result ⊥ }
@@ -63,8 +66,8 @@ fn emit<S: Sink>(
     }
 }
 
-/// What a build made before its first emission: its outcome, the cache that it leaves, how many steps
-/// ran and were reused, and whether it leaves the cache that it was handed.
+/// What a build made before its first emission: its outcome, the cache that it leaves, how many
+/// steps ran and were reused, and whether it leaves the cache that it was handed.
 #[derive(Drop)]
 pub struct Brought {
     pub given: Outcome<Out>,
@@ -74,8 +77,8 @@ pub struct Brought {
     pub unchanged: bool,
 }
 
-/// Brings what these fields of a job ask for, over edits of the tree's files, from the cache that the last
-/// build left, which is dropped where the build stops.
+/// Brings what these fields of a job ask for, over edits of the tree's files, from the cache that
+/// the last build left, which is dropped where the build stops.
 pub fn bring_all<H: Threads + Sync, T: Tree, G: Gate>(
     rt: &H,
     alloc: Global,
@@ -92,7 +95,8 @@ pub fn bring_all<H: Threads + Sync, T: Tree, G: Gate>(
     requires most { workers ≤ 64 }
 
     // Where the tree tells what it holds and the cache is sound.
-    ensures brought { IfOk result (λ b. (w : World) → IsHere (setting means (over edits.now (T.held tree.old)) fields.now cache) w →
+    ensures brought { IfOk result (λ b. (w : World)
+        → IsHere (setting means (over edits.now (T.held tree.old)) fields.now cache) w →
         IsBrought w cache b.given b.cache b.steps b.reused) }
 
     // For any tree.
@@ -105,9 +109,13 @@ pub fn bring_all<H: Threads + Sync, T: Tree, G: Gate>(
     ensures no_write { IfWriteFault result ⊥ }
 
     // Each step once, and only where wanted.
-    ensures ran { Ran (setting means (over edits.now (T.held tree.old)) fields.now cache) All book.old book.new }
-    ensures all { OnOk result (RanAll (setting means (over edits.now (T.held tree.old)) fields.now cache) All book.old book.new) }
-    ensures read { HasRead (setting means (over edits.now (T.held tree.old)) fields.now cache) All (T.reads tree.old) (T.reads tree.new) }
+    ensures ran { Ran (setting means (over edits.now (T.held tree.old)) fields.now cache) All
+        book.old book.new }
+    ensures all { OnOk result
+        (RanAll (setting means (over edits.now (T.held tree.old)) fields.now cache) All book.old
+        book.new) }
+    ensures read { HasRead (setting means (over edits.now (T.held tree.old)) fields.now cache) All
+        (T.reads tree.old) (T.reads tree.new) }
 {
     let before = book.ran().len() as u64;
     let brought = match bring_over(
@@ -138,8 +146,8 @@ pub fn bring_all<H: Threads + Sync, T: Tree, G: Gate>(
     })
 }
 
-/// Builds what these fields of a job ask for, over edits of the tree's files, from the cache that the
-/// last build left, which is dropped where the build stops.
+/// Builds what these fields of a job ask for, over edits of the tree's files, from the cache that
+/// the last build left, which is dropped where the build stops.
 ///
 /// All is read, and all memory is taken, before the first emission.
 pub fn build<H: Threads + Sync, T: Tree, S: Sink, G: Gate>(
@@ -160,10 +168,15 @@ pub fn build<H: Threads + Sync, T: Tree, S: Sink, G: Gate>(
     requires most { workers ≤ 64 }
 
     // Where the tree tells what it holds and the cache is sound.
-    ensures built { IfOk result (λ b. (w : World) → IsHere (setting means (over edits.now (T.held tree.old)) fields.now cache) w →
+    ensures built { IfOk result (λ b. (w : World)
+        → IsHere (setting means (over edits.now (T.held tree.old)) fields.now cache) w →
         IsBuilt w cache label.now b.status (S.written sink.old) (S.written sink.new)) }
-    ensures left { IfOk result (λ b. (w : World) → IsHere (setting means (over edits.now (T.held tree.old)) fields.now cache) w → Leaves w cache b.cache) }
-    ensures cut { IfWriteFault result ((w : World) → IsHere (setting means (over edits.now (T.held tree.old)) fields.now cache) w →
+    ensures left { IfOk result (λ b. (w : World)
+        → IsHere (setting means (over edits.now (T.held tree.old)) fields.now cache) w
+        → Leaves w cache b.cache) }
+    ensures cut { IfWriteFault result
+        ((w : World) → IsHere (setting means (over edits.now (T.held tree.old)) fields.now cache) w
+        →
         IsCutShort w cache label.now (S.written sink.old) (S.written sink.new)) }
 
     // For any tree.
@@ -177,9 +190,13 @@ pub fn build<H: Threads + Sync, T: Tree, S: Sink, G: Gate>(
     ensures unwritten { IfUnwritten result (S.written sink.new ≡ S.written sink.old) }
 
     // Each step once, and only where wanted.
-    ensures ran { Ran (setting means (over edits.now (T.held tree.old)) fields.now cache) All book.old book.new }
-    ensures all { OnOk result (RanAll (setting means (over edits.now (T.held tree.old)) fields.now cache) All book.old book.new) }
-    ensures read { HasRead (setting means (over edits.now (T.held tree.old)) fields.now cache) All (T.reads tree.old) (T.reads tree.new) }
+    ensures ran { Ran (setting means (over edits.now (T.held tree.old)) fields.now cache) All
+        book.old book.new }
+    ensures all { OnOk result
+        (RanAll (setting means (over edits.now (T.held tree.old)) fields.now cache) All book.old
+        book.new) }
+    ensures read { HasRead (setting means (over edits.now (T.held tree.old)) fields.now cache) All
+        (T.reads tree.old) (T.reads tree.new) }
 {
     let brought = bring_all(rt, alloc, fields, workers, cache, tree, edits, gate, book)?;
     let status = emit(

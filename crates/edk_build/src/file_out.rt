@@ -27,7 +27,8 @@ impl<'a> Model for FileOut<'a> {
 
     ghost view = { λ f. record { path = path_of f.start; bytes = f.content } };
 
-    ghost invariant = { λ f. (f.start ≡ Start (path_of f.start)) × (f.more ≡ More (path_of f.start)) };
+    ghost invariant = { λ f. (f.start ≡ Start (path_of f.start))
+        × (f.more ≡ More (path_of f.start)) };
 }
 
 impl<'a> FileOut<'a> {
@@ -61,7 +62,8 @@ fn write_pieces<S: Sink>(
     more: &Target,
     content: &Content<'_>,
 ) -> Result<(), SinkFailed>
-    ensures written { (path : List ℕ) → start.now ≡ Target.Start path → more.now ≡ Target.More path →
+    ensures written { (path : List ℕ) → start.now ≡ Target.Start path → more.now ≡ Target.More path
+        →
         WritesFile (S.written sink.old) (S.written sink.new) path content.now result }
     ensures cause { Cause (S.faults sink.old) (S.faults sink.new) result }
 {
@@ -79,7 +81,8 @@ fn write_pieces<S: Sink>(
 }
 
 fn write_file<S: Sink>(sink: &mut S, out: &FileOut<'_>) -> Result<(), SinkFailed>
-    ensures written { WritesFile (S.written sink.old) (S.written sink.new) out.now.path out.now.bytes result }
+    ensures written { WritesFile (S.written sink.old) (S.written sink.new) out.now.path
+        out.now.bytes result }
     ensures cause { Cause (S.faults sink.old) (S.faults sink.new) result }
 {
     write_pieces(sink, &out.start, &out.more, &out.content)
@@ -87,7 +90,8 @@ fn write_file<S: Sink>(sink: &mut S, out: &FileOut<'_>) -> Result<(), SinkFailed
 
 /// Writes all files, in order.
 pub fn write_all<S: Sink>(sink: &mut S, files: &[FileOut<'_>]) -> Result<(), SinkFailed>
-    ensures written { Writes (S.written sink.old) (S.written sink.new) (map output_of files.now) result }
+    ensures written { Writes (S.written sink.old) (S.written sink.new) (map output_of files.now)
+        result }
     ensures cause { Cause (S.faults sink.old) (S.faults sink.new) result }
 {
     for out in files {

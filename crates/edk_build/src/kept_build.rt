@@ -68,7 +68,8 @@ fn cache_in(alloc: Global, bytes: &[u8]) -> Result<Loaded, WantOfMemory>
 
 // The cache that is kept.
 fn load_cache<K: Keeper>(alloc: Global, keeper: &mut K) -> Result<Loaded, Stop>
-    ensures stands { IfOk result (λ l. IfSome (K.kept keeper.old) (λ kept. StandsFor kept l.cache)) }
+    ensures stands { IfOk result
+        (λ l. IfSome (K.kept keeper.old) (λ kept. StandsFor kept l.cache)) }
     ensures text { IfOk result (λ l. l.is_text ≡ true → HasText (K.kept keeper.old) l.cache) }
     ensures kept { K.kept keeper.new ≡ K.kept keeper.old }
     ensures count { OnOk result (K.faults keeper.new ≡ K.faults keeper.old) }
@@ -99,12 +100,15 @@ fn write_kept<S: Sink, K: Keeper>(
     ensures all { OnOk result (WroteAll (made_outputs ready.now.made) ready.now.summary text.now
         (told (S.written sink.old) (K.kept keeper.old) (S.faults sink.old) (K.faults keeper.old))
         (told (S.written sink.new) (K.kept keeper.new) (S.faults sink.new) (K.faults keeper.new))) }
-    ensures failed { IfWriteFault result (HasFailed (made_outputs ready.now.made) ready.now.summary text.now
+    ensures failed { IfWriteFault result
+        (HasFailed (made_outputs ready.now.made) ready.now.summary text.now
         (told (S.written sink.old) (K.kept keeper.old) (S.faults sink.old) (K.faults keeper.old))
         (told (S.written sink.new) (K.kept keeper.new) (S.faults sink.new) (K.faults keeper.new))) }
     ensures sink_count { OnOk result (S.faults sink.new ≡ S.faults sink.old) }
     ensures keeper_count { OnOk result (K.faults keeper.new ≡ K.faults keeper.old) }
-    ensures write_fault { IfWriteFault result (Rose (S.faults sink.old) (S.faults sink.new) ⊎ Rose (K.faults keeper.old) (K.faults keeper.new)) }
+    ensures write_fault { IfWriteFault result
+        (Rose (S.faults sink.old) (S.faults sink.new)
+        ⊎ Rose (K.faults keeper.old) (K.faults keeper.new)) }
     ensures no_other { IfUnwritten result ⊥ }
 {
     if ready.write_outputs(sink).is_err() {
@@ -121,10 +125,12 @@ fn write_kept<S: Sink, K: Keeper>(
 
 // Writes what stands ready, where what is kept is the text already.
 fn write_again<S: Sink, K: Keeper>(ready: &Ready<'_>, to: &mut S, keeper: &K) -> Result<(), Stop>
-    ensures all { (text : List ℕ) → IsKept (K.kept keeper.now) text → OnOk result (WroteAll (made_outputs ready.now.made) ready.now.summary text
+    ensures all { (text : List ℕ) → IsKept (K.kept keeper.now) text
+        → OnOk result (WroteAll (made_outputs ready.now.made) ready.now.summary text
         (told (S.written to.old) (K.kept keeper.now) (S.faults to.old) (K.faults keeper.now))
         (told (S.written to.new) (K.kept keeper.now) (S.faults to.new) (K.faults keeper.now))) }
-    ensures failed { (text : List ℕ) → IsKept (K.kept keeper.now) text → IfWriteFault result (HasFailed (made_outputs ready.now.made) ready.now.summary text
+    ensures failed { (text : List ℕ) → IsKept (K.kept keeper.now) text
+        → IfWriteFault result (HasFailed (made_outputs ready.now.made) ready.now.summary text
         (told (S.written to.old) (K.kept keeper.now) (S.faults to.old) (K.faults keeper.now))
         (told (S.written to.new) (K.kept keeper.now) (S.faults to.new) (K.faults keeper.now))) }
     ensures sink_count { OnOk result (S.faults to.new ≡ S.faults to.old) }
@@ -140,24 +146,32 @@ fn write_again<S: Sink, K: Keeper>(ready: &Ready<'_>, to: &mut S, keeper: &K) ->
     Ok(())
 }
 
-// Writes what a build made, and stores the text of the cache that it leaves. All memory is taken before
-// the first emission.
+// Writes what a build made, and stores the text of the cache that it leaves. All memory is taken
+// before the first emission.
 fn emit_stored<S: Sink, K: Keeper>(
     alloc: Global,
     brought: &Brought,
     sink: &mut S,
     keeper: &mut K,
 ) -> Result<Status, Stop>
-    ensures all { OnOk result (AsMade brought.now.given brought.now.cache brought.now.steps brought.now.reused (λ outputs line stored. WroteAll outputs line stored
+    ensures all { OnOk result
+        (AsMade brought.now.given brought.now.cache brought.now.steps brought.now.reused
+        (λ outputs line stored. WroteAll outputs line stored
         (told (S.written sink.old) (K.kept keeper.old) (S.faults sink.old) (K.faults keeper.old))
-        (told (S.written sink.new) (K.kept keeper.new) (S.faults sink.new) (K.faults keeper.new)))) }
-    ensures failed { IfWriteFault result (AsMade brought.now.given brought.now.cache brought.now.steps brought.now.reused (λ outputs line stored. HasFailed outputs line stored
+        (told (S.written sink.new) (K.kept keeper.new) (S.faults sink.new)
+        (K.faults keeper.new)))) }
+    ensures failed { IfWriteFault result
+        (AsMade brought.now.given brought.now.cache brought.now.steps brought.now.reused
+        (λ outputs line stored. HasFailed outputs line stored
         (told (S.written sink.old) (K.kept keeper.old) (S.faults sink.old) (K.faults keeper.old))
-        (told (S.written sink.new) (K.kept keeper.new) (S.faults sink.new) (K.faults keeper.new)))) }
+        (told (S.written sink.new) (K.kept keeper.new) (S.faults sink.new)
+        (K.faults keeper.new)))) }
     ensures status { IfOk result (λ s. s ≡ result_status brought.now.given) }
     ensures sink_count { OnOk result (S.faults sink.new ≡ S.faults sink.old) }
     ensures keeper_count { OnOk result (K.faults keeper.new ≡ K.faults keeper.old) }
-    ensures write_fault { IfWriteFault result (Rose (S.faults sink.old) (S.faults sink.new) ⊎ Rose (K.faults keeper.old) (K.faults keeper.new)) }
+    ensures write_fault { IfWriteFault result
+        (Rose (S.faults sink.old) (S.faults sink.new)
+        ⊎ Rose (K.faults keeper.old) (K.faults keeper.new)) }
     ensures no_read { IfReadFault result ⊥ }
     ensures unwritten { IfUnwritten result (S.written sink.new ≡ S.written sink.old) }
     ensures kept { IfUnwritten result (K.kept keeper.new ≡ K.kept keeper.old) }
@@ -185,8 +199,8 @@ fn emit_stored<S: Sink, K: Keeper>(
     }
 }
 
-// Writes what a build made that leaves the cache whose text is kept. All memory is taken before the first
-// emission.
+// Writes what a build made that leaves the cache whose text is kept. All memory is taken before the
+// first emission.
 fn emit_again<S: Sink, K: Keeper>(
     alloc: Global,
     brought: &Brought,
@@ -194,12 +208,18 @@ fn emit_again<S: Sink, K: Keeper>(
     keeper: &K,
 ) -> Result<Status, Stop>
     requires { HasText (K.kept keeper.now) brought.now.cache }
-    ensures all { OnOk result (AsMade brought.now.given brought.now.cache brought.now.steps brought.now.reused (λ outputs line stored. WroteAll outputs line stored
+    ensures all { OnOk result
+        (AsMade brought.now.given brought.now.cache brought.now.steps brought.now.reused
+        (λ outputs line stored. WroteAll outputs line stored
         (told (S.written sink.old) (K.kept keeper.now) (S.faults sink.old) (K.faults keeper.now))
-        (told (S.written sink.new) (K.kept keeper.now) (S.faults sink.new) (K.faults keeper.now)))) }
-    ensures failed { IfWriteFault result (AsMade brought.now.given brought.now.cache brought.now.steps brought.now.reused (λ outputs line stored. HasFailed outputs line stored
+        (told (S.written sink.new) (K.kept keeper.now) (S.faults sink.new)
+        (K.faults keeper.now)))) }
+    ensures failed { IfWriteFault result
+        (AsMade brought.now.given brought.now.cache brought.now.steps brought.now.reused
+        (λ outputs line stored. HasFailed outputs line stored
         (told (S.written sink.old) (K.kept keeper.now) (S.faults sink.old) (K.faults keeper.now))
-        (told (S.written sink.new) (K.kept keeper.now) (S.faults sink.new) (K.faults keeper.now)))) }
+        (told (S.written sink.new) (K.kept keeper.now) (S.faults sink.new)
+        (K.faults keeper.now)))) }
     ensures status { IfOk result (λ s. s ≡ result_status brought.now.given) }
     ensures sink_count { OnOk result (S.faults sink.new ≡ S.faults sink.old) }
     ensures write_fault { IfWriteFault result (Rose (S.faults sink.old) (S.faults sink.new)) }
@@ -226,8 +246,8 @@ fn emit_again<S: Sink, K: Keeper>(
     }
 }
 
-// Writes what a build made, and stores the text of the cache that it leaves, unless what is kept is that
-// text already.
+// Writes what a build made, and stores the text of the cache that it leaves, unless what is kept is
+// that text already.
 fn emit_kept<S: Sink, K: Keeper>(
     alloc: Global,
     brought: &Brought,
@@ -236,16 +256,24 @@ fn emit_kept<S: Sink, K: Keeper>(
     keeper: &mut K,
 ) -> Result<Status, Stop>
     requires { is_kept ≡ true → HasText (K.kept keeper.old) brought.now.cache }
-    ensures all { OnOk result (AsMade brought.now.given brought.now.cache brought.now.steps brought.now.reused (λ outputs line stored. WroteAll outputs line stored
+    ensures all { OnOk result
+        (AsMade brought.now.given brought.now.cache brought.now.steps brought.now.reused
+        (λ outputs line stored. WroteAll outputs line stored
         (told (S.written sink.old) (K.kept keeper.old) (S.faults sink.old) (K.faults keeper.old))
-        (told (S.written sink.new) (K.kept keeper.new) (S.faults sink.new) (K.faults keeper.new)))) }
-    ensures failed { IfWriteFault result (AsMade brought.now.given brought.now.cache brought.now.steps brought.now.reused (λ outputs line stored. HasFailed outputs line stored
+        (told (S.written sink.new) (K.kept keeper.new) (S.faults sink.new)
+        (K.faults keeper.new)))) }
+    ensures failed { IfWriteFault result
+        (AsMade brought.now.given brought.now.cache brought.now.steps brought.now.reused
+        (λ outputs line stored. HasFailed outputs line stored
         (told (S.written sink.old) (K.kept keeper.old) (S.faults sink.old) (K.faults keeper.old))
-        (told (S.written sink.new) (K.kept keeper.new) (S.faults sink.new) (K.faults keeper.new)))) }
+        (told (S.written sink.new) (K.kept keeper.new) (S.faults sink.new)
+        (K.faults keeper.new)))) }
     ensures status { IfOk result (λ s. s ≡ result_status brought.now.given) }
     ensures sink_count { OnOk result (S.faults sink.new ≡ S.faults sink.old) }
     ensures keeper_count { OnOk result (K.faults keeper.new ≡ K.faults keeper.old) }
-    ensures write_fault { IfWriteFault result (Rose (S.faults sink.old) (S.faults sink.new) ⊎ Rose (K.faults keeper.old) (K.faults keeper.new)) }
+    ensures write_fault { IfWriteFault result
+        (Rose (S.faults sink.old) (S.faults sink.new)
+        ⊎ Rose (K.faults keeper.old) (K.faults keeper.new)) }
     ensures no_read { IfReadFault result ⊥ }
     ensures unwritten { IfUnwritten result (S.written sink.new ≡ S.written sink.old) }
     ensures kept { IfUnwritten result (K.kept keeper.new ≡ K.kept keeper.old) }
@@ -256,8 +284,9 @@ fn emit_kept<S: Sink, K: Keeper>(
     emit_stored(alloc, brought, sink, keeper)
 }
 
-// Whether the text of the cache that a build leaves is kept already: that of the cache that was loaded, which
-// the build leaves as it was. A report may stand where the cache is kept, so with one the text is stored.
+// Whether the text of the cache that a build leaves is kept already: that of the cache that was
+// loaded, which the build leaves as it was. A report may stand where the cache is kept, so with one
+// the text is stored.
 fn keeps_text(job: &Job, is_text: bool, unchanged: bool) -> bool
     ensures { result ≡ true → (is_text ≡ true) × (unchanged ≡ true) }
 {
@@ -297,10 +326,16 @@ fn build_from<H: Threads + Sync, T: Tree, S: Sink, K: Keeper, G: Gate>(
     ensures sink_count { OnOk result (S.faults sink.new ≡ S.faults sink.old) }
     ensures keeper_count { OnOk result (K.faults keeper.new ≡ K.faults keeper.old) }
     ensures read_fault { IfReadFault result (Rose (T.faults tree.old) (T.faults tree.new)) }
-    ensures write_fault { IfWriteFault result (Rose (S.faults sink.old) (S.faults sink.new) ⊎ Rose (K.faults keeper.old) (K.faults keeper.new)) }
-    ensures ran { Ran (setting means (T.held tree.old) (job_fields job.now) loaded.cache) All book.old book.new }
-    ensures all { OnOk result (RanAll (setting means (T.held tree.old) (job_fields job.now) loaded.cache) All book.old book.new) }
-    ensures read { HasRead (setting means (T.held tree.old) (job_fields job.now) loaded.cache) All (T.reads tree.old) (T.reads tree.new) }
+    ensures write_fault { IfWriteFault result
+        (Rose (S.faults sink.old) (S.faults sink.new)
+        ⊎ Rose (K.faults keeper.old) (K.faults keeper.new)) }
+    ensures ran { Ran (setting means (T.held tree.old) (job_fields job.now) loaded.cache) All
+        book.old book.new }
+    ensures all { OnOk result
+        (RanAll (setting means (T.held tree.old) (job_fields job.now) loaded.cache) All book.old
+        book.new) }
+    ensures read { HasRead (setting means (T.held tree.old) (job_fields job.now) loaded.cache) All
+        (T.reads tree.old) (T.reads tree.new) }
 {
     let Ok(fields) = job_fields(alloc, job) else {
         return Err(Stop::WantOfMemory);
@@ -330,12 +365,16 @@ fn build_loaded<H: Threads + Sync, T: Tree, S: Sink, K: Keeper, G: Gate>(
     requires job { is_job (job_fields job.now) ≡ true }
 
     // Where it wrote.
-    ensures ended { OnEnd result (OfKept (K.kept keeper.old) (λ cache. HasEnded (T.held tree.old) job.now cache result
+    ensures ended { OnEnd result
+        (OfKept (K.kept keeper.old) (λ cache. HasEnded (T.held tree.old) job.now cache result
         (told (S.written sink.old) (K.kept keeper.old) (S.faults sink.old) (K.faults keeper.old))
-        (told (S.written sink.new) (K.kept keeper.new) (S.faults sink.new) (K.faults keeper.new)))) }
-    ensures stopped { OnWriteFault result (OfKept (K.kept keeper.old) (λ cache. HasStopped (T.held tree.old) job.now cache
+        (told (S.written sink.new) (K.kept keeper.new) (S.faults sink.new)
+        (K.faults keeper.new)))) }
+    ensures stopped { OnWriteFault result
+        (OfKept (K.kept keeper.old) (λ cache. HasStopped (T.held tree.old) job.now cache
         (told (S.written sink.old) (K.kept keeper.old) (S.faults sink.old) (K.faults keeper.old))
-        (told (S.written sink.new) (K.kept keeper.new) (S.faults sink.new) (K.faults keeper.new)))) }
+        (told (S.written sink.new) (K.kept keeper.new) (S.faults sink.new)
+        (K.faults keeper.new)))) }
 
     // Where it didn't.
     ensures kept { OnUnwritten result (K.kept keeper.new ≡ K.kept keeper.old) }
@@ -347,13 +386,26 @@ fn build_loaded<H: Threads + Sync, T: Tree, S: Sink, K: Keeper, G: Gate>(
     ensures tree_count { OnEnd result (T.faults tree.new ≡ T.faults tree.old) }
     ensures sink_count { OnEnd result (S.faults sink.new ≡ S.faults sink.old) }
     ensures keeper_count { OnEnd result (K.faults keeper.new ≡ K.faults keeper.old) }
-    ensures read_fault { OnReadFault result (Rose (T.faults tree.old) (T.faults tree.new) ⊎ Rose (K.faults keeper.old) (K.faults keeper.new)) }
-    ensures write_fault { OnWriteFault result (Rose (S.faults sink.old) (S.faults sink.new) ⊎ Rose (K.faults keeper.old) (K.faults keeper.new)) }
+    ensures read_fault { OnReadFault result
+        (Rose (T.faults tree.old) (T.faults tree.new)
+        ⊎ Rose (K.faults keeper.old) (K.faults keeper.new)) }
+    ensures write_fault { OnWriteFault result
+        (Rose (S.faults sink.old) (S.faults sink.new)
+        ⊎ Rose (K.faults keeper.old) (K.faults keeper.new)) }
 
     // Each step once, and only where wanted.
-    ensures ran { (book.new ≡ book.old) ⊎ OfKept (K.kept keeper.old) (λ cache. Ran (setting means (T.held tree.old) (job_fields job.now) cache) All book.old book.new) }
-    ensures all { OnEnd result (OfKept (K.kept keeper.old) (λ cache. RanAll (setting means (T.held tree.old) (job_fields job.now) cache) All book.old book.new)) }
-    ensures read { (T.reads tree.new ≡ T.reads tree.old) ⊎ OfKept (K.kept keeper.old) (λ cache. HasRead (setting means (T.held tree.old) (job_fields job.now) cache) All (T.reads tree.old) (T.reads tree.new)) }
+    ensures ran { (book.new ≡ book.old)
+        ⊎ OfKept (K.kept keeper.old)
+        (λ cache. Ran (setting means (T.held tree.old) (job_fields job.now) cache) All book.old
+        book.new) }
+    ensures all { OnEnd result
+        (OfKept (K.kept keeper.old)
+        (λ cache. RanAll (setting means (T.held tree.old) (job_fields job.now) cache) All book.old
+        book.new)) }
+    ensures read { (T.reads tree.new ≡ T.reads tree.old)
+        ⊎ OfKept (K.kept keeper.old)
+        (λ cache. HasRead (setting means (T.held tree.old) (job_fields job.now) cache) All
+        (T.reads tree.old) (T.reads tree.new)) }
 {
     let loaded = match load_cache(alloc, keeper) {
         Ok(loaded) => loaded,
@@ -365,8 +417,9 @@ fn build_loaded<H: Threads + Sync, T: Tree, S: Sink, K: Keeper, G: Gate>(
     }
 }
 
-/// Builds what a job asks for from the cache that is kept, which it loads first, and keeps the one that it
-/// leaves: the text of that is stored after the outputs and before the summary, unless it is what is kept.
+/// Builds what a job asks for from the cache that is kept, which it loads first, and keeps the one
+/// that it leaves: the text of that is stored after the outputs and before the summary, unless it
+/// is what is kept.
 ///
 /// All is read, and all memory is taken, before the first emission.
 pub fn build_kept<H: Threads + Sync, T: Tree, S: Sink, K: Keeper, G: Gate>(
@@ -382,12 +435,16 @@ pub fn build_kept<H: Threads + Sync, T: Tree, S: Sink, K: Keeper, G: Gate>(
     requires job { is_job (job_fields job.now) ≡ true }
 
     // Where it wrote.
-    ensures ended { OnEnd result (OfKept (K.kept keeper.old) (λ cache. HasEnded (T.held tree.old) job.now cache result
+    ensures ended { OnEnd result
+        (OfKept (K.kept keeper.old) (λ cache. HasEnded (T.held tree.old) job.now cache result
         (told (S.written sink.old) (K.kept keeper.old) (S.faults sink.old) (K.faults keeper.old))
-        (told (S.written sink.new) (K.kept keeper.new) (S.faults sink.new) (K.faults keeper.new)))) }
-    ensures stopped { OnWriteFault result (OfKept (K.kept keeper.old) (λ cache. HasStopped (T.held tree.old) job.now cache
+        (told (S.written sink.new) (K.kept keeper.new) (S.faults sink.new)
+        (K.faults keeper.new)))) }
+    ensures stopped { OnWriteFault result
+        (OfKept (K.kept keeper.old) (λ cache. HasStopped (T.held tree.old) job.now cache
         (told (S.written sink.old) (K.kept keeper.old) (S.faults sink.old) (K.faults keeper.old))
-        (told (S.written sink.new) (K.kept keeper.new) (S.faults sink.new) (K.faults keeper.new)))) }
+        (told (S.written sink.new) (K.kept keeper.new) (S.faults sink.new)
+        (K.faults keeper.new)))) }
 
     // Where it didn't.
     ensures kept { OnUnwritten result (K.kept keeper.new ≡ K.kept keeper.old) }
@@ -399,17 +456,34 @@ pub fn build_kept<H: Threads + Sync, T: Tree, S: Sink, K: Keeper, G: Gate>(
     ensures tree_count { OnEnd result (T.faults tree.new ≡ T.faults tree.old) }
     ensures sink_count { OnEnd result (S.faults sink.new ≡ S.faults sink.old) }
     ensures keeper_count { OnEnd result (K.faults keeper.new ≡ K.faults keeper.old) }
-    ensures read_fault { OnReadFault result (Rose (T.faults tree.old) (T.faults tree.new) ⊎ Rose (K.faults keeper.old) (K.faults keeper.new)) }
-    ensures write_fault { OnWriteFault result (Rose (S.faults sink.old) (S.faults sink.new) ⊎ Rose (K.faults keeper.old) (K.faults keeper.new)) }
+    ensures read_fault { OnReadFault result
+        (Rose (T.faults tree.old) (T.faults tree.new)
+        ⊎ Rose (K.faults keeper.old) (K.faults keeper.new)) }
+    ensures write_fault { OnWriteFault result
+        (Rose (S.faults sink.old) (S.faults sink.new)
+        ⊎ Rose (K.faults keeper.old) (K.faults keeper.new)) }
 
     // Each step once, and only where wanted.
-    ensures ran { (book.new ≡ book.old) ⊎ OfKept (K.kept keeper.old) (λ cache. Ran (setting means (T.held tree.old) (job_fields job.now) cache) All book.old book.new) }
-    ensures all { OnEnd result (OfKept (K.kept keeper.old) (λ cache. RanAll (setting means (T.held tree.old) (job_fields job.now) cache) All book.old book.new)) }
-    ensures read { (T.reads tree.new ≡ T.reads tree.old) ⊎ OfKept (K.kept keeper.old) (λ cache. HasRead (setting means (T.held tree.old) (job_fields job.now) cache) All (T.reads tree.old) (T.reads tree.new)) }
+    ensures ran { (book.new ≡ book.old)
+        ⊎ OfKept (K.kept keeper.old)
+        (λ cache. Ran (setting means (T.held tree.old) (job_fields job.now) cache) All book.old
+        book.new) }
+    ensures all { OnEnd result
+        (OfKept (K.kept keeper.old)
+        (λ cache. RanAll (setting means (T.held tree.old) (job_fields job.now) cache) All book.old
+        book.new)) }
+    ensures read { (T.reads tree.new ≡ T.reads tree.old)
+        ⊎ OfKept (K.kept keeper.old)
+        (λ cache. HasRead (setting means (T.held tree.old) (job_fields job.now) cache) All
+        (T.reads tree.old) (T.reads tree.new)) }
 
     // Where what is kept is sound.
-    ensures complete { IfSome (T.held tree.old) (λ files. IfSome (K.kept keeper.old) (λ kept. IsSoundKept kept →
-        IsComplete (world_of files job.now) (Rose (T.faults tree.old) (T.faults tree.new) ⊎ Rose (K.faults keeper.old) (K.faults keeper.new)) (Rose (S.faults sink.old) (S.faults sink.new)) result)) }
+    ensures complete { IfSome (T.held tree.old)
+        (λ files. IfSome (K.kept keeper.old) (λ kept. IsSoundKept kept →
+        IsComplete (world_of files job.now)
+        (Rose (T.faults tree.old) (T.faults tree.new)
+        ⊎ Rose (K.faults keeper.old) (K.faults keeper.new))
+        (Rose (S.faults sink.old) (S.faults sink.new)) result)) }
     ensures stays_sound { StaysSound (K.kept keeper.old) (K.kept keeper.new) }
 {
     build_loaded(rt, alloc, job, tree, sink, keeper, gate, book)

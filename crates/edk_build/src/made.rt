@@ -144,7 +144,8 @@ pub fn make_ready<'a>(
     ensures made { (value : Key → Outcome Out) → AgreesOnGood given.now value cache.now →
         IfOk result (λ r. IsMade r.made label.now (files_by value given.now)) }
     ensures own { IfOk result (λ r. made_status r.made ≡ result_status given.now) }
-    ensures line { IfOk result (λ r. r.summary ≡ summary label.now (result_status given.now) steps reused) }
+    ensures line { IfOk result
+        (λ r. r.summary ≡ summary label.now (result_status given.now) steps reused) }
 {
     let made = make(alloc, label, given, cache)?;
     let summary = summary(alloc, label, made.status(), steps, reused)?;
@@ -153,7 +154,8 @@ pub fn make_ready<'a>(
 
 /// Writes a text.
 pub fn write_text<S: Sink>(sink: &mut S, target: &Target, bytes: &Text) -> Result<(), SinkFailed>
-    ensures written { Writes (S.written sink.old) (S.written sink.new) (text target.now bytes.now ∷ []) result }
+    ensures written { Writes (S.written sink.old) (S.written sink.new)
+        (text target.now bytes.now ∷ []) result }
     ensures cause { Cause (S.faults sink.old) (S.faults sink.new) result }
 {
     sink.emit(target, bytes.bytes())
@@ -172,7 +174,8 @@ impl Made<'_> {
 
     // Writes it, without taking memory.
     fn write<S: Sink>(&self, sink: &mut S) -> Result<(), SinkFailed>
-        ensures written { Writes (S.written sink.old) (S.written sink.new) (made_outputs self.now) result }
+        ensures written { Writes (S.written sink.old) (S.written sink.new) (made_outputs self.now)
+            result }
         ensures cause { Cause (S.faults sink.old) (S.faults sink.new) result }
     {
         match self {
@@ -192,7 +195,8 @@ impl Ready<'_> {
 
     /// Writes it, without taking memory.
     pub fn write<S: Sink>(&self, sink: &mut S) -> Result<(), SinkFailed>
-        ensures written { Writes (S.written sink.old) (S.written sink.new) (ready_outputs self.now) result }
+        ensures written { Writes (S.written sink.old) (S.written sink.new) (ready_outputs self.now)
+            result }
         ensures cause { Cause (S.faults sink.old) (S.faults sink.new) result }
     {
         if let Err(failed) = self.made.write(sink) {
@@ -206,7 +210,8 @@ impl Ready<'_> {
 
     /// Writes all but the summary, without taking memory.
     pub fn write_outputs<S: Sink>(&self, sink: &mut S) -> Result<(), SinkFailed>
-        ensures written { Writes (S.written sink.old) (S.written sink.new) (made_outputs self.now.made) result }
+        ensures written { Writes (S.written sink.old) (S.written sink.new)
+            (made_outputs self.now.made) result }
         ensures cause { Cause (S.faults sink.old) (S.faults sink.new) result }
     {
         self.made.write(sink)
@@ -214,7 +219,8 @@ impl Ready<'_> {
 
     /// Writes the summary, without taking memory.
     pub fn write_summary<S: Sink>(&self, sink: &mut S) -> Result<(), SinkFailed>
-        ensures written { Emits (S.written sink.old) (S.written sink.new) ToOut self.now.summary result }
+        ensures written { Emits (S.written sink.old) (S.written sink.new) ToOut self.now.summary
+            result }
         ensures cause { Cause (S.faults sink.old) (S.faults sink.new) result }
     {
         sink.emit(&Target::Out, self.summary.bytes())

@@ -36,7 +36,8 @@ fn message_of(
     line: u64,
     detail: &Path,
 ) -> Result<Text, WantOfMemory>
-    ensures { IfOk result (λ message. message ≡ fault_text (fault_of code (record { path = path.now; line = line }) detail.now)) }
+    ensures { IfOk result (λ message. message
+        ≡ fault_text (fault_of code (record { path = path.now; line = line }) detail.now)) }
 {
     let place = Place {
         path: path.copy(alloc)?,
@@ -60,7 +61,8 @@ fn tell_fault<S: Sink>(
     detail: &Path,
     sink: &mut S,
 ) -> Status
-    ensures told { IsTold (fault_of code (record { path = path.now; line = line }) detail.now) result (S.written sink.old) (S.written sink.new) }
+    ensures told { IsTold (fault_of code (record { path = path.now; line = line }) detail.now)
+        result (S.written sink.old) (S.written sink.new) }
     ensures count { OnEnd result (S.faults sink.new ≡ S.faults sink.old) }
     ensures write_fault { OnWriteFault result (Rose (S.faults sink.old) (S.faults sink.new)) }
 {
@@ -121,13 +123,20 @@ fn put<T: Tree, S: Sink>(
     tree: &mut T,
     sink: &mut S,
 ) -> Result<Stand, Status>
-    ensures done { (a : List Key) → IfOk result (λ next. WasDone (T.held tree.old) (order.Put path.now from.now) stand a next a (S.written sink.old) (S.written sink.new)) }
+    ensures done { (a : List Key) → IfOk result
+        (λ next. WasDone (T.held tree.old) (order.Put path.now from.now) stand a next a
+        (S.written sink.old) (S.written sink.new)) }
     ensures cache { IfOk result (λ next. next.cache ≡ stand.cache) }
     ensures stopped { (a : List Key) → IfErr result (λ status.
-        HasStopped (T.held tree.old) script.now (script_line number (order.Put path.now from.now)) status stand a a (S.written sink.old) (S.written sink.new)) }
+        HasStopped (T.held tree.old) script.now (script_line number (order.Put path.now from.now))
+        status stand a a (S.written sink.old) (S.written sink.new)) }
     ensures held { T.held tree.new ≡ T.held tree.old }
-    ensures counts { OnOk result (Causes Status.Done (T.faults tree.old) (T.faults tree.new) (S.faults sink.old) (S.faults sink.new)) }
-    ensures causes { IfErr result (λ status. Causes status (T.faults tree.old) (T.faults tree.new) (S.faults sink.old) (S.faults sink.new)) }
+    ensures counts { OnOk result
+        (Causes Status.Done (T.faults tree.old) (T.faults tree.new) (S.faults sink.old)
+        (S.faults sink.new)) }
+    ensures causes { IfErr result
+        (λ status. Causes status (T.faults tree.old) (T.faults tree.new) (S.faults sink.old)
+        (S.faults sink.new)) }
 {
     match tree.read(from, FILE_LIMIT) {
         Ok(Got::File(bytes)) => Ok(put_bytes(alloc, path, bytes, stand)?),
@@ -151,12 +160,19 @@ fn build_next<H: Threads + Sync, T: Tree, S: Sink, G: Gate>(
 ) -> Result<Stand, Status>
     requires job { is_job (job_fields job.now) ≡ true }
     requires sound { AreSound means stand.cache }
-    ensures done { IfOk result (λ next. WasDone (T.held tree.old) (order.Build job.now) stand book.old next book.new (S.written sink.old) (S.written sink.new)) }
+    ensures done { IfOk result
+        (λ next. WasDone (T.held tree.old) (order.Build job.now) stand book.old next book.new
+        (S.written sink.old) (S.written sink.new)) }
     ensures stopped { (at : List ℕ) (number : ℕ) → IfErr result (λ status.
-        HasStopped (T.held tree.old) at (script_line number (order.Build job.now)) status stand book.old book.new (S.written sink.old) (S.written sink.new)) }
+        HasStopped (T.held tree.old) at (script_line number (order.Build job.now)) status stand
+        book.old book.new (S.written sink.old) (S.written sink.new)) }
     ensures held { T.held tree.new ≡ T.held tree.old }
-    ensures counts { OnOk result (Causes Status.Done (T.faults tree.old) (T.faults tree.new) (S.faults sink.old) (S.faults sink.new)) }
-    ensures causes { IfErr result (λ status. Causes status (T.faults tree.old) (T.faults tree.new) (S.faults sink.old) (S.faults sink.new)) }
+    ensures counts { OnOk result
+        (Causes Status.Done (T.faults tree.old) (T.faults tree.new) (S.faults sink.old)
+        (S.faults sink.new)) }
+    ensures causes { IfErr result
+        (λ status. Causes status (T.faults tree.old) (T.faults tree.new) (S.faults sink.old)
+        (S.faults sink.new)) }
 {
     let Stand {
         edits,
@@ -193,13 +209,20 @@ fn carry_out<H: Threads + Sync, T: Tree, S: Sink, G: Gate>(
 ) -> Result<Stand, Status>
     requires job { HasJob line.now.order }
     requires sound { AreSound means stand.cache }
-    ensures done { IfOk result (λ next. WasDone (T.held tree.old) line.now.order stand book.old next book.new (S.written sink.old) (S.written sink.new)) }
+    ensures done { IfOk result
+        (λ next. WasDone (T.held tree.old) line.now.order stand book.old next book.new
+        (S.written sink.old) (S.written sink.new)) }
     ensures sound { IfOk result (λ next. AreSound means next.cache) }
     ensures stopped { IfErr result (λ status.
-        HasStopped (T.held tree.old) script.now line.now status stand book.old book.new (S.written sink.old) (S.written sink.new)) }
+        HasStopped (T.held tree.old) script.now line.now status stand book.old book.new
+        (S.written sink.old) (S.written sink.new)) }
     ensures held { T.held tree.new ≡ T.held tree.old }
-    ensures counts { OnOk result (Causes Status.Done (T.faults tree.old) (T.faults tree.new) (S.faults sink.old) (S.faults sink.new)) }
-    ensures causes { IfErr result (λ status. Causes status (T.faults tree.old) (T.faults tree.new) (S.faults sink.old) (S.faults sink.new)) }
+    ensures counts { OnOk result
+        (Causes Status.Done (T.faults tree.old) (T.faults tree.new) (S.faults sink.old)
+        (S.faults sink.new)) }
+    ensures causes { IfErr result
+        (λ status. Causes status (T.faults tree.old) (T.faults tree.new) (S.faults sink.old)
+        (S.faults sink.new)) }
 {
     match &line.order {
         Order::Put { path, from } => {
@@ -222,10 +245,12 @@ fn replay_lines<H: Threads + Sync, T: Tree, S: Sink, G: Gate>(
     book: &mut Book<Key>,
 ) -> Status
     requires jobs { HaveJobs lines.now }
-    ensures follows { Follows (T.held tree.old) script.now (Some lines.now) result book.old book.new (S.written sink.old) (S.written sink.new) }
+    ensures follows { Follows (T.held tree.old) script.now (Some lines.now) result book.old book.new
+        (S.written sink.old) (S.written sink.new) }
     ensures no_usage { OnUsage result ⊥ }
     ensures held { T.held tree.new ≡ T.held tree.old }
-    ensures causes { Causes result (T.faults tree.old) (T.faults tree.new) (S.faults sink.old) (S.faults sink.new) }
+    ensures causes { Causes result (T.faults tree.old) (T.faults tree.new) (S.faults sink.old)
+        (S.faults sink.new) }
 {
     let mut stand = Stand::new(alloc);
     let mut left = lines;
@@ -253,10 +278,14 @@ fn replay_text<H: Threads + Sync, T: Tree, S: Sink, G: Gate>(
     book: &mut Book<Key>,
 ) -> Status
     ensures follows { IsUntouched result book.old book.new (S.written sink.old) (S.written sink.new)
-        ⊎ Follows (T.held tree.old) script.now (script_of bytes.now) result book.old book.new (S.written sink.old) (S.written sink.new) }
-    ensures usage_told { OnUsage result (IsUsageTold (S.faults sink.old) (S.faults sink.new) (S.written sink.old) (S.written sink.new)) }
+        ⊎ Follows (T.held tree.old) script.now (script_of bytes.now) result book.old book.new
+        (S.written sink.old) (S.written sink.new) }
+    ensures usage_told { OnUsage result
+        (IsUsageTold (S.faults sink.old) (S.faults sink.new) (S.written sink.old)
+        (S.written sink.new)) }
     ensures held { T.held tree.new ≡ T.held tree.old }
-    ensures causes { Causes result (T.faults tree.old) (T.faults tree.new) (S.faults sink.old) (S.faults sink.new) }
+    ensures causes { Causes result (T.faults tree.old) (T.faults tree.new) (S.faults sink.old)
+        (S.faults sink.new) }
 {
     match read_script(alloc, bytes) {
         Ok(Some(lines)) => {
@@ -270,8 +299,8 @@ fn replay_text<H: Threads + Sync, T: Tree, S: Sink, G: Gate>(
     }
 }
 
-/// Replays a script of the tree: its edits stand above the tree's files, and its builds pass the cache
-/// on, from none. All lines are checked before the first is carried out.
+/// Replays a script of the tree: its edits stand above the tree's files, and its builds pass the
+/// cache on, from none. All lines are checked before the first is carried out.
 pub fn replay<H: Threads + Sync, T: Tree, S: Sink, G: Gate>(
     rt: &H,
     alloc: Global,
@@ -281,10 +310,14 @@ pub fn replay<H: Threads + Sync, T: Tree, S: Sink, G: Gate>(
     gate: &G,
     book: &mut Book<Key>,
 ) -> Status
-    ensures replayed { IsReplayed (T.held tree.old) script.now result book.old book.new (S.written sink.old) (S.written sink.new) }
-    ensures usage_told { OnUsage result (IsUsageTold (S.faults sink.old) (S.faults sink.new) (S.written sink.old) (S.written sink.new)) }
+    ensures replayed { IsReplayed (T.held tree.old) script.now result book.old book.new
+        (S.written sink.old) (S.written sink.new) }
+    ensures usage_told { OnUsage result
+        (IsUsageTold (S.faults sink.old) (S.faults sink.new) (S.written sink.old)
+        (S.written sink.new)) }
     ensures held { T.held tree.new ≡ T.held tree.old }
-    ensures causes { Causes result (T.faults tree.old) (T.faults tree.new) (S.faults sink.old) (S.faults sink.new) }
+    ensures causes { Causes result (T.faults tree.old) (T.faults tree.new) (S.faults sink.old)
+        (S.faults sink.new) }
 {
     match tree.read(script, FILE_LIMIT) {
         Ok(Got::File(bytes)) => {

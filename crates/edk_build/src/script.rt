@@ -133,7 +133,8 @@ fn line_content(
     number: u64,
     piece: &[u8],
 ) -> Result<Option<Option<Order>>, WantOfMemory>
-    ensures content { (at : ℕ) → IfOk result (λ content. content ≡ line_content (piece_of number at piece.now)) }
+    ensures content { (at : ℕ) → IfOk result
+        (λ content. content ≡ line_content (piece_of number at piece.now)) }
     ensures few { IfOk result (λ content. IfSome content (λ held. number ≤ 1000)) }
 {
     if number > MOST_LINES {

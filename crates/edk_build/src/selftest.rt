@@ -91,13 +91,18 @@ fn build_named<H: Threads + Sync, S: Sink, G: Gate>(
     book: &mut Book<Key>,
 ) -> Result<Cache<Key, Out>, Status>
     requires fields { fields.now ≡ job_fields selftest_job }
-    ensures done { (files : Files) → ⟦<SureTree as Tree>⟧.held tree.old ≡ Some files → AreSound means cache → IfOk result (λ next.
-        WasDone (record { name = name.now; files = files }) cache book.old next book.new (S.written sink.old) (S.written sink.new)) }
-    ensures stopped { (files : Files) → ⟦<SureTree as Tree>⟧.held tree.old ≡ Some files → AreSound means cache → IfErr result (λ status.
-        HasStopped (record { name = name.now; files = files }) status cache book.old book.new (S.written sink.old) (S.written sink.new)) }
+    ensures done { (files : Files) → ⟦<SureTree as Tree>⟧.held tree.old ≡ Some files
+        → AreSound means cache → IfOk result (λ next.
+        WasDone (record { name = name.now; files = files }) cache book.old next book.new
+        (S.written sink.old) (S.written sink.new)) }
+    ensures stopped { (files : Files) → ⟦<SureTree as Tree>⟧.held tree.old ≡ Some files
+        → AreSound means cache → IfErr result (λ status.
+        HasStopped (record { name = name.now; files = files }) status cache book.old book.new
+        (S.written sink.old) (S.written sink.new)) }
     ensures held { ⟦<SureTree as Tree>⟧.held tree.new ≡ ⟦<SureTree as Tree>⟧.held tree.old }
     ensures counts { OnOk result (Causes Status.Done 0 0 (S.faults sink.old) (S.faults sink.new)) }
-    ensures causes { IfErr result (λ status. Causes status 0 0 (S.faults sink.old) (S.faults sink.new)) }
+    ensures causes { IfErr result
+        (λ status. Causes status 0 0 (S.faults sink.old) (S.faults sink.new)) }
 {
     let Ok(label) = label_named(alloc, name) else {
         return Err(Status::WantOfMemory);
@@ -141,8 +146,10 @@ fn build_third<H: Threads + Sync, S: Sink, G: Gate>(
     book: &mut Book<Key>,
 ) -> Status
     requires fields { fields.now ≡ job_fields selftest_job }
-    ensures built { (n : ℕ) → ⟦<SureTree as Tree>⟧.held tree.old ≡ Some (workspace n) → AreSound means cache →
-        WereBuilt (third_turn n ∷ []) result cache book.old book.new (S.written sink.old) (S.written sink.new) }
+    ensures built { (n : ℕ) → ⟦<SureTree as Tree>⟧.held tree.old ≡ Some (workspace n)
+        → AreSound means cache →
+        WereBuilt (third_turn n ∷ []) result cache book.old book.new (S.written sink.old)
+        (S.written sink.new) }
     ensures causes { Causes result 0 0 (S.faults sink.old) (S.faults sink.new) }
 {
     let Ok(()) = edit(alloc, tree) else {
@@ -166,8 +173,10 @@ fn build_second<H: Threads + Sync, S: Sink, G: Gate>(
     book: &mut Book<Key>,
 ) -> Status
     requires fields { fields.now ≡ job_fields selftest_job }
-    ensures built { (n : ℕ) → ⟦<SureTree as Tree>⟧.held tree.old ≡ Some (workspace n) → AreSound means cache →
-        WereBuilt (second_turn n ∷ third_turn n ∷ []) result cache book.old book.new (S.written sink.old) (S.written sink.new) }
+    ensures built { (n : ℕ) → ⟦<SureTree as Tree>⟧.held tree.old ≡ Some (workspace n)
+        → AreSound means cache →
+        WereBuilt (second_turn n ∷ third_turn n ∷ []) result cache book.old book.new
+        (S.written sink.old) (S.written sink.new) }
     ensures causes { Causes result 0 0 (S.faults sink.old) (S.faults sink.new) }
 {
     match build_named(rt, alloc, b"second", fields, cache, tree, sink, gate, book) {
@@ -176,9 +185,9 @@ fn build_second<H: Threads + Sync, S: Sink, G: Gate>(
     }
 }
 
-/// Makes the workspace of n modules in memory, and builds it three times, each time from the cache that the last build
-/// left; before the third, the dependency expression of the first module becomes FALSE. The run goes on after a
-/// build of a fault, which is told.
+/// Makes the workspace of n modules in memory, and builds it three times, each time from the cache
+/// that the last build left; before the third, the dependency expression of the first module
+/// becomes FALSE. The run goes on after a build of a fault, which is told.
 pub fn selftest<H: Threads + Sync, S: Sink, G: Gate>(
     rt: &H,
     alloc: Global,
@@ -187,7 +196,8 @@ pub fn selftest<H: Threads + Sync, S: Sink, G: Gate>(
     gate: &G,
     book: &mut Book<Key>,
 ) -> Status
-    ensures built { IsSelftest n result book.old book.new (S.written sink.old) (S.written sink.new) }
+    ensures built { IsSelftest n result book.old book.new (S.written sink.old)
+        (S.written sink.new) }
     ensures complete { IsSelftestComplete (Rose (S.faults sink.old) (S.faults sink.new)) result }
     ensures status { IsSelftestStatus result }
     ensures no_usage { OnUsage result ⊥ }

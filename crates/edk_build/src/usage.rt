@@ -5,7 +5,8 @@ use build_base::{Sink, Target};
 
 /// Tells it to standard error; a failure there changes nothing.
 pub fn tell_usage<S: Sink>(sink: &mut S)
-    ensures { IsUsageTold (S.faults sink.old) (S.faults sink.new) (S.written sink.old) (S.written sink.new) }
+    ensures { IsUsageTold (S.faults sink.old) (S.faults sink.new) (S.written sink.old)
+        (S.written sink.new) }
 {
     let _ = sink.emit(&Target::Err, b"usage\n".as_slice());
 }

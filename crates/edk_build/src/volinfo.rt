@@ -69,11 +69,13 @@ fn tell_refused<S: Sink>(alloc: Global, fault: &Fault, sink: &mut S) -> Status
 
 /// Lists the volumes in a file of the tree, with their files and sections, on standard output.
 pub fn volinfo<T: Tree, S: Sink>(alloc: Global, image: &Path, tree: &mut T, sink: &mut S) -> Status
-    ensures told { IsVolinfo (T.held tree.old) image.now result (S.written sink.old) (S.written sink.new) }
+    ensures told { IsVolinfo (T.held tree.old) image.now result (S.written sink.old)
+        (S.written sink.new) }
     ensures unwritten { OnUnwritten result (S.written sink.new ≡ S.written sink.old) }
     ensures no_usage { OnUsage result ⊥ }
     ensures held { T.held tree.new ≡ T.held tree.old }
-    ensures causes { Causes result (T.faults tree.old) (T.faults tree.new) (S.faults sink.old) (S.faults sink.new) }
+    ensures causes { Causes result (T.faults tree.old) (T.faults tree.new) (S.faults sink.old)
+        (S.faults sink.new) }
 {
     let got = match tree.read(image, FILE_LIMIT) {
         Ok(got) => got,

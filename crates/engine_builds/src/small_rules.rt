@@ -1,4 +1,5 @@
-//! The rules of the tests: a step asks for a file and a field, or for the outcomes of step 0 and of the step before it.
+//! The rules of the tests: a step asks for a file and a field, or for the outcomes of step 0 and of
+//! the step before it.
 ghost use Rattle.std.specs.Prelude.{◌≡◌, ◌∷◌, ◌++◌, [], IfOk};
 ghost use Rattle.engine_builds.specs.SmallRules.{first_ask, second_ask, path_of, absent, whole_file, together, finish, finish_pairs, is_file};
 ghost use Rattle.step_engine.specs.declared.talk.Outcome.TheVariants.{Good, Bad};

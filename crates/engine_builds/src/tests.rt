@@ -1,4 +1,5 @@
-//! Builds by small rules: from scratch, from what an earlier build left, from caches that are wrong, and of many ranks.
+//! Builds by small rules: from scratch, from what an earlier build left, from caches that are
+//! wrong, and of many ranks.
 use crate::small_rules::SmallRules;
 use build_base::memory_tree::MemoryTree;
 use build_base::open_gate::OpenGate;
@@ -46,7 +47,8 @@ fn sorted(alloc: Global, book: &Book<u32>) -> Result<Vec<u32>, Fail> {
     Ok(keys)
 }
 
-// Holds piece 0 of each wave of two or more until another piece of that wave has entered, or for so many turns.
+// Holds piece 0 of each wave of two or more until another piece of that wave has entered, or for so
+// many turns.
 #[derive(Drop)]
 struct HeldGate {
     others: AtomicU64,

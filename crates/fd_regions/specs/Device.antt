@@ -1,4 +1,5 @@
--- The bytes of a flash device, by the region that holds each place (EDK II FDF specification, section 2.4, FD regions).
+-- The bytes of a flash device, by the region that holds each place (EDK II FDF specification,
+-- section 2.4, FD regions).
 use Rattle.std.specs.Prelude.{ℕ, ◌+◌, ◌-◌, nat_lt, List, [], ◌∷◌, ◌++◌, length, Option, None, Result, codes, decimal, replicate}
 use Rattle.build_base.specs.declared.fault.Place.{Place}
 use Rattle.build_base.specs.declared.fault.Fault.{Fault}
@@ -10,30 +11,38 @@ use Rattle.doc_types.specs.declared.flash.DevicePlan.{DevicePlan}
 
 -- the bytes of a region: its content, and the erase byte up to its size
 abbrev pub region_piece : ℕ → Region → List ℕ → Piece
-region_piece free region part = record { start = region.offset; bytes = part ++ replicate (region.size - length part) free }
+region_piece free region part =
+    record { start = region.offset; bytes = part ++ replicate (region.size - length part) free }
 
 unfoldable pub region_pieces : ℕ → List Region → List (List ℕ) → List Piece
 region_pieces free [] parts = []
 region_pieces free (region ∷ regions) [] = []
-region_pieces free (region ∷ regions) (part ∷ parts) = region_piece free region part ∷ region_pieces free regions parts
+region_pieces free (region ∷ regions) (part ∷ parts) =
+    region_piece free region part ∷ region_pieces free regions parts
 
 -- each byte is that of the region that holds its place, and else the erase byte
 unfoldable pub device_image : DevicePlan → List (List ℕ) → List ℕ
-device_image plan parts = image_of (free_byte plan.erase) (region_pieces (free_byte plan.erase) plan.regions parts) plan.size
+device_image plan parts = image_of (free_byte plan.erase)
+    (region_pieces (free_byte plan.erase) plan.regions parts) plan.size
 
 -- `first sign second`
 abbrev pub compared : ℕ → List ℕ → ℕ → List ℕ
 compared first sign second = decimal first ++ sign ++ decimal second
 
 abbrev pub compared_at : ℕ → Place → ℕ → List ℕ → ℕ → Fault
-compared_at code place first sign second = record { code = code; place = place; detail = compared first sign second }
+compared_at code place first sign second =
+    record { code = code; place = place; detail = compared first sign second }
 
--- the first fault of a region that is to start at a place or later, in a device of this size, and to hold so many bytes
+-- the first fault of a region that is to start at a place or later, in a device of this size, and
+-- to hold so many bytes
 unfoldable pub region_fault : ℕ → ℕ → Region → ℕ → Option Fault
 region_fault size at region wanted =
     first_holding (
     (nat_lt region.offset at, compared_at 711 region.at region.offset (codes " < ") at)
-    ∷ (nat_lt size (region.offset + region.size), compared_at 712 region.at (region.offset + region.size) (codes " > ") size)
+    ∷ (
+      nat_lt size (region.offset + region.size),
+      compared_at 712 region.at (region.offset + region.size) (codes " > ") size,
+    )
     ∷ (nat_lt region.size wanted, compared_at 713 region.at wanted (codes " > ") region.size)
     ∷ [])
 
@@ -42,8 +51,10 @@ unfoldable pub device_fault : ℕ → ℕ → List Region → List (List ℕ) �
 device_fault size at [] parts = None
 device_fault size at (region ∷ regions) [] = None
 device_fault size at (region ∷ regions) (part ∷ parts) =
-    or_else (region_fault size at region (length part)) (device_fault size (region.offset + region.size) regions parts)
+    or_else (region_fault size at region (length part))
+    (device_fault size (region.offset + region.size) regions parts)
 
 -- the device, or its first fault
 unfoldable pub device_of : DevicePlan → List (List ℕ) → Result (List ℕ) Fault
-device_of plan parts = unless (device_fault plan.size 0 plan.regions parts) (device_image plan parts)
+device_of plan parts = unless (device_fault plan.size 0 plan.regions parts)
+    (device_image plan parts)

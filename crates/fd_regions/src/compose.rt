@@ -11,8 +11,9 @@ use doc_types::flash::{DevicePlan, Region};
 use itoa::Buffer;
 use std::alloc::Global;
 
-/// The device of a plan, from the content of each of its regions, as runs. `RegionOrder`, `RegionOutside` and
-/// `DataTooLong` stand at the region's line, and their details compare the two numbers concerned.
+/// The device of a plan, from the content of each of its regions, as runs. `RegionOrder`,
+/// `RegionOutside` and `DataTooLong` stand at the region's line, and their details compare the two
+/// numbers concerned.
 #[tactic(auto, unfolding(crate::specs::Device::device_of))]
 pub fn device<C: Contents>(
     alloc: Global,
@@ -87,7 +88,8 @@ fn bad(
     sign: &[u8],
     second: u128,
 ) -> Result<(), Refusal>
-    ensures { Checks result (Some (record { code = code; place = at.now; detail = compared first sign.now second })) }
+    ensures { Checks result
+        (Some (record { code = code; place = at.now; detail = compared first sign.now second })) }
 {
     let detail = compared(alloc, first, sign, second)?;
     let place = at.copy(alloc)?;
@@ -117,7 +119,8 @@ fn image<C: Contents>(
     requires own { regions.now ≡ plan.now.regions }
     requires as_many { length regions.now ≡ length (C.contents parts.now) }
     requires checked { device_fault plan.now.size 0 regions.now (C.contents parts.now) ≡ None }
-    ensures value { IfOk result (λ runs. runs_bytes runs ≡ device_image plan.now (C.contents parts.now)) }
+    ensures value { IfOk result (λ runs. runs_bytes runs
+        ≡ device_image plan.now (C.contents parts.now)) }
     ensures kept { IfOk result (λ runs. kept_bytes runs ≤ sum_by length (C.contents parts.now)) }
     ensures blank { IfOk result (λ runs. are_blank runs ≡ true) }
     ensures short { IfOk result (λ runs. length (runs_bytes runs) < 2 ^ 64) }
@@ -145,9 +148,11 @@ fn put_region<C: Contents>(
     requires after { at ≤ region.now.offset }
     requires fits { length (slice_index_or (C.contents parts.now) i []) ≤ region.now.size }
     ensures bytes { let part = slice_index_or (C.contents parts.now) i [] in
-        OnOk result (out.new.bytes ≡ (out.old.bytes ++ replicate (region.now.offset - at) out.old.free)
+        OnOk result
+        (out.new.bytes ≡ (out.old.bytes ++ replicate (region.now.offset - at) out.old.free)
         ++ (part ++ replicate (region.now.size - length part) out.old.free)) }
-    ensures kept { OnOk result (out.new.kept ≤ out.old.kept + length (slice_index_or (C.contents parts.now) i [])) }
+    ensures kept { OnOk result
+        (out.new.kept ≤ out.old.kept + length (slice_index_or (C.contents parts.now) i [])) }
     ensures free { OnOk result (out.new.free ≡ out.old.free) }
 {
     out.fill(region.offset - at)?;

@@ -17,8 +17,10 @@ pub trait Contents {
     /// Writes a region's content.
     fn write(&self, alloc: Global, region: usize, out: &mut RunWriter) -> Result<(), WantOfMemory>
         requires { region < length (contents self.now) }
-        ensures bytes { OnOk result (out.new.bytes ≡ out.old.bytes ++ slice_index_or (contents self.now) region []) }
-        ensures kept { OnOk result (out.new.kept ≤ out.old.kept + length (slice_index_or (contents self.now) region [])) }
+        ensures bytes { OnOk result
+            (out.new.bytes ≡ out.old.bytes ++ slice_index_or (contents self.now) region []) }
+        ensures kept { OnOk result
+            (out.new.kept ≤ out.old.kept + length (slice_index_or (contents self.now) region [])) }
         ensures free { OnOk result (out.new.free ≡ out.old.free) };
 }
 

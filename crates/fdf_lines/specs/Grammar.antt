@@ -1,4 +1,5 @@
--- The lines of a flash description (EDK II FDF specification, section 3), or the first fault of one.
+-- The lines of a flash description (EDK II FDF specification, section 3), or the first fault of
+-- one.
 use Rattle.std.specs.Prelude.{ℕ, ◌+◌, Bool, true, false, ◌&&◌, ◌||◌, ◌==◌, nat_le, nat_lt, if◌then◌else◌, List, [], ◌∷◌, length, Option, Some, None, Result, codes}
 use Rattle.build_base.specs.FaultText.{fault_of}
 use Rattle.build_base.specs.declared.fault.Fault.{Fault}
@@ -36,7 +37,8 @@ rank_of (scope.Rule rule) = 4
 abbrev pub scope_faults : Taken → Marks → Bool → Scope → List (Option Fault)
 scope_faults line marks full scope.Settings = []
 scope_faults line marks full (scope.Device name) = of_read_line line (device_faults line marks)
-scope_faults line marks full (scope.Volume name) = of_read_line line (volume_faults line marks.braces full)
+scope_faults line marks full (scope.Volume name) =
+    of_read_line line (volume_faults line marks.braces full)
 scope_faults line marks full (scope.Rule rule) = of_read_line line (rule_faults line marks)
 
 abbrev pub scope_row : Taken → Marks → Scope → Option Row
@@ -46,10 +48,12 @@ scope_row line marks (scope.Volume name) = volume_row line marks.braces
 scope_row line marks (scope.Rule rule) = rule_row line marks.braces
 
 unfoldable pub line_faults : Taken → Marks → Bool → Scope → List (Option Fault)
-line_faults line marks full scope = if is_set line.text then of_read_line line (set_faults line) else scope_faults line marks full scope
+line_faults line marks full scope = if is_set line.text then of_read_line line (set_faults line)
+    else scope_faults line marks full scope
 
 unfoldable pub line_row : Taken → Marks → Scope → Option Row
-line_row line marks scope = if is_set line.text then set_row line (rank_of scope) else scope_row line marks scope
+line_row line marks scope = if is_set line.text then set_row line (rank_of scope)
+    else scope_row line marks scope
 
 -- a volume has at most 65,535 statements, and there are as many devices, volumes and rules
 abbrev pub is_full : ℕ → Bool
@@ -71,7 +75,8 @@ unfiled_fault line unfiled = if unfiled then Some (fault_of 247 line.at (codes "
 
 -- a statement of a volume that opens braces
 unfoldable pub opens : List ℕ → Bool
-opens text = (same_word (word_of text) (codes "FILE") || same_word (word_of text) (codes "APRIORI")) && (nat_lt 0 (length text) && (last_byte text == 123))
+opens text = (same_word (word_of text) (codes "FILE") || same_word (word_of text) (codes "APRIORI"))
+    && (nat_lt 0 (length text) && (last_byte text == 123))
 
 abbrev pub are_shut : Open → Bool
 are_shut Shut = true
@@ -81,15 +86,19 @@ are_shut InRule = false
 
 -- braces that the last line opens, also where it has a fault of its own
 abbrev pub begun_fault : Taken → Marks → Bool → Option Fault
-begun_fault line marks volume = if volume && (are_shut marks.braces && opens line.text) then Some (fault_of 246 line.at (codes "{")) else None
+begun_fault line marks volume = if volume && (are_shut marks.braces && opens line.text)
+    then Some (fault_of 246 line.at (codes "{")) else None
 
 abbrev pub left_fault : Taken → Marks → Bool → Option Fault
-left_fault line marks volume = least_of (open_fault line marks.braces ∷ begun_fault line marks volume ∷ unfiled_fault line marks.unfiled ∷ [])
+left_fault line marks volume =
+    least_of (open_fault line marks.braces ∷ begun_fault line marks volume
+    ∷ unfiled_fault line marks.unfiled ∷ [])
 
 -- with the heads above and those of this line
 abbrev pub heads_fault : Taken → Marks → ℕ → ℕ → ℕ → Option Fault
 heads_fault line marks devices volumes rules =
-    least_of (open_fault line marks.braces ∷ unfiled_fault line marks.unfiled ∷ many_fault line devices ∷ many_fault line volumes ∷ many_fault line rules ∷ [])
+    least_of (open_fault line marks.braces ∷ unfiled_fault line marks.unfiled
+    ∷ many_fault line devices ∷ many_fault line volumes ∷ many_fault line rules ∷ [])
 
 abbrev pub flash_grammar : Grammar Scope Row
 flash_grammar =
@@ -97,7 +106,8 @@ flash_grammar =
       head_faults = λ line head. meaning_faults line head (head_meaning head);
       scope_of = λ head. meaning_scope (head_meaning head);
       stray = 241;
-      faults = λ above line scope. line_faults line (marks_below above) (is_full (statements_here above)) scope;
+      faults = λ above line scope. line_faults line (marks_below above)
+          (is_full (statements_here above)) scope;
       row_of = λ above line scope. line_row line (marks_below above) scope;
       at_heads = λ above line heads. heads_fault line (marks_below above)
           (heads_above section.Device above + heads_here section.Device heads)

@@ -1,4 +1,5 @@
--- How many heads and statements the lines of a flash description may have (this project's own limit).
+-- How many heads and statements the lines of a flash description may have (this project's own
+-- limit).
 use Rattle.std.specs.Prelude.{ℕ, ◌≤◌, List, All}
 use Rattle.doc_reading.specs.Blocks.{sections_of}
 use Rattle.doc_reading.specs.Grammar.{Read}

@@ -33,7 +33,8 @@ use Rattle.fdf_words.specs.Words.{is_close, word_of, after_word, after_equals, a
 
 -- the names that are filled in when the rule is used
 abbrev pub rule_names : List (List ℕ)
-rule_names = codes "$(NAMED_GUID)" ∷ codes "$(INF_OUTPUT)" ∷ codes "$(MODULE_NAME)" ∷ codes "$(INF_VERSION)" ∷ codes "$(BUILD_NUMBER)" ∷ []
+rule_names = codes "$(NAMED_GUID)" ∷ codes "$(INF_OUTPUT)" ∷ codes "$(MODULE_NAME)"
+    ∷ codes "$(INF_VERSION)" ∷ codes "$(BUILD_NUMBER)" ∷ []
 
 unfoldable pub begins_name : List ℕ → Bool
 begins_name text = list_any (starts_with nat_eq text) rule_names
@@ -53,20 +54,23 @@ other_macro line text = if holds_other text then Some (bad_line 127 line) else N
 -- such a macro before a path, or in it behind `$(WORKSPACE)/`
 abbrev pub other_around : Taken → List ℕ → Option Fault
 other_around line path =
-    if holds_other (take (length line.text - length path) line.text) || holds_other (without_workspace path) then Some (bad_line 127 line) else None
+    if holds_other (take (length line.text - length path) line.text)
+    || holds_other (without_workspace path) then Some (bad_line 127 line) else None
 
 abbrev pub no_rule_faults : Taken → List (Option Fault)
 no_rule_faults line = other_macro line line.text ∷ Some (bad_line 247 line) ∷ []
 
 -- the options of a section
 abbrev pub rule_options : List (List ℕ × RuleOption)
-rule_options = (codes "Optional", option.Optional) ∷ (codes "Align", option.Aligned) ∷ (codes "BUILD_NUM", option.BuildNumber) ∷ []
+rule_options = (codes "Optional", option.Optional) ∷ (codes "Align", option.Aligned)
+    ∷ (codes "BUILD_NUM", option.BuildNumber) ∷ []
 
 unfoldable pub rule_option : List ℕ → Option RuleOption
 rule_option word = lookup rule_options word
 
 unfoldable pub rule_align : List ℕ → Option Align
-rule_align word = if same_word word (codes "Auto") then Some Auto else option_map Bytes (alignment_of word)
+rule_align word = if same_word word (codes "Auto") then Some Auto
+    else option_map Bytes (alignment_of word)
 
 abbrev pub within_word : Option ℕ → Option ℕ
 within_word (Some n) = if nat_le n 65535 then Some n else None
@@ -74,7 +78,8 @@ within_word None = None
 
 -- a build number of at most 16 bits; that of the build is 0
 unfoldable pub build_number : List ℕ → Option ℕ
-build_number word = if same_text word (codes "$(BUILD_NUMBER)") then Some 0 else within_word (number_of word)
+build_number word = if same_text word (codes "$(BUILD_NUMBER)") then Some 0
+    else within_word (number_of word)
 
 abbrev pub is_unset : Align → Bool
 is_unset Unset = true
@@ -82,10 +87,12 @@ is_unset Auto = false
 is_unset (Bytes n) = false
 
 abbrev pub with_optional : RuleOptions → List ℕ → Option (RuleOptions × List ℕ)
-with_optional options rest = if options.optional then None else Some (record options { optional = true }, rest)
+with_optional options rest = if options.optional then None
+    else Some (record options { optional = true }, rest)
 
 abbrev pub with_rule_align : RuleOptions → List ℕ → Option Align → Option (RuleOptions × List ℕ)
-with_rule_align options rest (Some align) = if is_unset options.align then Some (record options { align = align }, rest) else None
+with_rule_align options rest (Some align) =
+    if is_unset options.align then Some (record options { align = align }, rest) else None
 with_rule_align options rest None = None
 
 abbrev pub put_number : RuleOptions → List ℕ → ℕ → Option ℕ → Option (RuleOptions × List ℕ)
@@ -97,16 +104,20 @@ with_number options rest (Some number) = put_number options rest number options.
 with_number options rest None = None
 
 -- an option; another text begins the path
-abbrev pub with_rule_option : RuleOptions → List ℕ → Option RuleOption → Option (List ℕ) → Option (RuleOptions × List ℕ)
+abbrev pub with_rule_option : RuleOptions → List ℕ → Option RuleOption → Option (List ℕ)
+    → Option (RuleOptions × List ℕ)
 with_rule_option options text (Some option.Optional) value = with_optional options (after_word text)
-with_rule_option options text (Some option.Aligned) (Some value) = with_rule_align options (after_word value) (rule_align (word_of value))
-with_rule_option options text (Some option.BuildNumber) (Some value) = with_number options (after_word value) (build_number (word_of value))
+with_rule_option options text (Some option.Aligned) (Some value) =
+    with_rule_align options (after_word value) (rule_align (word_of value))
+with_rule_option options text (Some option.BuildNumber) (Some value) =
+    with_number options (after_word value) (build_number (word_of value))
 with_rule_option options text (Some option.Aligned) None = Some (options, text)
 with_rule_option options text (Some option.BuildNumber) None = Some (options, text)
 with_rule_option options text None value = Some (options, text)
 
 unfoldable pub next_rule : RuleOptions → List ℕ → Option (RuleOptions × List ℕ)
-next_rule options text = with_rule_option options text (rule_option (word_of text)) (after_equals (after_word text))
+next_rule options text = with_rule_option options text (rule_option (word_of text))
+    (after_equals (after_word text))
 
 abbrev pub and_rule : Option (RuleOptions × List ℕ) → Option (RuleOptions × List ℕ)
 and_rule = option_and_then (λ p. next_rule p.0 p.1)
@@ -121,9 +132,15 @@ rule_parts text = and_rule (and_rule (and_rule (next_rule no_rule_options text))
 -- the kinds of sections of a rule; the compressed and the GUIDed ones are refused
 abbrev pub rule_kinds : List (List ℕ × RuleKind)
 rule_kinds =
-    (codes "PE32", kind_.Plain EFI_SECTION_PE32) ∷ (codes "TE", kind_.Plain EFI_SECTION_TE) ∷ (codes "DXE_DEPEX", kind_.Plain EFI_SECTION_DXE_DEPEX) ∷ (codes "VERSION", kind_.Worded EFI_SECTION_VERSION)
-    ∷ (codes "UI", kind_.Worded EFI_SECTION_USER_INTERFACE) ∷ (codes "FV_IMAGE", kind_.Plain EFI_SECTION_FIRMWARE_VOLUME_IMAGE) ∷ (codes "RAW", kind_.Plain EFI_SECTION_RAW) ∷ (codes "PEI_DEPEX", kind_.Plain EFI_SECTION_PEI_DEPEX)
-    ∷ (codes "SMM_DEPEX", kind_.Plain EFI_SECTION_MM_DEPEX) ∷ (codes "COMPRESS", kind_.Compressed) ∷ (codes "GUIDED", kind_.Compressed) ∷ []
+    (codes "PE32", kind_.Plain EFI_SECTION_PE32) ∷ (codes "TE", kind_.Plain EFI_SECTION_TE)
+    ∷ (codes "DXE_DEPEX", kind_.Plain EFI_SECTION_DXE_DEPEX)
+    ∷ (codes "VERSION", kind_.Worded EFI_SECTION_VERSION)
+    ∷ (codes "UI", kind_.Worded EFI_SECTION_USER_INTERFACE)
+    ∷ (codes "FV_IMAGE", kind_.Plain EFI_SECTION_FIRMWARE_VOLUME_IMAGE)
+    ∷ (codes "RAW", kind_.Plain EFI_SECTION_RAW)
+    ∷ (codes "PEI_DEPEX", kind_.Plain EFI_SECTION_PEI_DEPEX)
+    ∷ (codes "SMM_DEPEX", kind_.Plain EFI_SECTION_MM_DEPEX) ∷ (codes "COMPRESS", kind_.Compressed)
+    ∷ (codes "GUIDED", kind_.Compressed) ∷ []
 
 unfoldable pub rule_kind : List ℕ → Option RuleKind
 rule_kind word = lookup rule_kinds word
@@ -134,7 +151,16 @@ number_or_zero None = 0
 
 abbrev pub made_plan : Taken → ℕ → RuleOptions → SectionSource → Row
 made_plan line kind options source =
-    row.RuleSection (record { at = line.at; kind = kind; optional = options.optional; align = options.align; number = number_or_zero options.number; guid = None; source = source })
+    row.RuleSection
+    (record {
+      at = line.at;
+      kind = kind;
+      optional = options.optional;
+      align = options.align;
+      number = number_or_zero options.number;
+      guid = None;
+      source = source;
+    })
 
 -- `|.ext`, which may stand but not be used
 unfoldable pub is_extension : List ℕ → Bool
@@ -150,12 +176,15 @@ path_faults line same None = no_rule_faults line
 
 abbrev pub path_row : Taken → ℕ → Option (RuleOptions × List ℕ) → Option Row
 path_row line kind (Some p) =
-    Some (made_plan line kind p.0 (if is_extension p.1 then Refused line.text else Template (without_workspace p.1)))
+    Some
+    (made_plan line kind p.0 (if is_extension p.1 then Refused line.text
+    else Template (without_workspace p.1)))
 path_row line kind None = None
 
 -- a text behind STRING
 abbrev pub text_faults : Taken → Option (RuleOptions × List ℕ) → List (Option Fault)
-text_faults line (Some p) = if length p.1 == 0 then other_macro line line.text ∷ [] else no_rule_faults line
+text_faults line (Some p) = if length p.1 == 0 then other_macro line line.text ∷ []
+    else no_rule_faults line
 text_faults line None = no_rule_faults line
 
 abbrev pub text_row : Taken → ℕ → List ℕ → Option (RuleOptions × List ℕ) → Option Row
@@ -179,21 +208,25 @@ is_string word = same_word word (codes "STRING")
 
 -- what follows a kind
 abbrev pub plain_faults : Taken → List ℕ → List ℕ → List (Option Fault)
-plain_faults line first text = path_faults line (same_word (word_of text) first) (rule_parts (after_word text))
+plain_faults line first text =
+    path_faults line (same_word (word_of text) first) (rule_parts (after_word text))
 
 abbrev pub plain_row : Taken → ℕ → List ℕ → Option Row
 plain_row line kind text = path_row line kind (rule_parts (after_word text))
 
 abbrev pub worded_faults : Taken → List ℕ → List ℕ → List (Option Fault)
-worded_faults line first text = if is_string (word_of text) then quoted_faults line (stated_words (after_word text)) else plain_faults line first text
+worded_faults line first text = if is_string (word_of text)
+    then quoted_faults line (stated_words (after_word text)) else plain_faults line first text
 
 abbrev pub worded_row : Taken → ℕ → List ℕ → Option Row
-worded_row line kind text = if is_string (word_of text) then quoted_row line kind (stated_words (after_word text)) else plain_row line kind text
+worded_row line kind text = if is_string (word_of text)
+    then quoted_row line kind (stated_words (after_word text)) else plain_row line kind text
 
 abbrev pub kind_faults : Taken → List ℕ → List ℕ → Option RuleKind → List (Option Fault)
 kind_faults line first text (Some (kind_.Plain kind)) = plain_faults line first text
 kind_faults line first text (Some (kind_.Worded kind)) = worded_faults line first text
-kind_faults line first text (Some kind_.Compressed) = other_macro line line.text ∷ Some (fault_of 252 line.at first) ∷ []
+kind_faults line first text (Some kind_.Compressed) =
+    other_macro line line.text ∷ Some (fault_of 252 line.at first) ∷ []
 kind_faults line first text None = no_rule_faults line
 
 abbrev pub kind_row : Taken → List ℕ → Option RuleKind → Option Row
@@ -204,14 +237,17 @@ kind_row line text None = None
 
 -- a line in the braces of the rule's file
 abbrev pub inner_faults : Taken → List (Option Fault)
-inner_faults line = if is_close line.text then [] else kind_faults line (word_of line.text) (after_word line.text) (rule_kind (word_of line.text))
+inner_faults line = if is_close line.text then []
+    else kind_faults line (word_of line.text) (after_word line.text) (rule_kind (word_of line.text))
 
 abbrev pub inner_row : Taken → Option Row
-inner_row line = if is_close line.text then Some row.Closes else kind_row line (after_word line.text) (rule_kind (word_of line.text))
+inner_row line = if is_close line.text then Some row.Closes
+    else kind_row line (after_word line.text) (rule_kind (word_of line.text))
 
 -- the rule's file, which has no name of its own
 abbrev pub named_faults : Taken → Option (ℕ × List ℕ × Options) → List (Option Fault)
-named_faults line (Some p) = if same_text p.1 (codes "$(NAMED_GUID)") then other_macro line line.text ∷ [] else no_rule_faults line
+named_faults line (Some p) = if same_text p.1 (codes "$(NAMED_GUID)")
+    then other_macro line line.text ∷ [] else no_rule_faults line
 named_faults line None = no_rule_faults line
 
 abbrev pub named_row : Taken → Option (ℕ × List ℕ × Options) → Option Row
@@ -223,7 +259,8 @@ is_file unfiled word = unfiled && same_word word (codes "FILE")
 
 -- a line outside of braces; a second file is none
 abbrev pub outer_faults : Taken → Bool → List (Option Fault)
-outer_faults line unfiled = if is_file unfiled (word_of line.text) then named_faults line (file_parts (after_word line.text)) else no_rule_faults line
+outer_faults line unfiled = if is_file unfiled (word_of line.text)
+    then named_faults line (file_parts (after_word line.text)) else no_rule_faults line
 
 abbrev pub outer_row : Taken → Option Row
 outer_row line = named_row line (file_parts (after_word line.text))

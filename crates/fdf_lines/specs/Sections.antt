@@ -22,8 +22,10 @@ use Rattle.fdf_lines.specs.declared.section.HeadMeaning.TheVariants.{Enters, Pas
 -- the sections that there are, without regard to case; those with None are read past
 abbrev pub sections : List (List ℕ × Option FlashSection)
 sections =
-    (codes "Defines", Some Defines) ∷ (codes "FD", Some Device) ∷ (codes "FV", Some Volume) ∷ (codes "Rule", Some Rule)
-    ∷ (codes "VTF", None) ∷ (codes "OptionRom", None) ∷ (codes "Capsule", None) ∷ (codes "FmpPayload", None)
+    (codes "Defines", Some Defines) ∷ (codes "FD", Some Device) ∷ (codes "FV", Some Volume)
+    ∷ (codes "Rule", Some Rule)
+    ∷ (codes "VTF", None) ∷ (codes "OptionRom", None) ∷ (codes "Capsule", None)
+    ∷ (codes "FmpPayload", None)
     ∷ (codes "UserExtensions", None) ∷ (codes "DefaultStores", None) ∷ []
 
 unfoldable pub section_named : List ℕ → Option (Option FlashSection)
@@ -31,7 +33,8 @@ section_named word = lookup sections word
 
 -- letters, digits, `_` and `-`
 abbrev pub is_name_byte : ℕ → Bool
-is_name_byte b = (nat_le 97 b && nat_le b 122) || (nat_le 65 b && nat_le b 90) || (nat_le 48 b && nat_le b 57) || (b == 95) || (b == 45)
+is_name_byte b = (nat_le 97 b && nat_le b 122) || (nat_le 65 b && nat_le b 90)
+    || (nat_le 48 b && nat_le b 57) || (b == 95) || (b == 45)
 
 -- the name of a device or a volume
 unfoldable pub is_image_name : List ℕ → Bool
@@ -52,15 +55,20 @@ volume_meaning qualifiers = Misqualified
 
 abbrev pub rule_scope : Option Arch → Option ModuleType → Bool → List ℕ → List ℕ → HeadMeaning
 rule_scope (Some arch) (Some kind) named template name =
-    if named then Enters (scope.Rule (record { arch = arch; module_type = kind; template = template; name = name })) else BadRule
+    if named
+    then Enters
+    (scope.Rule (record { arch = arch; module_type = kind; template = template; name = name }))
+    else BadRule
 rule_scope (Some arch) None named template name = BadRule
 rule_scope None kind named template name = BadRule
 
 -- an architecture, a type of modules and maybe a template
 abbrev pub rule_meaning : List (List ℕ) → HeadMeaning
-rule_meaning (arch ∷ kind ∷ []) = rule_scope (arch_named arch) (module_type_named kind) true [] (arch ++ codes "." ++ kind)
+rule_meaning (arch ∷ kind ∷ []) =
+    rule_scope (arch_named arch) (module_type_named kind) true [] (arch ++ codes "." ++ kind)
 rule_meaning (arch ∷ kind ∷ template ∷ []) =
-    rule_scope (arch_named arch) (module_type_named kind) (is_identifier template) template (arch ++ codes "." ++ kind ++ codes "." ++ template)
+    rule_scope (arch_named arch) (module_type_named kind) (is_identifier template) template
+    (arch ++ codes "." ++ kind ++ codes "." ++ template)
 rule_meaning qualifiers = BadRule
 
 abbrev pub meaning_of : Option (Option FlashSection) → List (List ℕ) → HeadMeaning

@@ -20,13 +20,15 @@ abbrev pub last_mark : {M : Type 0} → M → List M → M
 last_mark mark [] = mark
 last_mark mark (next ∷ marks) = last_mark next marks
 
--- the marks that a line leaves: heads leave one by the scopes that they enter, rows those that they tell
+-- the marks that a line leaves: heads leave one by the scopes that they enter, rows those that they
+-- tell
 abbrev pub marks_in : {M : Type 0} → (List Scope → M) → (Row → List M) → Read Scope Row → List M
 marks_in begun marks (entered at scopes) = begun scopes ∷ []
 marks_in begun marks (gave rows) = flat_map marks rows
 
 -- the last mark that the lines leave
-abbrev pub left_by : {M : Type 0} → M → (List Scope → M) → (Row → List M) → List (Read Scope Row) → M
+abbrev pub left_by : {M : Type 0} → M → (List Scope → M) → (Row → List M) → List (Read Scope Row)
+    → M
 left_by first begun marks reads = last_mark first (flat_map (marks_in begun marks) reads)
 
 -- which braces are open, and of a file what its body has so far
@@ -111,10 +113,17 @@ volume_below reads = left_by false has_volume no_marks reads
 
 -- all of these
 abbrev pub marks_below : List (Read Scope Row) → Marks
-marks_below reads = record { braces = open_below reads; waiting = waiting_below reads; pair = pair_below reads; unfiled = unfiled_below reads }
+marks_below reads =
+    record {
+      braces = open_below reads;
+      waiting = waiting_below reads;
+      pair = pair_below reads;
+      unfiled = unfiled_below reads;
+    }
 
 abbrev pub marks_begun : List Scope → Marks
-marks_begun scopes = record { braces = Shut; waiting = NoRegion; pair = false; unfiled = has_rule scopes }
+marks_begun scopes =
+    record { braces = Shut; waiting = NoRegion; pair = false; unfiled = has_rule scopes }
 
 -- with the marks of one row more
 abbrev pub marks_with : Marks → Row → Marks

@@ -30,8 +30,8 @@ use std::alloc::Global;
 /// How many devices, volumes and rules there may be, and statements of a volume.
 const LIMIT: u64 = 65535;
 
-/// What is kept of the lines above: what they came to, what they left open, whether the last heads begin a volume, how
-/// many statements it has, and how many devices, volumes and rules there are.
+/// What is kept of the lines above: what they came to, what they left open, whether the last heads
+/// begin a volume, how many statements it has, and how many devices, volumes and rules there are.
 #[derive(Drop)]
 pub struct FlashLines {
     pub alloc: Global,
@@ -60,7 +60,8 @@ fn scope_line(
     full: bool,
     scope: &Scope,
 ) -> Result<Option<Row>, Refusal>
-    ensures { Answers result (judged (scope_faults line.now marks full scope.now) (scope_row line.now marks scope.now)) }
+    ensures { Answers result
+        (judged (scope_faults line.now marks full scope.now) (scope_row line.now marks scope.now)) }
 {
     match scope {
         Scope::Settings => Ok(Some(Row::Passed)),
@@ -87,7 +88,8 @@ fn line_row(
     full: bool,
     scope: &Scope,
 ) -> Result<Option<Row>, Refusal>
-    ensures { Answers result (judged (line_faults line.now marks full scope.now) (line_row line.now marks scope.now)) }
+    ensures { Answers result
+        (judged (line_faults line.now marks full scope.now) (line_row line.now marks scope.now)) }
 {
     if is_set(line.text.bytes()) {
         open_quote(alloc, &line.at, line.text.bytes())?;
@@ -280,7 +282,8 @@ impl Format for FlashLines {
     }
 
     fn keep(&mut self, rows: Vec<Row>) -> Result<(), WantOfMemory>
-        ensures { (above : List (Read Scope Row)) → Holds above self.old → OnOk result (Holds (above ++ gave rows.items ∷ []) self.new) }
+        ensures { (above : List (Read Scope Row)) → Holds above self.old
+            → OnOk result (Holds (above ++ gave rows.items ∷ []) self.new) }
     {
         self.marks = marks_after(self.marks, rows.as_slice());
         self.statements = self
@@ -291,8 +294,9 @@ impl Format for FlashLines {
     }
 }
 
-/// What the lines of a flash description come to, or the fault of the first line that has one. There are at most
-/// 65,535 devices, volumes and rules, and as many statements below each line of heads.
+/// What the lines of a flash description come to, or the fault of the first line that has one.
+/// There are at most 65,535 devices, volumes and rules, and as many statements below each line of
+/// heads.
 #[tactic(auto, unfolding(crate::specs::Grammar::rows_of_flash), using(crate::proofs::LimitLemmas::within_held))]
 pub fn read_rows(alloc: Global, lines: &Lines) -> Result<Rows<LineRead>, Refusal>
     ensures rows { AnswersAs reads_as result (rows_of_flash lines.now.rows) }

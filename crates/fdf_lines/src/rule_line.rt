@@ -31,8 +31,8 @@ use meta_lexer::lookup;
 use meta_lexer::words::same_word;
 use std::alloc::Global;
 
-/// The kind of a rule's section by its word: of a type that takes a path, of one that takes a text too, or one
-/// that would be compressed or GUIDed.
+/// The kind of a rule's section by its word: of a type that takes a path, of one that takes a text
+/// too, or one that would be compressed or GUIDed.
 #[derive(Clone, Copy, Debug, PartialEq, Eq)]
 pub enum RuleKind {
     Plain(u8),
@@ -171,7 +171,9 @@ fn is_extension(text: &[u8]) -> bool
 }
 
 fn extension(alloc: Global, line: &Taken, kind: u8, options: RuleOptions) -> Result<Row, Refusal>
-    ensures { Answers result (judged (other_macro line.now line.now.text ∷ []) (made_plan line.now kind options (Refused line.now.text))) }
+    ensures { Answers result
+        (judged (other_macro line.now line.now.text ∷ [])
+        (made_plan line.now kind options (Refused line.now.text))) }
 {
     check_macros(alloc, line, line.text.bytes())?;
     let source = SectionSource::Refused(line.text.copy(alloc)?);
@@ -186,7 +188,9 @@ fn template(
     options: RuleOptions,
     path: &[u8],
 ) -> Result<Row, Refusal>
-    ensures { Answers result (judged (other_around line.now path.now ∷ []) (made_plan line.now kind options (Template (without_workspace path.now)))) }
+    ensures { Answers result
+        (judged (other_around line.now path.now ∷ [])
+        (made_plan line.now kind options (Template (without_workspace path.now)))) }
 {
     check_around(alloc, line, path)?;
     let source = SectionSource::Template(Text::of(alloc, without_workspace(path))?);
@@ -201,7 +205,9 @@ fn path_line(
     same: bool,
     text: &[u8],
 ) -> Result<Option<Row>, Refusal>
-    ensures { Answers result (judged (path_faults line.now same (rule_parts text.now)) (path_row line.now kind (rule_parts text.now))) }
+    ensures { Answers result
+        (judged (path_faults line.now same (rule_parts text.now))
+        (path_row line.now kind (rule_parts text.now))) }
 {
     let Some((options, path)) = rule_parts(text) else {
         return Err(no_rule(alloc, line));
@@ -224,7 +230,9 @@ fn text_line(
     words: &[u8],
     rest: &[u8],
 ) -> Result<Option<Row>, Refusal>
-    ensures { Answers result (judged (text_faults line.now (rule_parts rest.now)) (text_row line.now kind words.now (rule_parts rest.now))) }
+    ensures { Answers result
+        (judged (text_faults line.now (rule_parts rest.now))
+        (text_row line.now kind words.now (rule_parts rest.now))) }
 {
     let Some((options, rest)) = rule_parts(rest) else {
         return Err(no_rule(alloc, line));
@@ -247,7 +255,9 @@ fn stated_words(text: &[u8]) -> Option<(&[u8], &[u8])>
 }
 
 fn string_line(alloc: Global, line: &Taken, kind: u8, text: &[u8]) -> Result<Option<Row>, Refusal>
-    ensures { Answers result (judged (quoted_faults line.now (stated_words text.now)) (quoted_row line.now kind (stated_words text.now))) }
+    ensures { Answers result
+        (judged (quoted_faults line.now (stated_words text.now))
+        (quoted_row line.now kind (stated_words text.now))) }
 {
     match stated_words(text) {
         Some((words, rest)) => text_line(alloc, line, kind, words, rest),
@@ -262,7 +272,8 @@ fn plain_line(
     first: &[u8],
     text: &[u8],
 ) -> Result<Option<Row>, Refusal>
-    ensures { Answers result (judged (plain_faults line.now first.now text.now) (plain_row line.now kind text.now)) }
+    ensures { Answers result
+        (judged (plain_faults line.now first.now text.now) (plain_row line.now kind text.now)) }
 {
     let (word, rest) = first_word(text);
     path_line(alloc, line, kind, same_word(word, first), rest)
@@ -275,7 +286,8 @@ fn worded_line(
     first: &[u8],
     text: &[u8],
 ) -> Result<Option<Row>, Refusal>
-    ensures { Answers result (judged (worded_faults line.now first.now text.now) (worded_row line.now kind text.now)) }
+    ensures { Answers result
+        (judged (worded_faults line.now first.now text.now) (worded_row line.now kind text.now)) }
 {
     let (word, rest) = first_word(text);
     if same_word(word, b"STRING".as_slice()) {
@@ -286,7 +298,9 @@ fn worded_line(
 }
 
 fn compressed(alloc: Global, line: &Taken, word: &[u8]) -> Refusal
-    ensures { Finds result (least_of (other_macro line.now line.now.text ∷ Some (fault_of 252 line.now.at word.now) ∷ [])) }
+    ensures { Finds result
+        (least_of (other_macro line.now line.now.text ∷ Some (fault_of 252 line.now.at word.now)
+        ∷ [])) }
 {
     least_refusal(
         check_macros(alloc, line, line.text.bytes()),
@@ -295,7 +309,9 @@ fn compressed(alloc: Global, line: &Taken, word: &[u8]) -> Refusal
 }
 
 fn kind_line(alloc: Global, line: &Taken, first: &[u8], text: &[u8]) -> Result<Option<Row>, Refusal>
-    ensures { Answers result (judged (kind_faults line.now first.now text.now (rule_kind first.now)) (kind_row line.now text.now (rule_kind first.now))) }
+    ensures { Answers result
+        (judged (kind_faults line.now first.now text.now (rule_kind first.now))
+        (kind_row line.now text.now (rule_kind first.now))) }
 {
     match rule_kind(first) {
         Some(RuleKind::Plain(kind)) => plain_line(alloc, line, kind, first, text),
@@ -316,7 +332,9 @@ fn inner_line(alloc: Global, line: &Taken) -> Result<Option<Row>, Refusal>
 }
 
 fn file_line(alloc: Global, line: &Taken, text: &[u8]) -> Result<Option<Row>, Refusal>
-    ensures { Answers result (judged (named_faults line.now (file_parts text.now)) (named_row line.now (file_parts text.now))) }
+    ensures { Answers result
+        (judged (named_faults line.now (file_parts text.now))
+        (named_row line.now (file_parts text.now))) }
 {
     let Some((file_type, name, options)) = file_parts(text) else {
         return Err(no_rule(alloc, line));
@@ -342,7 +360,8 @@ fn outer_line(alloc: Global, line: &Taken, unfiled: bool) -> Result<Option<Row>,
 /// What a line of a rule says below these marks.
 #[tactic(auto, unfolding(crate::specs::Rules::rule_faults, crate::specs::Rules::rule_row))]
 pub fn rule_line(alloc: Global, line: &Taken, marks: Marks) -> Result<Option<Row>, Refusal>
-    ensures { Answers result (judged (rule_faults line.now marks) (rule_row line.now marks.braces)) }
+    ensures { Answers result
+        (judged (rule_faults line.now marks) (rule_row line.now marks.braces)) }
 {
     match marks.braces {
         Open::InRule => inner_line(alloc, line),

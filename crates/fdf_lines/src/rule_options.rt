@@ -142,7 +142,8 @@ fn with_rule_option<'a>(
     option: Option<RuleOption>,
 ) -> Option<(RuleOptions, &'a [u8])>
     requires { rest.now ≡ after_word text.now }
-    ensures { option_map (λ p. (p.0, p.1.now)) result ≡ with_rule_option options text.now option (after_equals rest.now) }
+    ensures { option_map (λ p. (p.0, p.1.now)) result
+        ≡ with_rule_option options text.now option (after_equals rest.now) }
 {
     match (option, after_equals(rest)) {
         (Some(RuleOption::Optional), _) => with_optional(options, rest),

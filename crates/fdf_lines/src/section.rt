@@ -24,8 +24,8 @@ pub enum FlashSection {
     Rule,
 }
 
-/// What a head stands for: a scope that is entered, a section that is read past, a section with qualifiers
-/// that may not stand there, such a rule, or no section that there is.
+/// What a head stands for: a scope that is entered, a section that is read past, a section with
+/// qualifiers that may not stand there, such a rule, or no section that there is.
 #[derive(Debug, Drop)]
 pub enum HeadMeaning {
     Enters(Scope),
@@ -228,7 +228,8 @@ fn enter_as(
     head: &Head,
     meaning: HeadMeaning,
 ) -> Result<Option<Scope>, Refusal>
-    ensures { Answers result (judged (meaning_faults line.now head.now meaning) (meaning_scope meaning)) }
+    ensures { Answers result
+        (judged (meaning_faults line.now head.now meaning) (meaning_scope meaning)) }
 {
     match meaning {
         HeadMeaning::Enters(scope) => Ok(Some(scope)),
@@ -241,7 +242,9 @@ fn enter_as(
 
 /// The scope that a head enters, or its fault.
 pub fn enter(alloc: Global, line: &Taken, head: &Head) -> Result<Option<Scope>, Refusal>
-    ensures { Answers result (judged (meaning_faults line.now head.now (head_meaning head.now)) (meaning_scope (head_meaning head.now))) }
+    ensures { Answers result
+        (judged (meaning_faults line.now head.now (head_meaning head.now))
+        (meaning_scope (head_meaning head.now))) }
 {
     let meaning = head_meaning(alloc, head)?;
     enter_as(alloc, line, head, meaning)

@@ -1,5 +1,5 @@
--- The statements of modules (EDK II FDF specification, section 3.7): options in any order, each at most once, and
--- then the path of the INF file.
+-- The statements of modules (EDK II FDF specification, section 3.7): options in any order, each at
+-- most once, and then the path of the INF file.
 use Rattle.std.specs.Prelude.{ℕ, ◌+◌, Bool, ◌==◌, nat_lt, if◌then◌else◌, List, [], ◌∷◌, length, take, drop, Option, Some, None, is_some, unwrap_or, codes}
 use Rattle.std.specs.List.{position_or_len}
 use Rattle.std.specs.Option.{option_and_then}
@@ -25,7 +25,8 @@ use Rattle.fdf_volumes.specs.Statements.{macro_before, full_fault}
 use Rattle.fdf_words.specs.Words.{begins_with, word_of, after_word, after_equals}
 
 abbrev pub inf_options : List (List ℕ × InfOption)
-inf_options = (codes "RuleOverride", RuleOverride) ∷ (codes "USE", Use) ∷ (codes "VERSION", Version) ∷ (codes "UI", Ui) ∷ []
+inf_options = (codes "RuleOverride", RuleOverride) ∷ (codes "USE", Use) ∷ (codes "VERSION", Version)
+    ∷ (codes "UI", Ui) ∷ []
 
 unfoldable pub inf_option : List ℕ → Option InfOption
 inf_option word = lookup inf_options word
@@ -41,21 +42,26 @@ unfoldable pub quoted_front : List ℕ → Option (List ℕ × List ℕ)
 quoted_front text = if begins_with 34 text then up_to_quote (drop 1 text) else None
 
 abbrev pub with_rule : InfOptions → List ℕ → Option (InfOptions × List ℕ)
-with_rule options value = if is_some options.template then None else Some (record options { template = Some (word_of value) }, after_word value)
+with_rule options value = if is_some options.template then None
+    else Some (record options { template = Some (word_of value) }, after_word value)
 
 abbrev pub with_use : InfOptions → List ℕ → Option (InfOptions × List ℕ)
-with_use options value = if is_some options.arch then None else Some (record options { arch = Some (word_of value) }, after_word value)
+with_use options value = if is_some options.arch then None
+    else Some (record options { arch = Some (word_of value) }, after_word value)
 
 abbrev pub with_version : InfOptions → Option (List ℕ × List ℕ) → Option (InfOptions × List ℕ)
-with_version options (Some p) = if is_some options.version then None else Some (record options { version = Some p.0 }, p.1)
+with_version options (Some p) = if is_some options.version then None
+    else Some (record options { version = Some p.0 }, p.1)
 with_version options None = None
 
 abbrev pub with_ui : InfOptions → Option (List ℕ × List ℕ) → Option (InfOptions × List ℕ)
-with_ui options (Some p) = if is_some options.ui then None else Some (record options { ui = Some p.0 }, p.1)
+with_ui options (Some p) = if is_some options.ui then None
+    else Some (record options { ui = Some p.0 }, p.1)
 with_ui options None = None
 
 -- an option is a word and a value; another text begins the path
-abbrev pub with_inf : InfOptions → List ℕ → Option InfOption → Option (List ℕ) → Option (InfOptions × List ℕ)
+abbrev pub with_inf : InfOptions → List ℕ → Option InfOption → Option (List ℕ)
+    → Option (InfOptions × List ℕ)
 with_inf options text (Some RuleOverride) (Some value) = with_rule options value
 with_inf options text (Some Use) (Some value) = with_use options value
 with_inf options text (Some Version) (Some value) = with_version options (quoted_front value)
@@ -64,7 +70,8 @@ with_inf options text (Some option) None = Some (options, text)
 with_inf options text None value = Some (options, text)
 
 unfoldable pub next_inf : InfOptions → List ℕ → Option (InfOptions × List ℕ)
-next_inf options text = with_inf options text (inf_option (word_of text)) (after_equals (after_word text))
+next_inf options text = with_inf options text (inf_option (word_of text))
+    (after_equals (after_word text))
 
 abbrev pub and_inf : Option (InfOptions × List ℕ) → Option (InfOptions × List ℕ)
 and_inf = option_and_then (λ p. next_inf p.0 p.1)
@@ -78,7 +85,8 @@ inf_parts text = and_inf (and_inf (and_inf (and_inf (next_inf no_inf_options tex
 
 abbrev pub inf_path_fault : Taken → List ℕ → Option Fault
 inf_path_fault line path =
-    if length path == 0 then Some (bad_line 248 line) else wanted (path_field (without_workspace path)) (fault_of 101 line.at path)
+    if length path == 0 then Some (bad_line 248 line)
+    else wanted (path_field (without_workspace path)) (fault_of 101 line.at path)
 
 abbrev pub template_fault : Taken → Option (List ℕ) → Option Fault
 template_fault line (Some name) = if is_identifier name then None else Some (bad_line 248 line)
@@ -99,12 +107,23 @@ used_arch None = None
 
 abbrev pub inf_parts_faults : Taken → Bool → Option (InfOptions × List ℕ) → List (Option Fault)
 inf_parts_faults line full (Some p) =
-    macro_before line p.1 ∷ inf_path_fault line p.1 ∷ template_fault line p.0.template ∷ use_fault line p.0.arch ∷ full_fault line full ∷ []
-inf_parts_faults line full None = undefined_macro line.at line.text ∷ Some (bad_line 248 line) ∷ full_fault line full ∷ []
+    macro_before line p.1 ∷ inf_path_fault line p.1 ∷ template_fault line p.0.template
+    ∷ use_fault line p.0.arch ∷ full_fault line full ∷ []
+inf_parts_faults line full None = undefined_macro line.at line.text ∷ Some (bad_line 248 line)
+    ∷ full_fault line full ∷ []
 
 abbrev pub made_inf : Taken → InfOptions → Option (List ℕ) → Option InfLine
 made_inf line options (Some path) =
-    Some (record { at = line.at; inf = path; arch = used_arch options.arch; template = unwrap_or options.template []; version = options.version; ui = options.ui })
+    Some
+    (record {
+      at = line.at;
+      inf = path;
+      arch = used_arch options.arch;
+      template =
+          unwrap_or options.template [];
+      version = options.version;
+      ui = options.ui;
+    })
 made_inf line options None = None
 
 abbrev pub inf_parts_line : Taken → Option (InfOptions × List ℕ) → Option InfLine

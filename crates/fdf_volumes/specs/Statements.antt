@@ -1,4 +1,5 @@
--- The statements of a volume (EDK II FDF specification, section 3.7; UEFI PI specification, volume 3, section
+-- The statements of a volume (EDK II FDF specification, section 3.7; UEFI PI specification, volume
+-- 3, section
 -- 2.1.4.1 for the types of files).
 use Rattle.std.specs.Prelude.{ℕ, ◌-◌, Bool, true, false, ◌==◌, if◌then◌else◌, List, [], ◌∷◌, length, take, Option, Some, None, codes}
 use Rattle.std.specs.Option.{option_and_then}
@@ -26,7 +27,8 @@ no_form_faults code line = undefined_macro line.at line.text ∷ Some (bad_line 
 
 -- a macro that is left before a field at the line's end
 abbrev pub macro_before : Taken → List ℕ → Option Fault
-macro_before line field = if holds_macro (take (length line.text - length field) line.text) then Some (bad_line 127 line) else None
+macro_before line field = if holds_macro (take (length line.text - length field) line.text)
+    then Some (bad_line 127 line) else None
 
 -- a volume has at most 65,535 statements
 abbrev pub full_fault : Taken → Bool → Option Fault
@@ -34,10 +36,14 @@ full_fault line full = if full then Some (fault_of 263 line.at (codes "65536")) 
 
 abbrev pub file_types : List (List ℕ × ℕ)
 file_types =
-    (codes "RAW", EFI_FV_FILETYPE_RAW) ∷ (codes "FREEFORM", EFI_FV_FILETYPE_FREEFORM) ∷ (codes "SEC", EFI_FV_FILETYPE_SECURITY_CORE)
-    ∷ (codes "PEI_CORE", EFI_FV_FILETYPE_PEI_CORE) ∷ (codes "DXE_CORE", EFI_FV_FILETYPE_DXE_CORE) ∷ (codes "PEIM", EFI_FV_FILETYPE_PEIM)
-    ∷ (codes "DRIVER", EFI_FV_FILETYPE_DRIVER) ∷ (codes "APPLICATION", EFI_FV_FILETYPE_APPLICATION) ∷ (codes "SMM", EFI_FV_FILETYPE_MM)
-    ∷ (codes "FV_IMAGE", EFI_FV_FILETYPE_FIRMWARE_VOLUME_IMAGE) ∷ (codes "SMM_CORE", EFI_FV_FILETYPE_MM_CORE) ∷ []
+    (codes "RAW", EFI_FV_FILETYPE_RAW) ∷ (codes "FREEFORM", EFI_FV_FILETYPE_FREEFORM)
+    ∷ (codes "SEC", EFI_FV_FILETYPE_SECURITY_CORE)
+    ∷ (codes "PEI_CORE", EFI_FV_FILETYPE_PEI_CORE) ∷ (codes "DXE_CORE", EFI_FV_FILETYPE_DXE_CORE)
+    ∷ (codes "PEIM", EFI_FV_FILETYPE_PEIM)
+    ∷ (codes "DRIVER", EFI_FV_FILETYPE_DRIVER) ∷ (codes "APPLICATION", EFI_FV_FILETYPE_APPLICATION)
+    ∷ (codes "SMM", EFI_FV_FILETYPE_MM)
+    ∷ (codes "FV_IMAGE", EFI_FV_FILETYPE_FIRMWARE_VOLUME_IMAGE)
+    ∷ (codes "SMM_CORE", EFI_FV_FILETYPE_MM_CORE) ∷ []
 
 unfoldable pub file_type : List ℕ → Option ℕ
 file_type word = lookup file_types word
@@ -61,7 +67,8 @@ file_parts text = front_parts (file_type (word_of text)) (file_front text)
 
 -- a word that is a GUID
 abbrev pub guid_fault : Taken → List ℕ → Option Guid → Option Fault
-guid_fault line word guid = if length word == 0 then Some (bad_line 246 line) else wanted guid (fault_of 262 line.at word)
+guid_fault line word guid = if length word == 0 then Some (bad_line 246 line)
+    else wanted guid (fault_of 262 line.at word)
 
 abbrev pub parts_fault : Taken → Option (ℕ × List ℕ × Options) → Option Fault
 parts_fault line (Some p) = guid_fault line p.1 (guid_of p.1)
@@ -69,7 +76,15 @@ parts_fault line None = Some (bad_line 246 line)
 
 abbrev pub head_with : Taken → ℕ → Option Guid → Options → FileHead
 head_with line kind guid options =
-    record { at = line.at; file_type = kind; guid = guid; fixed = options.fixed; checksum = options.checksum; align = options.align }
+    record {
+      at = line.at;
+      file_type = kind;
+      guid = guid;
+      fixed = options.fixed;
+      checksum =
+          options.checksum;
+      align = options.align;
+    }
 
 abbrev pub named_file : Taken → ℕ → Option Guid → Options → Option Row
 named_file line kind (Some guid) options = Some (row.File (head_with line kind (Some guid) options))
@@ -80,7 +95,8 @@ parts_row line (Some p) = named_file line p.0 (guid_of p.1) p.2
 parts_row line None = None
 
 unfoldable pub file_faults : Taken → Bool → List (Option Fault)
-file_faults line full = undefined_macro line.at line.text ∷ parts_fault line (file_parts (after_word line.text)) ∷ full_fault line full ∷ []
+file_faults line full = undefined_macro line.at line.text
+    ∷ parts_fault line (file_parts (after_word line.text)) ∷ full_fault line full ∷ []
 
 unfoldable pub file_row : Taken → Option Row
 file_row line = parts_row line (file_parts (after_word line.text))
@@ -107,7 +123,8 @@ member_of (Some word) = named_member (guid_of word)
 member_of None = None
 
 unfoldable pub member_faults : Taken → List (Option Fault)
-member_faults line = undefined_macro line.at line.text ∷ member_fault line (member_name (after_word line.text)) ∷ []
+member_faults line = undefined_macro line.at line.text
+    ∷ member_fault line (member_name (after_word line.text)) ∷ []
 
 unfoldable pub member_row : Taken → Option Row
 member_row line = member_of (member_name (after_word line.text))
@@ -125,7 +142,8 @@ made_apriori line None = None
 
 unfoldable pub apriori_faults : Taken → Bool → List (Option Fault)
 apriori_faults line full =
-    undefined_macro line.at line.text ∷ wanted (apriori_named (after_word line.text)) (bad_line 246 line) ∷ full_fault line full ∷ []
+    undefined_macro line.at line.text ∷ wanted (apriori_named (after_word line.text))
+    (bad_line 246 line) ∷ full_fault line full ∷ []
 
 unfoldable pub apriori_row : Taken → Option Row
 apriori_row line = made_apriori line (apriori_named (after_word line.text))

@@ -1,4 +1,5 @@
--- The keys of a volume (EDK II FDF specification, section 3.7; UEFI PI specification, volume 3, section 3.2).
+-- The keys of a volume (EDK II FDF specification, section 3.7; UEFI PI specification, volume 3,
+-- section 3.2).
 use Rattle.std.specs.Prelude.{ℕ, Bool, true, false, if◌then◌else◌, List, [], ◌∷◌, Option, Some, None, codes}
 use Rattle.std.specs.Str.{bytes_eq}
 use Rattle.build_base.specs.FaultText.{fault_of}
@@ -31,7 +32,8 @@ truth_named word = lookup truths word
 
 -- whether a file system is FFS3 and not FFS2
 unfoldable pub is_ffs3 : Guid → Option Bool
-is_ffs3 guid = if bytes_eq guid.0 EFI_FIRMWARE_FILE_SYSTEM2_GUID then Some false else if bytes_eq guid.0 EFI_FIRMWARE_FILE_SYSTEM3_GUID then Some true else None
+is_ffs3 guid = if bytes_eq guid.0 EFI_FIRMWARE_FILE_SYSTEM2_GUID then Some false
+    else if bytes_eq guid.0 EFI_FIRMWARE_FILE_SYSTEM3_GUID then Some true else None
 
 abbrev pub volume_form : VolumeKey → NumberForm
 volume_form key.ErasePolarity = form.Polarity
@@ -46,7 +48,8 @@ made_number known None = None
 
 -- an alignment is no expression
 abbrev pub alignment_faults : Taken → List ℕ → List (Option Fault)
-alignment_faults line value = undefined_macro line.at value ∷ wanted (volume_alignment value) (bad_value line value) ∷ []
+alignment_faults line value = undefined_macro line.at value
+    ∷ wanted (volume_alignment value) (bad_value line value) ∷ []
 
 abbrev pub alignment_row : Option ℕ → Option Row
 alignment_row (Some bytes) = Some (Setting (setting.Number key.FvAlignment bytes))
@@ -61,10 +64,12 @@ numbers_row line key.FvAlignment value = alignment_row (volume_alignment value)
 numbers_row line known value = made_number known (number_of_field line (volume_form known) value)
 
 abbrev pub truth_faults : Taken → List ℕ → List (Option Fault)
-truth_faults line value = undefined_macro line.at value ∷ wanted (truth_named value) (bad_value line value) ∷ []
+truth_faults line value = undefined_macro line.at value
+    ∷ wanted (truth_named value) (bad_value line value) ∷ []
 
 abbrev pub name_faults : Taken → List ℕ → List (Option Fault)
-name_faults line value = undefined_macro line.at value ∷ wanted (guid_of value) (fault_of 262 line.at value) ∷ []
+name_faults line value = undefined_macro line.at value
+    ∷ wanted (guid_of value) (fault_of 262 line.at value) ∷ []
 
 abbrev pub name_row : Option Guid → Option Row
 name_row (Some guid) = Some (Setting (setting.NameGuid guid))
@@ -80,7 +85,8 @@ system_fault line value (Some guid) = wanted (is_ffs3 guid) (bad_value line valu
 system_fault line value None = Some (fault_of 262 line.at value)
 
 abbrev pub system_faults : Taken → List ℕ → List (Option Fault)
-system_faults line value = undefined_macro line.at value ∷ system_fault line value (guid_of value) ∷ []
+system_faults line value = undefined_macro line.at value ∷ system_fault line value (guid_of value)
+    ∷ []
 
 abbrev pub system_row : Option Bool → Option Row
 system_row (Some ffs3) = Some (Setting (setting.FileSystem ffs3))
@@ -100,7 +106,8 @@ word_faults line name value (Some word.NameGuid) = name_faults line value
 word_faults line name value (Some word.FileSystem) = system_faults line value
 word_faults line name value (Some word.ForceRebase) = truth_faults line value
 word_faults line name value (Some (word.Attribute bits)) = truth_faults line value
-word_faults line name value None = undefined_macro line.at value ∷ Some (fault_of 241 line.at name) ∷ []
+word_faults line name value None = undefined_macro line.at value ∷ Some (fault_of 241 line.at name)
+    ∷ []
 
 abbrev pub word_row : Taken → List ℕ → Option VolumeWord → Option Row
 word_row line value (Some (word.Number known)) = numbers_row line known value

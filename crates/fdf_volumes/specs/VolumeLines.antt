@@ -1,4 +1,5 @@
--- The lines of a volume, outside and inside the braces of a statement (EDK II FDF specification, section 3.7).
+-- The lines of a volume, outside and inside the braces of a statement (EDK II FDF specification,
+-- section 3.7).
 use Rattle.std.specs.Prelude.{ℕ, Bool, false, if◌then◌else◌, List, [], ◌∷◌, Option, Some, None, codes}
 use Rattle.std.specs.Option.{option_map}
 use Rattle.build_base.specs.FaultText.{fault_of}
@@ -27,19 +28,23 @@ use Rattle.fdf_volumes.specs.VolumeKeys.{word_faults, word_row}
 use Rattle.fdf_words.specs.Words.{begins_with, is_close, word_of}
 
 abbrev pub statements : List (List ℕ × Statement)
-statements = (codes "APRIORI", Apriori) ∷ (codes "INF", Inf) ∷ (codes "FILE", File) ∷ (codes "SECTION", Section) ∷ []
+statements = (codes "APRIORI", Apriori) ∷ (codes "INF", Inf) ∷ (codes "FILE", File)
+    ∷ (codes "SECTION", Section) ∷ []
 
 unfoldable pub statement_named : List ℕ → Option Statement
 statement_named word = lookup statements word
 
 -- what a line is by its first word; a brace closes where it stands alone
 unfoldable pub statement_of : List ℕ → Option Statement
-statement_of text = if is_close text then Some Close else if begins_with 125 text then Some BadClose else statement_named (word_of text)
+statement_of text = if is_close text then Some Close else if begins_with 125 text then Some BadClose
+    else statement_named (word_of text)
 
 -- a key without `=`, or a word that begins no statement
 abbrev pub unkeyed_faults : Taken → Option VolumeWord → List (Option Fault)
-unkeyed_faults line (Some word) = undefined_macro line.at line.text ∷ Some (fault_of 241 line.at (word_of line.text)) ∷ []
-unkeyed_faults line None = undefined_macro line.at line.text ∷ Some (fault_of 243 line.at (word_of line.text)) ∷ []
+unkeyed_faults line (Some word) = undefined_macro line.at line.text
+    ∷ Some (fault_of 241 line.at (word_of line.text)) ∷ []
+unkeyed_faults line None = undefined_macro line.at line.text
+    ∷ Some (fault_of 243 line.at (word_of line.text)) ∷ []
 
 abbrev pub plain_faults : Taken → Option (List ℕ × List ℕ) → List (Option Fault)
 plain_faults line (Some p) = word_faults line p.0 p.1 (volume_word p.0)

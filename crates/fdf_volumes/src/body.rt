@@ -35,8 +35,8 @@ use meta_lexer::lookup;
 use meta_lexer::words::same_word;
 use std::alloc::Global;
 
-/// What stands behind the kind of a section: a path, a text or a path, the name of a volume, a GUID and a path, or
-/// nothing that is taken. A number is the section's type.
+/// What stands behind the kind of a section: a path, a text or a path, the name of a volume, a GUID
+/// and a path, or nothing that is taken. A number is the section's type.
 #[derive(Clone, Copy, Debug, PartialEq, Eq)]
 pub enum SectionWord {
     Plain(u8),
@@ -152,7 +152,9 @@ fn path_section(
     align: Align,
     value: &[u8],
 ) -> Result<Option<Row>, Refusal>
-    ensures { Answers result (judged (path_faults line.now value.now) (path_row line.now kind align (path_field (without_workspace value.now)))) }
+    ensures { Answers result
+        (judged (path_faults line.now value.now)
+        (path_row line.now kind align (path_field (without_workspace value.now)))) }
 {
     let path = path_field(alloc, without_workspace(value))?;
     least_of_two(
@@ -170,7 +172,9 @@ fn quoted_section(
     align: Align,
     words: &[u8],
 ) -> Result<Option<Row>, Refusal>
-    ensures { Answers result (judged (words_faults line.now [] (Some words.now)) (words_row line.now kind align [] (Some words.now))) }
+    ensures { Answers result
+        (judged (words_faults line.now [] (Some words.now))
+        (words_row line.now kind align [] (Some words.now))) }
 {
     undefined_macro(alloc, &line.at, line.text.bytes())?;
     let body = SectionBody::Words(Text::of(alloc, words)?);
@@ -185,7 +189,9 @@ fn words_section(
     align: Align,
     value: &[u8],
 ) -> Result<Option<Row>, Refusal>
-    ensures { Answers result (judged (words_faults line.now value.now (words_in_quotes value.now)) (words_row line.now kind align value.now (words_in_quotes value.now))) }
+    ensures { Answers result
+        (judged (words_faults line.now value.now (words_in_quotes value.now))
+        (words_row line.now kind align value.now (words_in_quotes value.now))) }
 {
     match words_in_quotes(value) {
         Some(words) => quoted_section(alloc, line, kind, align, words),
@@ -199,7 +205,9 @@ fn nested_section(
     align: Align,
     name: &[u8],
 ) -> Result<Option<Row>, Refusal>
-    ensures { Answers result (judged (undefined_macro line.now.at line.now.text ∷ []) (value_row line.now align Nested name.now)) }
+    ensures { Answers result
+        (judged (undefined_macro line.now.at line.now.text ∷ [])
+        (value_row line.now align Nested name.now)) }
 {
     undefined_macro(alloc, &line.at, line.text.bytes())?;
     let body = SectionBody::Volume(Text::of(alloc, name)?);
@@ -244,7 +252,9 @@ fn guid_section(
     word: &[u8],
     value: &[u8],
 ) -> Result<Option<Row>, Refusal>
-    ensures { Answers result (judged (guid_faults line.now word.now value.now) (guid_row line.now align (guid_of word.now) (path_field (without_workspace value.now)))) }
+    ensures { Answers result
+        (judged (guid_faults line.now word.now value.now)
+        (guid_row line.now align (guid_of word.now) (path_field (without_workspace value.now)))) }
 {
     let guid = Guid::of_text(word);
     let path = path_field(alloc, without_workspace(value))?;
@@ -282,7 +292,8 @@ fn value_section(
     word: SectionWord,
     value: &[u8],
 ) -> Result<Option<Row>, Refusal>
-    ensures { Answers result (judged (value_faults line.now word value.now) (value_row line.now align word value.now)) }
+    ensures { Answers result
+        (judged (value_faults line.now word value.now) (value_row line.now align word value.now)) }
 {
     match word {
         SectionWord::Plain(kind) => path_section(alloc, line, kind, align, value),
@@ -300,7 +311,9 @@ fn equals_section(
     word: SectionWord,
     value: Option<&[u8]>,
 ) -> Result<Option<Row>, Refusal>
-    ensures { Answers result (judged (equals_faults line.now word (option_map (λ t. t.now) value.entry)) (equals_row line.now align word (option_map (λ t. t.now) value.entry))) }
+    ensures { Answers result
+        (judged (equals_faults line.now word (option_map (λ t. t.now) value.entry))
+        (equals_row line.now align word (option_map (λ t. t.now) value.entry))) }
 {
     match value {
         Some(value) => value_section(alloc, line, align, word, value),
@@ -314,7 +327,9 @@ fn named_section(
     align: Align,
     text: &[u8],
 ) -> Result<Option<Row>, Refusal>
-    ensures { Answers result (judged (named_faults line.now (word_of text.now) (named_value text.now)) (named_row line.now align (word_of text.now) (named_value text.now))) }
+    ensures { Answers result
+        (judged (named_faults line.now (word_of text.now) (named_value text.now))
+        (named_row line.now align (word_of text.now) (named_value text.now))) }
 {
     let (word, _) = first_word(text);
     match named_value(text) {
@@ -325,7 +340,9 @@ fn named_section(
 
 /// The refusal of a section that would be compressed or GUIDed, unless a macro is left in its line.
 pub fn refuse_kind(alloc: Global, line: &Taken, word: &[u8]) -> Refusal
-    ensures { Finds result (least_of (undefined_macro line.now.at line.now.text ∷ Some (fault_of 252 line.now.at word.now) ∷ [])) }
+    ensures { Finds result
+        (least_of (undefined_macro line.now.at line.now.text
+        ∷ Some (fault_of 252 line.now.at word.now) ∷ [])) }
 {
     least_refusal(
         undefined_macro(alloc, &line.at, line.text.bytes()),
@@ -339,7 +356,9 @@ fn kind_section(
     align: Align,
     text: &[u8],
 ) -> Result<Option<Row>, Refusal>
-    ensures { Answers result (judged (kind_faults line.now text.now (section_word (word_of text.now))) (kind_row line.now align text.now (section_word (word_of text.now)))) }
+    ensures { Answers result
+        (judged (kind_faults line.now text.now (section_word (word_of text.now)))
+        (kind_row line.now align text.now (section_word (word_of text.now)))) }
 {
     let (word, rest) = first_word(text);
     match section_word(word) {
@@ -393,7 +412,9 @@ fn whole_row(path: Option<Path>) -> Option<Row>
 
 /// The path of a whole body.
 pub fn whole_line(alloc: Global, line: &Taken) -> Result<Option<Row>, Refusal>
-    ensures { Answers result (judged (whole_faults line.now) (whole_row (path_field (without_workspace line.now.text)))) }
+    ensures { Answers result
+        (judged (whole_faults line.now)
+        (whole_row (path_field (without_workspace line.now.text)))) }
 {
     let path = path_field(alloc, without_workspace(line.text.bytes()))?;
     wanted(alloc, &path, 101, &line.at, line.text.bytes())?;

@@ -130,7 +130,8 @@ fn with_version<'a>(
     options: InfOptions,
     value: &'a [u8],
 ) -> Result<Option<(InfOptions, &'a [u8])>, WantOfMemory>
-    ensures { IfOk result (λ o. option_map (λ p. (p.0, p.1.now)) o ≡ with_version options (quoted_front value.now)) }
+    ensures { IfOk result (λ o. option_map (λ p. (p.0, p.1.now)) o
+        ≡ with_version options (quoted_front value.now)) }
 {
     let Some((words, rest)) = quoted_front(value) else {
         return Ok(None);
@@ -155,7 +156,8 @@ fn with_ui<'a>(
     options: InfOptions,
     value: &'a [u8],
 ) -> Result<Option<(InfOptions, &'a [u8])>, WantOfMemory>
-    ensures { IfOk result (λ o. option_map (λ p. (p.0, p.1.now)) o ≡ with_ui options (quoted_front value.now)) }
+    ensures { IfOk result (λ o. option_map (λ p. (p.0, p.1.now)) o
+        ≡ with_ui options (quoted_front value.now)) }
 {
     let Some((words, rest)) = quoted_front(value) else {
         return Ok(None);
@@ -182,7 +184,8 @@ fn with_inf<'a>(
     option: Option<InfOption>,
     value: Option<&'a [u8]>,
 ) -> Result<Option<(InfOptions, &'a [u8])>, WantOfMemory>
-    ensures { IfOk result (λ o. option_map (λ p. (p.0, p.1.now)) o ≡ with_inf options text.now option (option_map (λ t. t.now) value.entry)) }
+    ensures { IfOk result (λ o. option_map (λ p. (p.0, p.1.now)) o
+        ≡ with_inf options text.now option (option_map (λ t. t.now) value.entry)) }
 {
     match (option, value) {
         (Some(InfOption::RuleOverride), Some(value)) => with_rule(alloc, options, value),
@@ -329,7 +332,9 @@ fn parted_inf(
     options: InfOptions,
     text: &[u8],
 ) -> Result<Option<InfLine>, Refusal>
-    ensures { Answers result (judged (inf_parts_faults line.now full (Some (options, text.now))) (made_inf line.now options (path_field (without_workspace text.now)))) }
+    ensures { Answers result
+        (judged (inf_parts_faults line.now full (Some (options, text.now)))
+        (made_inf line.now options (path_field (without_workspace text.now)))) }
 {
     let path = path_field(alloc, without_workspace(text))?;
     least_of_five(

@@ -85,7 +85,8 @@ fn file_front(text: &[u8]) -> Option<&[u8]>
 }
 
 fn front_parts(kind: Option<u8>, front: Option<&[u8]>) -> Option<(u8, &[u8], Options)>
-    ensures { option_map (λ p. (p.0, p.1.now, p.2)) result ≡ front_parts kind (option_map (λ t. t.now) front.entry) }
+    ensures { option_map (λ p. (p.0, p.1.now, p.2)) result
+        ≡ front_parts kind (option_map (λ t. t.now) front.entry) }
 {
     let (name, rest) = first_word(front?);
     let options = options_of(rest);
@@ -153,7 +154,10 @@ fn parted_file(
     name: &[u8],
     options: Options,
 ) -> Result<Option<Row>, Refusal>
-    ensures { Answers result (judged (undefined_macro line.now.at line.now.text ∷ guid_fault line.now name.now (guid_of name.now) ∷ full_fault line.now full ∷ []) (named_file line.now file_type (guid_of name.now) options)) }
+    ensures { Answers result
+        (judged (undefined_macro line.now.at line.now.text
+        ∷ guid_fault line.now name.now (guid_of name.now) ∷ full_fault line.now full ∷ [])
+        (named_file line.now file_type (guid_of name.now) options)) }
 {
     let guid = Guid::of_text(name);
     least_of_three(
@@ -166,7 +170,8 @@ fn parted_file(
 }
 
 fn bad_or_full(alloc: Global, code: u16, line: &Taken, full: bool) -> Refusal
-    ensures { Finds result (least_of (Some (bad_line code line.now) ∷ full_fault line.now full ∷ [])) }
+    ensures { Finds result
+        (least_of (Some (bad_line code line.now) ∷ full_fault line.now full ∷ [])) }
 {
     with_check(
         bad_line(alloc, code, line),
@@ -176,7 +181,9 @@ fn bad_or_full(alloc: Global, code: u16, line: &Taken, full: bool) -> Refusal
 
 /// The refusal of a statement that is of no form.
 pub fn no_statement(alloc: Global, code: u16, line: &Taken, full: bool) -> Refusal
-    ensures { Finds result (least_of (undefined_macro line.now.at line.now.text ∷ Some (bad_line code line.now) ∷ full_fault line.now full ∷ [])) }
+    ensures { Finds result
+        (least_of (undefined_macro line.now.at line.now.text ∷ Some (bad_line code line.now)
+        ∷ full_fault line.now full ∷ [])) }
 {
     least_refusal(
         undefined_macro(alloc, &line.at, line.text.bytes()),
@@ -226,7 +233,9 @@ fn named_member(guid: Option<Guid>) -> Option<Row>
 }
 
 fn named_line(alloc: Global, line: &Taken, word: &[u8]) -> Result<Option<Row>, Refusal>
-    ensures { Answers result (judged (undefined_macro line.now.at line.now.text ∷ guid_fault line.now word.now (guid_of word.now) ∷ []) (named_member (guid_of word.now))) }
+    ensures { Answers result
+        (judged (undefined_macro line.now.at line.now.text
+        ∷ guid_fault line.now word.now (guid_of word.now) ∷ []) (named_member (guid_of word.now))) }
 {
     let guid = Guid::of_text(word);
     least_of_two(

@@ -76,7 +76,9 @@ fn alignment_row(bytes: Option<u32>) -> Option<Row>
 }
 
 fn alignment_line(alloc: Global, line: &Taken, value: &[u8]) -> Result<Option<Row>, Refusal>
-    ensures { Answers result (judged (alignment_faults line.now value.now) (alignment_row (volume_alignment value.now))) }
+    ensures { Answers result
+        (judged (alignment_faults line.now value.now)
+        (alignment_row (volume_alignment value.now))) }
 {
     let bytes = volume_alignment(value);
     least_of_two(
@@ -93,7 +95,9 @@ fn plain_line(
     name: &[u8],
     value: &[u8],
 ) -> Result<Option<Row>, Refusal>
-    ensures { Answers result (judged (number_faults line.now (volume_form key) name.now value.now false) (made_number key (number_of_field line.now (volume_form key) value.now))) }
+    ensures { Answers result
+        (judged (number_faults line.now (volume_form key) name.now value.now false)
+        (made_number key (number_of_field line.now (volume_form key) value.now))) }
 {
     let numbered = number_field(alloc, line, volume_form(key), name, value, false)?;
     Ok(made_number(key, numbered))
@@ -106,7 +110,9 @@ fn number_line(
     name: &[u8],
     value: &[u8],
 ) -> Result<Option<Row>, Refusal>
-    ensures { Answers result (judged (numbers_faults line.now key name.now value.now) (numbers_row line.now key value.now)) }
+    ensures { Answers result
+        (judged (numbers_faults line.now key name.now value.now)
+        (numbers_row line.now key value.now)) }
 {
     match key {
         VolumeKey::FvAlignment => alignment_line(alloc, line, value),
@@ -127,7 +133,8 @@ fn name_row(guid: Option<Guid>) -> Option<Row>
 }
 
 fn name_line(alloc: Global, line: &Taken, value: &[u8]) -> Result<Option<Row>, Refusal>
-    ensures { Answers result (judged (name_faults line.now value.now) (name_row (guid_of value.now))) }
+    ensures { Answers result
+        (judged (name_faults line.now value.now) (name_row (guid_of value.now))) }
 {
     let guid = Guid::of_text(value);
     least_of_two(
@@ -173,7 +180,8 @@ fn system_row(ffs3: Option<bool>) -> Option<Row>
 }
 
 fn system_line(alloc: Global, line: &Taken, value: &[u8]) -> Result<Option<Row>, Refusal>
-    ensures { Answers result (judged (system_faults line.now value.now) (system_row (file_system (guid_of value.now)))) }
+    ensures { Answers result
+        (judged (system_faults line.now value.now) (system_row (file_system (guid_of value.now)))) }
 {
     let guid = Guid::of_text(value);
     least_of_two(
@@ -219,7 +227,9 @@ pub fn key_line(
     name: &[u8],
     value: &[u8],
 ) -> Result<Option<Row>, Refusal>
-    ensures { Answers result (judged (word_faults line.now name.now value.now (volume_word name.now)) (word_row line.now value.now (volume_word name.now))) }
+    ensures { Answers result
+        (judged (word_faults line.now name.now value.now (volume_word name.now))
+        (word_row line.now value.now (volume_word name.now))) }
 {
     match volume_word(name) {
         Some(VolumeWord::Number(key)) => number_line(alloc, line, key, name, value),

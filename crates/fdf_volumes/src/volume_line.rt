@@ -69,7 +69,9 @@ fn statement_of(text: &[u8]) -> Option<Statement>
 }
 
 fn no_statement(alloc: Global, line: &Taken, word: &[u8]) -> Refusal
-    ensures { Finds result (least_of (undefined_macro line.now.at line.now.text ∷ Some (fault_of 243 line.now.at word.now) ∷ [])) }
+    ensures { Finds result
+        (least_of (undefined_macro line.now.at line.now.text
+        ∷ Some (fault_of 243 line.now.at word.now) ∷ [])) }
 {
     least_refusal(
         undefined_macro(alloc, &line.at, line.text.bytes()),
@@ -78,7 +80,8 @@ fn no_statement(alloc: Global, line: &Taken, word: &[u8]) -> Refusal
 }
 
 fn unkeyed(alloc: Global, line: &Taken) -> Refusal
-    ensures { Finds result (least_of (unkeyed_faults line.now (volume_word (word_of line.now.text)))) }
+    ensures { Finds result
+        (least_of (unkeyed_faults line.now (volume_word (word_of line.now.text)))) }
 {
     let (word, _) = first_word(line.text.bytes());
     match volume_word(word) {
@@ -88,7 +91,9 @@ fn unkeyed(alloc: Global, line: &Taken) -> Refusal
 }
 
 fn plain_line(alloc: Global, line: &Taken) -> Result<Option<Row>, Refusal>
-    ensures { Answers result (judged (plain_faults line.now (key_pair line.now.text)) (plain_row line.now (key_pair line.now.text))) }
+    ensures { Answers result
+        (judged (plain_faults line.now (key_pair line.now.text))
+        (plain_row line.now (key_pair line.now.text))) }
 {
     match key_pair(line.text.bytes()) {
         Some((key, value)) => key_line(alloc, line, key, value),
@@ -97,7 +102,8 @@ fn plain_line(alloc: Global, line: &Taken) -> Result<Option<Row>, Refusal>
 }
 
 fn inf_statement(alloc: Global, line: &Taken, full: bool) -> Result<Option<Row>, Refusal>
-    ensures { Answers result (judged (inf_faults line.now full) (option_map variant.Inf (inf_of line.now))) }
+    ensures { Answers result
+        (judged (inf_faults line.now full) (option_map variant.Inf (inf_of line.now))) }
 {
     let inf = inf_line(alloc, line, full)?;
     match inf {
@@ -107,7 +113,8 @@ fn inf_statement(alloc: Global, line: &Taken, full: bool) -> Result<Option<Row>,
 }
 
 fn inf_member(alloc: Global, line: &Taken) -> Result<Option<Row>, Refusal>
-    ensures { Answers result (judged (inf_faults line.now false) (option_map made_member (inf_of line.now))) }
+    ensures { Answers result
+        (judged (inf_faults line.now false) (option_map made_member (inf_of line.now))) }
 {
     let inf = inf_line(alloc, line, false)?;
     match inf {
@@ -122,7 +129,8 @@ fn shut_line(
     full: bool,
     statement: Option<Statement>,
 ) -> Result<Option<Row>, Refusal>
-    ensures { Answers result (judged (shut_faults line.now full statement) (shut_row line.now statement)) }
+    ensures { Answers result
+        (judged (shut_faults line.now full statement) (shut_row line.now statement)) }
 {
     match statement {
         Some(Statement::Apriori) => apriori_line(alloc, line, full),
@@ -140,7 +148,8 @@ fn apriori_line_in(
     line: &Taken,
     statement: Option<Statement>,
 ) -> Result<Option<Row>, Refusal>
-    ensures { Answers result (judged (apriori_faults_in line.now statement) (apriori_row_in line.now statement)) }
+    ensures { Answers result
+        (judged (apriori_faults_in line.now statement) (apriori_row_in line.now statement)) }
 {
     match statement {
         Some(Statement::Inf) => inf_member(alloc, line),
@@ -179,7 +188,8 @@ fn file_line_in(
     body: Body,
     statement: Option<Statement>,
 ) -> Result<Option<Row>, Refusal>
-    ensures { Answers result (judged (file_faults_in line.now body statement) (file_row_in line.now statement)) }
+    ensures { Answers result
+        (judged (file_faults_in line.now body statement) (file_row_in line.now statement)) }
 {
     match statement {
         Some(Statement::Section) => section_in(alloc, line, body),
@@ -200,7 +210,8 @@ pub fn volume_line(
     braces: Open,
     full: bool,
 ) -> Result<Option<Row>, Refusal>
-    ensures { Answers result (judged (volume_faults line.now braces full) (volume_row line.now braces)) }
+    ensures { Answers result
+        (judged (volume_faults line.now braces full) (volume_row line.now braces)) }
 {
     let statement = statement_of(line.text.bytes());
     match braces {

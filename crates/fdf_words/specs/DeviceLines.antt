@@ -47,7 +47,9 @@ misplaced pair key.Size = false
 misplaced pair key.ErasePolarity = false
 
 abbrev pub made_number : Taken → DeviceKey → Option Numbered → Option Row
-made_number line key (Some numbered) = Some (row.Number (record { at = line.at; key = key; number = numbered.number; pcd = numbered.pcd }))
+made_number line key (Some numbered) =
+    Some
+    (row.Number (record { at = line.at; key = key; number = numbered.number; pcd = numbered.pcd }))
 made_number line key None = None
 
 -- PCDs stand behind their region's line, and only once
@@ -71,7 +73,9 @@ held_faults line waiting value = undefined_macro line.at value ∷ content_fault
 
 -- `FILE = path`
 abbrev pub tree_faults : Taken → Waiting → List ℕ → List (Option Fault)
-tree_faults line waiting value = wanted (path_field (without_workspace value)) (fault_of 101 line.at value) ∷ content_fault line waiting ∷ []
+tree_faults line waiting value =
+    wanted (path_field (without_workspace value)) (fault_of 101 line.at value)
+    ∷ content_fault line waiting ∷ []
 
 abbrev pub tree_row : Taken → Option (List ℕ) → Option Row
 tree_row line (Some path) = made_content line (content.Tree path)
@@ -79,7 +83,8 @@ tree_row line None = None
 
 -- `DATA = { bytes }`
 abbrev pub bytes_faults : Taken → Waiting → List ℕ → List (Option Fault)
-bytes_faults line waiting value = undefined_macro line.at value ∷ wanted (data_of value) (bad_line 244 line) ∷ content_fault line waiting ∷ []
+bytes_faults line waiting value = undefined_macro line.at value
+    ∷ wanted (data_of value) (bad_line 244 line) ∷ content_fault line waiting ∷ []
 
 abbrev pub bytes_row : Taken → Option (List ℕ) → Option Row
 bytes_row line (Some bytes) = made_content line (content.Bytes bytes)
@@ -87,14 +92,17 @@ bytes_row line None = None
 
 -- `KEY = VALUE`
 abbrev pub keyed_faults : Taken → Marks → List ℕ → List ℕ → Option DeviceWord → List (Option Fault)
-keyed_faults line marks key value (Some (word.Number known)) = number_faults line (number_form known) key value (misplaced marks.pair known)
+keyed_faults line marks key value (Some (word.Number known)) =
+    number_faults line (number_form known) key value (misplaced marks.pair known)
 keyed_faults line marks key value (Some word.Volume) = held_faults line marks.waiting value
 keyed_faults line marks key value (Some word.Tree) = tree_faults line marks.waiting value
 keyed_faults line marks key value (Some word.Bytes) = bytes_faults line marks.waiting value
-keyed_faults line marks key value None = undefined_macro line.at value ∷ Some (fault_of 241 line.at key) ∷ []
+keyed_faults line marks key value None =
+    undefined_macro line.at value ∷ Some (fault_of 241 line.at key) ∷ []
 
 abbrev pub keyed_row : Taken → List ℕ → Option DeviceWord → Option Row
-keyed_row line value (Some (word.Number known)) = made_number line known (number_of_field line (number_form known) value)
+keyed_row line value (Some (word.Number known)) =
+    made_number line known (number_of_field line (number_form known) value)
 keyed_row line value (Some word.Volume) = made_content line (content.Volume value)
 keyed_row line value (Some word.Tree) = tree_row line (path_field (without_workspace value))
 keyed_row line value (Some word.Bytes) = bytes_row line (data_of value)
@@ -113,25 +121,31 @@ one_row line (Some pcd) = Some (row.Pcds (record { at = line.at; first = pcd; se
 one_row line None = None
 
 -- `PCD|PCD`, or `Offset|Size`
-abbrev pub pair_faults : Taken → Waiting → List ℕ → List ℕ → Option PcdName → Option PcdName → List (Option Fault)
+abbrev pub pair_faults : Taken → Waiting → List ℕ → List ℕ → Option PcdName → Option PcdName
+    → List (Option Fault)
 pair_faults line waiting a b (Some first) (Some second) = pcds_fault line waiting ∷ []
-pair_faults line waiting a b first second = fault_in (number_value line.at a) ∷ fault_in (number_value line.at b) ∷ []
+pair_faults line waiting a b first second =
+    fault_in (number_value line.at a) ∷ fault_in (number_value line.at b) ∷ []
 
 abbrev pub extent_row : Taken → Result ℕ Fault → Result ℕ Fault → Option Row
-extent_row line (Ok offset) (Ok size) = Some (row.Region (record { at = line.at; offset = offset; size = size }))
+extent_row line (Ok offset) (Ok size) =
+    Some (row.Region (record { at = line.at; offset = offset; size = size }))
 extent_row line (Ok offset) (Err fault) = None
 extent_row line (Err fault) size = None
 
 abbrev pub pair_row : Taken → List ℕ → List ℕ → Option PcdName → Option PcdName → Option Row
-pair_row line a b (Some first) (Some second) = Some (row.Pcds (record { at = line.at; first = first; second = Some second }))
+pair_row line a b (Some first) (Some second) =
+    Some (row.Pcds (record { at = line.at; first = first; second = Some second }))
 pair_row line a b first second = extent_row line (number_value line.at a) (number_value line.at b)
 
 abbrev pub other_faults : Taken → List (List ℕ) → List (Option Fault)
-other_faults line fields = first_fault (undefined_macro line.at) fields ∷ Some (bad_line 244 line) ∷ []
+other_faults line fields = first_fault (undefined_macro line.at) fields ∷ Some (bad_line 244 line)
+    ∷ []
 
 abbrev pub fields_faults : Taken → Waiting → List (List ℕ) → List (Option Fault)
 fields_faults line waiting (a ∷ []) = one_faults line waiting (pcd_name_of a)
-fields_faults line waiting (a ∷ b ∷ []) = pair_faults line waiting a b (pcd_name_of a) (pcd_name_of b)
+fields_faults line waiting (a ∷ b ∷ []) =
+    pair_faults line waiting a b (pcd_name_of a) (pcd_name_of b)
 fields_faults line waiting fields = other_faults line fields
 
 abbrev pub fields_row : Taken → List (List ℕ) → Option Row
@@ -141,7 +155,8 @@ fields_row line fields = None
 
 -- a number's key without `=` is a fault of the key
 abbrev pub unkeyed_faults : Taken → Waiting → Option DeviceWord → List (Option Fault)
-unkeyed_faults line waiting (Some (word.Number known)) = undefined_macro line.at line.text ∷ Some (fault_of 241 line.at (word_of line.text)) ∷ []
+unkeyed_faults line waiting (Some (word.Number known)) =
+    undefined_macro line.at line.text ∷ Some (fault_of 241 line.at (word_of line.text)) ∷ []
 unkeyed_faults line waiting _ = fields_faults line waiting (field_texts line.text)
 
 abbrev pub unkeyed_row : Taken → Option DeviceWord → Option Row

@@ -1,5 +1,5 @@
--- The keys of a line `KEY = VALUE` in a device and in a volume (EDK II FDF specification, sections 3.5 and 3.7;
--- UEFI PI specification, volume 3, section 3.2.1.1 for the attributes).
+-- The keys of a line `KEY = VALUE` in a device and in a volume (EDK II FDF specification, sections
+-- 3.5 and 3.7; UEFI PI specification, volume 3, section 3.2.1.1 for the attributes).
 use Rattle.std.specs.Prelude.{ℕ, ◌+◌, Bool, ◌&&◌, not, nat_lt, ◌==◌, if◌then◌else◌, List, [], ◌∷◌, length, take, drop, Option, Some, None, codes}
 use Rattle.std.specs.List.{list_all, position_or_len}
 use Rattle.meta_lexer.specs.Lines.{without_blanks}
@@ -20,13 +20,15 @@ is_key text = nat_lt 0 (length text) && list_all is_word_byte text
 
 -- what follows `=` doesn't begin with another `=`
 abbrev pub key_and_value : List ℕ → List ℕ → Option (List ℕ × List ℕ)
-key_and_value key value = if is_key key && not (begins_with 61 value) then Some (key, without_blanks value) else None
+key_and_value key value = if is_key key && not (begins_with 61 value)
+    then Some (key, without_blanks value) else None
 
 -- `KEY = VALUE`, at the first `=`
 unfoldable pub key_pair : List ℕ → Option (List ℕ × List ℕ)
 key_pair text =
     let i = position_or_len (λ b. b == 61) text in
-    if nat_lt i (length text) then key_and_value (without_blanks (take i text)) (drop (i + 1) text) else None
+    if nat_lt i (length text) then key_and_value (without_blanks (take i text)) (drop (i + 1) text)
+    else None
 
 abbrev pub device_words : List (List ℕ × DeviceWord)
 device_words =

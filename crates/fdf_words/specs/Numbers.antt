@@ -1,4 +1,5 @@
--- Numbers of keys (EDK II FDF specification, sections 3.5 and 3.7): expressions, behind which a PCD may stand.
+-- Numbers of keys (EDK II FDF specification, sections 3.5 and 3.7): expressions, behind which a PCD
+-- may stand.
 use Rattle.std.specs.Prelude.{ℕ, Bool, nat_le, if◌then◌else◌, List, [], ◌∷◌, Option, Some, None, Result, Ok, Err, decimal}
 use Rattle.build_base.specs.FaultText.{fault_of}
 use Rattle.build_base.specs.declared.fault.Fault.{Fault}
@@ -41,8 +42,10 @@ form_fault line value fields pcd = Some (bad_value line value)
 
 -- a polarity is 1 or 0, a device has at most 0x10000000 bytes
 abbrev pub limit_fault : Taken → NumberForm → List ℕ → ℕ → Option Fault
-limit_fault line Polarity value number = if nat_le number 1 then None else Some (bad_value line value)
-limit_fault line Size value number = if nat_le number size_limit then None else Some (fault_of 249 line.at (decimal number))
+limit_fault line Polarity value number = if nat_le number 1 then None
+    else Some (bad_value line value)
+limit_fault line Size value number = if nat_le number size_limit then None
+    else Some (fault_of 249 line.at (decimal number))
 limit_fault line Plain value number = None
 limit_fault line Address value number = None
 
@@ -54,7 +57,8 @@ limit_found line form value (Err fault) = None
 abbrev pub order_fault : Taken → List ℕ → Bool → Option Fault
 order_fault line key misplaced = if misplaced then Some (fault_of 241 line.at key) else None
 
-abbrev pub fields_faults : Taken → NumberForm → List ℕ → List ℕ → Bool → List (List ℕ) → List (Option Fault)
+abbrev pub fields_faults : Taken → NumberForm → List ℕ → List ℕ → Bool → List (List ℕ)
+    → List (Option Fault)
 fields_faults line form key value misplaced fields =
     fault_in (number_value line.at (first_text fields))
     ∷ later_macros line fields
@@ -68,10 +72,12 @@ numbered (Ok number) pcd = Some (record { number = number; pcd = pcd })
 numbered (Err fault) pcd = None
 
 abbrev pub fields_number : Taken → NumberForm → List (List ℕ) → Option Numbered
-fields_number line form fields = numbered (number_value line.at (first_text fields)) (named_pcd form fields)
+fields_number line form fields =
+    numbered (number_value line.at (first_text fields)) (named_pcd form fields)
 
 unfoldable pub number_faults : Taken → NumberForm → List ℕ → List ℕ → Bool → List (Option Fault)
-number_faults line form key value misplaced = fields_faults line form key value misplaced (field_texts value)
+number_faults line form key value misplaced =
+    fields_faults line form key value misplaced (field_texts value)
 
 unfoldable pub number_of_field : Taken → NumberForm → List ℕ → Option Numbered
 number_of_field line form value = fields_number line form (field_texts value)

@@ -13,14 +13,17 @@ use Rattle.fdf_words.specs.Words.{after_word}
 
 -- a PCD and a value that isn't empty; of another line the text before `=` is told
 abbrev pub parts_fault : Taken → List ℕ → Option PcdName → List ℕ → Option Fault
-parts_fault line name (Some pcd) value = if length value == 0 then Some (fault_of 241 line.at name) else None
+parts_fault line name (Some pcd) value = if length value == 0 then Some (fault_of 241 line.at name)
+    else None
 parts_fault line name None value = Some (fault_of 241 line.at name)
 
 abbrev pub parts_faults : Taken → List ℕ → List ℕ → List (Option Fault)
-parts_faults line name value = undefined_macro line.at name ∷ undefined_macro line.at value ∷ parts_fault line name (pcd_name_of name) value ∷ []
+parts_faults line name value = undefined_macro line.at name ∷ undefined_macro line.at value
+    ∷ parts_fault line name (pcd_name_of name) value ∷ []
 
 abbrev pub made_set : Taken → ℕ → Option PcdName → List ℕ → Option Row
-made_set line rank (Some pcd) value = Some (Set (record { at = line.at; rank = rank; pcd = pcd; value = value }))
+made_set line rank (Some pcd) value =
+    Some (Set (record { at = line.at; rank = rank; pcd = pcd; value = value }))
 made_set line rank None value = None
 
 abbrev pub halves_faults : Taken → List ℕ → Option (List ℕ × List ℕ) → List (Option Fault)

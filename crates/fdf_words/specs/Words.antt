@@ -1,4 +1,5 @@
--- Words of a line, alignments and the options of a file (EDK II FDF specification, section 2.4 and 3.7).
+-- Words of a line, alignments and the options of a file (EDK II FDF specification, section 2.4 and
+-- 3.7).
 use Rattle.std.specs.Prelude.{ℕ, ◌-◌, ◌*◌, Bool, true, false, ◌&&◌, ◌||◌, nat_lt, nat_le, ◌==◌, if◌then◌else◌, List, [], ◌∷◌, length, take, drop, slice_index, Option, Some, None, codes}
 use Rattle.std.specs.Int.{is_power_of_two}
 use Rattle.std.specs.List.{position_or_len, list_all}
@@ -25,7 +26,8 @@ after_word text = without_blanks (drop (position_or_len ends_word text) text)
 
 -- what follows `=`
 unfoldable pub after_equals : List ℕ → Option (List ℕ)
-after_equals text = if nat_lt 0 (length text) && (slice_index text 0 == 61) then Some (without_blanks (drop 1 text)) else None
+after_equals text = if nat_lt 0 (length text) && (slice_index text 0 == 61)
+    then Some (without_blanks (drop 1 text)) else None
 
 abbrev pub last_byte : List ℕ → ℕ
 last_byte text = slice_index text (length text - 1)
@@ -57,7 +59,8 @@ alignment_of text = scaled (unit_of text) (decimal_of (digits_of text))
 -- of a volume it may also be in units of 2 ^ 30, and is a power of two
 unfoldable pub scaled_of : List ℕ → Option ℕ
 scaled_of text =
-    if nat_lt 0 (length text) && (last_byte text == 71) then scaled 0x4000_0000 (decimal_of (take (length text - 1) text)) else alignment_of text
+    if nat_lt 0 (length text) && (last_byte text == 71)
+    then scaled 0x4000_0000 (decimal_of (take (length text - 1) text)) else alignment_of text
 
 abbrev pub power_in : Option ℕ → Option ℕ
 power_in (Some n) = if is_power_of_two n then Some n else None
@@ -68,7 +71,9 @@ volume_alignment text = power_in (scaled_of text)
 
 -- `= number`, and what follows it
 unfoldable pub stated_align : List ℕ → Option (ℕ × List ℕ)
-stated_align text = option_and_then (λ t. option_map (λ n. (n, after_word t)) (alignment_of (word_of t))) (after_equals text)
+stated_align text =
+    option_and_then (λ t. option_map (λ n. (n, after_word t)) (alignment_of (word_of t)))
+    (after_equals text)
 
 abbrev pub file_options : List (List ℕ × FileOption)
 file_options = (codes "FIXED", Fixed) ∷ (codes "CHECKSUM", Checksum) ∷ (codes "Align", Aligned) ∷ []
@@ -82,19 +87,23 @@ is_unset Auto = false
 is_unset (Bytes n) = false
 
 abbrev pub with_align : Options → Option (ℕ × List ℕ) → Option (Options × List ℕ)
-with_align options (Some p) = if is_unset options.align then Some (record options { align = Bytes p.0 }, p.1) else None
+with_align options (Some p) = if is_unset options.align
+    then Some (record options { align = Bytes p.0 }, p.1) else None
 with_align options None = None
 
 -- with one option more, which isn't there yet
 abbrev pub with_option : Options → List ℕ → Option FileOption → Option (Options × List ℕ)
-with_option options rest (Some Fixed) = if options.fixed then None else Some (record options { fixed = true }, rest)
-with_option options rest (Some Checksum) = if options.checksum then None else Some (record options { checksum = true }, rest)
+with_option options rest (Some Fixed) = if options.fixed then None
+    else Some (record options { fixed = true }, rest)
+with_option options rest (Some Checksum) = if options.checksum then None
+    else Some (record options { checksum = true }, rest)
 with_option options rest (Some Aligned) = with_align options (stated_align rest)
 with_option options rest None = None
 
 -- with the first option of a text, if it isn't empty
 unfoldable pub next_option : Options → List ℕ → Option (Options × List ℕ)
-next_option options text = if length text == 0 then Some (options, text) else with_option options (after_word text) (option_named (word_of text))
+next_option options text = if length text == 0 then Some (options, text)
+    else with_option options (after_word text) (option_named (word_of text))
 
 abbrev pub no_options : Options
 no_options = record { fixed = false; checksum = false; align = Unset }
@@ -107,11 +116,13 @@ options_whole p = if length p.1 == 0 then Some p.0 else None
 
 -- FIXED, CHECKSUM and `Align = n`, in any order, each at most once
 unfoldable pub options_of : List ℕ → Option Options
-options_of text = option_and_then options_whole (and_option (and_option (next_option no_options text)))
+options_of text = option_and_then options_whole
+    (and_option (and_option (next_option no_options text)))
 
 -- what stands before the brace at the end
 unfoldable pub before_brace : List ℕ → Option (List ℕ)
-before_brace text = if nat_lt 0 (length text) && (last_byte text == 123) then Some (without_blanks (take (length text - 1) text)) else None
+before_brace text = if nat_lt 0 (length text) && (last_byte text == 123)
+    then Some (without_blanks (take (length text - 1) text)) else None
 
 abbrev pub begins_with : ℕ → List ℕ → Bool
 begins_with b text = nat_lt 0 (length text) && (slice_index text 0 == b)

@@ -36,7 +36,8 @@ fn push_byte(bytes: &mut Vec<u8>, byte: u8) -> Result<(), WantOfMemory>
 }
 
 fn listed(alloc: Global, text: &[u8]) -> Result<Option<Vec<u8>>, WantOfMemory>
-    ensures { IfOk result (λ o. option_map (λ v. v.items) o ≡ listed text.now (parts_of false 44 text.now)) }
+    ensures { IfOk result (λ o. option_map (λ v. v.items) o
+        ≡ listed text.now (parts_of false 44 text.now)) }
 {
     let spans = cut(alloc, false, b',', text)?;
     let mut bytes = Vec::new(alloc);

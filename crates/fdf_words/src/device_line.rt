@@ -79,7 +79,10 @@ fn number_line(
     key: &[u8],
     value: &[u8],
 ) -> Result<Option<Row>, Refusal>
-    ensures { Answers result (judged (number_faults line.now (number_form known) key.now value.now (misplaced pair known)) (made_number line.now known (number_of_field line.now (number_form known) value.now))) }
+    ensures { Answers result
+        (judged (number_faults line.now (number_form known) key.now value.now
+        (misplaced pair known))
+        (made_number line.now known (number_of_field line.now (number_form known) value.now))) }
 {
     let numbered = number_field(
         alloc,
@@ -126,7 +129,9 @@ fn held_line(
     waiting: Waiting,
     value: &[u8],
 ) -> Result<Option<Row>, Refusal>
-    ensures { Answers result (judged (held_faults line.now waiting value.now) (made_content line.now (content.Volume value.now))) }
+    ensures { Answers result
+        (judged (held_faults line.now waiting value.now)
+        (made_content line.now (content.Volume value.now))) }
 {
     least_of_two(
         undefined_macro(alloc, &line.at, value),
@@ -151,7 +156,9 @@ fn tree_line(
     waiting: Waiting,
     value: &[u8],
 ) -> Result<Option<Row>, Refusal>
-    ensures { Answers result (judged (tree_faults line.now waiting value.now) (tree_row line.now (path_field (without_workspace value.now)))) }
+    ensures { Answers result
+        (judged (tree_faults line.now waiting value.now)
+        (tree_row line.now (path_field (without_workspace value.now)))) }
 {
     let path = path_field(alloc, without_workspace(value))?;
     least_of_two(
@@ -177,7 +184,9 @@ fn bytes_line(
     waiting: Waiting,
     value: &[u8],
 ) -> Result<Option<Row>, Refusal>
-    ensures { Answers result (judged (bytes_faults line.now waiting value.now) (bytes_row line.now (data_of value.now))) }
+    ensures { Answers result
+        (judged (bytes_faults line.now waiting value.now)
+        (bytes_row line.now (data_of value.now))) }
 {
     let bytes = data_of(alloc, value)?;
     least_of_three(
@@ -196,7 +205,9 @@ fn keyed_line(
     key: &[u8],
     value: &[u8],
 ) -> Result<Option<Row>, Refusal>
-    ensures { Answers result (judged (keyed_faults line.now marks key.now value.now (device_word key.now)) (keyed_row line.now value.now (device_word key.now))) }
+    ensures { Answers result
+        (judged (keyed_faults line.now marks key.now value.now (device_word key.now))
+        (keyed_row line.now value.now (device_word key.now))) }
 {
     match device_word(key) {
         Some(DeviceWord::Number(known)) => number_line(alloc, line, marks.pair, known, key, value),
@@ -213,7 +224,8 @@ fn pcds_line(
     first: PcdName,
     second: Option<PcdName>,
 ) -> Result<Row, WantOfMemory>
-    ensures { IfOk result (λ row. row ≡ variant.Pcds (record { at = line.now.at; first = first; second = second })) }
+    ensures { IfOk result
+        (λ row. row ≡ variant.Pcds (record { at = line.now.at; first = first; second = second })) }
 {
     Ok(Row::Pcds(RegionPcds {
         at: line.at.copy(alloc)?,
@@ -228,7 +240,9 @@ fn one_field(
     waiting: Waiting,
     field: &[u8],
 ) -> Result<Option<Row>, Refusal>
-    ensures { Answers result (judged (one_faults line.now waiting (pcd_name_of field.now)) (one_row line.now (pcd_name_of field.now))) }
+    ensures { Answers result
+        (judged (one_faults line.now waiting (pcd_name_of field.now))
+        (one_row line.now (pcd_name_of field.now))) }
 {
     match pcd_name_of(alloc, field)? {
         Some(pcd) => {
@@ -246,7 +260,9 @@ fn extent_line(
     offset: &[u8],
     size: &[u8],
 ) -> Result<Option<Row>, Refusal>
-    ensures { Answers result (judged (pair_faults line.now NoRegion offset.now size.now None None) (pair_row line.now offset.now size.now None None)) }
+    ensures { Answers result
+        (judged (pair_faults line.now NoRegion offset.now size.now None None)
+        (pair_row line.now offset.now size.now None None)) }
 {
     let offset = number_value(alloc, &line.at, offset);
     let size = number_value(alloc, &line.at, size);
@@ -269,7 +285,10 @@ fn two_fields(
     first: &[u8],
     second: &[u8],
 ) -> Result<Option<Row>, Refusal>
-    ensures { Answers result (judged (pair_faults line.now waiting first.now second.now (pcd_name_of first.now) (pcd_name_of second.now)) (pair_row line.now first.now second.now (pcd_name_of first.now) (pcd_name_of second.now))) }
+    ensures { Answers result
+        (judged (pair_faults line.now waiting first.now second.now (pcd_name_of first.now)
+        (pcd_name_of second.now))
+        (pair_row line.now first.now second.now (pcd_name_of first.now) (pcd_name_of second.now))) }
 {
     let Some(address) = pcd_name_of(alloc, first)? else {
         return extent_line(alloc, line, first, second);
@@ -297,7 +316,8 @@ fn fields_line(
     waiting: Waiting,
     fields: &[Text],
 ) -> Result<Option<Row>, Refusal>
-    ensures { Answers result (judged (fields_faults line.now waiting fields.now) (fields_row line.now fields.now)) }
+    ensures { Answers result
+        (judged (fields_faults line.now waiting fields.now) (fields_row line.now fields.now)) }
 {
     match fields {
         [field] => one_field(alloc, line, waiting, field.bytes()),
@@ -307,7 +327,9 @@ fn fields_line(
 }
 
 fn unkeyed_line(alloc: Global, line: &Taken, waiting: Waiting) -> Result<Option<Row>, Refusal>
-    ensures { Answers result (judged (unkeyed_faults line.now waiting (device_word (word_of line.now.text))) (unkeyed_row line.now (device_word (word_of line.now.text)))) }
+    ensures { Answers result
+        (judged (unkeyed_faults line.now waiting (device_word (word_of line.now.text)))
+        (unkeyed_row line.now (device_word (word_of line.now.text)))) }
 {
     let (word, _) = first_word(line.text.bytes());
     match device_word(word) {

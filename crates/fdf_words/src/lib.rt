@@ -1,5 +1,5 @@
-//! The words, numbers and keys of a flash description, what its lines say, and the lines of devices and of SET
-//! (EDK II FDF specification).
+//! The words, numbers and keys of a flash description, what its lines say, and the lines of devices
+//! and of SET (EDK II FDF specification).
 #![tactic(auto)]
 
 pub mod data_bytes;

@@ -25,8 +25,8 @@ pub enum Waiting {
     Named,
 }
 
-/// What the lines above leave: open braces, a region, whether a device's BlockSize waits for its NumBlocks and
-/// a rule for its file.
+/// What the lines above leave: open braces, a region, whether a device's BlockSize waits for its
+/// NumBlocks and a rule for its file.
 #[derive(Clone, Copy, Debug, PartialEq, Eq)]
 pub struct Marks {
     pub braces: Open,

@@ -16,7 +16,8 @@ use itoa::Buffer;
 use meta_lexer::parts::{field_texts, first_text};
 use std::alloc::Global;
 
-/// How a key's number is written: any number, a polarity, or one with a PCD, of which a size has a limit.
+/// How a key's number is written: any number, a polarity, or one with a PCD, of which a size has a
+/// limit.
 #[derive(Clone, Copy, Debug, PartialEq, Eq)]
 pub enum NumberForm {
     Plain,
@@ -41,7 +42,9 @@ pub fn bad_line(alloc: Global, code: u16, line: &Taken) -> Refusal
 
 /// The refusal of a line that is of no form, unless a macro is left in it.
 pub fn no_form(alloc: Global, code: u16, line: &Taken) -> Refusal
-    ensures { Finds result (least_of (undefined_macro line.now.at line.now.text ∷ Some (bad_line code line.now) ∷ [])) }
+    ensures { Finds result
+        (least_of (undefined_macro line.now.at line.now.text ∷ Some (bad_line code line.now)
+        ∷ [])) }
 {
     least_refusal(
         undefined_macro(alloc, &line.at, line.text.bytes()),
@@ -51,7 +54,9 @@ pub fn no_form(alloc: Global, code: u16, line: &Taken) -> Refusal
 
 /// The refusal of a key, unless a macro is left in the text.
 pub fn no_key(alloc: Global, line: &Taken, key: &[u8], text: &[u8]) -> Refusal
-    ensures { Finds result (least_of (undefined_macro line.now.at text.now ∷ Some (fault_of 241 line.now.at key.now) ∷ [])) }
+    ensures { Finds result
+        (least_of (undefined_macro line.now.at text.now ∷ Some (fault_of 241 line.now.at key.now)
+        ∷ [])) }
 {
     least_refusal(
         undefined_macro(alloc, &line.at, text),
@@ -143,7 +148,9 @@ fn numbered_fields(
     misplaced: bool,
     fields: &[Text],
 ) -> Result<Option<Numbered>, Refusal>
-    ensures { Answers result (judged (fields_faults line.now form key.now value.now misplaced fields.now) (fields_number line.now form fields.now)) }
+    ensures { Answers result
+        (judged (fields_faults line.now form key.now value.now misplaced fields.now)
+        (fields_number line.now form fields.now)) }
 {
     let pcd = named_pcd(alloc, form, fields)?;
     match number_value(alloc, &line.at, first_text(fields)) {
@@ -178,7 +185,9 @@ pub fn number_field(
     value: &[u8],
     misplaced: bool,
 ) -> Result<Option<Numbered>, Refusal>
-    ensures { Answers result (judged (number_faults line.now form key.now value.now misplaced) (number_of_field line.now form value.now)) }
+    ensures { Answers result
+        (judged (number_faults line.now form key.now value.now misplaced)
+        (number_of_field line.now form value.now)) }
 {
     let fields = field_texts(alloc, value)?;
     numbered_fields(alloc, line, form, key, value, misplaced, fields.items())

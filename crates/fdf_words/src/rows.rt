@@ -132,8 +132,8 @@ pub struct SectionLine {
     pub body: SectionBody,
 }
 
-/// What a line says below one head. A member stands in the braces of an a priori file, a section and a whole
-/// body in those of a file.
+/// What a line says below one head. A member stands in the braces of an a priori file, a section
+/// and a whole body in those of a file.
 #[derive(Debug, Drop)]
 pub enum Row {
     Passed,
@@ -154,8 +154,8 @@ pub enum Row {
     RuleSection(SectionPlan),
 }
 
-/// What a line came to: heads, with their place and the scopes that they enter, or the rows that it gives, one
-/// for each scope.
+/// What a line came to: heads, with their place and the scopes that they enter, or the rows that it
+/// gives, one for each scope.
 #[derive(Debug, Drop)]
 pub enum LineRead {
     Heads { at: Place, scopes: Rows<Scope> },

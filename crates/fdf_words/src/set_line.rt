@@ -62,7 +62,9 @@ fn parts_row(
     name: &[u8],
     value: &[u8],
 ) -> Result<Option<Row>, Refusal>
-    ensures { Answers result (judged (parts_faults line.now name.now value.now) (made_set line.now rank (pcd_name_of name.now) value.now)) }
+    ensures { Answers result
+        (judged (parts_faults line.now name.now value.now)
+        (made_set line.now rank (pcd_name_of name.now) value.now)) }
 {
     let pcd = pcd_name_of(alloc, name)?;
     least_of_three(

@@ -208,7 +208,8 @@ fn with_checksum(options: Options) -> Options
 }
 
 fn with_option(options: Options, rest: &[u8], option: FileOption) -> Option<(Options, &[u8])>
-    ensures { option_map (λ p. (p.0, p.1.now)) result ≡ with_option options rest.now (Rattle.std.specs.Prelude.Some option) }
+    ensures { option_map (λ p. (p.0, p.1.now)) result
+        ≡ with_option options rest.now (Rattle.std.specs.Prelude.Some option) }
 {
     match option {
         FileOption::Fixed if !options.fixed => Some((with_fixed(options), rest)),

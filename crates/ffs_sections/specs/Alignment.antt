@@ -22,7 +22,8 @@ pad_of place align shift = find (is_pad place align shift) (range_with_len 0 ali
 -- the alignments that a file's header can state
 abbrev pub alignments : List ℕ
 alignments =
-    1 ∷ 16 ∷ 128 ∷ 512 ∷ 1024 ∷ 4096 ∷ 32768 ∷ 65536 ∷ 131072 ∷ 262144 ∷ 524288 ∷ 1048576 ∷ 2097152 ∷ 4194304 ∷ 8388608 ∷ 16777216 ∷ []
+    1 ∷ 16 ∷ 128 ∷ 512 ∷ 1024 ∷ 4096 ∷ 32768 ∷ 65536 ∷ 131072 ∷ 262144 ∷ 524288 ∷ 1048576 ∷ 2097152
+    ∷ 4194304 ∷ 8388608 ∷ 16777216 ∷ []
 
 abbrev pub IsAlignment : ℕ → Type 0
 IsAlignment align = Contains alignments align

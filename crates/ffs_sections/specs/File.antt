@@ -1,4 +1,5 @@
--- Firmware files: a header of 24 bytes, of a large file of 32, and a body (UEFI PI specification, volume 3, section 3.2.3).
+-- Firmware files: a header of 24 bytes, of a large file of 32, and a body (UEFI PI specification,
+-- volume 3, section 3.2.3).
 use Rattle.std.specs.Prelude.{ℕ, ◌+◌, ◌-◌, ◌%◌, ◌≤◌, ◌==◌, ◌&&◌, Bool, nat_lt, if◌then◌else◌, List, [], ◌∷◌, ◌++◌, length, max, fold, slice_index, Result, Ok, Err}
 use Rattle.byteorder.specs.Endian.{little_bytes}
 use Rattle.build_base.specs.First.{and_then}
@@ -28,12 +29,15 @@ plan_step plan = step_of (body_align plan.align plan.body)
 -- a header without its own checksum
 unfoldable pub short_fields : List ℕ → Head → List ℕ
 short_fields name head =
-    name ++ (0 ∷ head.check ∷ head.kind ∷ head.attributes ∷ []) ++ little_bytes 3 head.size ++ head.state ∷ []
+    name ++ (0 ∷ head.check ∷ head.kind ∷ head.attributes ∷ []) ++ little_bytes 3 head.size
+    ++ head.state ∷ []
 
--- that of a large file: with the attribute for it, no size in its place, and the size behind the state
+-- that of a large file: with the attribute for it, no size in its place, and the size behind the
+-- state
 unfoldable pub long_fields : List ℕ → Head → List ℕ
 long_fields name head =
-    name ++ (0 ∷ head.check ∷ head.kind ∷ (head.attributes + FFS_ATTRIB_LARGE_FILE) ∷ []) ++ (0 ∷ 0 ∷ 0 ∷ head.state ∷ []) ++ little_bytes 8 head.size
+    name ++ (0 ∷ head.check ∷ head.kind ∷ (head.attributes + FFS_ATTRIB_LARGE_FILE) ∷ [])
+    ++ (0 ∷ 0 ∷ 0 ∷ head.state ∷ []) ++ little_bytes 8 head.size
 
 -- a header
 unfoldable pub file_head : Bool → List ℕ → Head → List ℕ
@@ -45,7 +49,8 @@ head_len large = if large then 32 else 24
 
 -- FIXED, CHECKSUM and the alignment
 abbrev pub attributes_of : ImagePlan → ℕ
-attributes_of plan = (if plan.fixed then FFS_ATTRIB_FIXED else 0) + (if plan.checksum then FFS_ATTRIB_CHECKSUM else 0) + step_bits (plan_step plan)
+attributes_of plan = (if plan.fixed then FFS_ATTRIB_FIXED else 0)
+    + (if plan.checksum then FFS_ATTRIB_CHECKSUM else 0) + step_bits (plan_step plan)
 
 -- with erase polarity 1 the bits are turned round
 abbrev pub state_of : ℕ → ℕ
@@ -73,7 +78,8 @@ plan_head plan body = record {
 }
 
 unfoldable pub file_bytes : ImagePlan → List ℕ → List ℕ
-file_bytes plan body = file_head (is_large_file plan.ffs3 (length body)) plan.guid.0 (plan_head plan body) ++ body
+file_bytes plan body = file_head (is_large_file plan.ffs3 (length body)) plan.guid.0
+    (plan_head plan body) ++ body
 
 abbrev pub body_of : ImagePlan → Body → Result (List ℕ) Fault
 body_of plan (Whole bytes) = Ok bytes
@@ -81,18 +87,26 @@ body_of plan (Sections parts) = with_parts plan.ffs3 plan.at [] parts
 
 abbrev pub image_of : ImagePlan → List ℕ → FileImage
 image_of plan body =
-    record { at = plan.at; guid = plan.guid; align = slice_index alignments (plan_step plan); bytes = file_bytes plan body }
+    record {
+      at = plan.at;
+      guid = plan.guid;
+      align = slice_index alignments (plan_step plan);
+      bytes = file_bytes plan body;
+    }
 
 -- a file that is too long for its file system is a fault
 abbrev pub file_sized : ImagePlan → List ℕ → Result FileImage Fault
 file_sized plan body =
     let size = file_size plan.ffs3 (length body) in
-    if nat_lt (file_limit plan.ffs3) size then Err (sized 612 plan.at size) else Ok (image_of plan body)
+    if nat_lt (file_limit plan.ffs3) size then Err (sized 612 plan.at size)
+    else Ok (image_of plan body)
 
 unfoldable pub file_of : ImagePlan → Result FileImage Fault
-file_of plan = if is_align plan.align then and_then (body_of plan plan.body) (file_sized plan) else Err (sized 613 plan.at plan.align)
+file_of plan = if is_align plan.align then and_then (body_of plan plan.body) (file_sized plan)
+    else Err (sized 613 plan.at plan.align)
 
--- the length of the header that a file begins with: where byte 19 has the attribute of large files it is 32
+-- the length of the header that a file begins with: where byte 19 has the attribute of large files
+-- it is 32
 unfoldable pub head_at : List ℕ → ℕ
 head_at bytes = if slice_index bytes 19 % 2 == 1 then 32 else 24
 

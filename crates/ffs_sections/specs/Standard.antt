@@ -24,7 +24,8 @@ FFS_FIXED_CHECKSUM = 0xAA
 abbrev pub FILE_STATE : ℕ
 FILE_STATE = 0x07
 
--- the greatest sizes, headers counted: of a section in an FFS2 volume, of a file in one, of either in an FFS3 volume, that of a volume
+-- the greatest sizes, headers counted: of a section in an FFS2 volume, of a file in one, of either
+-- in an FFS3 volume, that of a volume
 abbrev pub SECTION_LIMIT : ℕ
 SECTION_LIMIT = 0xFFFFFE
 

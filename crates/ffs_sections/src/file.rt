@@ -161,7 +161,8 @@ fn image(alloc: Global, plan: &ImagePlan, body: &[u8]) -> Result<FileImage, Refu
 
 // The file of a plan whose body is these sections.
 fn sections_image(alloc: Global, plan: &ImagePlan, parts: &[Part]) -> Result<FileImage, Refusal>
-    ensures value { Answers result (and_then (with_parts plan.now.ffs3 plan.now.at [] parts.now) (file_sized plan.now)) }
+    ensures value { Answers result
+        (and_then (with_parts plan.now.ffs3 plan.now.at [] parts.now) (file_sized plan.now)) }
     ensures shape { IfOk result IsFileImage }
 {
     let mut out = Vec::new(alloc);

@@ -105,7 +105,8 @@ pub fn append_head(
     head: &Head,
 ) -> Result<(), WantOfMemory>
     requires { head.now.attributes < 255 }
-    ensures value { OnOk result (out.new.items ≡ out.old.items ++ file_head large name.now head.now) }
+    ensures value { OnOk result
+        (out.new.items ≡ out.old.items ++ file_head large name.now head.now) }
     ensures length { OnOk result (vec_len out.new ≡ vec_len out.old + head_len large) }
 {
     if large {

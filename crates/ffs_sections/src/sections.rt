@@ -127,7 +127,8 @@ fn section(
     content: &[u8],
 ) -> Result<(), WantOfMemory>
     requires { length content.now < 2 ^ 29 }
-    ensures { OnOk result (out.new.items ≡ out.old.items ++ section_bytes ffs3 kind guid.now content.now) }
+    ensures { OnOk result (out.new.items ≡ out.old.items
+        ++ section_bytes ffs3 kind guid.now content.now) }
 {
     let count = content.len() as u64;
     let size = (content_at(ffs3, guid, count) + count) as u32;
@@ -165,7 +166,8 @@ pub fn have_guids(body: &Body) -> bool
 }
 
 fn all_guids(parts: &[Part]) -> bool
-    ensures { IsTrue result ↔ All (λ part. is_some part.guid ≡ (part.kind == EFI_SECTION_FREEFORM_SUBTYPE_GUID)) parts.now }
+    ensures { IsTrue result ↔ All
+        (λ part. is_some part.guid ≡ (part.kind == EFI_SECTION_FREEFORM_SUBTYPE_GUID)) parts.now }
 {
     for part in parts {
         if part.guid.is_some() != (part.kind == EFI_SECTION_FREEFORM_SUBTYPE_GUID) {
@@ -200,7 +202,9 @@ fn add_part(
     place: &Place,
     part: &Part,
 ) -> Result<(), Refusal>
-    ensures { Grows result out.new.items (unless (part_fault ffs3 place.now (length out.old.items) part.now) (with_part ffs3 out.old.items part.now)) }
+    ensures { Grows result out.new.items
+        (unless (part_fault ffs3 place.now (length out.old.items) part.now)
+        (with_part ffs3 out.old.items part.now)) }
 {
     let pad = check_part(alloc, ffs3, place, out.len() as u64, part)?;
     put_part(out, ffs3, part, pad)?;

@@ -20,5 +20,6 @@ pub const SECTION_LIMIT: u64 = 0xFF_FFFE;
 /// The greatest size of a file in an FFS2 volume, header and all.
 pub const FILE_LIMIT: u64 = 0xFF_FFFF;
 
-/// The greatest size of a section and of a file in an FFS3 volume, header and all: that of a volume.
+/// The greatest size of a section and of a file in an FFS3 volume, header and all: that of a
+/// volume.
 pub const FFS3_LIMIT: u64 = SIZE_LIMIT;

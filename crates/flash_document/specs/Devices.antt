@@ -76,7 +76,13 @@ total_of pairs = fold with_blocks 0 pairs
 -- the pairs that are summed up: a size that waits, the first size, the total
 abbrev pub counted_with : Option ℕ → ℕ → Option ℕ → ℕ → BlockSum
 counted_with first total None n = record { waiting = None; first = first; total = total }
-counted_with first total (Some size) n = record { waiting = None; first = or_else first (Some size); total = with_blocks total (record { size = size; count = n }) }
+counted_with first total (Some size) n =
+    record {
+      waiting = None;
+      first = or_else first (Some size);
+      total =
+          with_blocks total (record { size = size; count = n });
+    }
 
 abbrev pub sum_counted : BlockSum → ℕ → BlockSum
 sum_counted sum n = counted_with sum.first sum.total sum.waiting n
@@ -100,7 +106,8 @@ content_in k [] = None
 content_in k (line ∷ lines) = content_or (row_at k line) (content_in k lines)
 
 abbrev pub region_at : Option Row → Option RegionContent → List StatedRegion
-region_at (Some (row.Region start)) content = record { at = start.at; offset = start.offset; size = start.size; content = content } ∷ []
+region_at (Some (row.Region start)) content =
+    record { at = start.at; offset = start.offset; size = start.size; content = content } ∷ []
 region_at row content = []
 
 -- the regions, each with its content

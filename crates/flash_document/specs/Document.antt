@@ -64,7 +64,14 @@ region_kind names None = kind.Empty
 region_kind names (Some stated) = content_kind names stated.content
 
 abbrev pub region_plan : List (List ℕ) → StatedRegion → Region
-region_plan names region = record { at = region.at; offset = region.offset; size = region.size; kind = region_kind names region.content }
+region_plan names region =
+    record {
+      at = region.at;
+      offset = region.offset;
+      size = region.size;
+      kind =
+          region_kind names region.content;
+    }
 
 -- polarity 1 where none is stated
 abbrev pub polarity_of : Option ℕ → ℕ
@@ -131,7 +138,8 @@ erase_flag erase = if erase == 0 then 0 else 2048
 
 -- those that are stated, the erase polarity, and in bits 16 to 20 the exponent of the alignment
 abbrev pub attributes_of : StatedVolume → ℕ
-attributes_of volume = bit_or (bit_or volume.flags (erase_flag (polarity_of volume.erase))) (exponent (unwrap_or volume.alignment 1) * 65536)
+attributes_of volume = bit_or (bit_or volume.flags (erase_flag (polarity_of volume.erase)))
+    (exponent (unwrap_or volume.alignment 1) * 65536)
 
 abbrev pub head_plan : StatedVolume → Option HeldSizes → VolumeHead
 head_plan volume held = record {
@@ -148,19 +156,28 @@ head_plan volume held = record {
 }
 
 abbrev pub volume_plan : List (List ℕ) → List HeldRegion → StatedVolume → VolumePlan
-volume_plan names regions volume = record { head = head_plan volume (held_of regions volume); items = map (item_plan names) volume.items }
+volume_plan names regions volume =
+    record {
+      head = head_plan volume (held_of regions volume);
+      items =
+          map (item_plan names) volume.items;
+    }
 
 abbrev pub plan_at : List (List ℕ) → List HeldRegion → Option StatedVolume → List VolumePlan
 plan_at names regions None = []
 plan_at names regions (Some volume) = volume_plan names regions volume ∷ []
 
 -- the plan of the volume of a place, among volumes that are lent
-unfoldable pub plan_in : List (List ℕ) → List HeldRegion → List (Bor StatedVolume) → ℕ → List VolumePlan
-plan_in names regions volumes p = plan_at names regions (option_map (λ v. v.now) (slice_get volumes p))
+unfoldable pub plan_in : List (List ℕ) → List HeldRegion → List (Bor StatedVolume) → ℕ
+    → List VolumePlan
+plan_in names regions volumes p =
+    plan_at names regions (option_map (λ v. v.now) (slice_get volumes p))
 
 -- the volumes in the order of their numbers
 abbrev pub volume_plans : List Stated → List VolumePlan
-volume_plans parts = flat_map (λ p. plan_at (ordered_names parts) (all_held parts) (slice_get (volumes_of parts) p)) (numbered parts)
+volume_plans parts =
+    flat_map (λ p. plan_at (ordered_names parts) (all_held parts) (slice_get (volumes_of parts) p))
+    (numbered parts)
 
 unfoldable pub document_of : List ℕ → List LineRead → List Stated → FlashDoc
 document_of root lines parts = record {
@@ -173,4 +190,5 @@ document_of root lines parts = record {
 
 -- the first fault of the whole, else the document
 unfoldable pub flash_of_lines : List ℕ → List LineRead → Result FlashDoc Fault
-flash_of_lines root lines = unless (whole_fault lines (all_stated lines)) (document_of root lines (all_stated lines))
+flash_of_lines root lines = unless (whole_fault lines (all_stated lines))
+    (document_of root lines (all_stated lines))

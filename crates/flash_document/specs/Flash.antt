@@ -19,4 +19,5 @@ line_of (gave rows) = Body rows
 
 -- the fault of the first line that has one, else the first of the whole, else the document
 unfoldable pub flash_of : Lines → Result FlashDoc Fault
-flash_of lines = and_then (rows_of_flash lines.rows) (λ reads. flash_of_lines lines.root (map line_of reads))
+flash_of lines = and_then (rows_of_flash lines.rows)
+    (λ reads. flash_of_lines lines.root (map line_of reads))

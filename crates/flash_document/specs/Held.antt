@@ -10,7 +10,8 @@ use Rattle.flash_document.specs.Whole.{held_by}
 -- with one region more
 abbrev pub with_region : Option HeldSizes → HeldRegion → HeldSizes
 with_region None region = record { first = region.size; block = region.block; other = None }
-with_region (Some held) region = if is_some held.other || (region.size == held.first) then held else record held { other = Some region.size }
+with_region (Some held) region = if is_some held.other || (region.size == held.first) then held
+    else record held { other = Some region.size }
 
 -- a table gives the sizes of the regions of each name
 abbrev pub Sizes : {S : Type 0} → List HeldRegion → HashMap (Vec ℕ) HeldSizes S → Type 0

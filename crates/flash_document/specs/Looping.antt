@@ -20,17 +20,20 @@ Within nests p (suc k) q = Within nests p k q ⊎ Via (Within nests p k) nests q
 -- some volumes were looked at: those that were new stand at the edge
 pub record Saw (places : List ℕ) (old new : Level) : Type 0 where
   pub seen : (q : ℕ) → contains nat_cmp new.seen q ≡ (contains nat_cmp old.seen q || has places q)
-  pub fresh : (q : ℕ) → contains nat_cmp new.seen q ≡ true → (contains nat_cmp old.seen q ≡ true) ⊎ (has new.edge q ≡ true)
+  pub fresh : (q : ℕ) → contains nat_cmp new.seen q ≡ true → (contains nat_cmp old.seen q ≡ true)
+      ⊎ (has new.edge q ≡ true)
   pub shown : (q : ℕ) → has new.edge q ≡ true → (has old.edge q ≡ true) ⊎ (has places q ≡ true)
   pub kept : (q : ℕ) → has old.edge q ≡ true → has new.edge q ≡ true
 
--- the volumes that one holds by one step and at most k more are seen, and what those hold that aren't at the edge
+-- the volumes that one holds by one step and at most k more are seen, and what those hold that
+-- aren't at the edge
 pub record Reached (nests : List (List ℕ)) (p k : ℕ) (level : Level) : Type 0 where
   pub sound : (q : ℕ) → contains nat_cmp level.seen q ≡ true → Within nests p k q
   pub whole : (q : ℕ) → Within nests p k q → contains nat_cmp level.seen q ≡ true
   pub edge : (q : ℕ) → has level.edge q ≡ true → contains nat_cmp level.seen q ≡ true
   pub closed : (r : ℕ) → contains nat_cmp level.seen r ≡ true
-      → (has level.edge r ≡ true) ⊎ ((q : ℕ) → has (nest_of nests r) q ≡ true → contains nat_cmp level.seen q ≡ true)
+      → (has level.edge r ≡ true)
+      ⊎ ((q : ℕ) → has (nest_of nests r) q ≡ true → contains nat_cmp level.seen q ≡ true)
 
 abbrev pub rank_at : List ℕ → ℕ → ℕ
 rank_at ranks p = get_or ranks p 0

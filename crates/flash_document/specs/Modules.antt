@@ -12,7 +12,8 @@ use Rattle.flash_document.specs.Rules.{same_arch}
 
 -- a component is this module, and is for this architecture or for all
 abbrev pub is_component : List ℕ → Arch → Component → Bool
-is_component inf arch component = pointwise nat_eq component.inf inf && (same_arch component.arch Common || same_arch component.arch arch)
+is_component inf arch component = pointwise nat_eq component.inf inf
+    && (same_arch component.arch Common || same_arch component.arch arch)
 
 abbrev pub has_component : List Component → List ℕ → Arch → Bool
 has_component components inf arch = list_any (is_component inf arch) components
@@ -36,12 +37,14 @@ is_among arch arches = list_any (λ a. same_arch a arch) arches
 -- the only one
 abbrev pub only_arch : InfLine → List Arch → Result Arch Fault
 only_arch line [] = Err (no_component line)
-only_arch line (arch ∷ arches) = if other_arch arch arches then Err (fault_of 254 line.at line.inf) else Ok arch
+only_arch line (arch ∷ arches) = if other_arch arch arches then Err (fault_of 254 line.at line.inf)
+    else Ok arch
 
 -- that of USE, where it has the component
 abbrev pub arch_among : InfLine → List Arch → Option Arch → Result Arch Fault
 arch_among line arches None = only_arch line arches
-arch_among line arches (Some arch) = if is_among arch arches then Ok arch else Err (no_component line)
+arch_among line arches (Some arch) = if is_among arch arches then Ok arch
+    else Err (no_component line)
 
 -- the architecture of a line, among the components of a platform and the built architectures
 abbrev pub inf_arch : InfLine → List Component → List Arch → Result Arch Fault

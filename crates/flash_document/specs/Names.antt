@@ -14,7 +14,8 @@ same_key x y = pointwise nat_eq x.items y.items
 -- the place of the first name that is a key in lower case
 unfoldable pub place_from : ℕ → List ℕ → List (List ℕ) → Option ℕ
 place_from n key [] = None
-place_from n key (name ∷ names) = if pointwise nat_eq (folded name) key then Some n else place_from (n + 1) key names
+place_from n key (name ∷ names) = if pointwise nat_eq (folded name) key then Some n
+    else place_from (n + 1) key names
 
 -- the place of the first of some names that is this one
 abbrev pub place_of : List (List ℕ) → List ℕ → Option ℕ

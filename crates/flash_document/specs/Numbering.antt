@@ -1,5 +1,6 @@
--- The numbers of volumes (EDK II FDF specification, [FV] sections and FV_IMAGE). That a volume comes behind those that it holds is this
--- project's own rule. Volumes are told by their places in the file, from 0.
+-- The numbers of volumes (EDK II FDF specification, [FV] sections and FV_IMAGE). That a volume
+-- comes behind those that it holds is this project's own rule. Volumes are told by their places in
+-- the file, from 0.
 use Rattle.std.specs.Prelude.{ℕ, Bool, ◌&&◌, ◌||◌, not, nat_eq, List, [], ◌∷◌, ◌++◌, length, get_or, Option, Some, None}
 use Rattle.std.specs.List.{list_any, list_all, find, range_with_len}
 
@@ -39,7 +40,8 @@ order_of nests = turns nests nests []
 -- a volume holds another, by as many steps from one to the next as there are rows behind the first
 unfoldable pub holds_by : List (List ℕ) → List (List ℕ) → ℕ → ℕ → Bool
 holds_by nests [] p q = has (nest_of nests p) q
-holds_by nests (n ∷ ns) p q = has (nest_of nests p) q || list_any (λ r. holds_by nests ns r q) (nest_of nests p)
+holds_by nests (n ∷ ns) p q = has (nest_of nests p) q
+    || list_any (λ r. holds_by nests ns r q) (nest_of nests p)
 
 -- a volume holds itself, by at most as many steps as there are volumes, and one
 abbrev pub is_loop : List (List ℕ) → ℕ → Bool

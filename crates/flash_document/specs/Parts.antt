@@ -1,4 +1,5 @@
--- What the sections of a flash description state, each below each of its heads, in file order (EDK II FDF specification).
+-- What the sections of a flash description state, each below each of its heads, in file order (EDK
+-- II FDF specification).
 use Rattle.std.specs.Prelude.{ℕ, ◌+◌, List, [], ◌∷◌, ◌++◌}
 use Rattle.build_base.specs.declared.fault.Place.{Place}
 use Rattle.fdf_words.specs.declared.rows.LineRead.{LineRead}
@@ -20,7 +21,8 @@ stated_of at (Rule scope) k lines = rule_of_lines at scope k lines
 
 abbrev pub stated_from : Place → ℕ → List Scope → List LineRead → List Stated
 stated_from at k [] lines = []
-stated_from at k (scope ∷ scopes) lines = stated_of at scope k lines ∷ stated_from at (k + 1) scopes lines
+stated_from at k (scope ∷ scopes) lines =
+    stated_of at scope k lines ∷ stated_from at (k + 1) scopes lines
 
 abbrev pub stated_below : LineRead → List LineRead → List Stated
 stated_below (Heads at scopes) lines = stated_from at 0 scopes lines

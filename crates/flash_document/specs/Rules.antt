@@ -47,16 +47,19 @@ same_arch first second = same_word (arch_text first) (arch_text second)
 -- a rule is for this architecture and type, with this template
 abbrev pub is_for : Arch → ModuleType → List ℕ → RuleDoc → Bool
 is_for wanted module_type template rule =
-    same_arch rule.arch wanted && same_word (type_text rule.module_type) (type_text module_type) && same_word rule.template template
+    same_arch rule.arch wanted && same_word (type_text rule.module_type) (type_text module_type)
+    && same_word rule.template template
 
 -- the module's own architecture goes before every one
 abbrev pub rule_place : List RuleDoc → Arch → ModuleType → List ℕ → Option ℕ
 rule_place rules wanted module_type template =
-    or_else (position (is_for wanted module_type template) rules) (position (is_for arch.Common module_type template) rules)
+    or_else (position (is_for wanted module_type template) rules)
+    (position (is_for arch.Common module_type template) rules)
 
 -- `ARCH.TYPE.TEMPLATE`
 abbrev pub rule_name : Arch → ModuleType → List ℕ → List ℕ
-rule_name wanted module_type template = arch_text wanted ++ codes "." ++ type_text module_type ++ codes "." ++ template
+rule_name wanted module_type template =
+    arch_text wanted ++ codes "." ++ type_text module_type ++ codes "." ++ template
 
 abbrev pub placed : Place → List ℕ → Option ℕ → Result ℕ Fault
 placed at name (Some place) = Ok place
@@ -64,4 +67,6 @@ placed at name None = Err (fault_of 253 at name)
 
 -- the number of the rule for a module that a line names
 abbrev pub rule_of : List RuleDoc → InfLine → Arch → ModuleType → Result ℕ Fault
-rule_of rules line wanted module_type = placed line.at (rule_name wanted module_type line.template) (rule_place rules wanted module_type line.template)
+rule_of rules line wanted module_type =
+    placed line.at (rule_name wanted module_type line.template)
+    (rule_place rules wanted module_type line.template)

@@ -47,10 +47,14 @@ SourceFits v (source.Refused text) = Unit {0}
 -- a section has a GUID exactly where it is a SUBTYPE_GUID section, unless its line may not be used
 abbrev pub GuidFits : SectionPlan → SectionSource → Type 0
 GuidFits section (source.Refused text) = Unit {0}
-GuidFits section (source.Volume n) = is_some section.guid ≡ (section.kind == EFI_SECTION_FREEFORM_SUBTYPE_GUID)
-GuidFits section (source.Tree path) = is_some section.guid ≡ (section.kind == EFI_SECTION_FREEFORM_SUBTYPE_GUID)
-GuidFits section (source.Template text) = is_some section.guid ≡ (section.kind == EFI_SECTION_FREEFORM_SUBTYPE_GUID)
-GuidFits section (source.Words text) = is_some section.guid ≡ (section.kind == EFI_SECTION_FREEFORM_SUBTYPE_GUID)
+GuidFits section (source.Volume n) = is_some section.guid
+    ≡ (section.kind == EFI_SECTION_FREEFORM_SUBTYPE_GUID)
+GuidFits section (source.Tree path) = is_some section.guid
+    ≡ (section.kind == EFI_SECTION_FREEFORM_SUBTYPE_GUID)
+GuidFits section (source.Template text) =
+    is_some section.guid ≡ (section.kind == EFI_SECTION_FREEFORM_SUBTYPE_GUID)
+GuidFits section (source.Words text) = is_some section.guid
+    ≡ (section.kind == EFI_SECTION_FREEFORM_SUBTYPE_GUID)
 
 pub record SectionFits (v : ℕ) (section : SectionPlan) : Type 0 where
   pub nested : SourceFits v section.source

@@ -34,7 +34,8 @@ pub record Ready (nests : List (List ℕ)) (order : List ℕ) (v : ℕ) : Type 0
   pub whole : all_among order (nest_of nests v) ≡ true
 
 -- a volume that it holds has no number, and it waits there
-pub record Held {S : Type 0} (nests : List (List ℕ)) (order : List ℕ) (table : HashMap ℕ (List Waiting) S) (v : ℕ) : Type 0 where
+pub record Held {S : Type 0} (nests : List (List ℕ)) (order : List ℕ)
+    (table : HashMap ℕ (List Waiting) S) (v : ℕ) : Type 0 where
   pub on : ℕ
   pub free : has order on ≡ false
   pub held : has (nest_of nests v) on ≡ true
@@ -43,10 +44,13 @@ pub record Held {S : Type 0} (nests : List (List ℕ)) (order : List ℕ) (table
 -- where a volume stands: it has a number, it may come, it is still to be looked at, or it waits
 abbrev pub Stands : List (List ℕ) → List ℕ → List Waiting → Turns → ℕ → Type 0
 Stands nests order rest turns v =
-    (has order v ≡ true) ⊎ ((contains nat_cmp turns.ready v ≡ true) ⊎ ((names rest v ≡ true) ⊎ Held nests order turns.waiting v))
+    (has order v ≡ true)
+    ⊎ ((contains nat_cmp turns.ready v ≡ true)
+    ⊎ ((names rest v ≡ true) ⊎ Held nests order turns.waiting v))
 
 -- the volumes with numbers, and the others, of which some are still to be looked at
-pub record Standing (nests : List (List ℕ)) (order : List ℕ) (rest : List Waiting) (turns : Turns) : Type 0 where
+pub record Standing (nests : List (List ℕ)) (order : List ℕ) (rest : List Waiting) (turns : Turns)
+    : Type 0 where
   pub numbered : (v : ℕ) → contains nat_cmp turns.numbered v ≡ has order v
   pub whole : (v : ℕ) → has order v ≡ true → all_among order (nest_of nests v) ≡ true
   pub ready : (v : ℕ) → contains nat_cmp turns.ready v ≡ true → Ready nests order v
@@ -55,7 +59,8 @@ pub record Standing (nests : List (List ℕ)) (order : List ℕ) (rest : List Wa
   pub all : (v : ℕ) → v < length nests → Stands nests order rest turns v
 
 -- all but one, which may come, and is to get its number now
-pub record StandingBut (nests : List (List ℕ)) (order : List ℕ) (chosen : ℕ) (turns : Turns) : Type 0 where
+pub record StandingBut (nests : List (List ℕ)) (order : List ℕ) (chosen : ℕ) (turns : Turns)
+    : Type 0 where
   pub numbered : (v : ℕ) → contains nat_cmp turns.numbered v ≡ has order v
   pub whole : (v : ℕ) → has order v ≡ true → all_among order (nest_of nests v) ≡ true
   pub comes : Ready nests order chosen

@@ -60,12 +60,14 @@ abbrev pub systems : VolumeSetting → List Bool
 systems (FileSystem ffs3) = ffs3 ∷ []
 systems setting = []
 
--- The attributes that an FDF file may state (UEFI PI specification, volume 3, EFI_FVB_ATTRIBUTES_2): READ_DISABLED_CAP,
--- READ_ENABLED_CAP, READ_STATUS, WRITE_DISABLED_CAP, WRITE_ENABLED_CAP, WRITE_STATUS, LOCK_CAP, LOCK_STATUS, STICKY_WRITE,
--- MEMORY_MAPPED, READ_LOCK_CAP, READ_LOCK_STATUS, WRITE_LOCK_CAP, WRITE_LOCK_STATUS, WEAK_ALIGNMENT.
+-- The attributes that an FDF file may state (UEFI PI specification, volume 3,
+-- EFI_FVB_ATTRIBUTES_2): READ_DISABLED_CAP, READ_ENABLED_CAP, READ_STATUS, WRITE_DISABLED_CAP,
+-- WRITE_ENABLED_CAP, WRITE_STATUS, LOCK_CAP, LOCK_STATUS, STICKY_WRITE, MEMORY_MAPPED,
+-- READ_LOCK_CAP, READ_LOCK_STATUS, WRITE_LOCK_CAP, WRITE_LOCK_STATUS, WEAK_ALIGNMENT.
 abbrev pub attributes : List ℕ
 attributes =
-    0x1 ∷ 0x2 ∷ 0x4 ∷ 0x8 ∷ 0x10 ∷ 0x20 ∷ 0x40 ∷ 0x80 ∷ 0x200 ∷ 0x400 ∷ 0x1000 ∷ 0x2000 ∷ 0x4000 ∷ 0x8000 ∷ 0x80000000 ∷ []
+    0x1 ∷ 0x2 ∷ 0x4 ∷ 0x8 ∷ 0x10 ∷ 0x20 ∷ 0x40 ∷ 0x80 ∷ 0x200 ∷ 0x400 ∷ 0x1000 ∷ 0x2000 ∷ 0x4000
+    ∷ 0x8000 ∷ 0x80000000 ∷ []
 
 abbrev pub is_on : ℕ → List LineRead → ℕ → Bool
 is_on k lines bits = unwrap_or (last_setting (switches bits) k lines) false
@@ -108,7 +110,8 @@ whole_in k [] = None
 whole_in k (line ∷ lines) = whole_or (row_at k line) (whole_in k lines)
 
 abbrev pub file_with : FileHead → ℕ → List LineRead → StatedFile
-file_with head k lines = record { head = head; whole = whole_in k lines; sections = sections_in k lines }
+file_with head k lines =
+    record { head = head; whole = whole_in k lines; sections = sections_in k lines }
 
 abbrev pub item_at : Option Row → ℕ → List LineRead → List StatedItem
 item_at (Some (row.Apriori head)) k lines = item.Apriori head.at head.pei (members_in k lines) ∷ []
@@ -166,9 +169,18 @@ abbrev pub rule_with : Place → RuleScope → List SectionPlan → Option FileH
 rule_with at scope sections None = stated.Settings
 rule_with at scope sections (Some head) = stated.Rule (record {
   name = scope.name;
-  rule = record { at = at; arch = scope.arch; module_type = scope.module_type; template = scope.template; file = plan_of head sections };
+  rule =
+      record {
+        at = at;
+        arch = scope.arch;
+        module_type = scope.module_type;
+        template =
+            scope.template;
+        file = plan_of head sections;
+      };
 })
 
 -- a rule's sections are all that stand below its head
 unfoldable pub rule_of_lines : Place → RuleScope → ℕ → List LineRead → Stated
-rule_of_lines at scope k lines = rule_with at scope (column rule_sections k lines) (rule_head k lines)
+rule_of_lines at scope k lines =
+    rule_with at scope (column rule_sections k lines) (rule_head k lines)

@@ -1,5 +1,5 @@
--- The checks over a whole flash description (EDK II FDF specification; the limits are this project's own), in the order of their codes; of one code
--- the one of the earliest place.
+-- The checks over a whole flash description (EDK II FDF specification; the limits are this
+-- project's own), in the order of their codes; of one code the one of the earliest place.
 use Rattle.std.specs.Prelude.{ℕ, ◌*◌, ◌-◌, ◌%◌, nat_le, ◌==◌, if◌then◌else◌, List, [], ◌∷◌, ◌++◌, map, Option, Some, None, is_some, unwrap_or, codes, decimal, slice_get, nat_eq}
 use Rattle.std.specs.List.{flat_map}
 use Rattle.std.specs.Cmp.Lexicographic.{pointwise}
@@ -51,7 +51,8 @@ held_names None = []
 held_names (Some stated) = name_in stated.content
 
 abbrev pub region_held : Option ℕ → StatedRegion → List HeldRegion
-region_held block region = map (λ name. record { name = name; size = region.size; block = block }) (held_names region.content)
+region_held block region = map (λ name. record { name = name; size = region.size; block = block })
+    (held_names region.content)
 
 abbrev pub part_held : Stated → List HeldRegion
 part_held (Device device) = flat_map (region_held device.first_block) device.regions
@@ -63,16 +64,20 @@ all_held parts = flat_map part_held parts
 
 abbrev pub other_in : ℕ → List HeldRegion → Option ℕ
 other_in size [] = None
-other_in size (region ∷ regions) = if region.size == size then other_in size regions else Some region.size
+other_in size (region ∷ regions) = if region.size == size then other_in size regions
+    else Some region.size
 
 -- of some regions the first, and the first size that differs from its own
 abbrev pub sizes_of : List HeldRegion → Option HeldSizes
 sizes_of [] = None
-sizes_of (region ∷ regions) = Some (record { first = region.size; block = region.block; other = other_in region.size regions })
+sizes_of (region ∷ regions) =
+    Some
+    (record { first = region.size; block = region.block; other = other_in region.size regions })
 
 abbrev pub regions_named : List ℕ → List HeldRegion → List HeldRegion
 regions_named key [] = []
-regions_named key (region ∷ regions) = if pointwise nat_eq (folded region.name) key then region ∷ regions_named key regions else regions_named key regions
+regions_named key (region ∷ regions) = if pointwise nat_eq (folded region.name) key
+    then region ∷ regions_named key regions else regions_named key regions
 
 -- the sizes of the regions that hold the volume of a name, which is given in lower case
 abbrev pub held_by : List ℕ → List HeldRegion → Option HeldSizes
@@ -123,11 +128,13 @@ part_unstated stated = None
 
 -- a volume has at most 0x10000000 bytes
 abbrev pub size_fault : Place → Option ℕ → Option Fault
-size_fault at (Some size) = if nat_le size size_limit then None else Some (fault_of 249 at (decimal size))
+size_fault at (Some size) = if nat_le size size_limit then None
+    else Some (fault_of 249 at (decimal size))
 size_fault at None = None
 
 abbrev pub part_too_large : List HeldRegion → Stated → Option Fault
-part_too_large regions (Volume volume) = size_fault volume.at (size_of volume (held_of regions volume))
+part_too_large regions (Volume volume) =
+    size_fault volume.at (size_of volume (held_of regions volume))
 part_too_large regions stated = None
 
 abbrev pub body_names : SectionBody → List (List ℕ)
@@ -139,7 +146,8 @@ place_list None = []
 place_list (Some place) = place ∷ []
 
 abbrev pub section_nest : List (List ℕ) → SectionLine → List ℕ
-section_nest names section = flat_map (λ name. place_list (place_of names name)) (body_names section.body)
+section_nest names section =
+    flat_map (λ name. place_list (place_of names name)) (body_names section.body)
 
 abbrev pub item_nest : List (List ℕ) → StatedItem → List ℕ
 item_nest names (item.File file) = flat_map (section_nest names) file.sections
@@ -187,7 +195,8 @@ line_unknown names (Body rows) = first_fault (row_unknown names) rows
 
 -- the blocks of a device are its size
 abbrev pub device_blocks : Place → ℕ → Option ℕ → Option Fault
-device_blocks at blocks (Some size) = if blocks == size then None else Some (fault_of 255 at (unequal blocks size))
+device_blocks at blocks (Some size) = if blocks == size then None
+    else Some (fault_of 255 at (unequal blocks size))
 device_blocks at blocks None = None
 
 -- another size than the first
@@ -197,12 +206,14 @@ unlike code at size None = None
 
 -- a region's size is a whole number of blocks
 abbrev pub whole_blocks : Place → ℕ → Option ℕ → Option Fault
-whole_blocks at block (Some size) = if size % block == 0 then None else Some (fault_of 255 at (unequal size (size - size % block)))
+whole_blocks at block (Some size) = if size % block == 0 then None
+    else Some (fault_of 255 at (unequal size (size - size % block)))
 whole_blocks at block None = None
 
 -- a volume's own size is that of each of its regions; without an own size its first region's counts
 abbrev pub blocks_with : Place → Option HeldSizes → ℕ → Option ℕ → Option Fault
-blocks_with at held block (Some blocks) = unlike 255 at (capped (block * blocks)) (other_than (capped (block * blocks)) held)
+blocks_with at held block (Some blocks) =
+    unlike 255 at (capped (block * blocks)) (other_than (capped (block * blocks)) held)
 blocks_with at held block None = whole_blocks at block (first_size held)
 
 abbrev pub volume_blocks : StatedVolume → Option HeldSizes → Option Fault
@@ -235,9 +246,11 @@ named_twice (Device device) = Some (fault_of 261 device.at device.name)
 named_twice (Volume volume) = Some (fault_of 261 volume.at volume.name)
 named_twice (Rule rule) = Some (fault_of 261 rule.rule.at rule.name)
 
-abbrev pub twin_with : (List (List ℕ) → Option Fault) → List (List ℕ) → Option Fault → Option (List ℕ) → Option Fault
+abbrev pub twin_with : (List (List ℕ) → Option Fault) → List (List ℕ) → Option Fault
+    → Option (List ℕ) → Option Fault
 twin_with more above fault None = more above
-twin_with more above fault (Some key) = if is_some (place_of above key) then fault else more (above ++ key ∷ [])
+twin_with more above fault (Some key) = if is_some (place_of above key) then fault
+    else more (above ++ key ∷ [])
 
 -- the first device, volume or rule whose name one above of its kind has
 unfoldable pub twin : List Stated → List (List ℕ) → Option Fault

@@ -130,7 +130,8 @@ fn part_too_large(
     sizes: &IndexMap<Vec<u8>, HeldSizes>,
     part: &Stated,
 ) -> Result<(), Refusal>
-    ensures { (regions : List Part) → Sizes regions sizes.now → Checks result (part_too_large regions part.now) }
+    ensures { (regions : List Part) → Sizes regions sizes.now
+        → Checks result (part_too_large regions part.now) }
 {
     let Stated::Volume(volume) = part else {
         return Ok(());
@@ -145,7 +146,8 @@ pub fn check_sizes(
     sizes: &IndexMap<Vec<u8>, HeldSizes>,
     parts: &[Stated],
 ) -> Result<(), Refusal>
-    ensures { (regions : List Part) → Sizes regions sizes.now → Checks result (first_fault (part_too_large regions) parts.now) }
+    ensures { (regions : List Part) → Sizes regions sizes.now
+        → Checks result (first_fault (part_too_large regions) parts.now) }
 {
     let mut left = parts;
     while let [part, rest @ ..] = left {
@@ -161,7 +163,8 @@ fn unknown(
     at: &Place,
     name: &Text,
 ) -> Result<(), Refusal>
-    ensures { (names : List (List ℕ)) → Places names table.now → Checks result (unknown names at.now name.now) }
+    ensures { (names : List (List ℕ)) → Places names table.now
+        → Checks result (unknown names at.now name.now) }
 {
     match place_in(alloc, table, name.bytes())? {
         Some(_) => Ok(()),
@@ -170,7 +173,8 @@ fn unknown(
 }
 
 fn row_unknown(alloc: Global, table: &IndexMap<Vec<u8>, usize>, row: &Row) -> Result<(), Refusal>
-    ensures { (names : List (List ℕ)) → Places names table.now → Checks result (row_unknown names row.now) }
+    ensures { (names : List (List ℕ)) → Places names table.now
+        → Checks result (row_unknown names row.now) }
 {
     match row {
         Row::Content(stated) => match &stated.content {
@@ -190,7 +194,8 @@ fn rows_unknown(
     table: &IndexMap<Vec<u8>, usize>,
     rows: &[Row],
 ) -> Result<(), Refusal>
-    ensures { (names : List (List ℕ)) → Places names table.now → Checks result (first_fault (row_unknown names) rows.now) }
+    ensures { (names : List (List ℕ)) → Places names table.now
+        → Checks result (first_fault (row_unknown names) rows.now) }
 {
     let mut left = rows;
     while let [row, rest @ ..] = left {
@@ -205,7 +210,8 @@ fn line_unknown(
     table: &IndexMap<Vec<u8>, usize>,
     line: &LineRead,
 ) -> Result<(), Refusal>
-    ensures { (names : List (List ℕ)) → Places names table.now → Checks result (line_unknown names line.now) }
+    ensures { (names : List (List ℕ)) → Places names table.now
+        → Checks result (line_unknown names line.now) }
 {
     match line {
         LineRead::Heads { .. } => Ok(()),
@@ -219,7 +225,8 @@ pub fn check_names(
     table: &IndexMap<Vec<u8>, usize>,
     lines: &[LineRead],
 ) -> Result<(), Refusal>
-    ensures { (names : List (List ℕ)) → Places names table.now → Checks result (first_fault (line_unknown names) lines.now) }
+    ensures { (names : List (List ℕ)) → Places names table.now
+        → Checks result (first_fault (line_unknown names) lines.now) }
 {
     let mut left = lines;
     while let [line, rest @ ..] = left {
@@ -296,7 +303,8 @@ fn part_blocks(
     sizes: &IndexMap<Vec<u8>, HeldSizes>,
     part: &Stated,
 ) -> Result<(), Refusal>
-    ensures { (regions : List Part) → Sizes regions sizes.now → Checks result (part_blocks regions part.now) }
+    ensures { (regions : List Part) → Sizes regions sizes.now
+        → Checks result (part_blocks regions part.now) }
 {
     match part {
         Stated::Device(device) => device_blocks(alloc, &device.at, device.blocks, device.size),
@@ -314,7 +322,8 @@ pub fn check_blocks(
     sizes: &IndexMap<Vec<u8>, HeldSizes>,
     parts: &[Stated],
 ) -> Result<(), Refusal>
-    ensures { (regions : List Part) → Sizes regions sizes.now → Checks result (first_fault (part_blocks regions) parts.now) }
+    ensures { (regions : List Part) → Sizes regions sizes.now
+        → Checks result (first_fault (part_blocks regions) parts.now) }
 {
     let mut left = parts;
     while let [part, rest @ ..] = left {
@@ -338,7 +347,8 @@ fn part_sizes(
     sizes: &IndexMap<Vec<u8>, HeldSizes>,
     part: &Stated,
 ) -> Result<(), Refusal>
-    ensures { (regions : List Part) → Sizes regions sizes.now → Checks result (part_sizes regions part.now) }
+    ensures { (regions : List Part) → Sizes regions sizes.now
+        → Checks result (part_sizes regions part.now) }
 {
     let Stated::Volume(volume) = part else {
         return Ok(());
@@ -353,7 +363,8 @@ pub fn check_regions(
     sizes: &IndexMap<Vec<u8>, HeldSizes>,
     parts: &[Stated],
 ) -> Result<(), Refusal>
-    ensures { (regions : List Part) → Sizes regions sizes.now → Checks result (first_fault (part_sizes regions) parts.now) }
+    ensures { (regions : List Part) → Sizes regions sizes.now
+        → Checks result (first_fault (part_sizes regions) parts.now) }
 {
     let mut left = parts;
     while let [part, rest @ ..] = left {

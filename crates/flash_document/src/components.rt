@@ -1,14 +1,15 @@
-//! Numbers of volumes by which those that may hold themselves are told apart: in one walk over all volumes and what they
-//! hold, each set of volumes that hold each other gets a number, behind those of the sets that it holds. Nothing rests
-//! on these numbers but the time: what they say is looked at before it is used.
+//! Numbers of volumes by which those that may hold themselves are told apart: in one walk over all
+//! volumes and what they hold, each set of volumes that hold each other gets a number, behind those
+//! of the sets that it holds. Nothing rests on these numbers but the time: what they say is looked
+//! at before it is used.
 ghost use Rattle.std.specs.Prelude.{◌≡◌};
 
 use crate::numbering::nest_of;
 use build_base::{Rows, WantOfMemory};
 use std::alloc::Global;
 
-/// What is kept of a volume: the turn at which the walk came to it, the earliest turn to which it leads back, and the
-/// number of its set.
+/// What is kept of a volume: the turn at which the walk came to it, the earliest turn to which it
+/// leads back, and the number of its set.
 #[derive(Clone, Copy, Debug)]
 struct Visit {
     turn: usize,
@@ -23,8 +24,8 @@ struct Frame {
     at: usize,
 }
 
-/// A walk: the volumes that it came to, those whose sets have no number yet, those on the way to where it is, and how
-/// many turns and sets there were.
+/// A walk: the volumes that it came to, those whose sets have no number yet, those on the way to
+/// where it is, and how many turns and sets there were.
 #[derive(Drop)]
 struct Walk {
     visits: Vec<Option<Visit>>,

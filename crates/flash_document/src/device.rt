@@ -40,8 +40,8 @@ pub fn number_of(key: DeviceKey, k: usize, lines: &[LineRead]) -> Option<u64>
     found
 }
 
-/// The pairs of BlockSize and NumBlocks: a size that waits for its count, the size of the first pair, and all
-/// products together.
+/// The pairs of BlockSize and NumBlocks: a size that waits for its count, the size of the first
+/// pair, and all products together.
 #[derive(Clone, Copy, Debug)]
 pub struct BlockSum {
     pub waiting: Option<u64>,
@@ -119,7 +119,15 @@ fn region_with(
     start: &RegionStart,
     content: Option<RegionContent>,
 ) -> Result<StatedRegion, WantOfMemory>
-    ensures { IfOk result (λ r. r ≡ record { at = start.now.at; offset = start.now.offset; size = start.now.size; content = content }) }
+    ensures { IfOk result
+        (λ r. r
+        ≡ record {
+          at = start.now.at;
+          offset = start.now.offset;
+          size = start.now.size;
+          content =
+              content;
+        }) }
 {
     Ok(StatedRegion {
         at: start.at.copy(alloc)?,

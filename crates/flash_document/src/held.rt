@@ -12,7 +12,8 @@ use fdf_words::rows::Content;
 use indexmap::IndexMap;
 use std::alloc::Global;
 
-/// A region that holds a volume: the volume's name, the region's size, and the first block size of its device.
+/// A region that holds a volume: the volume's name, the region's size, and the first block size of
+/// its device.
 #[derive(Debug, Drop)]
 pub struct HeldRegion {
     pub name: Text,
@@ -20,8 +21,8 @@ pub struct HeldRegion {
     pub block: Option<u64>,
 }
 
-/// Of the regions that hold a volume: the first one's size and the first block size of its device, and the first
-/// size that differs.
+/// Of the regions that hold a volume: the first one's size and the first block size of its device,
+/// and the first size that differs.
 #[derive(Clone, Copy, Debug, PartialEq, Eq)]
 pub struct HeldSizes {
     pub first: u64,
@@ -118,7 +119,8 @@ fn add_region(
     sizes: &mut IndexMap<Vec<u8>, HeldSizes>,
     region: &HeldRegion,
 ) -> Result<(), WantOfMemory>
-    ensures { (above : List Part) → Sizes above sizes.old → OnOk result (Sizes (above ++ region.now ∷ []) sizes.new) }
+    ensures { (above : List Part) → Sizes above sizes.old
+        → OnOk result (Sizes (above ++ region.now ∷ []) sizes.new) }
 {
     let key = folded(alloc, region.name.bytes())?;
     let size = with_region(sizes.get(&key).copied(), region);
@@ -148,7 +150,8 @@ pub fn held_in(
     sizes: &IndexMap<Vec<u8>, HeldSizes>,
     volume: &StatedVolume,
 ) -> Result<Option<HeldSizes>, WantOfMemory>
-    ensures { (regions : List Part) → Sizes regions sizes.now → IfOk result (λ held. held ≡ held_of regions volume.now) }
+    ensures { (regions : List Part) → Sizes regions sizes.now
+        → IfOk result (λ held. held ≡ held_of regions volume.now) }
 {
     let key = folded(alloc, volume.name.bytes())?;
     Ok(sizes.get(&key).copied())

@@ -68,7 +68,8 @@ impl Level {
 
     // One step more.
     fn step(&mut self, nests: &[Rows<usize>]) -> Result<(), WantOfMemory>
-        ensures { (p k : ℕ) → Reached nests.now p k self.old → OnOk result (Reached nests.now p (k + 1) self.new) }
+        ensures { (p k : ℕ) → Reached nests.now p k self.old
+            → OnOk result (Reached nests.now p (k + 1) self.new) }
     {
         let edge = self.take_edge();
         self.see_nests(nests, edge.items())?;
@@ -170,7 +171,8 @@ fn loops_by(
     fall: bool,
     volume: usize,
 ) -> Result<bool, WantOfMemory>
-    ensures { fall ≡ all_fall nests.now ranks.now → IfOk result (λ b. b ≡ is_loop nests.now volume) }
+    ensures { fall ≡ all_fall nests.now ranks.now
+        → IfOk result (λ b. b ≡ is_loop nests.now volume) }
 {
     if may_loop(nests, ranks, fall, volume) {
         return is_loop(alloc, nests, volume);
@@ -178,9 +180,9 @@ fn loops_by(
     Ok(false)
 }
 
-/// The first volume in file order that holds itself. `ranks` are numbers of the volumes, by which only those are
-/// tried that may hold themselves: where a volume's number is greater than those of all that it holds it doesn't,
-/// as long as it is nowhere less.
+/// The first volume in file order that holds itself. `ranks` are numbers of the volumes, by which
+/// only those are tried that may hold themselves: where a volume's number is greater than those of
+/// all that it holds it doesn't, as long as it is nowhere less.
 #[tactic(auto, using(crate::proofs::LoopLemmas::find_step, crate::proofs::LoopLemmas::find_here, crate::proofs::LoopLemmas::find_end), unfolding(crate::specs::Numbering::first_loop))]
 pub fn first_loop(
     alloc: Global,

@@ -129,8 +129,9 @@ fn arch_among(alloc: Global, line: &InfLine, arches: &[Arch]) -> Result<Arch, Re
     }
 }
 
-/// The architecture for which a volume has the module of an INF statement: that of USE, else the only one of the built
-/// `arches` for which the platform has the component. A fault where none has it (259), or several (254).
+/// The architecture for which a volume has the module of an INF statement: that of USE, else the
+/// only one of the built `arches` for which the platform has the component. A fault where none has
+/// it (259), or several (254).
 pub fn inf_arch(
     alloc: Global,
     line: &InfLine,

@@ -22,7 +22,8 @@ pub fn place_in(
     table: &IndexMap<Vec<u8>, usize>,
     name: &[u8],
 ) -> Result<Option<usize>, WantOfMemory>
-    ensures { (names : List (List ℕ)) → Places names table.now → IfOk result (λ n. n ≡ place_of names name.now) }
+    ensures { (names : List (List ℕ)) → Places names table.now
+        → IfOk result (λ n. n ≡ place_of names name.now) }
 {
     let key = folded(alloc, name)?;
     Ok(table.get(&key).copied())
@@ -35,7 +36,8 @@ pub fn add_name(
     name: &[u8],
     place: usize,
 ) -> Result<(), WantOfMemory>
-    ensures { (above : List (List ℕ)) → place ≡ length above → Places above table.old → OnOk result (Places (above ++ name.now ∷ []) table.new) }
+    ensures { (above : List (List ℕ)) → place ≡ length above → Places above table.old
+        → OnOk result (Places (above ++ name.now ∷ []) table.new) }
 {
     let key = folded(alloc, name)?;
     if table.contains_key(&key) {

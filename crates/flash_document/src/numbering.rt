@@ -20,7 +20,8 @@ pub struct Waiting {
     pub at: usize,
 }
 
-/// The volumes with numbers, those that may come next, and those that wait, each by one that it holds.
+/// The volumes with numbers, those that may come next, and those that wait, each by one that it
+/// holds.
 #[derive(Drop)]
 pub struct Turns {
     pub alloc: Global,
@@ -42,8 +43,13 @@ pub fn nest_of(nests: &[Rows<usize>], volume: usize) -> &[usize]
 // The first from a place on that has no number.
 fn open_from(numbered: &BTreeSet<usize>, nest: &[usize], from: usize) -> Option<usize>
     ensures within { IfSome result (λ at. at < length nest.now) }
-    ensures open { (order : List ℕ) → ((v : ℕ) → contains nat_cmp numbered.now v ≡ has order v) → all_among order (take from nest.now) ≡ true → IfSome result (λ at. (has order (get_or nest.now at 0) ≡ false) × (all_among order (take at nest.now) ≡ true)) }
-    ensures whole { (order : List ℕ) → ((v : ℕ) → contains nat_cmp numbered.now v ≡ has order v) → all_among order (take from nest.now) ≡ true → IfNone result (all_among order nest.now ≡ true) }
+    ensures open { (order : List ℕ) → ((v : ℕ) → contains nat_cmp numbered.now v ≡ has order v)
+        → all_among order (take from nest.now) ≡ true
+        → IfSome result (λ at. (has order (get_or nest.now at 0) ≡ false)
+        × (all_among order (take at nest.now) ≡ true)) }
+    ensures whole { (order : List ℕ) → ((v : ℕ) → contains nat_cmp numbered.now v ≡ has order v)
+        → all_among order (take from nest.now) ≡ true
+        → IfNone result (all_among order nest.now ≡ true) }
 {
     for i in from..nest.len() {
         if !numbered.contains(&nest[i]) {
@@ -60,7 +66,8 @@ fn take_waiting(
     volume: usize,
 ) -> Rows<Waiting>
     ensures rows { result ≡ unwrap_or (get nat_eq table.old volume) [] }
-    ensures others { (other : ℕ) → get nat_eq table.new other ≡ cond (nat_eq volume other) None (get nat_eq table.old other) }
+    ensures others { (other : ℕ) → get nat_eq table.new other
+        ≡ cond (nat_eq volume other) None (get nat_eq table.old other) }
 {
     match table.swap_remove(&volume) {
         Some(rows) => rows,
@@ -75,7 +82,9 @@ fn add_waiting(
     volume: usize,
     row: Waiting,
 ) -> Result<(), WantOfMemory>
-    ensures { OnOk result ((other : ℕ) → waiting_at table.new other ≡ cond (nat_eq volume other) (waiting_at table.old volume ++ row ∷ []) (waiting_at table.old other)) }
+    ensures { OnOk result ((other : ℕ) → waiting_at table.new other
+        ≡ cond (nat_eq volume other) (waiting_at table.old volume ++ row ∷ [])
+        (waiting_at table.old other)) }
 {
     let mut rows = take_waiting(alloc, table, volume);
     rows.push(row)?;
@@ -86,7 +95,8 @@ fn add_waiting(
 }
 
 pub fn insert(set: &mut BTreeSet<usize>, number: usize) -> Result<(), WantOfMemory>
-    ensures { OnOk result ((q : ℕ) → contains nat_cmp set.new q ≡ cond (nat_eq number q) true (contains nat_cmp set.old q)) }
+    ensures { OnOk result ((q : ℕ) → contains nat_cmp set.new q
+        ≡ cond (nat_eq number q) true (contains nat_cmp set.old q)) }
 {
     match set.insert(number) {
         Ok(_) => Ok(()),
@@ -97,7 +107,8 @@ pub fn insert(set: &mut BTreeSet<usize>, number: usize) -> Result<(), WantOfMemo
 fn take_first(set: &mut BTreeSet<usize>) -> Option<usize>
     ensures member { IfSome result (λ k. contains nat_cmp set.old k ≡ true) }
     ensures least { IfSome result (λ k. (q : ℕ) → contains nat_cmp set.old q ≡ true → k ≤ q) }
-    ensures others { IfSome result (λ k. (q : ℕ) → contains nat_cmp set.new q ≡ cond (nat_eq k q) false (contains nat_cmp set.old q)) }
+    ensures others { IfSome result (λ k. (q : ℕ)
+        → contains nat_cmp set.new q ≡ cond (nat_eq k q) false (contains nat_cmp set.old q)) }
     ensures none { IfNone result ((q : ℕ) → contains nat_cmp set.old q ≡ false) }
 {
     match set.pop_first() {
@@ -109,7 +120,9 @@ fn take_first(set: &mut BTreeSet<usize>) -> Option<usize>
 impl Turns {
     // Looks at a volume: it may come, or waits for the next that it holds.
     fn settle(&mut self, nests: &[Rows<usize>], row: Waiting) -> Result<(), WantOfMemory>
-        ensures { (order : List ℕ) (left : List WaitingRow) → Standing nests.now order (row ∷ left) self.old → OnOk result (Standing nests.now order left self.new) }
+        ensures { (order : List ℕ) (left : List WaitingRow)
+            → Standing nests.now order (row ∷ left) self.old
+            → OnOk result (Standing nests.now order left self.new) }
     {
         let nest = nest_of(nests, row.volume);
         match open_from(&self.numbered, nest, row.at) {
@@ -129,7 +142,8 @@ impl Turns {
     }
 
     fn settle_all(&mut self, nests: &[Rows<usize>], rows: &[Waiting]) -> Result<(), WantOfMemory>
-        ensures { (order : List ℕ) → Standing nests.now order rows.now self.old → OnOk result (Standing nests.now order [] self.new) }
+        ensures { (order : List ℕ) → Standing nests.now order rows.now self.old
+            → OnOk result (Standing nests.now order [] self.new) }
     {
         for row in rows {
             self.settle(nests, *row)?;
@@ -155,7 +169,8 @@ impl Turns {
 
     // Gives the next number to a volume that may come.
     fn number(&mut self, nests: &[Rows<usize>], volume: usize) -> Result<(), WantOfMemory>
-        ensures { (order : List ℕ) → StandingBut nests.now order volume self.old → OnOk result (Standing nests.now (order ++ volume ∷ []) [] self.new) }
+        ensures { (order : List ℕ) → StandingBut nests.now order volume self.old
+            → OnOk result (Standing nests.now (order ++ volume ∷ []) [] self.new) }
     {
         insert(&mut self.numbered, volume)?;
         let rows = take_waiting(self.alloc, &mut self.waiting, volume);
@@ -165,8 +180,11 @@ impl Turns {
 
     // The first that may come.
     fn next(&mut self) -> Option<usize>
-        ensures some { (nests : List (List ℕ)) (order : List ℕ) → Standing nests order [] self.old → IfSome result (λ v. (next_in nests order ≡ Some v) × StandingBut nests order v self.new) }
-        ensures none { (nests : List (List ℕ)) (order : List ℕ) → Standing nests order [] self.old → IfNone result (next_in nests order ≡ None) }
+        ensures some { (nests : List (List ℕ)) (order : List ℕ) → Standing nests order [] self.old
+            → IfSome result (λ v. (next_in nests order ≡ Some v)
+            × StandingBut nests order v self.new) }
+        ensures none { (nests : List (List ℕ)) (order : List ℕ) → Standing nests order [] self.old
+            → IfNone result (next_in nests order ≡ None) }
     {
         match take_first(&mut self.ready) {
             Some(volume) => Some(volume),

@@ -51,7 +51,8 @@ fn push_below(
     line: &LineRead,
     below: &[LineRead],
 ) -> Result<(), WantOfMemory>
-    ensures { OnOk result (parts.new ≡ parts.old ++ stated_below line.now (section_lines below.now)) }
+    ensures { OnOk result (parts.new ≡ parts.old
+        ++ stated_below line.now (section_lines below.now)) }
 {
     match line {
         LineRead::Heads { at, scopes } => {

@@ -37,7 +37,8 @@ fn content_kind(
     table: &IndexMap<Vec<u8>, usize>,
     content: &Content,
 ) -> Result<RegionKind, WantOfMemory>
-    ensures { (names : List (List ℕ)) → Places names table.now → IfOk result (λ k. k ≡ content_kind names content.now) }
+    ensures { (names : List (List ℕ)) → Places names table.now
+        → IfOk result (λ k. k ≡ content_kind names content.now) }
 {
     match content {
         Content::Volume(name) => kind_numbered(place_in(alloc, table, name.bytes())?),
@@ -51,7 +52,8 @@ fn region_kind(
     table: &IndexMap<Vec<u8>, usize>,
     content: &Option<RegionContent>,
 ) -> Result<RegionKind, WantOfMemory>
-    ensures { (names : List (List ℕ)) → Places names table.now → IfOk result (λ k. k ≡ region_kind names content.now) }
+    ensures { (names : List (List ℕ)) → Places names table.now
+        → IfOk result (λ k. k ≡ region_kind names content.now) }
 {
     match content {
         Some(stated) => content_kind(alloc, table, &stated.content),
@@ -64,7 +66,8 @@ fn region_plan(
     table: &IndexMap<Vec<u8>, usize>,
     region: &StatedRegion,
 ) -> Result<Region, WantOfMemory>
-    ensures { (names : List (List ℕ)) → Places names table.now → IfOk result (λ r. r ≡ region_plan names region.now) }
+    ensures { (names : List (List ℕ)) → Places names table.now
+        → IfOk result (λ r. r ≡ region_plan names region.now) }
 {
     let kind = region_kind(alloc, table, &region.content)?;
     Ok(Region {
@@ -80,7 +83,8 @@ fn region_plans(
     table: &IndexMap<Vec<u8>, usize>,
     regions: &[StatedRegion],
 ) -> Result<Rows<Region>, WantOfMemory>
-    ensures { (names : List (List ℕ)) → Places names table.now → IfOk result (λ rows. rows ≡ map (region_plan names) regions.now) }
+    ensures { (names : List (List ℕ)) → Places names table.now
+        → IfOk result (λ rows. rows ≡ map (region_plan names) regions.now) }
 {
     let mut plans = Rows::new(alloc);
     let mut left = regions;
@@ -102,7 +106,8 @@ fn device_plan(
     table: &IndexMap<Vec<u8>, usize>,
     device: &StatedDevice,
 ) -> Result<DevicePlan, WantOfMemory>
-    ensures { (names : List (List ℕ)) → Places names table.now → IfOk result (λ d. d ≡ device_plan names device.now) }
+    ensures { (names : List (List ℕ)) → Places names table.now
+        → IfOk result (λ d. d ≡ device_plan names device.now) }
 {
     let regions = region_plans(alloc, table, device.regions.items())?;
     Ok(DevicePlan {
@@ -121,7 +126,8 @@ fn push_device(
     devices: &mut Rows<DevicePlan>,
     part: &Stated,
 ) -> Result<(), WantOfMemory>
-    ensures { (names : List (List ℕ)) → Places names table.now → OnOk result (devices.new ≡ devices.old ++ part_device names part.now) }
+    ensures { (names : List (List ℕ)) → Places names table.now
+        → OnOk result (devices.new ≡ devices.old ++ part_device names part.now) }
 {
     match part {
         Stated::Device(device) => devices.push(device_plan(alloc, table, device)?),
@@ -135,7 +141,8 @@ pub fn device_plans(
     table: &IndexMap<Vec<u8>, usize>,
     parts: &[Stated],
 ) -> Result<Rows<DevicePlan>, WantOfMemory>
-    ensures { (names : List (List ℕ)) → Places names table.now → IfOk result (λ rows. rows ≡ flat_map (part_device names) parts.now) }
+    ensures { (names : List (List ℕ)) → Places names table.now
+        → IfOk result (λ rows. rows ≡ flat_map (part_device names) parts.now) }
 {
     let mut devices = Rows::new(alloc);
     let mut left = parts;
@@ -175,7 +182,8 @@ fn body_source(
     table: &IndexMap<Vec<u8>, usize>,
     body: &SectionBody,
 ) -> Result<SectionSource, WantOfMemory>
-    ensures { (names : List (List ℕ)) → Places names table.now → IfOk result (λ s. s ≡ body_source names body.now) }
+    ensures { (names : List (List ℕ)) → Places names table.now
+        → IfOk result (λ s. s ≡ body_source names body.now) }
 {
     match body {
         SectionBody::Tree(path) => Ok(SectionSource::Tree(path.copy(alloc)?)),
@@ -189,7 +197,8 @@ fn section_plan(
     table: &IndexMap<Vec<u8>, usize>,
     section: &SectionLine,
 ) -> Result<SectionPlan, WantOfMemory>
-    ensures { (names : List (List ℕ)) → Places names table.now → IfOk result (λ s. s ≡ section_plan names section.now) }
+    ensures { (names : List (List ℕ)) → Places names table.now
+        → IfOk result (λ s. s ≡ section_plan names section.now) }
 {
     let source = body_source(alloc, table, &section.body)?;
     Ok(SectionPlan {
@@ -208,7 +217,8 @@ fn section_plans(
     table: &IndexMap<Vec<u8>, usize>,
     sections: &[SectionLine],
 ) -> Result<Rows<SectionPlan>, WantOfMemory>
-    ensures { (names : List (List ℕ)) → Places names table.now → IfOk result (λ rows. rows ≡ map (section_plan names) sections.now) }
+    ensures { (names : List (List ℕ)) → Places names table.now
+        → IfOk result (λ rows. rows ≡ map (section_plan names) sections.now) }
 {
     let mut plans = Rows::new(alloc);
     let mut left = sections;
@@ -224,7 +234,8 @@ fn file_plan(
     table: &IndexMap<Vec<u8>, usize>,
     file: &StatedFile,
 ) -> Result<FilePlan, WantOfMemory>
-    ensures { (names : List (List ℕ)) → Places names table.now → IfOk result (λ f. f ≡ file_plan names file.now) }
+    ensures { (names : List (List ℕ)) → Places names table.now
+        → IfOk result (λ f. f ≡ file_plan names file.now) }
 {
     let sections = section_plans(alloc, table, file.sections.items())?;
     Ok(FilePlan {
@@ -244,7 +255,8 @@ fn item_plan(
     table: &IndexMap<Vec<u8>, usize>,
     item: &StatedItem,
 ) -> Result<Item, WantOfMemory>
-    ensures { (names : List (List ℕ)) → Places names table.now → IfOk result (λ i. i ≡ item_plan names item.now) }
+    ensures { (names : List (List ℕ)) → Places names table.now
+        → IfOk result (λ i. i ≡ item_plan names item.now) }
 {
     match item {
         StatedItem::Apriori { at, pei, members } => Ok(Item::Apriori {
@@ -262,7 +274,8 @@ fn item_plans(
     table: &IndexMap<Vec<u8>, usize>,
     items: &[StatedItem],
 ) -> Result<Rows<Item>, WantOfMemory>
-    ensures { (names : List (List ℕ)) → Places names table.now → IfOk result (λ rows. rows ≡ map (item_plan names) items.now) }
+    ensures { (names : List (List ℕ)) → Places names table.now
+        → IfOk result (λ rows. rows ≡ map (item_plan names) items.now) }
 {
     let mut plans = Rows::new(alloc);
     let mut left = items;
@@ -325,7 +338,8 @@ pub fn volume_plan(
     sizes: &IndexMap<Vec<u8>, HeldSizes>,
     volume: &StatedVolume,
 ) -> Result<VolumePlan, WantOfMemory>
-    ensures { (names : List (List ℕ)) (regions : List Part) → Places names table.now → Sizes regions sizes.now → IfOk result (λ p. p ≡ volume_plan names regions volume.now) }
+    ensures { (names : List (List ℕ)) (regions : List Part) → Places names table.now
+        → Sizes regions sizes.now → IfOk result (λ p. p ≡ volume_plan names regions volume.now) }
 {
     let items = item_plans(alloc, table, volume.items.items())?;
     let held = held_in(alloc, sizes, volume)?;

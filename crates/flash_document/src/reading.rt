@@ -22,8 +22,8 @@ fn read_document(alloc: Global, lines: &Lines) -> Result<FlashDoc, Refusal>
     }
 }
 
-/// The flash description of these lines, or the first fault: that of the first line that has one, of its
-/// faults the one of the least code, else of the whole, in the order of codes.
+/// The flash description of these lines, or the first fault: that of the first line that has one,
+/// of its faults the one of the least code, else of the whole, in the order of codes.
 pub fn read_flash(alloc: Global, permit: Permit, lines: &Lines) -> Result<FlashDoc, Refusal>
     ensures flash { Answers result (flash_of lines.now) }
     ensures shape { IfOk result (λ flash. HasShape flash) }

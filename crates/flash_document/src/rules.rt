@@ -113,8 +113,8 @@ fn rule_name(
     Ok(Text::from_vec(name))
 }
 
-/// The number of the rule for a module that an INF statement names: the one of its architecture, else the one of
-/// every architecture.
+/// The number of the rule for a module that an INF statement names: the one of its architecture,
+/// else the one of every architecture.
 pub fn rule_of(
     alloc: Global,
     flash: &FlashDoc,

@@ -122,7 +122,8 @@ fn push_key_sets(
     n: &DeviceNumber,
     rest: &[LineRead],
 ) -> Result<(), WantOfMemory>
-    ensures { OnOk result (sets.new ≡ sets.old ++ sets_at k 0 [] rest.now (Some (row.Number n.now))) }
+    ensures { OnOk result (sets.new ≡ sets.old
+        ++ sets_at k 0 [] rest.now (Some (row.Number n.now))) }
 {
     if has_key(n.key, k, rest) {
         return Ok(());
@@ -140,7 +141,8 @@ fn push_sets_at(
     line: &LineRead,
     rest: &[LineRead],
 ) -> Result<(), WantOfMemory>
-    ensures { OnOk result (sets.new ≡ sets.old ++ sets_at k base above.now rest.now (row_at k line.now)) }
+    ensures { OnOk result (sets.new ≡ sets.old
+        ++ sets_at k base above.now rest.now (row_at k line.now)) }
 {
     match row_at(line, k) {
         Some(Row::Set(set)) => sets.push(set.copy(alloc)?),
@@ -161,7 +163,8 @@ fn push_line_sets(
     line: &LineRead,
     rest: &[LineRead],
 ) -> Result<(), WantOfMemory>
-    ensures { OnOk result (sets.new ≡ sets.old ++ line_sets above.now line.now rest.now 0 bases.now) }
+    ensures { OnOk result (sets.new ≡ sets.old
+        ++ line_sets above.now line.now rest.now 0 bases.now) }
 {
     for (k, base) in bases.iter().enumerate() {
         push_sets_at(alloc, sets, k, *base, above, line, rest)?;

@@ -15,8 +15,8 @@ pub struct StatedRegion {
     pub content: Option<RegionContent>,
 }
 
-/// A device. `blocks` are the products of its pairs of BlockSize and NumBlocks, `first_block` the size of the
-/// first pair.
+/// A device. `blocks` are the products of its pairs of BlockSize and NumBlocks, `first_block` the
+/// size of the first pair.
 #[derive(Debug, Drop)]
 pub struct StatedDevice {
     pub at: Place,

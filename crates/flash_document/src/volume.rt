@@ -58,7 +58,8 @@ fn is_on(k: usize, lines: &[LineRead], bits: u32) -> bool
     found.unwrap_or(false)
 }
 
-/// The attributes that may be stated (EFI_FVB_ATTRIBUTES_2), EFI_FVB2_READ_DISABLED_CAP to EFI_FVB2_WEAK_ALIGNMENT.
+/// The attributes that may be stated (EFI_FVB_ATTRIBUTES_2), EFI_FVB2_READ_DISABLED_CAP to
+/// EFI_FVB2_WEAK_ALIGNMENT.
 const ATTRIBUTES: [u32; 15] = [
     0x1,
     0x2,
@@ -207,7 +208,8 @@ fn apriori_with(
     k: usize,
     lines: &[LineRead],
 ) -> Result<StatedItem, WantOfMemory>
-    ensures { IfOk result (λ made. made ≡ item.Apriori head.now.at head.now.pei (members_in k lines.now)) }
+    ensures { IfOk result
+        (λ made. made ≡ item.Apriori head.now.at head.now.pei (members_in k lines.now)) }
 {
     Ok(StatedItem::Apriori {
         at: head.at.copy(alloc)?,

@@ -55,7 +55,8 @@ fn push_place(
     nest: &mut Rows<usize>,
     section: &SectionLine,
 ) -> Result<(), WantOfMemory>
-    ensures { (names : List (List ℕ)) → Places names table.now → OnOk result (nest.new ≡ nest.old ++ section_nest names section.now) }
+    ensures { (names : List (List ℕ)) → Places names table.now
+        → OnOk result (nest.new ≡ nest.old ++ section_nest names section.now) }
 {
     let SectionBody::Volume(name) = &section.body else {
         return Ok(());
@@ -72,7 +73,8 @@ fn push_sections(
     nest: &mut Rows<usize>,
     sections: &[SectionLine],
 ) -> Result<(), WantOfMemory>
-    ensures { (names : List (List ℕ)) → Places names table.now → OnOk result (nest.new ≡ nest.old ++ flat_map (section_nest names) sections.now) }
+    ensures { (names : List (List ℕ)) → Places names table.now
+        → OnOk result (nest.new ≡ nest.old ++ flat_map (section_nest names) sections.now) }
 {
     let mut left = sections;
     while let [section, rest @ ..] = left {
@@ -88,7 +90,8 @@ fn push_item(
     nest: &mut Rows<usize>,
     item: &StatedItem,
 ) -> Result<(), WantOfMemory>
-    ensures { (names : List (List ℕ)) → Places names table.now → OnOk result (nest.new ≡ nest.old ++ item_nest names item.now) }
+    ensures { (names : List (List ℕ)) → Places names table.now
+        → OnOk result (nest.new ≡ nest.old ++ item_nest names item.now) }
 {
     match item {
         StatedItem::File(file) => push_sections(alloc, table, nest, file.sections.items()),
@@ -101,7 +104,8 @@ fn nest_in(
     table: &IndexMap<Vec<u8>, usize>,
     volume: &StatedVolume,
 ) -> Result<Rows<usize>, WantOfMemory>
-    ensures { (names : List (List ℕ)) → Places names table.now → IfOk result (λ nest. nest ≡ nest_in names volume.now) }
+    ensures { (names : List (List ℕ)) → Places names table.now
+        → IfOk result (λ nest. nest ≡ nest_in names volume.now) }
 {
     let mut nest = Rows::new(alloc);
     let mut left = volume.items.items();
@@ -118,7 +122,8 @@ pub fn nests_of(
     table: &IndexMap<Vec<u8>, usize>,
     volumes: &[&StatedVolume],
 ) -> Result<Rows<Rows<usize>>, WantOfMemory>
-    ensures { (names : List (List ℕ)) → Places names table.now → IfOk result (λ nests. nests ≡ map (λ v. nest_in names v.now) volumes.now) }
+    ensures { (names : List (List ℕ)) → Places names table.now
+        → IfOk result (λ nests. nests ≡ map (λ v. nest_in names v.now) volumes.now) }
 {
     let mut nests = Rows::new(alloc);
     let mut left = volumes;
@@ -157,7 +162,8 @@ pub fn ordered_names(
 
 /// The volume of a place.
 pub fn volume_at<'a>(volumes: &[&'a StatedVolume], place: usize) -> Option<&'a StatedVolume>
-    ensures some { IfSome result (λ v. option_map (λ w. w.now) (slice_get volumes.now place) ≡ Some v.now) }
+    ensures some { IfSome result
+        (λ v. option_map (λ w. w.now) (slice_get volumes.now place) ≡ Some v.now) }
     ensures none { IfNone result (option_map (λ w. w.now) (slice_get volumes.now place) ≡ None) }
 {
     match volumes.get(place) {
@@ -174,7 +180,9 @@ fn push_plan(
     volumes: &[&StatedVolume],
     place: usize,
 ) -> Result<(), WantOfMemory>
-    ensures { (names : List (List ℕ)) (regions : List Part) → Places names table.now → Sizes regions sizes.now → OnOk result (plans.new ≡ plans.old ++ plan_in names regions volumes.now place) }
+    ensures { (names : List (List ℕ)) (regions : List Part) → Places names table.now
+        → Sizes regions sizes.now
+        → OnOk result (plans.new ≡ plans.old ++ plan_in names regions volumes.now place) }
 {
     match volume_at(volumes, place) {
         Some(volume) => {
@@ -193,7 +201,9 @@ pub fn volume_plans(
     volumes: &[&StatedVolume],
     order: &[usize],
 ) -> Result<Rows<VolumePlan>, WantOfMemory>
-    ensures { (names : List (List ℕ)) (regions : List Part) → Places names table.now → Sizes regions sizes.now → IfOk result (λ plans. plans ≡ flat_map (plan_in names regions volumes.now) order.now) }
+    ensures { (names : List (List ℕ)) (regions : List Part) → Places names table.now
+        → Sizes regions sizes.now
+        → IfOk result (λ plans. plans ≡ flat_map (plan_in names regions volumes.now) order.now) }
 {
     let mut plans = Rows::new(alloc);
     let mut left = order;

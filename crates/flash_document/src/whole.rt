@@ -31,8 +31,9 @@ use fdf_words::rows::LineRead;
 use indexmap::IndexMap;
 use std::alloc::Global;
 
-/// What the checks and the plans look up: the names of the volumes and their places, the sizes of the regions that hold
-/// them, the volumes that each one holds, and their places in the order of their numbers.
+/// What the checks and the plans look up: the names of the volumes and their places, the sizes of
+/// the regions that hold them, the volumes that each one holds, and their places in the order of
+/// their numbers.
 #[derive(Drop)]
 pub struct Tables {
     pub names: Rows<Text>,
@@ -91,7 +92,8 @@ fn check_loops(
     volumes: &[&StatedVolume],
     nests: &[Rows<usize>],
 ) -> Result<(), Refusal>
-    ensures { (parts : List Part) → map (λ v. v.now) volumes.now ≡ volumes_of parts → nests.now ≡ nests_of parts → Checks result (loop_fault parts) }
+    ensures { (parts : List Part) → map (λ v. v.now) volumes.now ≡ volumes_of parts
+        → nests.now ≡ nests_of parts → Checks result (loop_fault parts) }
 {
     find_loop(alloc, volumes, nests)
 }
@@ -104,7 +106,8 @@ fn check_whole(
     volumes: &[&StatedVolume],
     tables: &Tables,
 ) -> Result<(), Refusal>
-    ensures { map (λ v. v.now) volumes.now ≡ volumes_of parts.now → Stands parts.now tables.now → Checks result (whole_fault lines.now parts.now) }
+    ensures { map (λ v. v.now) volumes.now ≡ volumes_of parts.now → Stands parts.now tables.now
+        → Checks result (whole_fault lines.now parts.now) }
 {
     check_stated(alloc, parts)?;
     check_sizes(alloc, &tables.sizes, parts)?;
@@ -117,7 +120,8 @@ fn check_whole(
 
 // The places of the names in the order of the volumes' numbers.
 fn ordered_places(alloc: Global, tables: &Tables) -> Result<IndexMap<Vec<u8>, usize>, WantOfMemory>
-    ensures { (parts : List Part) → Stands parts tables.now → IfOk result (Places (ordered_names parts)) }
+    ensures { (parts : List Part) → Stands parts tables.now
+        → IfOk result (Places (ordered_names parts)) }
 {
     let names = ordered_names(alloc, tables.names.items(), tables.order.items())?;
     places_of(alloc, names.items())
@@ -129,7 +133,9 @@ fn planned(
     tables: &Tables,
     volumes: &[&StatedVolume],
 ) -> Result<Rows<VolumePlan>, WantOfMemory>
-    ensures { (parts : List Part) → map (λ v. v.now) volumes.now ≡ volumes_of parts → Stands parts tables.now → Places (ordered_names parts) places.now → IfOk result (λ plans. plans ≡ volume_plans parts) }
+    ensures { (parts : List Part) → map (λ v. v.now) volumes.now ≡ volumes_of parts
+        → Stands parts tables.now → Places (ordered_names parts) places.now
+        → IfOk result (λ plans. plans ≡ volume_plans parts) }
 {
     volume_plans(alloc, places, &tables.sizes, volumes, tables.order.items())
 }
@@ -155,7 +161,9 @@ fn document_with(
     devices: Rows<DevicePlan>,
     volumes: Rows<VolumePlan>,
 ) -> Result<FlashDoc, WantOfMemory>
-    ensures { devices ≡ flat_map (part_device (ordered_names parts.now)) parts.now → volumes ≡ volume_plans parts.now → IfOk result (λ d. d ≡ document_of root.now lines.now parts.now) }
+    ensures { devices ≡ flat_map (part_device (ordered_names parts.now)) parts.now
+        → volumes ≡ volume_plans parts.now
+        → IfOk result (λ d. d ≡ document_of root.now lines.now parts.now) }
 {
     let at = whole_file(alloc, root)?;
     let sets = all_sets(alloc, lines)?;
@@ -177,7 +185,8 @@ fn document_of(
     volumes: &[&StatedVolume],
     tables: &Tables,
 ) -> Result<FlashDoc, WantOfMemory>
-    ensures { map (λ v. v.now) volumes.now ≡ volumes_of parts.now → Stands parts.now tables.now → IfOk result (λ d. d ≡ document_of root.now lines.now parts.now) }
+    ensures { map (λ v. v.now) volumes.now ≡ volumes_of parts.now → Stands parts.now tables.now
+        → IfOk result (λ d. d ≡ document_of root.now lines.now parts.now) }
 {
     let places = ordered_places(alloc, tables)?;
     let devices = device_plans(alloc, &places, parts)?;
@@ -194,7 +203,8 @@ fn judged(
     volumes: &[&StatedVolume],
     tables: &Tables,
 ) -> Result<FlashDoc, Refusal>
-    ensures { parts.now ≡ all_stated lines.now → map (λ v. v.now) volumes.now ≡ volumes_of parts.now → Stands parts.now tables.now → Answers result (flash_of_lines root.now lines.now) }
+    ensures { parts.now ≡ all_stated lines.now → map (λ v. v.now) volumes.now ≡ volumes_of parts.now
+        → Stands parts.now tables.now → Answers result (flash_of_lines root.now lines.now) }
 {
     check_whole(alloc, lines, parts, volumes, tables)?;
     let flash = document_of(alloc, root, lines, parts, volumes, tables)?;
@@ -208,7 +218,8 @@ fn flash_of_volumes(
     parts: &[Stated],
     volumes: &[&StatedVolume],
 ) -> Result<FlashDoc, Refusal>
-    ensures { parts.now ≡ all_stated lines.now → map (λ v. v.now) volumes.now ≡ volumes_of parts.now → Answers result (flash_of_lines root.now lines.now) }
+    ensures { parts.now ≡ all_stated lines.now → map (λ v. v.now) volumes.now ≡ volumes_of parts.now
+        → Answers result (flash_of_lines root.now lines.now) }
 {
     let tables = tables_of(alloc, parts, volumes)?;
     judged(alloc, root, lines, parts, volumes, &tables)
@@ -220,7 +231,8 @@ fn flash_of_parts(
     lines: &[LineRead],
     parts: &[Stated],
 ) -> Result<FlashDoc, Refusal>
-    ensures { parts.now ≡ all_stated lines.now → Answers result (flash_of_lines root.now lines.now) }
+    ensures { parts.now ≡ all_stated lines.now
+        → Answers result (flash_of_lines root.now lines.now) }
 {
     let volumes = volumes_of(alloc, parts)?;
     flash_of_volumes(alloc, root, lines, parts, volumes.as_slice())

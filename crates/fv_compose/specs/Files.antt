@@ -18,7 +18,8 @@ use Rattle.fv_compose.specs.Place.{start_of, up}
 -- EFI_FFS_VOLUME_TOP_FILE_GUID, 1BA0062E-C779-4582-8566-336AE8F78F09
 abbrev pub top_name : List ℕ
 top_name =
-    0x2E ∷ 0x06 ∷ 0xA0 ∷ 0x1B ∷ 0x79 ∷ 0xC7 ∷ 0x82 ∷ 0x45 ∷ 0x85 ∷ 0x66 ∷ 0x33 ∷ 0x6A ∷ 0xE8 ∷ 0xF7 ∷ 0x8F ∷ 0x09 ∷ []
+    0x2E ∷ 0x06 ∷ 0xA0 ∷ 0x1B ∷ 0x79 ∷ 0xC7 ∷ 0x82 ∷ 0x45 ∷ 0x85 ∷ 0x66 ∷ 0x33 ∷ 0x6A ∷ 0xE8 ∷ 0xF7
+    ∷ 0x8F ∷ 0x09 ∷ []
 
 -- whether a file is the volume top file
 unfoldable pub is_top : FileImage → Bool
@@ -39,7 +40,8 @@ plain_files files = filter (λ file. not (is_top file)) files
 unfoldable pub placed_pieces : ℕ → ℕ → ℕ → List ℕ → List Piece
 placed_pieces erase at start bytes =
     if start == up 8 at then record { start = start; bytes = bytes } ∷ []
-    else record { start = up 8 at; bytes = pad_bytes erase (start - up 8 at) } ∷ record { start = start; bytes = bytes } ∷ []
+    else record { start = up 8 at; bytes = pad_bytes erase (start - up 8 at) }
+    ∷ record { start = start; bytes = bytes } ∷ []
 
 -- where a file starts after an end
 abbrev pub file_start : ℕ → FileImage → ℕ
@@ -52,7 +54,8 @@ file_end at file = file_start at file + length file.bytes
 unfoldable pub files_pieces : ℕ → ℕ → List FileImage → List Piece
 files_pieces erase at [] = []
 files_pieces erase at (file ∷ files) =
-    placed_pieces erase at (file_start at file) file.bytes ++ files_pieces erase (file_end at file) files
+    placed_pieces erase at (file_start at file) file.bytes
+    ++ files_pieces erase (file_end at file) files
 
 -- the end of the last of them
 unfoldable pub end_of : ℕ → List FileImage → ℕ
@@ -70,12 +73,15 @@ top_pieces erase at (Some file) size = placed_pieces erase at (top_start file si
 -- a pad between an end and a start that is too long for FFS2; in an FFS3 volume none is
 unfoldable pub pad_fault : Bool → ℕ → ℕ → FileImage → Option Fault
 pad_fault ffs3 at start file =
-    first_holding ((not ffs3 && nat_lt FILE_LIMIT (start - up 8 at), sized 704 file.at (start - up 8 at)) ∷ [])
+    first_holding
+    ((not ffs3 && nat_lt FILE_LIMIT (start - up 8 at), sized 704 file.at (start - up 8 at))
+    ∷ [])
 
 -- the first such pad between files one after another
 unfoldable pub pads_fault : Bool → ℕ → List FileImage → Option Fault
 pads_fault ffs3 at [] = None
-pads_fault ffs3 at (file ∷ files) = or_else (pad_fault ffs3 at (file_start at file) file) (pads_fault ffs3 (file_end at file) files)
+pads_fault ffs3 at (file ∷ files) =
+    or_else (pad_fault ffs3 at (file_start at file) file) (pads_fault ffs3 (file_end at file) files)
 
 abbrev pub top_pad_fault : Bool → ℕ → Option FileImage → ℕ → Option Fault
 top_pad_fault ffs3 at None size = None
@@ -93,7 +99,8 @@ abbrev pub top_bytes : Option FileImage → ℕ
 top_bytes None = 0
 top_bytes (Some file) = length file.bytes
 
--- The runs of a volume keep as bytes no more than its headers, its files, and a header for each pad file; each fill is of erased flash.
+-- The runs of a volume keep as bytes no more than its headers, its files, and a header for each pad
+-- file; each fill is of erased flash.
 pub record AreRunsOf (files : List FileImage) (runs : List Run) : Type 0 where
   pub kept : kept_bytes runs ≤ 116 + bytes_in files + 32 * (length files + 1)
   pub blank : are_blank runs ≡ true

@@ -1,4 +1,5 @@
--- The header of a firmware volume, and its extended header (UEFI PI specification, volume 3, section 3.2.1).
+-- The header of a firmware volume, and its extended header (UEFI PI specification, volume 3,
+-- section 3.2.1).
 use Rattle.std.specs.Prelude.{ℕ, ◌+◌, ◌-◌, ◌*◌, ◌/◌, ◌%◌, Bool, if◌then◌else◌, List, [], ◌∷◌, ◌++◌, replicate, codes, Option, Some, None}
 use Rattle.byteorder.specs.Endian.{little_bytes}
 use Rattle.build_base.specs.Pieces.{Piece}
@@ -26,12 +27,15 @@ head_start third size = replicate 16 0 ++ file_system third ++ little_bytes 8 si
 
 -- and the signature, the attributes and the header's length
 unfoldable pub head_front : Bool → ℕ → ℕ → List ℕ
-head_front third size attributes = head_start third size ++ codes "_FVH" ++ little_bytes 4 attributes ++ little_bytes 2 0x48
+head_front third size attributes = head_start third size ++ codes "_FVH"
+    ++ little_bytes 4 attributes ++ little_bytes 2 0x48
 
--- checksum, place of the extended header, a reserved byte, revision 2, and a block map of one entry and its end
+-- checksum, place of the extended header, a reserved byte, revision 2, and a block map of one entry
+-- and its end
 unfoldable pub head_back : ℕ → ℕ → ℕ → ℕ → List ℕ
 head_back sum extended blocks block_size =
-    little_bytes 2 sum ++ little_bytes 2 extended ++ (0 ∷ 2 ∷ []) ++ little_bytes 4 blocks ++ little_bytes 4 block_size ++ replicate 8 0
+    little_bytes 2 sum ++ little_bytes 2 extended ++ (0 ∷ 2 ∷ []) ++ little_bytes 4 blocks
+    ++ little_bytes 4 block_size ++ replicate 8 0
 
 -- the extended header stands in a pad file behind the header
 abbrev pub extended_place : Option Guid → ℕ
@@ -41,7 +45,8 @@ extended_place (Some name) = 0x60
 -- the header with this checksum
 unfoldable pub head_list : VolumeHead → ℕ → ℕ → List ℕ
 head_list plan size sum =
-    head_front plan.ffs3 size plan.attributes ++ head_back sum (extended_place plan.name_guid) (size / plan.block_size) plan.block_size
+    head_front plan.ffs3 size plan.attributes
+    ++ head_back sum (extended_place plan.name_guid) (size / plan.block_size) plan.block_size
 
 -- the header whose words sum to zero
 unfoldable pub head_of : VolumeHead → ℕ → List ℕ
@@ -53,11 +58,13 @@ extended_bytes erase name = pad_header erase 0x2C ++ name ++ little_bytes 4 0x14
 
 abbrev pub extended_pieces : ℕ → Option Guid → List Piece
 extended_pieces erase None = []
-extended_pieces erase (Some name) = record { start = 0x48; bytes = extended_bytes erase name.0 } ∷ []
+extended_pieces erase (Some name) = record { start = 0x48; bytes = extended_bytes erase name.0 }
+    ∷ []
 
 -- the header, and the extended header where the volume has a name
 unfoldable pub start_pieces : VolumeHead → ℕ → List Piece
-start_pieces plan size = record { start = 0; bytes = head_of plan size } ∷ extended_pieces plan.erase plan.name_guid
+start_pieces plan size = record { start = 0; bytes = head_of plan size }
+    ∷ extended_pieces plan.erase plan.name_guid
 
 -- where they end
 abbrev pub first_end : Option Guid → ℕ

@@ -13,8 +13,16 @@ is_large_pad size = nat_lt FILE_LIMIT size
 abbrev pub pad_header : ℕ → ℕ → List ℕ
 pad_header erase size =
     file_head (is_large_pad size) (replicate 16 0xFF)
-    (record { check = FFS_FIXED_CHECKSUM; kind = EFI_FV_FILETYPE_FFS_PAD; attributes = 0; size = size; state = state_of erase })
+    (record {
+      check = FFS_FIXED_CHECKSUM;
+      kind = EFI_FV_FILETYPE_FFS_PAD;
+      attributes = 0;
+      size =
+          size;
+      state = state_of erase;
+    })
 
 -- a pad file of this size
 unfoldable pub pad_bytes : ℕ → ℕ → List ℕ
-pad_bytes erase size = pad_header erase size ++ replicate (size - head_len (is_large_pad size)) (free_byte erase)
+pad_bytes erase size = pad_header erase size
+    ++ replicate (size - head_len (is_large_pad size)) (free_byte erase)

@@ -10,7 +10,8 @@ pub record IsUp (unit at n : ℕ) : Type 0 where
 unfoldable pub up : ℕ → ℕ → ℕ
 up unit at = ((at + (unit - 1)) / unit) * unit
 
--- where a file of this alignment, with a header so long, may start after an end: its body is aligned, and the space before it is nothing or can hold a pad file
+-- where a file of this alignment, with a header so long, may start after an end: its body is
+-- aligned, and the space before it is nothing or can hold a pad file
 pub record IsStart (at align head start : ℕ) : Type 0 where
   pub eight : start % 8 ≡ 0
   pub after : up 8 at ≤ start

@@ -1,4 +1,5 @@
--- What each file adds to a volume where its files are gone through in order: the top file adds nothing among the others.
+-- What each file adds to a volume where its files are gone through in order: the top file adds
+-- nothing among the others.
 use Rattle.std.specs.Prelude.{◌≡◌, ℕ, Bool, if◌then◌else◌, length, List, [], ◌∷◌, Option, Some, None}
 use denote.Ref.{Bor}
 use Rattle.build_base.specs.Pieces.{Piece}
@@ -30,10 +31,12 @@ pub record IsLaid (first : ℕ) (files : List FileImage) (layout : Layout) : Typ
   pub end : layout.end ≡ end_of first (plain_files files)
 
 abbrev pub own_pad_fault : Bool → ℕ → FileImage → Option Fault
-own_pad_fault ffs3 at file = if is_top file then None else pad_fault ffs3 at (file_start at file) file
+own_pad_fault ffs3 at file = if is_top file then None
+    else pad_fault ffs3 at (file_start at file) file
 
 abbrev pub own_pieces : ℕ → ℕ → FileImage → List Piece
-own_pieces erase at file = if is_top file then [] else placed_pieces erase at (file_start at file) file.bytes
+own_pieces erase at file = if is_top file then []
+    else placed_pieces erase at (file_start at file) file.bytes
 
 abbrev pub own_bytes : FileImage → ℕ
 own_bytes file = if is_top file then 0 else length file.bytes

@@ -35,7 +35,8 @@ pub record Fits (block : ℕ) (top : Bool) (taken size : ℕ) : Type 0 where
 
 -- the stated length where it holds all, or the least multiple of a block that does
 unfoldable pub blocks_for : ℕ → Bool → ℕ → Option ℕ
-blocks_for block top taken = find (λ size. holds top taken size && size % block == 0) (range_with_len 0 (size_limit + 1))
+blocks_for block top taken =
+    find (λ size. holds top taken size && size % block == 0) (range_with_len 0 (size_limit + 1))
 
 abbrev pub length_for : ℕ → Option ℕ → Bool → ℕ → Option ℕ
 length_for block None top taken = blocks_for block top taken
@@ -48,12 +49,18 @@ given_size block (Some size) = size
 
 -- what is needed of it: space that a pad file doesn't fit into counts as one of 24 bytes
 abbrev pub needed_of : Bool → ℕ → ℕ → ℕ
-needed_of top taken given = if top && nat_lt taken given && nat_lt given (taken + 24) then taken + 24 else taken
+needed_of top taken given = if top && nat_lt taken given && nat_lt given (taken + 24)
+    then taken + 24 else taken
 
 abbrev pub full_fault : VolumeHead → Bool → ℕ → Fault
 full_fault plan top taken =
     let given = given_size plan.block_size plan.size in
-    record { code = 701; place = plan.at; detail = decimal (needed_of top taken given) ++ codes " > " ++ decimal given }
+    record {
+      code = 701;
+      place = plan.at;
+      detail =
+          decimal (needed_of top taken given) ++ codes " > " ++ decimal given;
+    }
 
 -- a fault with the volume's name
 abbrev pub named : ℕ → Place → VolumeHead → Fault
@@ -69,7 +76,12 @@ twice_fault plan files = later_fault plan (drop 1 (top_files files))
 
 -- a start that is no multiple of 8, or at which the file's body isn't aligned
 abbrev pub start_fault : VolumeHead → ℕ → FileImage → Option Fault
-start_fault plan start file = first_holding ((not (start % 8 == 0 && (start + head_at file.bytes) % file.align == 0), named 703 file.at plan) ∷ [])
+start_fault plan start file =
+    first_holding
+    ((
+      not (start % 8 == 0 && (start + head_at file.bytes) % file.align == 0),
+      named 703 file.at plan,
+    ) ∷ [])
 
 abbrev pub top_fault : VolumeHead → Option FileImage → ℕ → Option Fault
 top_fault plan None size = None
@@ -79,24 +91,31 @@ top_fault plan (Some file) size = start_fault plan (top_start file size) file
 abbrev pub place_fault : VolumeHead → List FileImage → ℕ → Option Fault
 place_fault plan files size =
     or_else (top_fault plan (top_of files) size)
-    (or_else (pads_fault plan.ffs3 (first_end plan.name_guid) (plain_files files)) (top_pad_fault plan.ffs3 (last_end plan files) (top_of files) size))
+    (or_else (pads_fault plan.ffs3 (first_end plan.name_guid) (plain_files files))
+    (top_pad_fault plan.ffs3 (last_end plan files) (top_of files) size))
 
--- each byte is that of the header, the file or the pad that covers its place, or else the erase byte
+-- each byte is that of the header, the file or the pad that covers its place, or else the erase
+-- byte
 unfoldable pub volume_image : VolumeHead → List FileImage → ℕ → List ℕ
 volume_image plan files size =
     image_of (free_byte plan.erase)
-    (start_pieces plan size ++ (files_pieces plan.erase (first_end plan.name_guid) (plain_files files)
+    (start_pieces plan size
+    ++ (files_pieces plan.erase (first_end plan.name_guid) (plain_files files)
     ++ top_pieces plan.erase (last_end plan files) (top_of files) size)) size
 
 abbrev pub with_length : VolumeHead → List FileImage → Option ℕ → Result (List ℕ) Fault
-with_length plan files None = Err (full_fault plan (is_some (top_of files)) (taken_by (last_end plan files) (top_of files)))
-with_length plan files (Some size) = unless (place_fault plan files size) (volume_image plan files size)
+with_length plan files None =
+    Err (full_fault plan (is_some (top_of files)) (taken_by (last_end plan files) (top_of files)))
+with_length plan files (Some size) =
+    unless (place_fault plan files size) (volume_image plan files size)
 
 abbrev pub length_of : VolumeHead → List FileImage → Option ℕ
-length_of plan files = length_for plan.block_size plan.size (is_some (top_of files)) (taken_by (last_end plan files) (top_of files))
+length_of plan files = length_for plan.block_size plan.size (is_some (top_of files))
+    (taken_by (last_end plan files) (top_of files))
 
 unfoldable pub volume_of : VolumeHead → List FileImage → Result (List ℕ) Fault
-volume_of plan files = and_then (unless (twice_fault plan files) (length_of plan files)) (with_length plan files)
+volume_of plan files = and_then (unless (twice_fault plan files) (length_of plan files))
+    (with_length plan files)
 
 -- a length that a volume may have
 pub record IsLength (block : ℕ) (top : Bool) (taken size : ℕ) : Type 0 where

@@ -159,9 +159,12 @@ fn put_placed(
     erase: u8,
 ) -> Result<(), WantOfMemory>
     requires near { length out.old.bytes ≤ 2 ^ 28 }
-    requires room { (start ≡ up 8 (length out.old.bytes)) ⊎ (up 8 (length out.old.bytes) + 24 ≤ start) }
+    requires room { (start ≡ up 8 (length out.old.bytes))
+        ⊎ (up 8 (length out.old.bytes) + 24 ≤ start) }
     requires free { out.old.free ≡ free_byte erase }
-    ensures bytes { OnOk result (out.new.bytes ≡ put_pieces (free_byte erase) out.old.bytes (placed_pieces erase (length out.old.bytes) start bytes.now)) }
+    ensures bytes { OnOk result
+        (out.new.bytes ≡ put_pieces (free_byte erase) out.old.bytes
+        (placed_pieces erase (length out.old.bytes) start bytes.now)) }
     ensures kept { OnOk result (out.new.kept ≤ out.old.kept + length bytes.now + 32) }
     ensures free { OnOk result (out.new.free ≡ out.old.free) }
 {
@@ -190,7 +193,9 @@ fn put_file(
     requires near { length out.old.bytes ≤ 2 ^ 28 }
     requires aligned { IsAlignment file.now.align }
     requires free { out.old.free ≡ free_byte erase }
-    ensures bytes { OnOk result (out.new.bytes ≡ put_pieces (free_byte erase) out.old.bytes (own_pieces erase (length out.old.bytes) file.now)) }
+    ensures bytes { OnOk result
+        (out.new.bytes ≡ put_pieces (free_byte erase) out.old.bytes
+        (own_pieces erase (length out.old.bytes) file.now)) }
     ensures kept { OnOk result (out.new.kept ≤ out.old.kept + own_bytes file.now + 32) }
     ensures free { OnOk result (out.new.free ≡ out.old.free) }
 {
@@ -213,9 +218,13 @@ pub(crate) fn put_files(
     requires starts { starts.now ≡ own_starts (length out.old.bytes) files.now }
     requires short { end_of (length out.old.bytes) (plain_files files.now) ≤ 2 ^ 28 }
     requires free { out.old.free ≡ free_byte erase }
-    ensures bytes { OnOk result (out.new.bytes ≡ put_pieces (free_byte erase) out.old.bytes (files_pieces erase (length out.old.bytes) (plain_files files.now))) }
-    ensures len { OnOk result (length out.new.bytes ≡ end_of (length out.old.bytes) (plain_files files.now)) }
-    ensures kept { OnOk result (out.new.kept ≤ out.old.kept + bytes_in (plain_files files.now) + 32 * length files.now) }
+    ensures bytes { OnOk result
+        (out.new.bytes ≡ put_pieces (free_byte erase) out.old.bytes
+        (files_pieces erase (length out.old.bytes) (plain_files files.now))) }
+    ensures len { OnOk result (length out.new.bytes
+        ≡ end_of (length out.old.bytes) (plain_files files.now)) }
+    ensures kept { OnOk result
+        (out.new.kept ≤ out.old.kept + bytes_in (plain_files files.now) + 32 * length files.now) }
     ensures free { OnOk result (out.new.free ≡ out.old.free) }
 {
     for (i, image) in files.iter().enumerate() {
@@ -234,9 +243,12 @@ pub(crate) fn put_top(
     erase: u8,
 ) -> Result<(), WantOfMemory>
     requires near { size ≤ 2 ^ 28 }
-    requires room { holds (is_some (pointed top)) (taken_by (length out.old.bytes) (pointed top)) size ≡ true }
+    requires room { holds (is_some (pointed top)) (taken_by (length out.old.bytes) (pointed top))
+        size ≡ true }
     requires free { out.old.free ≡ free_byte erase }
-    ensures bytes { OnOk result (out.new.bytes ≡ put_pieces (free_byte erase) out.old.bytes (top_pieces erase (length out.old.bytes) (pointed top.entry) size)) }
+    ensures bytes { OnOk result
+        (out.new.bytes ≡ put_pieces (free_byte erase) out.old.bytes
+        (top_pieces erase (length out.old.bytes) (pointed top.entry) size)) }
     ensures len { OnOk result (length out.new.bytes ≤ size) }
     ensures kept { OnOk result (out.new.kept ≤ out.old.kept + top_bytes (pointed top.entry) + 32) }
     ensures free { OnOk result (out.new.free ≡ out.old.free) }

@@ -95,7 +95,8 @@ fn put_head_back(
     blocks: u32,
     block_size: u32,
 ) -> Result<(), WantOfMemory>
-    ensures { OnOk result (out.new.items ≡ out.old.items ++ head_back sum extended blocks block_size) }
+    ensures { OnOk result (out.new.items ≡ out.old.items
+        ++ head_back sum extended blocks block_size) }
 {
     put_words(out, sum, extended)?;
     out.extend_from_slice(&blocks.to_le_bytes())?;
@@ -105,7 +106,8 @@ fn put_head_back(
 
 // The checksum, the place of the extended header, a reserved byte and the revision.
 fn put_words(out: &mut Vec<u8>, sum: u16, extended: u16) -> Result<(), WantOfMemory>
-    ensures { OnOk result (out.new.items ≡ out.old.items ++ little_bytes 2 sum ++ little_bytes 2 extended ++ 0 ∷ 2 ∷ []) }
+    ensures { OnOk result (out.new.items ≡ out.old.items ++ little_bytes 2 sum
+        ++ little_bytes 2 extended ++ 0 ∷ 2 ∷ []) }
 {
     out.extend_from_slice(&sum.to_le_bytes())?;
     out.extend_from_slice(&extended.to_le_bytes())?;
@@ -205,7 +207,8 @@ pub(crate) fn start_bytes(
     requires block { 0 < plan.now.block_size }
     requires small { plan.now.block_size < 2 ^ 32 }
     requires size { size < 2 ^ 32 }
-    ensures items { IfOk result (λ out. out.items ≡ put_pieces (free_byte plan.now.erase) [] (start_pieces plan.now size)) }
+    ensures items { IfOk result (λ out. out.items
+        ≡ put_pieces (free_byte plan.now.erase) [] (start_pieces plan.now size)) }
     ensures length { IfOk result (λ out. vec_len out ≡ first_end plan.now.name_guid) }
 {
     let mut out = Vec::new(alloc);

@@ -137,7 +137,8 @@ pub(crate) fn check_places(
     requires aligned { AreAligned files.now }
     requires top { pointed top ≡ top_of files.now }
     requires laid { IsLaid (first_end plan.now.name_guid) files.now layout.now }
-    requires length { IsLength plan.now.block_size (is_some (pointed top)) (taken_by layout.now.end (pointed top)) size }
+    requires length { IsLength plan.now.block_size (is_some (pointed top))
+        (taken_by layout.now.end (pointed top)) size }
     ensures { Checks result (place_fault plan.now files.now size) }
 {
     let first = first_end(&plan.name_guid) as u128;
@@ -159,7 +160,8 @@ fn image(
     requires aligned { AreAligned files.now }
     requires top { pointed top ≡ top_of files.now }
     requires starts { starts.now ≡ own_starts (first_end plan.now.name_guid) files.now }
-    requires length { IsLength plan.now.block_size (is_some (pointed top)) (taken_by (last_end plan.now files.now) (pointed top)) size }
+    requires length { IsLength plan.now.block_size (is_some (pointed top))
+        (taken_by (last_end plan.now files.now) (pointed top)) size }
     ensures value { IfOk result (λ runs. runs_bytes runs ≡ volume_image plan.now files.now size) }
     ensures runs { IfOk result (AreRunsOf files.now) }
 {
@@ -184,7 +186,8 @@ fn composed(
     requires aligned { AreAligned files.now }
     requires top { pointed top ≡ top_of files.now }
     requires laid { IsLaid (first_end plan.now.name_guid) files.now layout.now }
-    requires length { IsLength plan.now.block_size (is_some (pointed top)) (taken_by layout.now.end (pointed top)) size }
+    requires length { IsLength plan.now.block_size (is_some (pointed top))
+        (taken_by layout.now.end (pointed top)) size }
     ensures value { AnswersAs runs_bytes result (with_length plan.now files.now (Some size)) }
     ensures runs { IfOk result (AreRunsOf files.now) }
 {
@@ -201,7 +204,8 @@ fn composed(
 fn volume(alloc: Global, plan: &VolumeHead, files: &[FileImage]) -> Result<Rows<Run>, Refusal>
     requires shape { HasShape plan.now }
     requires aligned { AreAligned files.now }
-    ensures value { AnswersAs runs_bytes result (with_length plan.now files.now (length_of plan.now files.now)) }
+    ensures value { AnswersAs runs_bytes result
+        (with_length plan.now files.now (length_of plan.now files.now)) }
     ensures runs { IfOk result (AreRunsOf files.now) }
 {
     let top = top_of(files);
@@ -213,9 +217,9 @@ fn volume(alloc: Global, plan: &VolumeHead, files: &[FileImage]) -> Result<Rows<
     }
 }
 
-/// The volume of a head and its files, each at the least place that it may start at, as runs. The first
-/// fault is that of a second top file (702), of want of space (701), of the top file's place (703) or of
-/// a pad that is too long (704).
+/// The volume of a head and its files, each at the least place that it may start at, as runs. The
+/// first fault is that of a second top file (702), of want of space (701), of the top file's place
+/// (703) or of a pad that is too long (704).
 #[tactic(auto, unfolding(crate::specs::Volume::volume_of))]
 pub fn compose(
     alloc: Global,

@@ -11,8 +11,8 @@ use doc_types::image::FileImage;
 use ffs_sections::header::head_at;
 use std::alloc::Global;
 
-/// The start of each file of a volume, in order, and the end of the last. The top file stands at the
-/// volume's end; here it has the end of the files before it, as if it had no bytes.
+/// The start of each file of a volume, in order, and the end of the last. The top file stands at
+/// the volume's end; here it has the end of the files before it, as if it had no bytes.
 #[derive(Drop)]
 pub struct Layout {
     pub starts: Rows<u128>,

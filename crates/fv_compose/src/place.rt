@@ -57,7 +57,8 @@ fn start_from(first: u128, at: u128, unit: u128, head: u128) -> u128
     }
 }
 
-/// Where a file of this alignment, with a header of 24 or 32 bytes, stands after a file that ends at `at`.
+/// Where a file of this alignment, with a header of 24 or 32 bytes, stands after a file that ends
+/// at `at`.
 pub fn place_of(at: u64, align: u32, head: u32) -> Placed
     requires near { at ≤ 2 ^ 32 }
     requires alignment { IsAlignment align }

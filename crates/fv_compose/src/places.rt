@@ -61,7 +61,8 @@ fn places_in(
     requires aligned { AreAligned files.now }
     requires top { pointed top ≡ top_of files.now }
     requires laid { IsLaid (first_end plan.now.name_guid) files.now layout.now }
-    requires length { IsLength plan.now.block_size (is_some (pointed top)) (taken_by layout.now.end (pointed top)) size }
+    requires length { IsLength plan.now.block_size (is_some (pointed top))
+        (taken_by layout.now.end (pointed top)) size }
     ensures { Answers result (places_with plan.now files.now (Some size)) }
 {
     if let Err(refusal) = check_places(alloc, plan, files, top, layout, size) {
@@ -89,8 +90,8 @@ fn places(alloc: Global, plan: &VolumeHead, files: &[FileImage]) -> Result<Rows<
     }
 }
 
-/// Where each file stands in the volume that `compose` makes of these, in the order of the files, counted
-/// from the volume's start; or the fault of that volume.
+/// Where each file stands in the volume that `compose` makes of these, in the order of the files,
+/// counted from the volume's start; or the fault of that volume.
 #[tactic(auto, unfolding(crate::specs::Places::places_of))]
 pub fn file_places(
     alloc: Global,

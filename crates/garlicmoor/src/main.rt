@@ -1,4 +1,5 @@
-//! The program: it hands the disk, the standard streams and the words of the command line to the build.
+//! The program: it hands the disk, the standard streams and the words of the command line to the
+//! build.
 #![tactic(auto)]
 
 ghost use Rattle.std.specs.Prelude.{◌≡◌, ◌⊎◌, None, map, string_bytes, IsSome};
@@ -17,7 +18,8 @@ use std::rt::Runtime;
 use std::thread::Threads;
 use std::{env, io};
 
-// What the program answers where the words of the command line can't be had: one isn't UTF-8, or memory was wanting.
+// What the program answers where the words of the command line can't be had: one isn't UTF-8, or
+// memory was wanting.
 fn status_without_words(error: &io::Error) -> Status
     ensures { (result ≡ Status.Usage) ⊎ (result ≡ Status.WantOfMemory) }
 {

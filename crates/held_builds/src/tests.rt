@@ -1,4 +1,5 @@
-//! A build by two workers, of which one is held until the other has begun; all objects stand in memory and never fail.
+//! A build by two workers, of which one is held until the other has begun; all objects stand in
+//! memory and never fail.
 use build_base::memory_sink::{Kind, Room, Seen};
 use build_base::sure_keeper::SureKeeper;
 use build_base::{Book, Gate};
@@ -10,7 +11,8 @@ use std::test::Fail;
 use std::thread::Threads;
 use sure_objects::{SureSink, SureTree};
 
-// Holds piece 0 of each wave of two or more until another piece of that wave has entered, or for so many turns.
+// Holds piece 0 of each wave of two or more until another piece of that wave has entered, or for so
+// many turns.
 #[derive(Drop)]
 struct HeldGate {
     others: AtomicU64,
@@ -63,7 +65,8 @@ fn is_summary(seen: Option<Seen<'_>>, summary: &[u8]) -> bool {
     }
 }
 
-// Builds three modules with two workers behind this gate. Whether all steps ran, and the summary says so.
+// Builds three modules with two workers behind this gate. Whether all steps ran, and the summary
+// says so.
 fn builds_all<H: Threads + Sync, G: Gate>(rt: &H, alloc: Global, gate: &G) -> Result<bool, Fail> {
     let mut tree = SureTree::new(alloc, selftest_files(alloc, 3)?);
     let room = Room {

@@ -1,4 +1,5 @@
--- The base relocations of a module, by the PE/COFF format, section 5.6: blocks of entries, each for a page of 4096 bytes.
+-- The base relocations of a module, by the PE/COFF format, section 5.6: blocks of entries, each for
+-- a page of 4096 bytes.
 use Rattle.std.specs.Prelude.{ℕ, zero, suc, ◌+◌, ◌-◌, ◌*◌, ◌%◌, ◌==◌, ◌||◌, Bool, not, nat_lt, if◌then◌else◌, List, [], ◌∷◌, length, take, drop, Result, Ok, Err}
 use Rattle.byteorder.specs.Endian.{little_from}
 use Rattle.build_base.specs.First.{with_front}
@@ -26,7 +27,8 @@ block_size bytes = little_from 4 4 bytes
 
 -- a size that is odd, that is less than that of the block's own fields, or that goes past the end
 unfoldable pub is_wrong_size : ℕ → ℕ → Bool
-is_wrong_size size count = size % 2 == 1 || nat_lt size IMAGE_SIZEOF_BASE_RELOCATION || nat_lt count size
+is_wrong_size size count = size % 2 == 1 || nat_lt size IMAGE_SIZEOF_BASE_RELOCATION
+    || nat_lt count size
 
 -- whether no block follows: fewer than eight bytes are left, or the size is 0
 unfoldable pub is_end : List ℕ → Bool
@@ -36,13 +38,15 @@ is_end left = nat_lt (length left) IMAGE_SIZEOF_BASE_RELOCATION || block_size le
 abbrev pub block_at : ℕ → List ℕ → Block
 block_at at left = record { page = block_page left; start = at + 8; size = block_size left - 8 }
 
--- The blocks in what is left of the directory from an offset on, where they are at most so many less one; or the fault of the first whose size is wrong.
+-- The blocks in what is left of the directory from an offset on, where they are at most so many
+-- less one; or the fault of the first whose size is wrong.
 unfoldable pub blocks_from : ℕ → Place → ℕ → List ℕ → Result (List Block) Fault
 blocks_from zero place at left = Ok []
 blocks_from (suc n) place at left =
     if is_end left then Ok []
     else if is_wrong_size (block_size left) (length left) then Err (sized 731 place at)
-    else with_front (block_at at left ∷ []) (blocks_from n place (at + block_size left) (drop (block_size left) left))
+    else with_front (block_at at left ∷ [])
+    (blocks_from n place (at + block_size left) (drop (block_size left) left))
 
 -- those of the whole directory, of which each has at least eight bytes
 abbrev pub blocks_of : Place → List ℕ → Result (List Block) Fault

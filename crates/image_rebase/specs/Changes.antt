@@ -1,4 +1,5 @@
--- Which bytes of a volume a move of its modules may change: those of the words that base relocations name, of ImageBase, and the file checksums.
+-- Which bytes of a volume a move of its modules may change: those of the words that base
+-- relocations name, of ImageBase, and the file checksums.
 use Rattle.std.specs.Prelude.{◌≡◌, ℕ, ◌+◌, ◌-◌, ◌==◌, ◌&&◌, ◌||◌, Bool, true, false, nat_le, nat_lt, if◌then◌else◌, List, [], ◌∷◌, length, get_or, Option, Some, None, Result, Ok, Err}
 use Rattle.std.specs.List.{list_any}
 use Rattle.build_base.specs.declared.fault.Place.{Place}
@@ -39,7 +40,8 @@ base_width m = if m.wide then 8 else 4
 abbrev pub module_changes : Place → List ℕ → ℕ → Option Module → Bool
 module_changes place content k None = false
 module_changes place content k (Some m) =
-    are_named m.skip (directory_in m content) k (module_blocks place m content) || is_in m.base_at (base_width m) k
+    are_named m.skip (directory_in m content) k (module_blocks place m content)
+    || is_in m.base_at (base_width m) k
 
 unfoldable pub content_changes : Place → ℕ → List ℕ → ℕ → Bool
 content_changes place kind content k = module_changes place content k (module_in kind content)
@@ -47,7 +49,8 @@ content_changes place kind content k = module_changes place content k (module_in
 -- places of a body, in the contents of its modules
 unfoldable pub section_changes : Place → List ℕ → ℕ → ListedSection → Bool
 section_changes place body k section =
-    has_module section && is_in section.start (content_length section) k && content_changes place section.kind (content_in body section) (k - section.start)
+    has_module section && is_in section.start (content_length section) k
+    && content_changes place section.kind (content_in body section) (k - section.start)
 
 abbrev pub sections_change : Place → List ℕ → ℕ → Option (List ListedSection) → Bool
 sections_change place body k None = false
@@ -57,14 +60,17 @@ sections_change place body k (Some sections) = list_any (section_changes place b
 unfoldable pub file_changes : Bool → Place → List ℕ → ℕ → Bool
 file_changes ffs3 place bytes k =
     (has_checksum (file_head bytes) && k == 0x11)
-    || (has_sections bytes && nat_le (head_at bytes) k && sections_change place (file_body bytes) (k - head_at bytes) (sections_of ffs3 0 (file_body bytes)))
+    || (has_sections bytes && nat_le (head_at bytes) k
+    && sections_change place (file_body bytes) (k - head_at bytes)
+    (sections_of ffs3 0 (file_body bytes)))
 
 -- places of a volume, in the files at these places
 unfoldable pub files_change : Bool → ℕ → List FileImage → List ℕ → Bool
 files_change ffs3 k [] starts = false
 files_change ffs3 k (file ∷ files) [] = false
 files_change ffs3 k (file ∷ files) (start ∷ starts) =
-    (is_in start (length file.bytes) k && file_changes ffs3 file.at file.bytes (k - start)) || files_change ffs3 k files starts
+    (is_in start (length file.bytes) k && file_changes ffs3 file.at file.bytes (k - start))
+    || files_change ffs3 k files starts
 
 abbrev pub volume_changes : VolumeHead → List FileImage → ℕ → Result (List ℕ) Fault → Bool
 volume_changes head files k (Ok starts) = files_change head.ffs3 k files starts
@@ -73,7 +79,8 @@ volume_changes head files k (Err fault) = false
 -- an image is another one but for the bytes that may change
 pub record Stays (head : VolumeHead) (files : List FileImage) (plain moved : List ℕ) : Type 0 where
   pub size : length moved ≡ length plain
-  pub byte : (k d : ℕ) → volume_changes head files k (places_of head files) ≡ false → get_or moved k d ≡ get_or plain k d
+  pub byte : (k d : ℕ) → volume_changes head files k (places_of head files) ≡ false
+      → get_or moved k d ≡ get_or plain k d
 
 -- All other bytes are those of the volume of the files as they are.
 abbrev pub StaysBut : VolumeHead → List FileImage → List ℕ → Result (List ℕ) Fault → Type 0

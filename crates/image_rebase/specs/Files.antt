@@ -18,19 +18,22 @@ use Rattle.image_rebase.specs.Moves.{moved_content}
 abbrev pub has_module : ListedSection → Bool
 has_module section = section.kind == EFI_SECTION_PE32 || section.kind == EFI_SECTION_TE
 
--- the length of such a section's content: a header of 4 bytes stands before it, or of 8 where the section is large
+-- the length of such a section's content: a header of 4 bytes stands before it, or of 8 where the
+-- section is large
 abbrev pub content_length : ListedSection → ℕ
 content_length section = section.size - (if nat_lt SECTION_LIMIT section.size then 8 else 4)
 
 abbrev pub content_in : List ℕ → ListedSection → List ℕ
 content_in body section = take (content_length section) (drop section.start body)
 
--- The body, which lies at an address of memory, from an offset on, with the modules of these sections moved; or the first fault of one.
+-- The body, which lies at an address of memory, from an offset on, with the modules of these
+-- sections moved; or the first fault of one.
 unfoldable pub moved_from : Place → ℕ → ℕ → List ℕ → ℕ → List ListedSection → Result (List ℕ) Fault
 moved_from place base address body at [] = Ok (drop at body)
 moved_from place base address body at (section ∷ sections) =
     if has_module section then
-    and_then (moved_content place base (address + section.start) section.kind (content_in body section))
+    and_then (moved_content place base (address + section.start) section.kind
+    (content_in body section))
     (λ moved. with_front (take (section.start - at) (drop at body) ++ moved)
     (moved_from place base address body (section.start + content_length section) sections))
     else moved_from place base address body at sections
@@ -56,34 +59,42 @@ file_body bytes = drop (head_at bytes) bytes
 -- a file that starts at an address of memory, with the modules of these sections moved
 abbrev pub with_sections : Place → ℕ → ℕ → List ℕ → List ListedSection → Result (List ℕ) Fault
 with_sections place base address bytes sections =
-    and_then (moved_from place base (address + head_at bytes) (file_body bytes) 0 sections) (λ body. Ok (with_body (file_head bytes) body))
+    and_then (moved_from place base (address + head_at bytes) (file_body bytes) 0 sections)
+    (λ body. Ok (with_body (file_head bytes) body))
 
 -- where its body is no list of sections it stays
 abbrev pub with_found : Place → ℕ → ℕ → List ℕ → Option (List ListedSection) → Result (List ℕ) Fault
 with_found place base address bytes None = Ok bytes
-with_found place base address bytes (Some sections) = with_sections place base address bytes sections
+with_found place base address bytes (Some sections) =
+    with_sections place base address bytes sections
 
 unfoldable pub moved_sections : Bool → Place → ℕ → ℕ → List ℕ → Result (List ℕ) Fault
-moved_sections ffs3 place base address bytes = with_found place base address bytes (sections_of ffs3 0 (file_body bytes))
+moved_sections ffs3 place base address bytes =
+    with_found place base address bytes (sections_of ffs3 0 (file_body bytes))
 
 -- files of raw data and pads have no sections
 unfoldable pub has_sections : List ℕ → Bool
-has_sections bytes = not (file_type bytes == EFI_FV_FILETYPE_RAW) && not (file_type bytes == EFI_FV_FILETYPE_FFS_PAD)
+has_sections bytes = not (file_type bytes == EFI_FV_FILETYPE_RAW)
+    && not (file_type bytes == EFI_FV_FILETYPE_FFS_PAD)
 
 unfoldable pub moved_bytes : Bool → Place → ℕ → ℕ → List ℕ → Result (List ℕ) Fault
-moved_bytes ffs3 place base address bytes = if has_sections bytes then moved_sections ffs3 place base address bytes else Ok bytes
+moved_bytes ffs3 place base address bytes =
+    if has_sections bytes then moved_sections ffs3 place base address bytes else Ok bytes
 
 abbrev pub with_file_bytes : FileImage → List ℕ → FileImage
-with_file_bytes file bytes = record { at = file.at; guid = file.guid; align = file.align; bytes = bytes }
+with_file_bytes file bytes =
+    record { at = file.at; guid = file.guid; align = file.align; bytes = bytes }
 
 -- a file that stands at this place of the volume
 unfoldable pub moved_file : Bool → ℕ → ℕ → FileImage → Result FileImage Fault
 moved_file ffs3 base start file =
-    and_then (moved_bytes ffs3 file.at base (base + start) file.bytes) (λ bytes. Ok (with_file_bytes file bytes))
+    and_then (moved_bytes ffs3 file.at base (base + start) file.bytes)
+    (λ bytes. Ok (with_file_bytes file bytes))
 
 -- the files of a volume, each at its place, or the first fault of one
 unfoldable pub moved_files : Bool → ℕ → List FileImage → List ℕ → Result (List FileImage) Fault
 moved_files ffs3 base [] starts = Ok []
 moved_files ffs3 base (file ∷ files) [] = Ok []
 moved_files ffs3 base (file ∷ files) (start ∷ starts) =
-    and_then (moved_file ffs3 base start file) (λ moved. with_front (moved ∷ []) (moved_files ffs3 base files starts))
+    and_then (moved_file ffs3 base start file)
+    (λ moved. with_front (moved ∷ []) (moved_files ffs3 base files starts))

@@ -1,5 +1,6 @@
--- The module that a section holds: a PE32 image (PE/COFF format) or a TE image (UEFI PI specification, volume 1). Which modules are moved
--- to the address at which they lie is this project's own rule.
+-- The module that a section holds: a PE32 image (PE/COFF format) or a TE image (UEFI PI
+-- specification, volume 1). Which modules are moved to the address at which they lie is this
+-- project's own rule.
 use Rattle.std.specs.Prelude.{ℕ, ◌+◌, ◌-◌, ◌*◌, ◌==◌, ◌||◌, Bool, true, not, nat_lt, if◌then◌else◌, List, length, slice_index, Option, Some, None, Result, Ok, Err}
 use Rattle.byteorder.specs.Endian.{little_from}
 use Rattle.te_images.specs.Standard.{E_LFANEW, IMAGE_SIZEOF_FILE_HEADER, IMAGE_SIZEOF_SECTION_HEADER}
@@ -18,7 +19,8 @@ relocated m = if m.size == 0 then None else Some m
 abbrev pub base_offset : Bool → ℕ
 base_offset plus = if plus then 0x18 else 0x1C
 
--- What the headers of a PE32 image say. A relative address is the place in the content, and ImageBase has 64 bits in PE32+ alone.
+-- What the headers of a PE32 image say. A relative address is the place in the content, and
+-- ImageBase has 64 bits in PE32+ alone.
 unfoldable pub pe_fields : List ℕ → TeHead → Module
 pe_fields content head = record {
   skip = 0;
@@ -43,16 +45,17 @@ pe_module content = pe_with content (te_of content)
 unfoldable pub stripped_size : List ℕ → ℕ
 stripped_size content = little_from 0x06 2 content
 
--- A TE image stays that is shorter than its header and its section table, that doesn't begin with "VZ", or whose StrippedSize is
--- less than the header's length.
+-- A TE image stays that is shorter than its header and its section table, that doesn't begin with
+-- "VZ", or whose StrippedSize is less than the header's length.
 unfoldable pub is_no_te : List ℕ → Bool
 is_no_te content =
-    nat_lt (length content) (EFI_TE_IMAGE_HEADER_SIZE + IMAGE_SIZEOF_SECTION_HEADER * slice_index content 0x04)
+    nat_lt (length content)
+    (EFI_TE_IMAGE_HEADER_SIZE + IMAGE_SIZEOF_SECTION_HEADER * slice_index content 0x04)
     || not (little_from 0x00 2 content == EFI_TE_IMAGE_HEADER_SIGNATURE)
     || nat_lt (stripped_size content) EFI_TE_IMAGE_HEADER_SIZE
 
--- What the header of a TE image says. In the content the header stands in place of the first StrippedSize bytes of the PE file, to which
--- relative addresses go.
+-- What the header of a TE image says. In the content the header stands in place of the first
+-- StrippedSize bytes of the PE file, to which relative addresses go.
 unfoldable pub te_fields : List ℕ → Module
 te_fields content = record {
   skip = stripped_size content - EFI_TE_IMAGE_HEADER_SIZE;
@@ -71,4 +74,5 @@ te_module content = if is_no_te content then None else relocated (te_fields cont
 -- the module that is moved in the content of a section of this kind; None where the content stays
 unfoldable pub module_in : ℕ → List ℕ → Option Module
 module_in kind content =
-    if kind == EFI_SECTION_PE32 then pe_module content else if kind == EFI_SECTION_TE then te_module content else None
+    if kind == EFI_SECTION_PE32 then pe_module content else if kind == EFI_SECTION_TE
+    then te_module content else None

@@ -1,4 +1,5 @@
--- Names of the PE/COFF format, section 5.6 (".reloc"), and of the TE image (UEFI PI specification, volume 1).
+-- Names of the PE/COFF format, section 5.6 (".reloc"), and of the TE image (UEFI PI specification,
+-- volume 1).
 use Rattle.std.specs.Prelude.{ℕ}
 
 -- "VZ", what a TE image begins with, and the length of its header
@@ -18,7 +19,8 @@ IMAGE_REL_BASED_HIGHLOW = 3
 abbrev pub IMAGE_REL_BASED_DIR64 : ℕ
 IMAGE_REL_BASED_DIR64 = 10
 
--- the length of what a block of base relocations begins with: the page's address and the block's size
+-- the length of what a block of base relocations begins with: the page's address and the block's
+-- size
 abbrev pub IMAGE_SIZEOF_BASE_RELOCATION : ℕ
 IMAGE_SIZEOF_BASE_RELOCATION = 8
 

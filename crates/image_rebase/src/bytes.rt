@@ -1,4 +1,5 @@
-//! Numbers at places of some bytes. What lies past the end reads as 0, and nothing is written there.
+//! Numbers at places of some bytes. What lies past the end reads as 0, and nothing is written
+//! there.
 ghost use Rattle.std.specs.Prelude.{◌≡◌, ◌++◌, IfOk, OnOk, slice_index, slice_set, take, drop};
 ghost use Rattle.byteorder.specs.Endian.{little_from};
 ghost use Rattle.image_rebase.specs.Bytes.{with_bytes};

@@ -1,4 +1,5 @@
-//! The entries of base relocations, by the PE/COFF format, section 5.6, and the words that they name.
+//! The entries of base relocations, by the PE/COFF format, section 5.6, and the words that they
+//! name.
 ghost use Rattle.std.specs.Prelude.{◌≡◌, ◌≤◌, ◌<◌, ◌+◌, ◌*◌, ◌⊎◌, ◌^◌, false, length, IfOk};
 ghost use Rattle.build_base.specs.Answer.{Checks, Grows};
 ghost use Rattle.image_rebase.specs.Bytes.{with_number};
@@ -127,7 +128,8 @@ fn outside_fault(alloc: Global, place: &Place, end: u64, count: u64) -> Result<F
 
 // Adds a difference to a word of 32 bits.
 fn add32(content: &mut Vec<u8>, at: u64, by: u64)
-    ensures { content.new.items ≡ with_number 4 at (sum_at 4 at by content.old.items) content.old.items }
+    ensures { content.new.items ≡ with_number 4 at (sum_at 4 at by content.old.items)
+        content.old.items }
 {
     let sum = (u32_at(content.as_slice(), at) as u128 + by as u128) % 0x1_0000_0000;
     put(content, at, &(sum as u32).to_le_bytes());
@@ -135,7 +137,8 @@ fn add32(content: &mut Vec<u8>, at: u64, by: u64)
 
 // The same to one of 64 bits.
 fn add64(content: &mut Vec<u8>, at: u64, by: u64)
-    ensures { content.new.items ≡ with_number 8 at (sum_at 8 at by content.old.items) content.old.items }
+    ensures { content.new.items ≡ with_number 8 at (sum_at 8 at by content.old.items)
+        content.old.items }
 {
     let sum = (u64_at(content.as_slice(), at) as u128 + by as u128) % 0x1_0000_0000_0000_0000;
     put(content, at, &(sum as u64).to_le_bytes());
@@ -143,7 +146,8 @@ fn add64(content: &mut Vec<u8>, at: u64, by: u64)
 
 fn add(content: &mut Vec<u8>, at: u64, width: u8, by: u64)
     requires { (width ≡ 4) ⊎ (width ≡ 8) }
-    ensures { content.new.items ≡ with_number width at (sum_at width at by content.old.items) content.old.items }
+    ensures { content.new.items ≡ with_number width at (sum_at width at by content.old.items)
+        content.old.items }
 {
     if width == 4 {
         add32(content, at, by);
@@ -165,7 +169,8 @@ fn move_word(
 ) -> Result<(), Refusal>
     requires near { address < 2 ^ 33 }
     requires width { (width ≡ 4) ⊎ (width ≡ 8) }
-    ensures { Grows result content.new.items (moved_word place.now skip by address width content.old.items) }
+    ensures { Grows result content.new.items
+        (moved_word place.now skip by address width content.old.items) }
 {
     let count = content.len() as u64;
     if lies_outside(skip, address, width, count) {
@@ -187,7 +192,8 @@ fn move_by(
     entry: u16,
     content: &mut Vec<u8>,
 ) -> Result<(), Refusal>
-    ensures { Grows result content.new.items (moved_by place.now skip by page entry content.old.items) }
+    ensures { Grows result content.new.items
+        (moved_by place.now skip by page entry content.old.items) }
 {
     let width = width_of(entry / 0x1000);
     if width == 0 {
@@ -208,7 +214,8 @@ fn move_entries(
     entries: &[u8],
     content: &mut Vec<u8>,
 ) -> Result<(), Refusal>
-    ensures { Grows result content.new.items (moved_entries place.now skip by page (words_of entries.now) content.old.items) }
+    ensures { Grows result content.new.items
+        (moved_entries place.now skip by page (words_of entries.now) content.old.items) }
 {
     let mut left = entries;
     while let [low, high, more @ ..] = left {
@@ -228,7 +235,9 @@ fn move_block(
     block: &Block,
     content: &mut Vec<u8>,
 ) -> Result<(), Refusal>
-    ensures { Grows result content.new.items (moved_entries place.now skip by block.now.page (entries_in directory.now block.now) content.old.items) }
+    ensures { Grows result content.new.items
+        (moved_entries place.now skip by block.now.page (entries_in directory.now block.now)
+        content.old.items) }
 {
     let entries = entry_bytes(directory, block);
     move_entries(alloc, place, skip, by, block.page, entries, content)
@@ -245,7 +254,8 @@ pub fn move_blocks(
     blocks: &[Block],
     content: &mut Vec<u8>,
 ) -> Result<(), Refusal>
-    ensures { Grows result content.new.items (moved_blocks place.now skip by directory.now blocks.now content.old.items) }
+    ensures { Grows result content.new.items
+        (moved_blocks place.now skip by directory.now blocks.now content.old.items) }
 {
     let mut left = blocks;
     while let [block, more @ ..] = left {

@@ -1,4 +1,5 @@
-//! Firmware volumes whose modules are moved to the addresses at which they lie. The rule is this project's own.
+//! Firmware volumes whose modules are moved to the addresses at which they lie. The rule is this
+//! project's own.
 #![tactic(auto)]
 
 mod blocks;

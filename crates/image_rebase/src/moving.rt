@@ -27,7 +27,8 @@ fn is_misplaced(image: &Module, content: &[u8], number: u8) -> bool
 
 // The first section with bytes that lie elsewhere in the file than in memory.
 fn misplaced_section(image: &Module, content: &[u8]) -> Option<u8>
-    ensures { result ≡ find (is_misplaced image.now content.now) (range_with_len 0 image.now.sections) }
+    ensures { result ≡ find (is_misplaced image.now content.now)
+        (range_with_len 0 image.now.sections) }
 {
     for number in 0..image.sections {
         if is_misplaced(image, content, number) {
@@ -114,7 +115,8 @@ fn move_words(
     blocks: &[Block],
 ) -> Result<Text, Refusal>
     requires { new ≤ base_limit image.now.wide }
-    ensures { Answers result (moved_words place.now image.now new content.now directory.now blocks.now) }
+    ensures { Answers result
+        (moved_words place.now image.now new content.now directory.now blocks.now) }
 {
     let mut moved = copied(alloc, content)?;
     let by = difference(new, image.base);

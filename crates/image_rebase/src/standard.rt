@@ -1,4 +1,5 @@
-//! Names of the PE/COFF format, of the TE image and of sections (UEFI PI specification, volumes 1 and 3).
+//! Names of the PE/COFF format, of the TE image and of sections (UEFI PI specification, volumes 1
+//! and 3).
 
 /// "VZ", what a TE image begins with.
 pub const EFI_TE_IMAGE_HEADER_SIGNATURE: u16 = 0x5A56;

@@ -69,11 +69,12 @@ fn rebased(
     }
 }
 
-/// The volume of a head and its files as runs, with each module moved to the address at which it lies when the volume lies
-/// at its base. The first fault is that of `compose` (701 to 704), or of the first module in the order of the files that has one: of
-/// its sections' places (734), of its new ImageBase (735), of its base relocations' blocks (731), of their entries' types
-/// (732) or of the places of the words that they name (733). All bytes but those of such words, of ImageBase and the file checksums are
-/// those that `compose` gives.
+/// The volume of a head and its files as runs, with each module moved to the address at which it
+/// lies when the volume lies at its base. The first fault is that of `compose` (701 to 704), or of
+/// the first module in the order of the files that has one: of its sections' places (734), of its
+/// new ImageBase (735), of its base relocations' blocks (731), of their entries' types (732) or of
+/// the places of the words that they name (733). All bytes but those of such words, of ImageBase
+/// and the file checksums are those that `compose` gives.
 pub fn rebase_volume(
     alloc: Global,
     permit: Permit,
@@ -85,7 +86,8 @@ pub fn rebase_volume(
     requires aligned { AreAligned files.now }
     ensures value { AnswersAs runs_bytes result (rebased head.now files.now) }
     ensures runs { IfOk result (AreRunsOf files.now) }
-    ensures stays { IfOk result (λ runs. StaysBut head.now files.now (runs_bytes runs) (volume_of head.now files.now)) }
+    ensures stays { IfOk result
+        (λ runs. StaysBut head.now files.now (runs_bytes runs) (volume_of head.now files.now)) }
 {
     match rebased(alloc, permit, head, files) {
         Ok(runs) => Ok(runs),

@@ -1,5 +1,5 @@
--- What the steps of files, volumes and devices ask, once the flash description is known; the rule is
--- this project's own. What its statements mean is told by the EDK II FDF specification.
+-- What the steps of files, volumes and devices ask, once the flash description is known; the rule
+-- is this project's own. What its statements mean is told by the EDK II FDF specification.
 use Rattle.std.specs.Prelude.{ℕ, ◌+◌, ◌&&◌, Bool, true, false, not, nat_lt, nat_eq, List, [], ◌∷◌, ◌++◌, length, Option, Some, None, is_some, slice_get, if◌then◌else◌}
 use Rattle.std.specs.Cmp.Lexicographic.{pointwise}
 use Rattle.std.specs.List.{flat_map, list_all}
@@ -55,7 +55,8 @@ abbrev pub section_files : List SectionPlan → List (Ask Key)
 section_files sections = flat_map (λ section. source_file section.source) sections
 
 abbrev pub section_volumes : List VolumePlan → List SectionPlan → List (Ask Key)
-section_volumes volumes sections = flat_map (λ section. source_volume volumes section.source) sections
+section_volumes volumes sections =
+    flat_map (λ section. source_volume volumes section.source) sections
 
 -- the file that is the whole body, or else the files of the sections in their order, and then the
 -- volumes
@@ -86,13 +87,15 @@ is_apriori (item.Inf line) = false
 unfoldable pub files_where : (Item → Bool) → ℕ → ℕ → List Item → List (Ask Key)
 files_where choose volume number [] = []
 files_where choose volume number (item ∷ items) =
-    if choose item then ask.Part (key.File volume number) ∷ files_where choose volume (number + 1) items
+    if choose item then ask.Part (key.File volume number)
+    ∷ files_where choose volume (number + 1) items
     else files_where choose volume (number + 1) items
 
 -- the files of a volume: a priori files first
 abbrev pub item_asks : ℕ → List Item → List (Ask Key)
 item_asks volume items =
-    files_where is_apriori volume 0 items ++ files_where (λ item. not (is_apriori item)) volume 0 items
+    files_where is_apriori volume 0 items
+    ++ files_where (λ item. not (is_apriori item)) volume 0 items
 
 -- a volume has at most so many items, and a flash description so many volumes
 abbrev pub most_items : ℕ

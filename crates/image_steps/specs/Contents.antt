@@ -59,4 +59,5 @@ wide_text text = flat_map (λ byte. byte ∷ 0 ∷ []) text ++ 0 ∷ 0 ∷ []
 
 -- a version section begins with its build number
 abbrev pub words_bytes : ℕ → ℕ → List ℕ → List ℕ
-words_bytes kind number text = if kind == EFI_SECTION_VERSION then little_bytes 2 number ++ wide_text text else wide_text text
+words_bytes kind number text = if kind == EFI_SECTION_VERSION
+    then little_bytes 2 number ++ wide_text text else wide_text text

@@ -25,7 +25,8 @@ abbrev pub tree_content : Bool → List (Answer Out) → ℕ → List ℕ → Re
 tree_content true given i path = vpd_content given i
 tree_content false given i path = file_content given i (file_absent path) path
 
-abbrev pub region_content : Option (List ℕ) → List (Answer Out) → ℕ → RegionKind → Result (List ℕ) Fault
+abbrev pub region_content : Option (List ℕ) → List (Answer Out) → ℕ → RegionKind
+    → Result (List ℕ) Fault
 region_content vpd given i kind.Empty = Ok []
 region_content vpd given i (kind.Bytes bytes) = Ok bytes
 region_content vpd given i (kind.Tree path) = tree_content (is_vpd vpd path) given i path
@@ -38,13 +39,15 @@ asks_of (kind.Bytes bytes) = 0
 asks_of (kind.Tree path) = 1
 asks_of (kind.Volume n) = 1
 
-unfoldable pub contents_from : Option (List ℕ) → List (Answer Out) → ℕ → List Region → Result (List (List ℕ)) Fault
+unfoldable pub contents_from : Option (List ℕ) → List (Answer Out) → ℕ → List Region
+    → Result (List (List ℕ)) Fault
 contents_from vpd given i [] = Ok []
 contents_from vpd given i (region ∷ regions) =
     and_then (region_content vpd given i region.kind) (λ bytes.
     with_front (bytes ∷ []) (contents_from vpd given (i + asks_of region.kind) regions))
 
--- the device of a plan, whose regions hold what the answers tell; the path of the image of vital product data, where there is
--- one, names what its step gives
-unfoldable pub device_given : Option (List ℕ) → DevicePlan → List (Answer Out) → Result (List ℕ) Fault
+-- the device of a plan, whose regions hold what the answers tell; the path of the image of vital
+-- product data, where there is one, names what its step gives
+unfoldable pub device_given : Option (List ℕ) → DevicePlan → List (Answer Out)
+    → Result (List ℕ) Fault
 device_given vpd plan given = and_then (contents_from vpd given 0 plan.regions) (device_of plan)

@@ -1,4 +1,5 @@
--- The file of a FILE statement, by the answers of its step (UEFI PI specification, volume 3, section
+-- The file of a FILE statement, by the answers of its step (UEFI PI specification, volume 3,
+-- section
 -- 3.2.3; EDK II FDF specification, FILE statements).
 use Rattle.std.specs.Prelude.{ℕ, List, Option, Some, None, Result, Ok, Err}
 use Rattle.build_base.specs.declared.fault.Fault.{Fault}
@@ -26,14 +27,16 @@ file_align align.Unset = 1
 file_align align.Auto = 1
 file_align (align.Bytes n) = n
 
--- the file as it is, or the sections: the answers of their files stand before those of their volumes,
--- and each file has to be there before one is looked into
-abbrev pub body_given : FlashDoc → FilePlan → Option (List ℕ) → List (Answer Out) → Result Body Fault
+-- the file as it is, or the sections: the answers of their files stand before those of their
+-- volumes, and each file has to be there before one is looked into
+abbrev pub body_given : FlashDoc → FilePlan → Option (List ℕ) → List (Answer Out)
+    → Result Body Fault
 body_given flash plan (Some path) given =
     and_then (file_content given 0 (file_absent path) path) (λ bytes. Ok (body.Whole bytes))
 body_given flash plan None given =
     and_then (files_checked given 0 plan.sections) (λ checked.
-    and_then (parts_from flash given 0 (file_count plan.sections) plan.sections) (λ parts. Ok (body.Sections parts)))
+    and_then (parts_from flash given 0 (file_count plan.sections) plan.sections)
+    (λ parts. Ok (body.Sections parts)))
 
 -- the name of a file; in a world a statement has one
 abbrev pub file_name : Option Guid → Result Guid Fault
@@ -54,7 +57,8 @@ image_plan head plan name content = record {
 }
 
 -- the file of a statement in a volume with this head
-unfoldable pub file_given : FlashDoc → VolumeHead → FilePlan → List (Answer Out) → Result FileImage Fault
+unfoldable pub file_given : FlashDoc → VolumeHead → FilePlan → List (Answer Out)
+    → Result FileImage Fault
 file_given flash head plan given =
     and_then (body_given flash plan plan.whole given) (λ content.
     and_then (file_name plan.guid) (λ name. file_of (image_plan head plan name content)))

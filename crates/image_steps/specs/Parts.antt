@@ -1,5 +1,5 @@
--- The sections of a file (UEFI PI specification, volume 1, TE images; volume 3, section 2.2.4; EDK II
--- FDF specification, FILE statements).
+-- The sections of a file (UEFI PI specification, volume 1, TE images; volume 3, section 2.2.4; EDK
+-- II FDF specification, FILE statements).
 use Rattle.std.specs.Prelude.{ℕ, ◌+◌, ◌-◌, ◌/◌, ◌%◌, ◌^◌, ◌==◌, List, [], ◌∷◌, ◌++◌, length, drop, max, codes, decimal, Option, Some, None, slice_get, Result, Ok, Err, if◌then◌else◌}
 use Rattle.build_base.specs.declared.fault.Fault.{Fault}
 use Rattle.build_base.specs.declared.guid.Guid.{Guid}
@@ -40,7 +40,8 @@ pe_code pe.SubsystemTooLarge = 606
 
 -- the alignments where they differ, else the length of the file
 abbrev pub pe_detail : List ℕ → PeFault → List ℕ
-pe_detail file pe.AlignmentsDiffer = alignments_text (file_alignment_of file) (section_alignment_of file)
+pe_detail file pe.AlignmentsDiffer =
+    alignments_text (file_alignment_of file) (section_alignment_of file)
 pe_detail file _ = decimal (length file)
 
 abbrev pub pe_fault : List ℕ → List ℕ → PeFault → Fault
@@ -51,7 +52,8 @@ as_is bytes = record { shift = 0; bytes = bytes }
 
 -- the TE image of a PE file: its places count from where they were in the file
 abbrev pub stripped : List ℕ → TeHead → Shaped
-stripped file head = record { shift = head.stripped - 40; bytes = te_bytes head ++ drop head.stripped file }
+stripped file head =
+    record { shift = head.stripped - 40; bytes = te_bytes head ++ drop head.stripped file }
 
 abbrev pub te_shaped : List ℕ → List ℕ → Result TeHead PeFault → Result Shaped Fault
 te_shaped path file (Ok head) = Ok (stripped file head)
@@ -59,16 +61,21 @@ te_shaped path file (Err fault) = Err (pe_fault path file fault)
 
 -- a TE section is made of a PE file, each other one is the file as it is
 abbrev pub file_shaped : ℕ → List ℕ → List ℕ → Result Shaped Fault
-file_shaped kind path bytes = if kind == EFI_SECTION_TE then te_shaped path bytes (te_of bytes) else Ok (as_is bytes)
+file_shaped kind path bytes = if kind == EFI_SECTION_TE then te_shaped path bytes (te_of bytes)
+    else Ok (as_is bytes)
 
--- what a section holds, where the answer of the next file and that of the next volume stand at these
--- places; the other forms stand in rules alone
-abbrev pub content_at : List (Answer Out) → ℕ → ℕ → SectionPlan → SectionSource → Result Shaped Fault
+-- what a section holds, where the answer of the next file and that of the next volume stand at
+-- these places; the other forms stand in rules alone
+abbrev pub content_at : List (Answer Out) → ℕ → ℕ → SectionPlan → SectionSource
+    → Result Shaped Fault
 content_at given f v section (source.Tree path) =
-    and_then (file_content given f (section_absent section.at path) path) (file_shaped section.kind path)
+    and_then (file_content given f (section_absent section.at path) path)
+    (file_shaped section.kind path)
 content_at given f v section (source.Template text) = Err misfit
-content_at given f v section (source.Volume n) = and_then (volume_content given v) (λ bytes. Ok (as_is bytes))
-content_at given f v section (source.Words text) = Ok (as_is (words_bytes section.kind section.number text))
+content_at given f v section (source.Volume n) =
+    and_then (volume_content given v) (λ bytes. Ok (as_is bytes))
+content_at given f v section (source.Words text) =
+    Ok (as_is (words_bytes section.kind section.number text))
 content_at given f v section (source.Refused text) = Err misfit
 
 -- how many files and how many volumes it asks for
@@ -112,9 +119,11 @@ abbrev pub without_guid : Option Guid → Result (Option Guid) Fault
 without_guid (Some guid) = Err misfit
 without_guid None = Ok None
 
--- the GUID of a section's header, which a SUBTYPE_GUID section has, and no other; in a world it is so
+-- the GUID of a section's header, which a SUBTYPE_GUID section has, and no other; in a world it is
+-- so
 abbrev pub header_guid : ℕ → Option Guid → Result (Option Guid) Fault
-header_guid kind guid = if kind == EFI_SECTION_FREEFORM_SUBTYPE_GUID then some_guid guid else without_guid guid
+header_guid kind guid = if kind == EFI_SECTION_FREEFORM_SUBTYPE_GUID then some_guid guid
+    else without_guid guid
 
 abbrev pub part_with : FlashDoc → SectionPlan → Shaped → Option Guid → Part
 part_with flash section content guid = record {
@@ -129,16 +138,22 @@ part_with flash section content guid = record {
 unfoldable pub part_at : FlashDoc → List (Answer Out) → ℕ → ℕ → SectionPlan → Result Part Fault
 part_at flash given f v section =
     and_then (content_at given f v section section.source) (λ content.
-    and_then (header_guid section.kind section.guid) (λ guid. Ok (part_with flash section content guid)))
+    and_then (header_guid section.kind section.guid)
+    (λ guid. Ok (part_with flash section content guid)))
 
 -- all sections, or the first fault of one
-unfoldable pub parts_from : FlashDoc → List (Answer Out) → ℕ → ℕ → List SectionPlan → Result (List Part) Fault
+unfoldable pub parts_from : FlashDoc → List (Answer Out) → ℕ → ℕ → List SectionPlan
+    → Result (List Part) Fault
 parts_from flash given f v [] = Ok []
 parts_from flash given f v (section ∷ sections) =
-    and_then (part_at flash given f v section) (λ part. with_front (part ∷ []) (parts_from flash given (f + files_of section.source) (v + volumes_of section.source) sections))
+    and_then (part_at flash given f v section)
+    (λ part. with_front (part ∷ [])
+    (parts_from flash given (f + files_of section.source) (v + volumes_of section.source)
+    sections))
 
 -- whether the file of a section is there
-abbrev pub source_checked : List (Answer Out) → ℕ → SectionPlan → SectionSource → Result (Unit {0}) Fault
+abbrev pub source_checked : List (Answer Out) → ℕ → SectionPlan → SectionSource
+    → Result (Unit {0}) Fault
 source_checked given f section (source.Tree path) =
     and_then (file_content given f (section_absent section.at path) path) (λ bytes. Ok tt)
 source_checked given f section (source.Template text) = Ok tt
@@ -150,7 +165,8 @@ source_checked given f section (source.Refused text) = Ok tt
 unfoldable pub files_checked : List (Answer Out) → ℕ → List SectionPlan → Result (Unit {0}) Fault
 files_checked given f [] = Ok tt
 files_checked given f (section ∷ sections) =
-    and_then (source_checked given f section section.source) (λ checked. files_checked given (f + files_of section.source) sections)
+    and_then (source_checked given f section section.source)
+    (λ checked. files_checked given (f + files_of section.source) sections)
 
 -- how many files sections ask for
 unfoldable pub file_count : List SectionPlan → ℕ

@@ -166,8 +166,8 @@ fn is_apriori(item: &Item) -> bool
     }
 }
 
-/// Whether there are at most 65,535, as many as a volume has items and a flash description volumes or
-/// devices.
+/// Whether there are at most 65,535, as many as a volume has items and a flash description volumes
+/// or devices.
 pub fn are_few(count: usize) -> bool
     ensures { result ≡ are_few count }
 {
@@ -196,7 +196,8 @@ fn push_apriori(asks: &mut Rows<Ask<Key>>, volume: u32, items: &[Item]) -> Resul
 #[tactic(auto, unfolding(crate::specs::Asks::files_where))]
 fn push_others(asks: &mut Rows<Ask<Key>>, volume: u32, items: &[Item]) -> Result<(), WantOfMemory>
     requires { length items.now < 65536 }
-    ensures { OnOk result (asks.new ≡ asks.old ++ files_where (λ item. not (is_apriori item)) volume 0 items.now) }
+    ensures { OnOk result (asks.new ≡ asks.old
+        ++ files_where (λ item. not (is_apriori item)) volume 0 items.now) }
 {
     let mut number: u32 = 0;
     let mut left = items;
@@ -255,8 +256,8 @@ fn push_kind(
     }
 }
 
-/// The file, the volume or the image of vital product data of each region of a device. `vpd` is the path of that image,
-/// where there is one.
+/// The file, the volume or the image of vital product data of each region of a device. `vpd` is the
+/// path of that image, where there is one.
 pub fn region_asks(
     alloc: Global,
     volumes: &[VolumePlan],

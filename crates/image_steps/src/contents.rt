@@ -40,7 +40,8 @@ pub fn whole_content<'a>(
     place: usize,
     path: &Path,
 ) -> Result<&'a Text, Stop<Key>>
-    ensures { GivesIn (λ text. text.now) result (file_content given.now place (file_absent path.now) path.now) }
+    ensures { GivesIn (λ text. text.now) result
+        (file_content given.now place (file_absent path.now) path.now) }
 {
     match given.file(place)? {
         Answer::Bytes(bytes) => Ok(bytes.value()),
@@ -58,7 +59,8 @@ pub fn section_content<'a>(
     at: &Place,
     path: &Path,
 ) -> Result<&'a Text, Stop<Key>>
-    ensures { GivesIn (λ text. text.now) result (file_content given.now place (section_absent at.now path.now) path.now) }
+    ensures { GivesIn (λ text. text.now) result
+        (file_content given.now place (section_absent at.now path.now) path.now) }
 {
     match given.file(place)? {
         Answer::Bytes(bytes) => Ok(bytes.value()),
@@ -108,7 +110,8 @@ fn push_unit(out: &mut Vec<u8>, byte: u8) -> Result<(), WantOfMemory>
 }
 
 fn push_units(out: &mut Vec<u8>, text: &[u8]) -> Result<(), WantOfMemory>
-    ensures { OnOk result (out.new.items ≡ out.old.items ++ flat_map (λ byte. byte ∷ 0 ∷ []) text.now) }
+    ensures { OnOk result (out.new.items ≡ out.old.items
+        ++ flat_map (λ byte. byte ∷ 0 ∷ []) text.now) }
 {
     let mut left = text;
     while let [byte, rest @ ..] = left {
@@ -128,7 +131,8 @@ fn push_wide(out: &mut Vec<u8>, text: &[u8]) -> Result<(), WantOfMemory>
     Ok(())
 }
 
-/// The content of a section that a text gives; that of a version section begins with the build number.
+/// The content of a section that a text gives; that of a version section begins with the build
+/// number.
 pub fn words_bytes(alloc: Global, kind: u8, number: u16, text: &[u8]) -> Result<Text, WantOfMemory>
     ensures { IfOk result (λ t. t ≡ words_bytes kind number text.now) }
 {

@@ -120,7 +120,8 @@ fn tree_content<'a>(
     place: usize,
     path: &Path,
 ) -> Result<&'a Text, Stop<Key>>
-    ensures { GivesIn (λ text. text.now) result (tree_content (is_vpd vpd.now path.now) given.now place path.now) }
+    ensures { GivesIn (λ text. text.now) result
+        (tree_content (is_vpd vpd.now path.now) given.now place path.now) }
 {
     if is_vpd(vpd, path) {
         return vpd_content(given, place);
@@ -167,7 +168,8 @@ fn contents<'a>(
     given: &Given<'a, Out>,
     regions: &'a [Region],
 ) -> Result<Rows<RegionPart<'a>>, Stop<Key>>
-    ensures value { GivesIn (λ parts. parts) result (contents_from vpd.now given.now 0 regions.now) }
+    ensures value { GivesIn (λ parts. parts) result
+        (contents_from vpd.now given.now 0 regions.now) }
     ensures count { IfOk result (λ parts. length regions.now ≡ length parts) }
 {
     let mut parts = Rows::new(alloc);
@@ -196,8 +198,8 @@ fn image(
     }
 }
 
-/// The device of a plan, whose regions hold what the answers tell. `vpd` is the path of the image of vital product data,
-/// where there is one.
+/// The device of a plan, whose regions hold what the answers tell. `vpd` is the path of the image
+/// of vital product data, where there is one.
 #[tactic(auto, unfolding(crate::specs::Devices::device_given))]
 pub fn device_given(
     alloc: Global,

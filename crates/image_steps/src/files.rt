@@ -34,7 +34,8 @@ fn body_given(
     plan: &FilePlan,
     given: &Given<'_, Out>,
 ) -> Result<Body, Stop<Key>>
-    ensures value { GivesIn (λ body. body) result (body_given flash.now plan.now plan.now.whole given.now) }
+    ensures value { GivesIn (λ body. body) result
+        (body_given flash.now plan.now plan.now.whole given.now) }
     ensures guids { IfOk result HaveGuids }
 {
     let sections = plan.sections.items();
@@ -98,8 +99,8 @@ pub fn image(
     file_of(alloc, permit, &image)
 }
 
-/// The file of a statement in a volume with this head. The answers of its files stand before those of
-/// its volumes.
+/// The file of a statement in a volume with this head. The answers of its files stand before those
+/// of its volumes.
 #[tactic(auto, unfolding(crate::specs::Files::file_given))]
 pub fn file_given(
     alloc: Global,

@@ -47,7 +47,8 @@ fn compared(alloc: Global, file: u32, section: u32) -> Result<Vec<u8>, WantOfMem
 }
 
 fn alignments_text(alloc: Global, file: &[u8]) -> Result<Vec<u8>, WantOfMemory>
-    ensures { IfOk result (λ text. text.items ≡ alignments_text (file_alignment_of file.now) (section_alignment_of file.now)) }
+    ensures { IfOk result (λ text. text.items
+        ≡ alignments_text (file_alignment_of file.now) (section_alignment_of file.now)) }
 {
     match (file_alignment(file), section_alignment(file)) {
         (Ok(of_file), Ok(of_section)) => compared(alloc, of_file, of_section),
@@ -156,14 +157,16 @@ fn file_content(
     section: &SectionPlan,
     path: &Path,
 ) -> Result<Shaped, Stop<Key>>
-    ensures { GivesIn (λ s. s) result (content_at given.now place 0 section.now (SectionSource.Tree path.now)) }
+    ensures { GivesIn (λ s. s) result
+        (content_at given.now place 0 section.now (SectionSource.Tree path.now)) }
 {
     let bytes = section_content(alloc, given, place, &section.at, path)?;
     Ok(file_shaped(alloc, section.kind, path, bytes.bytes())?)
 }
 
 fn words_content(alloc: Global, section: &SectionPlan, text: &Text) -> Result<Shaped, WantOfMemory>
-    ensures { IfOk result (λ s. s ≡ as_is (words_bytes section.now.kind section.now.number text.now)) }
+    ensures { IfOk result
+        (λ s. s ≡ as_is (words_bytes section.now.kind section.now.number text.now)) }
 {
     Ok(Shaped {
         shift: 0,
@@ -178,7 +181,8 @@ fn content_at(
     volume: usize,
     section: &SectionPlan,
 ) -> Result<Shaped, Stop<Key>>
-    ensures { GivesIn (λ s. s) result (content_at given.now file volume section.now section.now.source) }
+    ensures { GivesIn (λ s. s) result
+        (content_at given.now file volume section.now section.now.source) }
 {
     match &section.source {
         SectionSource::Tree(path) => file_content(alloc, given, file, section, path),
@@ -278,7 +282,8 @@ fn without_guid(guid: Option<Guid>) -> Result<Option<Guid>, Stop<Key>>
 /// The GUID of a section's header, which a SUBTYPE_GUID section has, and no other.
 pub fn header_guid(kind: u8, guid: Option<Guid>) -> Result<Option<Guid>, Stop<Key>>
     ensures value { GivesIn (λ guid. guid) result (header_guid kind guid) }
-    ensures shape { IfOk result (λ guid. is_some guid ≡ (kind == EFI_SECTION_FREEFORM_SUBTYPE_GUID)) }
+    ensures shape { IfOk result (λ guid. is_some guid
+        ≡ (kind == EFI_SECTION_FREEFORM_SUBTYPE_GUID)) }
 {
     if kind == EFI_SECTION_FREEFORM_SUBTYPE_GUID {
         some_guid(guid)
@@ -308,16 +313,18 @@ fn part_at(
     volume: usize,
     section: &SectionPlan,
 ) -> Result<Part, Stop<Key>>
-    ensures value { GivesIn (λ part. part) result (part_at flash.now given.now file volume section.now) }
-    ensures guid { IfOk result (λ part. is_some part.guid ≡ (part.kind == EFI_SECTION_FREEFORM_SUBTYPE_GUID)) }
+    ensures value { GivesIn (λ part. part) result
+        (part_at flash.now given.now file volume section.now) }
+    ensures guid { IfOk result (λ part. is_some part.guid
+        ≡ (part.kind == EFI_SECTION_FREEFORM_SUBTYPE_GUID)) }
 {
     let content = content_at(alloc, given, file, volume, section)?;
     let guid = header_guid(section.kind, section.guid)?;
     Ok(part_with(flash, section, content, guid))
 }
 
-/// All sections, or the first fault of one. The answers of the files begin at 0, those of the volumes
-/// at `volumes`.
+/// All sections, or the first fault of one. The answers of the files begin at 0, those of the
+/// volumes at `volumes`.
 #[tactic(auto, unfolding(crate::specs::Parts::parts_from))]
 pub fn parts(
     alloc: Global,
@@ -327,8 +334,10 @@ pub fn parts(
     sections: &[SectionPlan],
 ) -> Result<Rows<Part>, Stop<Key>>
     requires { volumes ≤ length sections.now }
-    ensures value { GivesIn (λ parts. parts) result (parts_from flash.now given.now 0 volumes sections.now) }
-    ensures guids { IfOk result (All (λ part. is_some part.guid ≡ (part.kind == EFI_SECTION_FREEFORM_SUBTYPE_GUID))) }
+    ensures value { GivesIn (λ parts. parts) result
+        (parts_from flash.now given.now 0 volumes sections.now) }
+    ensures guids { IfOk result
+        (All (λ part. is_some part.guid ≡ (part.kind == EFI_SECTION_FREEFORM_SUBTYPE_GUID))) }
 {
     let mut parts = Rows::new(alloc);
     let mut file = 0;
@@ -349,7 +358,8 @@ fn source_checked(
     file: usize,
     section: &SectionPlan,
 ) -> Result<(), Stop<Key>>
-    ensures { GivesIn (λ _. tt) result (source_checked given.now file section.now section.now.source) }
+    ensures { GivesIn (λ _. tt) result
+        (source_checked given.now file section.now section.now.source) }
 {
     match &section.source {
         SectionSource::Tree(path) => {

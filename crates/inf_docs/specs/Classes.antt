@@ -1,4 +1,5 @@
--- The library class that a module serves: `Name` or `Name|TYPE TYPE` (EDK II INF specification, LIBRARY_CLASS).
+-- The library class that a module serves: `Name` or `Name|TYPE TYPE` (EDK II INF specification,
+-- LIBRARY_CLASS).
 use Rattle.std.specs.Prelude.{ℕ, ◌==◌, if◌then◌else◌, List, [], ◌∷◌, length, Option, Some, None}
 use Rattle.std.specs.List.{flat_map}
 use Rattle.build_base.specs.FaultText.{fault_of}
@@ -26,7 +27,8 @@ class_name_fault line name = if is_identifier name then None else Some (bad_clas
 
 -- a class for some types, at least one
 abbrev pub served_fault : Taken → List ℕ → List (List ℕ) → Option Fault
-served_fault line name words = if length words == 0 then Some (bad_class line) else class_name_fault line name
+served_fault line name words = if length words == 0 then Some (bad_class line)
+    else class_name_fault line name
 
 -- one field or two
 abbrev pub class_form : Taken → List (List ℕ) → List (Option Fault)
@@ -48,5 +50,6 @@ types_named words = flat_map (λ word. type_given (module_type_named word)) word
 -- without types it is for modules of every type
 unfoldable pub class_served : List (List ℕ) → Option Served
 class_served (name ∷ []) = Some (record { name = name; types = [] })
-class_served (name ∷ types ∷ []) = Some (record { name = name; types = types_named (words_of types) })
+class_served (name ∷ types ∷ []) =
+    Some (record { name = name; types = types_named (words_of types) })
 class_served fields = None

@@ -1,4 +1,5 @@
--- The terms of [Depex] sections, and the parts that they make (EDK II INF specification, [Depex] section).
+-- The terms of [Depex] sections, and the parts that they make (EDK II INF specification, [Depex]
+-- section).
 use Rattle.std.specs.Prelude.{ℕ, Bool, true, false, ◌==◌, ◌||◌, ◌++◌, if◌then◌else◌, List, [], ◌∷◌, length, Option, Some, None}
 use Rattle.std.specs.List.{flat_map}
 use Rattle.build_base.specs.declared.fault.Fault.{Fault}
@@ -59,12 +60,14 @@ section_in block = opened block.first (flat_map read_terms block.rest)
 abbrev pub part_of : OpenSection → Scope → List DepexPart
 part_of section scope =
     if is_depex scope.kind
-    then record { at = section.at; arch = scope.arch; kind = scope.for_type; terms = section.terms } ∷ []
+    then record { at = section.at; arch = scope.arch; kind = scope.for_type; terms = section.terms }
+    ∷ []
     else []
 
 -- one part for each head that is [Depex], where there is a term
 abbrev pub parts_of : OpenSection → List DepexPart
-parts_of section = if length section.terms == 0 then [] else flat_map (part_of section) section.scopes
+parts_of section = if length section.terms == 0 then []
+    else flat_map (part_of section) section.scopes
 
 abbrev pub parts_in : Option OpenSection → List DepexPart
 parts_in (Some section) = parts_of section

@@ -123,7 +123,8 @@ with_rows tables rows =
 abbrev pub tables_of : List (Read Scope Row) → ModuleTables
 tables_of reads = with_rows no_tables (rows_of reads)
 
-abbrev pub with_required : List ℕ → ModuleTables → List DepexPart → List ℕ → GuidBytes → ModuleType → InfDoc
+abbrev pub with_required : List ℕ → ModuleTables → List DepexPart → List ℕ → GuidBytes → ModuleType
+    → InfDoc
 with_required root tables parts name guid kind =
     record {
       at = record { path = root; line = 0 };
@@ -142,15 +143,19 @@ with_required root tables parts name guid kind =
       depex = parts;
     }
 
-abbrev pub required : List ℕ → ModuleTables → List DepexPart → Option (List ℕ) → Option GuidBytes → Option ModuleType → Result InfDoc Fault
+abbrev pub required : List ℕ → ModuleTables → List DepexPart → Option (List ℕ) → Option GuidBytes
+    → Option ModuleType → Result InfDoc Fault
 required root tables parts None guid kind = Err (missing_key 211 root (codes "BASE_NAME"))
 required root tables parts (Some name) None kind = Err (missing_key 211 root (codes "FILE_GUID"))
-required root tables parts (Some name) (Some guid) None = Err (missing_key 211 root (codes "MODULE_TYPE"))
-required root tables parts (Some name) (Some guid) (Some kind) = Ok (with_required root tables parts name guid kind)
+required root tables parts (Some name) (Some guid) None =
+    Err (missing_key 211 root (codes "MODULE_TYPE"))
+required root tables parts (Some name) (Some guid) (Some kind) =
+    Ok (with_required root tables parts name guid kind)
 
 -- the document, where each required key is stated
 unfoldable pub document_of : List ℕ → ModuleTables → List DepexPart → Result InfDoc Fault
-document_of root tables parts = required root tables parts tables.base_name tables.file_guid tables.kind
+document_of root tables parts =
+    required root tables parts tables.base_name tables.file_guid tables.kind
 
 -- what lines that come to this make: the document, where it is whole
 unfoldable pub module_made : Lines → List (Read Scope Row) → Result InfDoc Fault

@@ -1,5 +1,5 @@
--- Lines of names and of paths (EDK II INF specification, [LibraryClasses], [Guids], [Protocols], [Ppis] and
--- [Packages] sections).
+-- Lines of names and of paths (EDK II INF specification, [LibraryClasses], [Guids], [Protocols],
+-- [Ppis] and [Packages] sections).
 use Rattle.std.specs.Prelude.{ℕ, if◌then◌else◌, List, [], ◌∷◌, Option, Some, None}
 use Rattle.std.specs.Option.{option_map}
 use Rattle.build_base.specs.FaultText.{fault_of}

@@ -1,4 +1,5 @@
--- The PCDs that a module asks for: `Space.Name` or `Space.Name|Default` (EDK II INF specification, PCD sections).
+-- The PCDs that a module asks for: `Space.Name` or `Space.Name|Default` (EDK II INF specification,
+-- PCD sections).
 use Rattle.std.specs.Prelude.{ℕ, nat_lt, Bool, true, false, if◌then◌else◌, List, [], ◌∷◌, length, Option, Some, None}
 use Rattle.std.specs.Option.{option_map}
 use Rattle.build_base.specs.FaultText.{fault_of}
@@ -42,7 +43,8 @@ used_as line arch asked fields pcd =
     record { at = line.at; arch = arch; asked = asked; pcd = pcd; default = default_of fields }
 
 abbrev pub asked_pcd : Taken → Arch → Asked → List (List ℕ) → Option UsedPcd
-asked_pcd line arch asked fields = option_map (used_as line arch asked fields) (pcd_name_of (first_text fields))
+asked_pcd line arch asked fields =
+    option_map (used_as line arch asked fields) (pcd_name_of (first_text fields))
 
 unfoldable pub pcd_used : Taken → Arch → Asked → Option UsedPcd
 pcd_used line arch asked = asked_pcd line arch asked (field_texts line.text)

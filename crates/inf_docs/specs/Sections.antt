@@ -1,4 +1,5 @@
--- The sections of an INF file, and what their heads stand for (EDK II INF specification, section heads).
+-- The sections of an INF file, and what their heads stand for (EDK II INF specification, section
+-- heads).
 use Rattle.std.specs.Prelude.{ℕ, List, [], ◌∷◌, Option, Some, None, codes}
 use Rattle.doc_reading.specs.declared.meaning.Meaning.{Meaning}
 use Rattle.doc_reading.specs.declared.meaning.Meaning.TheVariants.{Enters, Passed, Misqualified, Unknown}

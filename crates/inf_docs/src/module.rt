@@ -23,8 +23,8 @@ use meta_lexer::head::Head;
 use std::alloc::Global;
 use std::mem;
 
-/// The format of a module's description, and what its reader holds: what the rows come to, the section at
-/// hand, and the parts of the sections above.
+/// The format of a module's description, and what its reader holds: what the rows come to, the
+/// section at hand, and the parts of the sections above.
 #[derive(Drop)]
 pub struct ModuleFormat {
     pub alloc: Global,

@@ -82,7 +82,8 @@ fn asked_pcd(
     asked: Asked,
     fields: &[Text],
 ) -> Result<Option<UsedPcd>, Refusal>
-    ensures { Answers result (judged (asked_faults line.now fields.now) (asked_pcd line.now arch asked fields.now)) }
+    ensures { Answers result
+        (judged (asked_faults line.now fields.now) (asked_pcd line.now arch asked fields.now)) }
 {
     let pcd = pcd_name_of(alloc, first_text(fields))?;
     least_of_two(

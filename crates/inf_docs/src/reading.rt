@@ -104,8 +104,9 @@ impl Whole for ModuleFormat {
     }
 }
 
-/// The module that these lines describe, or the first fault: of the first line that has one, of its faults
-/// the one of the least code, else of the document, at its root's line 0, where a required key isn't stated.
+/// The module that these lines describe, or the first fault: of the first line that has one, of its
+/// faults the one of the least code, else of the document, at its root's line 0, where a required
+/// key isn't stated.
 #[tactic(auto, unfolding(crate::specs::Modules::module_of))]
 pub fn read_inf(alloc: Global, permit: Permit, lines: &Lines) -> Result<InfDoc, Refusal>
     ensures { Answers result (module_of lines.now) }

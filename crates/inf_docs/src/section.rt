@@ -10,8 +10,8 @@ use doc_types::pcd::Asked;
 use meta_lexer::head::Head;
 use meta_lexer::lookup;
 
-/// What the lines of a section state: keys of the module, paths of packages, names of library classes or of
-/// GUIDs, PCDs, or the terms of a dependency expression.
+/// What the lines of a section state: keys of the module, paths of packages, names of library
+/// classes or of GUIDs, PCDs, or the terms of a dependency expression.
 #[derive(Clone, Copy, Debug, PartialEq, Eq)]
 pub enum SectionKind {
     Defines,

@@ -23,7 +23,8 @@ each_or_first fault make xs = unless (first_fault fault xs) (map make xs)
 -- What a function returned, seen by view, is what the definition gives, unless memory ran out.
 abbrev pub Fails : {Y : Type 0} → LexRefusal → Result Y Spot → Type 0
 Fails WantOfMemory read = Unit {0}
-Fails (Bad code line start end) read = read ≡ Err (record { code = code; line = line; start = start; end = end })
+Fails (Bad code line start end) read = read
+    ≡ Err (record { code = code; line = line; start = start; end = end })
 
 abbrev pub Gives : {X Y : Type 0} → (X → Y) → Result X LexRefusal → Result Y Spot → Type 0
 Gives view (Ok x) read = read ≡ Ok (view x)

@@ -47,7 +47,8 @@ abbrev pub spans : ℕ → List (List ℕ) → List Span
 spans at [] = []
 spans at (p ∷ ps) = record { start = at; end = at + length p } ∷ spans (at + length p + 1) ps
 
--- the parts of a text between marks that stand outside quotes, and outside parentheses and braces where these nest
+-- the parts of a text between marks that stand outside quotes, and outside parentheses and braces
+-- where these nest
 abbrev pub parts_of : Bool → ℕ → List ℕ → List Span
 parts_of nests mark text = spans 0 (pieces_outside nests mark nothing_open text)
 
@@ -65,7 +66,13 @@ ends_quoted text = fold (λ quoted b. if b == 34 then not quoted else quoted) fa
 
 -- the fault of a text that ends in an open quote: from the last quote to the end
 abbrev pub open_quote : List ℕ → Spot
-open_quote text = record { code = 111; line = 1; start = length text - suffix_len (λ b. not (b == 34)) text - 1; end = length text }
+open_quote text =
+    record {
+      code = 111;
+      line = 1;
+      start = length text - suffix_len (λ b. not (b == 34)) text - 1;
+      end = length text;
+    }
 
 -- the fields of a line, between `|`
 unfoldable pub fields_of : List ℕ → Result (List Span) Spot

@@ -12,7 +12,8 @@ abbrev pub inner : List ℕ → List ℕ
 inner text = take (length text - 2) (drop 1 text)
 
 abbrev pub stands_between : ℕ → ℕ → List ℕ → Bool
-stands_between first last text = nat_le 2 (length text) && (slice_index text 0 == first) && (slice_index text (length text - 1) == last)
+stands_between first last text = nat_le 2 (length text) && (slice_index text 0 == first)
+    && (slice_index text (length text - 1) == last)
 
 -- a part in quotes loses them
 unfoldable pub unquoted : List ℕ → List ℕ
@@ -46,5 +47,6 @@ begins_section text = nat_lt 0 (length text) && (slice_index text 0 == 91)
 unfoldable pub section_of : List ℕ → Result (Option (List Head)) Spot
 section_of text =
     if not (begins_section text) then Ok None
-    else if stands_between 91 93 text && are_heads (inner text) then Ok (Some (heads_of (inner text)))
+    else if stands_between 91 93 text && are_heads (inner text)
+    then Ok (Some (heads_of (inner text)))
     else Err (bad_head text)

@@ -29,8 +29,10 @@ without_return xs = if slice_index xs (length xs - 1) == 13 then take (length xs
 -- a last piece that is empty is no line
 unfoldable pub numbered : ℕ → ℕ → List (List ℕ) → List Piece
 numbered n at [] = []
-numbered n at (p ∷ []) = if length (without_return p) == 0 then [] else record { number = n; start = at; bytes = p } ∷ []
-numbered n at (p ∷ q ∷ more) = record { number = n; start = at; bytes = p } ∷ numbered (n + 1) (at + length p + 1) (q ∷ more)
+numbered n at (p ∷ []) = if length (without_return p) == 0 then []
+    else record { number = n; start = at; bytes = p } ∷ []
+numbered n at (p ∷ q ∷ more) = record { number = n; start = at; bytes = p }
+    ∷ numbered (n + 1) (at + length p + 1) (q ∷ more)
 
 abbrev pub pieces_from : ℕ → ℕ → List ℕ → List Piece
 pieces_from n at bytes = numbered n at (slice_split is_feed bytes)
@@ -39,7 +41,8 @@ pieces_from n at bytes = numbered n at (slice_split is_feed bytes)
 unfoldable pub comment_from : Bool → List ℕ → ℕ
 comment_from quoted [] = 0
 comment_from quoted (b ∷ bs) =
-    if (b == 35) && not quoted then 0 else (1 + comment_from (if b == 34 then not quoted else quoted) bs)
+    if (b == 35) && not quoted then 0
+    else (1 + comment_from (if b == 34 then not quoted else quoted) bs)
 
 abbrev pub before_comment : List ℕ → List ℕ
 before_comment xs = take (comment_from false xs) xs
@@ -56,7 +59,8 @@ piece_fault p =
     let text = without_return p.bytes in
     let bad = position_or_len (λ b. not (is_plain b)) (before_comment text) in
     if nat_lt bad (length (before_comment text))
-    then Some (record { code = 110; line = p.number; start = p.start + bad; end = p.start + bad + 1 })
+    then Some
+    (record { code = 110; line = p.number; start = p.start + bad; end = p.start + bad + 1 })
     else if nat_lt 8192 (length text)
     then Some (record { code = 112; line = p.number; start = p.start; end = p.start + length text })
     else None
@@ -67,7 +71,8 @@ pub record TextLine : Type 0 where
   pub text : List ℕ
 
 abbrev pub piece_line : Piece → TextLine
-piece_line p = record { number = p.number; text = without_blanks (before_comment (without_return p.bytes)) }
+piece_line p =
+    record { number = p.number; text = without_blanks (before_comment (without_return p.bytes)) }
 
 abbrev pub line_view : Line → TextLine
 line_view line = record { number = line.number; text = line.text.now }

@@ -43,7 +43,8 @@ abbrev pub quoted_size : List ℕ → ℕ
 quoted_size xs = min (position_or_len (λ b. b == 34) (drop 1 xs) + 2) (length xs)
 
 abbrev pub mark_size : List ℕ → ℕ
-mark_size xs = if nat_le 2 (length xs) && is_pair (slice_index xs 0) (slice_index xs 1) then 2 else 1
+mark_size xs = if nat_le 2 (length xs) && is_pair (slice_index xs 0) (slice_index xs 1) then 2
+    else 1
 
 pub record Front : Type 0 where
   pub kind : TokenKind
@@ -59,7 +60,8 @@ word_kind word = if is_numeral word then Number else Word
 unfoldable pub front_of : List ℕ → Front
 front_of xs =
     if slice_index xs 0 == 34 then record { kind = Quoted; size = quoted_size xs }
-    else if is_word_byte (slice_index xs 0) then record { kind = word_kind (take (word_size xs) xs); size = word_size xs }
+    else if is_word_byte (slice_index xs 0)
+    then record { kind = word_kind (take (word_size xs) xs); size = word_size xs }
     else record { kind = Mark; size = mark_size xs }
 
 abbrev pub token_at : ℕ → Front → Token
@@ -70,13 +72,16 @@ token_span token = record { start = token.start; end = token.end }
 
 abbrev pub onward : ℕ → List ℕ → Bool → List Token → (ℕ → List Token) → List Token
 onward at xs true after_blank after_token = after_blank
-onward at xs false after_blank after_token = token_at at (front_of xs) ∷ after_token (front_of xs).size
+onward at xs false after_blank after_token =
+    token_at at (front_of xs) ∷ after_token (front_of xs).size
 
 -- the tokens of a text that stands at a place, but for those of its first k bytes
 unfoldable pub tokens_after : ℕ → ℕ → List ℕ → List Token
 tokens_after at k [] = []
 tokens_after at (suc k) (b ∷ bs) = tokens_after (at + 1) k bs
-tokens_after at zero (b ∷ bs) = onward at (b ∷ bs) (is_blank b) (tokens_after (at + 1) 0 bs) (λ n. tokens_after (at + 1) (n - 1) bs)
+tokens_after at zero (b ∷ bs) =
+    onward at (b ∷ bs) (is_blank b) (tokens_after (at + 1) 0 bs)
+    (λ n. tokens_after (at + 1) (n - 1) bs)
 
 -- the tokens of a text, or the fault of a quote that is open at its end
 unfoldable pub tokens_of : List ℕ → Result (List Token) Spot

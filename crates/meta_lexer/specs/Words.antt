@@ -15,13 +15,15 @@ begins_with_digit xs = nat_le 48 (slice_index xs 0) && nat_le (slice_index xs 0)
 
 -- 1 to 64 letters, digits and `_`, the first no digit
 unfoldable pub is_identifier : List ℕ → Bool
-is_identifier xs = nat_lt 0 (length xs) && nat_le (length xs) 64 && list_all is_word_byte xs && not (begins_with_digit xs)
+is_identifier xs = nat_lt 0 (length xs) && nat_le (length xs) 64 && list_all is_word_byte xs
+    && not (begins_with_digit xs)
 
 -- two texts around the first mark, without their outer blanks
 unfoldable pub halves : ℕ → List ℕ → Option (List ℕ × List ℕ)
 halves mark xs =
     let i = position_or_len (λ b. b == mark) xs in
-    if nat_lt i (length xs) then Some (without_blanks (take i xs), without_blanks (drop (i + 1) xs)) else None
+    if nat_lt i (length xs) then Some (without_blanks (take i xs), without_blanks (drop (i + 1) xs))
+    else None
 
 -- whether `$(` stands in a text
 unfoldable pub holds_macro : List ℕ → Bool

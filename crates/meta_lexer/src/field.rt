@@ -79,7 +79,8 @@ pub fn ends_quoted(text: &[u8]) -> bool
 }
 
 fn push(found: &mut Vec<Span>, start: u64, end: u64) -> Result<(), WantOfMemory>
-    ensures { OnOk result (found.new.items ≡ found.old.items ++ record { start = start; end = end } ∷ []) }
+    ensures { OnOk result (found.new.items ≡ found.old.items ++ record { start = start; end = end }
+        ∷ []) }
 {
     match found.push(Span { start, end }) {
         Ok(()) => Ok(()),
@@ -87,7 +88,8 @@ fn push(found: &mut Vec<Span>, start: u64, end: u64) -> Result<(), WantOfMemory>
     }
 }
 
-/// The parts between marks that stand outside quotes, and outside parentheses and braces where these nest.
+/// The parts between marks that stand outside quotes, and outside parentheses and braces where
+/// these nest.
 pub fn cut(alloc: Global, nests: bool, mark: u8, text: &[u8]) -> Result<Vec<Span>, WantOfMemory>
     ensures parts { IfOk result (λ v. v.items ≡ parts_of nests mark text.now) }
     ensures within { IfOk result (λ v. All (IsWithin text.now) v.items) }

@@ -20,7 +20,8 @@ pub struct Head {
 
 /// What stands between the two bytes, where a text begins and ends with them.
 pub fn between(first: u8, last: u8, text: &[u8]) -> Option<&[u8]>
-    ensures { option_map (λ t. t.now) result ≡ (if stands_between first last text.now then Some (inner text.now) else None) }
+    ensures { option_map (λ t. t.now) result
+        ≡ (if stands_between first last text.now then Some (inner text.now) else None) }
 {
     if text.len() >= 2 && text[0] == first && text[text.len() - 1] == last {
         Some(&text[1..text.len() - 1])

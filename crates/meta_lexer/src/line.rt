@@ -52,7 +52,9 @@ fn feed_at(rest: &[u8]) -> usize
 #[tactic(auto, using(crate::proofs::PieceLemmas::pieces_cut, crate::proofs::PieceLemmas::pieces_last))]
 pub fn cut(rest: &[u8]) -> (&[u8], &[u8])
     requires { 0 < length (without_return rest.now) }
-    ensures pieces { (n at : ℕ) → pieces_from n at rest.now ≡ record { number = n; start = at; bytes = result.0.now } ∷ pieces_from (n + 1) (at + (length rest.now - length result.1.now)) result.1.now }
+    ensures pieces { (n at : ℕ) → pieces_from n at rest.now
+        ≡ record { number = n; start = at; bytes = result.0.now }
+        ∷ pieces_from (n + 1) (at + (length rest.now - length result.1.now)) result.1.now }
     ensures shorter { length result.1.now < length rest.now }
     ensures within { length result.0.now ≤ length rest.now }
 {
@@ -108,7 +110,8 @@ fn blanks(text: &[u8]) -> usize
 
 /// How long the text is without the blanks at its end.
 fn used(text: &[u8]) -> usize
-    ensures { result + suffix_len Rattle.meta_lexer.specs.Lines.is_blank text.now ≡ length text.now }
+    ensures { result + suffix_len Rattle.meta_lexer.specs.Lines.is_blank text.now
+        ≡ length text.now }
 {
     let mut n = text.len();
     while n > 0 && is_blank(text[n - 1]) {
@@ -127,7 +130,8 @@ pub fn trim(text: &[u8]) -> &[u8]
 
 /// Where the first byte stands that may not, or the length.
 fn bad_at(text: &[u8]) -> usize
-    ensures at { result ≡ position_or_len (λ b. not (Rattle.meta_lexer.specs.Lines.is_plain b)) text.now }
+    ensures at { result ≡ position_or_len (λ b. not (Rattle.meta_lexer.specs.Lines.is_plain b))
+        text.now }
     ensures within { result ≤ length text.now }
 {
     let mut i = 0;
@@ -140,7 +144,8 @@ fn bad_at(text: &[u8]) -> usize
 /// The line of a piece, or its fault.
 pub fn line_of(number: u64, start: u64, piece: &[u8]) -> Result<Line<'_>, LexRefusal>
     requires { start + length piece.now < 2 ^ 64 }
-    ensures { let p = piece_of number start piece.now in Gives line_view result (unless (piece_fault p) (piece_line p)) }
+    ensures { let p = piece_of number start piece.now
+        in Gives line_view result (unless (piece_fault p) (piece_line p)) }
 {
     let text = without_line_end(piece);
     let code = before_comment(text);

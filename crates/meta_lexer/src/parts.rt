@@ -35,7 +35,8 @@ pub fn field_texts(alloc: Global, text: &[u8]) -> Result<Rows<Text>, WantOfMemor
 }
 
 fn cut_at_blanks(alloc: Global, text: &[u8]) -> Result<Vec<&[u8]>, AllocError>
-    ensures { IfOk result (λ pieces. map (λ piece. piece.now) pieces.items ≡ slice_split is_blank text.now) }
+    ensures { IfOk result (λ pieces. map (λ piece. piece.now) pieces.items
+        ≡ slice_split is_blank text.now) }
 {
     text.split(|b| is_blank(*b)).collect(alloc)
 }

@@ -7,8 +7,8 @@ use build_base::WantOfMemory as Wanting;
 use std::alloc::{AllocError, AllocFailed};
 use thiserror::Error;
 
-/// What is wrong with a text: the fault's code, the line from 1, and the span of the wrong bytes in the
-/// text handed in.
+/// What is wrong with a text: the fault's code, the line from 1, and the span of the wrong bytes in
+/// the text handed in.
 #[derive(Debug, Drop, Error)]
 pub enum LexRefusal {
     #[error("error {code} at line {line}")]

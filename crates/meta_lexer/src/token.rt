@@ -165,8 +165,12 @@ fn push_front(found: &mut Vec<Token>, at: usize, rest: &[u8]) -> Result<usize, W
     requires few { at + length rest.now < 2 ^ 63 }
     ensures some { IfOk result (λ k. 0 < k) }
     ensures within { IfOk result (λ k. k ≤ length rest.now) }
-    ensures spans { (text : List ℕ) → at + length rest.now ≤ length text → All (λ token. IsWithin text (token_span token)) found.old.items → OnOk result (All (λ token. IsWithin text (token_span token)) found.new.items) }
-    ensures tokens { IfOk result (λ k. found.new.items ++ tokens_after (at + k) 0 (drop k rest.now) ≡ found.old.items ++ tokens_after at 0 rest.now) }
+    ensures spans { (text : List ℕ) → at + length rest.now ≤ length text
+        → All (λ token. IsWithin text (token_span token)) found.old.items
+        → OnOk result (All (λ token. IsWithin text (token_span token)) found.new.items) }
+    ensures tokens { IfOk result
+        (λ k. found.new.items ++ tokens_after (at + k) 0 (drop k rest.now)
+        ≡ found.old.items ++ tokens_after at 0 rest.now) }
 {
     if is_blank(rest[0]) {
         return Ok(1);
@@ -187,7 +191,8 @@ fn push_front(found: &mut Vec<Token>, at: usize, rest: &[u8]) -> Result<usize, W
 #[tactic(auto, unfolding(crate::specs::Tokens::tokens_of))]
 pub fn tokens(alloc: Global, text: &[u8]) -> Result<Vec<Token>, LexRefusal>
     ensures tokens { Gives (λ v. v.items) result (tokens_of text.now) }
-    ensures within { IfOk result (λ v. All (λ token. IsWithin text.now (token_span token)) v.items) }
+    ensures within { IfOk result
+        (λ v. All (λ token. IsWithin text.now (token_span token)) v.items) }
 {
     if ends_quoted(text) {
         return Err(LexRefusal::Bad {

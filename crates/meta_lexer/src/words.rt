@@ -29,7 +29,8 @@ fn begins_with_digit(text: &[u8]) -> bool
     text[0] >= b'0' && text[0] <= b'9'
 }
 
-/// Whether a text is a C identifier of at most 64 bytes, as the names of macros, PCDs and GUIDs are.
+/// Whether a text is a C identifier of at most 64 bytes, as the names of macros, PCDs and GUIDs
+/// are.
 #[tactic(auto, unfolding(crate::specs::Words::is_identifier))]
 pub fn is_identifier(text: &[u8]) -> bool
     ensures { result ≡ is_identifier text.now }

@@ -1,5 +1,5 @@
--- A priori files, which name the files that are to be dispatched first (UEFI PI specification, volume 1, section 10.3;
--- volume 2, section 10.3; EDK II FDF specification, APRIORI).
+-- A priori files, which name the files that are to be dispatched first (UEFI PI specification,
+-- volume 1, section 10.3; volume 2, section 10.3; EDK II FDF specification, APRIORI).
 use Rattle.std.specs.Prelude.{ℕ, ◌+◌, Bool, false, if◌then◌else◌, List, [], ◌∷◌, None, Result, Ok}
 use Rattle.std.specs.List.{flat_map}
 use Rattle.build_base.specs.declared.fault.Fault.{Fault}
@@ -28,21 +28,26 @@ use Rattle.module_images.specs.Plans.{module_of}
 
 -- PEI_APRIORI_FILE_NAME_GUID, 1b45cc0a-156a-428a-af62-49864da0e6e6
 abbrev pub PEI_APRIORI_FILE_NAME_GUID : List ℕ
-PEI_APRIORI_FILE_NAME_GUID = 0x0A ∷ 0xCC ∷ 0x45 ∷ 0x1B ∷ 0x6A ∷ 0x15 ∷ 0x8A ∷ 0x42 ∷ 0xAF ∷ 0x62 ∷ 0x49 ∷ 0x86 ∷ 0x4D ∷ 0xA0 ∷ 0xE6 ∷ 0xE6 ∷ []
+PEI_APRIORI_FILE_NAME_GUID = 0x0A ∷ 0xCC ∷ 0x45 ∷ 0x1B ∷ 0x6A ∷ 0x15 ∷ 0x8A ∷ 0x42 ∷ 0xAF ∷ 0x62
+    ∷ 0x49 ∷ 0x86 ∷ 0x4D ∷ 0xA0 ∷ 0xE6 ∷ 0xE6 ∷ []
 
 -- EFI_APRIORI_GUID, fc510ee7-ffdc-11d4-bd41-0080c73c8881
 abbrev pub EFI_APRIORI_GUID : List ℕ
-EFI_APRIORI_GUID = 0xE7 ∷ 0x0E ∷ 0x51 ∷ 0xFC ∷ 0xDC ∷ 0xFF ∷ 0xD4 ∷ 0x11 ∷ 0xBD ∷ 0x41 ∷ 0x00 ∷ 0x80 ∷ 0xC7 ∷ 0x3C ∷ 0x88 ∷ 0x81 ∷ []
+EFI_APRIORI_GUID = 0xE7 ∷ 0x0E ∷ 0x51 ∷ 0xFC ∷ 0xDC ∷ 0xFF ∷ 0xD4 ∷ 0x11 ∷ 0xBD ∷ 0x41 ∷ 0x00 ∷ 0x80
+    ∷ 0xC7 ∷ 0x3C ∷ 0x88 ∷ 0x81 ∷ []
 
 -- the name of the file of the PEI phase, or of the DXE phase
 abbrev pub apriori_name : Bool → Guid
 apriori_name pei = record { 0 = if pei then PEI_APRIORI_FILE_NAME_GUID else EFI_APRIORI_GUID }
 
--- the name of the file of a statement's module, by the architectures, whose answer stands at this place
-unfoldable pub name_described : List (Answer Out) → ℕ → InfLine → PlatformDoc → InfDoc → Result Guid Fault
+-- the name of the file of a statement's module, by the architectures, whose answer stands at this
+-- place
+unfoldable pub name_described : List (Answer Out) → ℕ → InfLine → PlatformDoc → InfDoc
+    → Result Guid Fault
 name_described given i line platform inf =
     and_then (arches_at platform given i) (λ arches.
-    and_then (inf_arch line platform.components arches) (λ arch. Ok (module_guid platform (module_of line arch) inf)))
+    and_then (inf_arch line platform.components arches)
+    (λ arch. Ok (module_guid platform (module_of line arch) inf)))
 
 -- by the module's description before it
 unfoldable pub name_below : List (Answer Out) → ℕ → InfLine → PlatformDoc → Result Guid Fault
@@ -68,7 +73,14 @@ names_given given i members = taken member_count member_name given i members
 -- one section of the names
 abbrev pub names_part : List Guid → Part
 names_part names =
-    record { kind = EFI_SECTION_RAW; guid = None; align = 1; shift = 0; bytes = flat_map (λ name. name.0) names }
+    record {
+      kind = EFI_SECTION_RAW;
+      guid = None;
+      align = 1;
+      shift = 0;
+      bytes =
+          flat_map (λ name. name.0) names;
+    }
 
 abbrev pub apriori_plan : VolumeHead → Place → Bool → List Guid → ImagePlan
 apriori_plan head at pei names = record {
@@ -84,6 +96,7 @@ apriori_plan head at pei names = record {
 }
 
 -- the a priori file of a statement in a volume with this head
-unfoldable pub apriori_given : VolumeHead → Place → Bool → List Member → List (Answer Out) → Result FileImage Fault
+unfoldable pub apriori_given : VolumeHead → Place → Bool → List Member → List (Answer Out)
+    → Result FileImage Fault
 apriori_given head at pei members given =
     and_then (names_given given 0 members) (λ names. file_of (apriori_plan head at pei names))

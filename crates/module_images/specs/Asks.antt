@@ -14,10 +14,12 @@ use Rattle.step_pack.specs.declared.key.Key.{Key}
 use Rattle.step_pack.specs.declared.key.Key.TheVariants as key
 use Rattle.module_images.specs.declared.plans.ModulePlan.{ModulePlan}
 
--- of the module that a statement names: the platform, the module's description, the architectures, the target and the tag
+-- of the module that a statement names: the platform, the module's description, the architectures,
+-- the target and the tag
 abbrev pub line_asks : InfLine → List (Ask Key)
 line_asks line =
-    ask.Part key.Platform ∷ ask.Part (key.Inf line.inf) ∷ ask.Field 1 ∷ ask.Field 2 ∷ ask.Field 3 ∷ []
+    ask.Part key.Platform ∷ ask.Part (key.Inf line.inf) ∷ ask.Field 1 ∷ ask.Field 2 ∷ ask.Field 3
+    ∷ []
 
 abbrev pub member_asks : Member → List (Ask Key)
 member_asks (member.Inf line) = line_asks line
@@ -65,8 +67,10 @@ is_source_of path (source.Refused text) = false
 abbrev pub takes_depex : List ℕ → List SectionPlan → Bool
 takes_depex depex sections = list_any (λ section. is_source_of depex section.source) sections
 
--- the files of the sections in their order, and then the module's expression where a section holds it
+-- the files of the sections in their order, and then the module's expression where a section holds
+-- it
 abbrev pub plan_asks : ModulePlan → List (Ask Key)
 plan_asks plan =
     section_files plan.depex plan.file.sections
-    ++ (if takes_depex plan.depex plan.file.sections then ask.Part (key.Depex plan.«module») ∷ [] else [])
+    ++ (if takes_depex plan.depex plan.file.sections then ask.Part (key.Depex plan.«module») ∷ []
+    else [])

@@ -37,13 +37,16 @@ folder_at platform given i =
     and_then (field_at given (i + 1)) (λ tag. Ok (build_folder platform.output target tag)))
 
 -- the file of a statement's module, by the architectures, the target and the tag
-unfoldable pub plan_described : FlashDoc → InfLine → List (Answer Out) → PlatformDoc → InfDoc → Result ModulePlan Fault
+unfoldable pub plan_described : FlashDoc → InfLine → List (Answer Out) → PlatformDoc → InfDoc
+    → Result ModulePlan Fault
 plan_described flash line given platform inf =
     and_then (arches_at platform given 2) (λ arches.
-    and_then (folder_at platform given 3) (λ folder. module_plan flash line platform arches inf folder))
+    and_then (folder_at platform given 3)
+    (λ folder. module_plan flash line platform arches inf folder))
 
 -- by the module's description before them
-unfoldable pub plan_below : FlashDoc → InfLine → List (Answer Out) → PlatformDoc → Result ModulePlan Fault
+unfoldable pub plan_below : FlashDoc → InfLine → List (Answer Out) → PlatformDoc
+    → Result ModulePlan Fault
 plan_below flash line given platform =
     and_then (inf_at given 1 line.inf) (plan_described flash line given platform)
 

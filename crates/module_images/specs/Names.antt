@@ -1,5 +1,5 @@
--- The names that are filled in when a rule is used (EDK II FDF specification, [Rule] sections), and the folder of a
--- module's outputs (EDK II Build specification, build output).
+-- The names that are filled in when a rule is used (EDK II FDF specification, [Rule] sections), and
+-- the folder of a module's outputs (EDK II Build specification, build output).
 use Rattle.std.specs.Prelude.{ℕ, ◌==◌, if◌then◌else◌, List, [], ◌∷◌, ◌++◌, length, codes, unwrap_or}
 use Rattle.build_base.specs.declared.guid.Guid.{Guid}
 use Rattle.build_base.specs.declared.lines.Macro.{Macro}
@@ -19,11 +19,13 @@ or_default text default = if length text == 0 then default else text
 -- the folder of all outputs: OUTPUT_DIRECTORY/TARGET_TAG
 unfoldable pub build_folder : List ℕ → List ℕ → List ℕ → List ℕ
 build_folder output target tag =
-    output ++ codes "/" ++ or_default target (codes "DEBUG") ++ codes "_" ++ or_default tag (codes "GCC")
+    output ++ codes "/" ++ or_default target (codes "DEBUG") ++ codes "_"
+    ++ or_default tag (codes "GCC")
 
 -- that of a module: ARCH, the INF file without its extension, OUTPUT
 unfoldable pub module_folder : List ℕ → Module → List ℕ
-module_folder folder m = folder ++ codes "/" ++ arch_word m.arch ++ codes "/" ++ stem_of m.inf ++ codes "/OUTPUT"
+module_folder folder m = folder ++ codes "/" ++ arch_word m.arch ++ codes "/" ++ stem_of m.inf
+    ++ codes "/OUTPUT"
 
 -- the GUID that the module's component states, else that of its INF file
 unfoldable pub module_guid : PlatformDoc → Module → InfDoc → Guid
@@ -47,7 +49,8 @@ INF_VERSION = codes "INF_VERSION"
 unfoldable pub BUILD_NUMBER : List ℕ
 BUILD_NUMBER = codes "BUILD_NUMBER"
 
--- the five names, of a module of this GUID whose outputs stand in this folder; the number of a build is 0
+-- the five names, of a module of this GUID whose outputs stand in this folder; the number of a
+-- build is 0
 unfoldable pub rule_names : Guid → List ℕ → InfDoc → List Macro
 rule_names guid folder inf =
     named NAMED_GUID (guid_text guid)

@@ -34,7 +34,8 @@ rule_found None = Err misfit
 -- the rule for the module of a statement, or the fault that there is none
 unfoldable pub rule_for : FlashDoc → InfLine → Arch → ModuleType → Result RuleDoc Fault
 rule_for flash line arch kind =
-    and_then (rule_of flash.rule_list line arch kind) (λ n. rule_found (slice_get flash.rule_list n))
+    and_then (rule_of flash.rule_list line arch kind)
+    (λ n. rule_found (slice_get flash.rule_list n))
 
 -- a line that may stand but not be used
 abbrev pub refused_source : Place → SectionSource → Option Fault
@@ -63,9 +64,11 @@ abbrev pub template_filled : Place → List ℕ → Result SectionSource Fault
 template_filled at text = path_filled at text (path_field text)
 
 -- what a section of the rule holds for a module; other forms aren't a rule's, or are refused before
-abbrev pub source_filled : InfLine → List Macro → SectionPlan → SectionSource → Result SectionSource Fault
+abbrev pub source_filled : InfLine → List Macro → SectionPlan → SectionSource
+    → Result SectionSource Fault
 source_filled line names section (source.Tree path) = Err misfit
-source_filled line names section (source.Template text) = template_filled section.at (filled names text)
+source_filled line names section (source.Template text) =
+    template_filled section.at (filled names text)
 source_filled line names section (source.Volume n) = Err misfit
 source_filled line names section (source.Words text) =
     Ok (source.Words (filled names (stated_text line section.kind text)))
@@ -79,24 +82,29 @@ section_filled line names section =
     and_then (source_filled line names section section.source) (with_source section)
 
 -- the sections of the rule for a module, or the first filled path that is none
-abbrev pub sections_filled : InfLine → List Macro → List SectionPlan → Result (List SectionPlan) Fault
+abbrev pub sections_filled : InfLine → List Macro → List SectionPlan
+    → Result (List SectionPlan) Fault
 sections_filled line names sections = all_ok (map (section_filled line names) sections)
 
 -- the rule's file, which stands at the statement
 abbrev pub file_by : InfLine → FilePlan → List SectionPlan → FilePlan
 file_by line file sections = record file { at = line.at; sections = sections }
 
-abbrev pub plan_with : InfLine → Module → Guid → List ℕ → FilePlan → List SectionPlan → Result ModulePlan Fault
+abbrev pub plan_with : InfLine → Module → Guid → List ℕ → FilePlan → List SectionPlan
+    → Result ModulePlan Fault
 plan_with line m guid depex file sections =
     Ok (record { «module» = m; name = guid; depex = depex; file = file_by line file sections })
 
 -- the file by the rule's file, of a module of this GUID whose outputs stand in this folder
-unfoldable pub plan_named : InfLine → Module → Guid → List ℕ → InfDoc → FilePlan → Result ModulePlan Fault
+unfoldable pub plan_named : InfLine → Module → Guid → List ℕ → InfDoc → FilePlan
+    → Result ModulePlan Fault
 plan_named line m guid folder inf file =
-    and_then (sections_filled line (rule_names guid folder inf) file.sections) (plan_with line m guid (own_depex folder inf) file)
+    and_then (sections_filled line (rule_names guid folder inf) file.sections)
+    (plan_with line m guid (own_depex folder inf) file)
 
 -- where no line of the rule is refused
-unfoldable pub plan_by : InfLine → PlatformDoc → Module → List ℕ → InfDoc → FilePlan → Result ModulePlan Fault
+unfoldable pub plan_by : InfLine → PlatformDoc → Module → List ℕ → InfDoc → FilePlan
+    → Result ModulePlan Fault
 plan_by line platform m folder inf file =
     or_fault (first_fault refused_section file.sections)
     (plan_named line m (module_guid platform m inf) (module_folder folder m) inf file)
@@ -104,10 +112,12 @@ plan_by line platform m folder inf file =
 abbrev pub module_of : InfLine → Arch → Module
 module_of line arch = record { arch = arch; inf = line.inf }
 
--- The file of the module that a statement names, by the built architectures, the module's description and the folder of
--- all outputs. The first fault is that of the architecture, that there is no rule, that of a line of the rule that may not
--- be used, or that of a path.
-unfoldable pub module_plan : FlashDoc → InfLine → PlatformDoc → List Arch → InfDoc → List ℕ → Result ModulePlan Fault
+-- The file of the module that a statement names, by the built architectures, the module's
+-- description and the folder of all outputs. The first fault is that of the architecture, that
+-- there is no rule, that of a line of the rule that may not be used, or that of a path.
+unfoldable pub module_plan : FlashDoc → InfLine → PlatformDoc → List Arch → InfDoc → List ℕ
+    → Result ModulePlan Fault
 module_plan flash line platform arches inf folder =
     and_then (inf_arch line platform.components arches) (λ arch.
-    and_then (rule_for flash line arch inf.module_type) (λ rule. plan_by line platform (module_of line arch) folder inf rule.file))
+    and_then (rule_for flash line arch inf.module_type)
+    (λ rule. plan_by line platform (module_of line arch) folder inf rule.file))

@@ -1,4 +1,5 @@
--- Which sections of a module's file require the files that they name (EDK II FDF specification, [Rule] sections).
+-- Which sections of a module's file require the files that they name (EDK II FDF specification,
+-- [Rule] sections).
 use Rattle.std.specs.Prelude.{◌≡◌, ℕ, ◌&&◌, not, Bool, nat_eq, find, List, drop, Option, Some, None, slice_get}
 use Rattle.std.specs.Cmp.Lexicographic.{pointwise}
 use Rattle.std.specs.Global.{Vec}
@@ -27,4 +28,5 @@ IsTableFrom sections n table =
     (key : Vec ℕ) → picked sections (get same_key table key) ≡ requiring (drop n sections) key.items
 
 abbrev pub IsTable : {S : Type 0} → List SectionPlan → HashMap (Vec ℕ) ℕ S → Type 0
-IsTable sections table = (key : Vec ℕ) → picked sections (get same_key table key) ≡ requiring sections key.items
+IsTable sections table = (key : Vec ℕ) → picked sections (get same_key table key)
+    ≡ requiring sections key.items

@@ -1,5 +1,5 @@
--- The sections of a module's file, by the answers of its step (UEFI PI specification, volume 1, TE images; volume 3,
--- section 2.2.4; EDK II FDF specification, [Rule] sections).
+-- The sections of a module's file, by the answers of its step (UEFI PI specification, volume 1, TE
+-- images; volume 3, section 2.2.4; EDK II FDF specification, [Rule] sections).
 use Rattle.std.specs.Prelude.{◌≡◌, ℕ, ◌+◌, ◌==◌, ◌&&◌, is_some, if◌then◌else◌, List, [], ◌∷◌, length, Option, Some, None, Result, Ok, Err}
 use Rattle.build_base.specs.declared.fault.Fault.{Fault}
 use Rattle.build_base.specs.declared.guid.Guid.{Guid}
@@ -48,7 +48,8 @@ got_checked sections path (answer.Field text) = Err misfit
 got_checked sections path (answer.Part outcome) = Err misfit
 
 -- the file of a section among these, where the answer of the next file stands at this place
-abbrev pub source_checked : List ℕ → List (Answer Out) → ℕ → List SectionPlan → SectionSource → Result (Unit {0}) Fault
+abbrev pub source_checked : List ℕ → List (Answer Out) → ℕ → List SectionPlan → SectionSource
+    → Result (Unit {0}) Fault
 source_checked depex given f sections (source.Tree path) =
     if is_path_of depex path then Ok tt else and_then (file_at given f) (got_checked sections path)
 source_checked depex given f sections (source.Template text) = Ok tt
@@ -56,9 +57,10 @@ source_checked depex given f sections (source.Volume n) = Ok tt
 source_checked depex given f sections (source.Words text) = Ok tt
 source_checked depex given f sections (source.Refused text) = Ok tt
 
--- The first fault of the files of some of the sections, in the order in which they are asked for: each may be required by
--- any of the sections that name it.
-unfoldable pub files_checked : List ℕ → List (Answer Out) → List SectionPlan → ℕ → List SectionPlan → Result (Unit {0}) Fault
+-- The first fault of the files of some of the sections, in the order in which they are asked for:
+-- each may be required by any of the sections that name it.
+unfoldable pub files_checked : List ℕ → List (Answer Out) → List SectionPlan → ℕ → List SectionPlan
+    → Result (Unit {0}) Fault
 files_checked depex given all f [] = Ok tt
 files_checked depex given all f (section ∷ sections) =
     and_then (source_checked depex given f all section.source) (λ checked.
@@ -69,13 +71,16 @@ depex_of_out (out.Depex bytes) = Ok bytes
 depex_of_out _ = Err misfit
 
 -- the module's own expression, which is asked for behind the files where a section holds it
-unfoldable pub own_expression : List ℕ → List SectionPlan → List (Answer Out) → Result (List ℕ) Fault
+unfoldable pub own_expression : List ℕ → List SectionPlan → List (Answer Out)
+    → Result (List ℕ) Fault
 own_expression depex sections given =
-    if takes_depex depex sections then and_then (part_at given (file_count depex sections)) depex_of_out else Ok []
+    if takes_depex depex sections then and_then (part_at given (file_count depex sections))
+    depex_of_out else Ok []
 
 -- an expression without bytes is absent
 abbrev pub expression_fault : List ℕ → List SectionPlan → List ℕ → Option Fault
-expression_fault depex sections bytes = if length bytes == 0 then absent_fault sections depex else None
+expression_fault depex sections bytes = if length bytes == 0 then absent_fault sections depex
+    else None
 
 -- What is there.
 
@@ -87,7 +92,8 @@ auto_align path bytes (Err fault) = Err (pe_fault path bytes fault)
 abbrev pub unset_align : ℕ → ℕ
 unset_align kind = if kind == EFI_SECTION_FIRMWARE_VOLUME_IMAGE then 8 else 1
 
--- the alignment of a section of this kind whose content is a file; `Auto` takes that of a PE file's sections
+-- the alignment of a section of this kind whose content is a file; `Auto` takes that of a PE file's
+-- sections
 abbrev pub content_align : ℕ → List ℕ → List ℕ → Align → Result ℕ Fault
 content_align kind path bytes align.Unset = Ok (unset_align kind)
 content_align kind path bytes align.Auto = auto_align path bytes (section_alignment_of bytes)
@@ -95,7 +101,15 @@ content_align kind path bytes (align.Bytes n) = Ok n
 
 abbrev pub part_with : SectionPlan → ℕ → Shaped → Option Guid → Result Part Fault
 part_with section align content guid =
-    Ok (record { kind = section.kind; guid = guid; align = align; shift = content.shift; bytes = content.bytes })
+    Ok
+    (record {
+      kind = section.kind;
+      guid = guid;
+      align = align;
+      shift = content.shift;
+      bytes =
+          content.bytes;
+    })
 
 -- a section with its content
 abbrev pub part_of : SectionPlan → ℕ → Shaped → Result Part Fault
@@ -106,7 +120,8 @@ part_of section align content =
 unfoldable pub file_part : SectionPlan → List ℕ → List ℕ → Result Part Fault
 file_part section path bytes =
     and_then (file_shaped section.kind path bytes) (λ content.
-    and_then (content_align section.kind path bytes section.align) (λ align. part_of section align content))
+    and_then (content_align section.kind path bytes section.align)
+    (λ align. part_of section align content))
 
 -- bytes that aren't a file's: for them `Auto` counts as nothing stated
 unfoldable pub plain_part : SectionPlan → List ℕ → Result Part Fault
@@ -114,7 +129,8 @@ plain_part section bytes = part_of section (file_align section.align) (as_is byt
 
 -- what is absent is left out where it is Optional
 abbrev pub absent_part : SectionPlan → List ℕ → Result (Option Part) Fault
-absent_part section path = if section.optional then Ok None else Err (section_absent section.at path)
+absent_part section path = if section.optional then Ok None
+    else Err (section_absent section.at path)
 
 abbrev pub some_part : Result Part Fault → Result (Option Part) Fault
 some_part (Ok part) = Ok (Some part)
@@ -138,9 +154,11 @@ words_part section text =
     else some_part (plain_part section (words_bytes section.kind section.number text))
 
 -- a section, unless it is left out, where the answer of the next file stands at this place
-abbrev pub source_part : List ℕ → List ℕ → List (Answer Out) → ℕ → SectionPlan → SectionSource → Result (Option Part) Fault
+abbrev pub source_part : List ℕ → List ℕ → List (Answer Out) → ℕ → SectionPlan → SectionSource
+    → Result (Option Part) Fault
 source_part depex expression given f section (source.Tree path) =
-    if is_path_of depex path then expression_part section path expression else and_then (file_at given f) (got_part section path)
+    if is_path_of depex path then expression_part section path expression
+    else and_then (file_at given f) (got_part section path)
 source_part depex expression given f section (source.Template text) = Err misfit
 source_part depex expression given f section (source.Volume n) = Err misfit
 source_part depex expression given f section (source.Words text) = words_part section text
@@ -151,11 +169,13 @@ part_before None parts = parts
 part_before (Some part) parts = with_front (part ∷ []) parts
 
 -- all sections that are there, or the first fault of one
-unfoldable pub parts_from : List ℕ → List ℕ → List (Answer Out) → ℕ → List SectionPlan → Result (List Part) Fault
+unfoldable pub parts_from : List ℕ → List ℕ → List (Answer Out) → ℕ → List SectionPlan
+    → Result (List Part) Fault
 parts_from depex expression given f [] = Ok []
 parts_from depex expression given f (section ∷ sections) =
     and_then (source_part depex expression given f section section.source) (λ part.
-    part_before part (parts_from depex expression given (f + files_of depex section.source) sections))
+    part_before part
+    (parts_from depex expression given (f + files_of depex section.source) sections))
 
 -- a section has a GUID exactly where it is of the kind that has one
 abbrev pub HasGuid : Part → Type 0

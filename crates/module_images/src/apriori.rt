@@ -54,7 +54,8 @@ fn behind(place: usize) -> Result<usize, WantOfMemory>
     }
 }
 
-// The name of the file of a statement's module, by the architectures, whose answer stands at a place.
+// The name of the file of a statement's module, by the architectures, whose answer stands at a
+// place.
 #[tactic(auto, unfolding(crate::specs::Apriori::name_described))]
 fn name_described(
     alloc: Global,
@@ -64,7 +65,8 @@ fn name_described(
     platform: &PlatformDoc,
     inf: &InfDoc,
 ) -> Result<Guid, Stop<Key>>
-    ensures { GivesIn (λ name. name) result (name_described given.now place line.now platform.now inf.now) }
+    ensures { GivesIn (λ name. name) result
+        (name_described given.now place line.now platform.now inf.now) }
 {
     let arches = arches_at(alloc, platform, given, place)?;
     let arch = inf_arch(alloc, line, platform, &arches)?;
@@ -218,7 +220,8 @@ fn names_file(
     file_of(alloc, permit, &plan)
 }
 
-/// The a priori file of a statement in a volume with this head: that of the PEI phase, or of the DXE phase.
+/// The a priori file of a statement in a volume with this head: that of the PEI phase, or of the
+/// DXE phase.
 #[tactic(auto, unfolding(crate::specs::Apriori::apriori_given))]
 pub fn apriori_given(
     alloc: Global,
@@ -229,7 +232,8 @@ pub fn apriori_given(
     members: &[Member],
     given: &Given<'_, Out>,
 ) -> Result<FileImage, Stop<Key>>
-    ensures { GivesIn (λ file. file) result (apriori_given head.now at.now pei members.now given.now) }
+    ensures { GivesIn (λ file. file) result
+        (apriori_given head.now at.now pei members.now given.now) }
 {
     let names = names_given(alloc, given, members)?;
     Ok(names_file(alloc, permit, head, at, pei, names.items())?)

@@ -155,8 +155,8 @@ pub fn takes_depex(depex: &Text, sections: &[SectionPlan]) -> bool
         .any(|section| is_source_of(depex.bytes(), &section.source))
 }
 
-/// What the step of a module's file asks by its plan: the files of the sections, and then the module's expression where
-/// a section holds it.
+/// What the step of a module's file asks by its plan: the files of the sections, and then the
+/// module's expression where a section holds it.
 pub fn plan_asks(alloc: Global, plan: &ModulePlan) -> Result<Rows<Ask<Key>>, WantOfMemory>
     ensures { IfOk result (λ asks. asks ≡ plan_asks plan.now) }
 {

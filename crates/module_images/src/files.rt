@@ -25,7 +25,8 @@ fn sections_given(
     sections: &[SectionPlan],
     given: &Given<'_, Out>,
 ) -> Result<Rows<Part>, Stop<Key>>
-    ensures value { GivesIn (λ parts. parts) result (sections_given depex.now sections.now given.now) }
+    ensures value { GivesIn (λ parts. parts) result
+        (sections_given depex.now sections.now given.now) }
     ensures guids { IfOk result (All HasGuid) }
 {
     let places = places_of(alloc, sections)?;

@@ -1,4 +1,5 @@
-//! Modules in volumes: what the steps of INF statements and of a priori files ask, and what they give by the answers.
+//! Modules in volumes: what the steps of INF statements and of a priori files ask, and what they
+//! give by the answers.
 #![tactic(auto)]
 
 pub mod apriori;

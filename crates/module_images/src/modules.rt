@@ -75,7 +75,8 @@ fn plan_described(
     platform: &PlatformDoc,
     inf: &InfDoc,
 ) -> Result<ModulePlan, Stop<Key>>
-    ensures { GivesIn (λ plan. plan) result (plan_described flash.now line.now given.now platform.now inf.now) }
+    ensures { GivesIn (λ plan. plan) result
+        (plan_described flash.now line.now given.now platform.now inf.now) }
 {
     let arches = arches_at(alloc, platform, given, 2)?;
     let folder = folder_at(alloc, platform, given)?;

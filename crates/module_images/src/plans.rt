@@ -23,8 +23,8 @@ use flash_document::{inf_arch, rule_of};
 use std::alloc::Global;
 use step_pack::Key;
 
-/// The file of a module: the module, the file's name, the path of the module's own expression, and the file of its
-/// rule, whose sections are files and texts.
+/// The file of a module: the module, the file's name, the path of the module's own expression, and
+/// the file of its rule, whose sections are files and texts.
 #[derive(Drop)]
 pub struct ModulePlan {
     pub module: Module,
@@ -115,7 +115,8 @@ fn source_filled(
     names: &[Macro],
     section: &SectionPlan,
 ) -> Result<SectionSource, Stop<Key>>
-    ensures { GivesIn (λ source. source) result (source_filled line.now names.now section.now section.now.source) }
+    ensures { GivesIn (λ source. source) result
+        (source_filled line.now names.now section.now section.now.source) }
 {
     match &section.source {
         SectionSource::Template(text) => {
@@ -211,7 +212,8 @@ fn plan_named(
     inf: &InfDoc,
     file: &FilePlan,
 ) -> Result<ModulePlan, Stop<Key>>
-    ensures { GivesIn (λ plan. plan) result (plan_named line.now «module» name folder.now inf.now file.now) }
+    ensures { GivesIn (λ plan. plan) result
+        (plan_named line.now «module» name folder.now inf.now file.now) }
 {
     let names = rule_names(alloc, &name, folder, inf)?;
     let sections = sections_filled(alloc, line, names.items(), file.sections.items())?;
@@ -235,7 +237,8 @@ fn plan_by(
     inf: &InfDoc,
     file: &FilePlan,
 ) -> Result<ModulePlan, Stop<Key>>
-    ensures { GivesIn (λ plan. plan) result (plan_by line.now platform.now «module» folder.now inf.now file.now) }
+    ensures { GivesIn (λ plan. plan) result
+        (plan_by line.now platform.now «module» folder.now inf.now file.now) }
 {
     none_refused(alloc, file.sections.items())?;
     let name = module_guid(platform, &module, inf);
@@ -253,8 +256,8 @@ pub fn module_of(alloc: Global, line: &InfLine, arch: Arch) -> Result<Module, Wa
     })
 }
 
-/// The file of the module that a statement names, by its rule. `arches` are those that are built, `inf` is the module's
-/// description, and all outputs stand in `folder`.
+/// The file of the module that a statement names, by its rule. `arches` are those that are built,
+/// `inf` is the module's description, and all outputs stand in `folder`.
 #[tactic(auto, unfolding(crate::specs::Plans::module_plan))]
 pub fn module_plan(
     alloc: Global,
@@ -265,7 +268,8 @@ pub fn module_plan(
     inf: &InfDoc,
     folder: &Text,
 ) -> Result<ModulePlan, Stop<Key>>
-    ensures { GivesIn (λ plan. plan) result (module_plan flash.now line.now platform.now arches.now inf.now folder.now) }
+    ensures { GivesIn (λ plan. plan) result
+        (module_plan flash.now line.now platform.now arches.now inf.now folder.now) }
 {
     let arch = inf_arch(alloc, line, platform, arches)?;
     let rule = rule_for(alloc, flash, line, arch, inf.module_type)?;

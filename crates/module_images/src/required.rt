@@ -17,7 +17,9 @@ fn put_path(
     path: &Path,
     place: usize,
 ) -> Result<(), WantOfMemory>
-    ensures { (key : Bytes ℕ) → OnOk result (get same_key places.new key ≡ (if is_path_of key.items path.now then Some place else get same_key places.old key)) }
+    ensures { (key : Bytes ℕ)
+        → OnOk result (get same_key places.new key
+        ≡ (if is_path_of key.items path.now then Some place else get same_key places.old key)) }
 {
     let key = Vec::from_slice(alloc, path.bytes())?;
     match places.insert(key, place) {
@@ -33,7 +35,10 @@ fn put_section(
     section: &SectionPlan,
     place: usize,
 ) -> Result<(), WantOfMemory>
-    ensures { (key : Bytes ℕ) → OnOk result (get same_key places.new key ≡ (if requires_path key.items section.now then Some place else get same_key places.old key)) }
+    ensures { (key : Bytes ℕ)
+        → OnOk result (get same_key places.new key
+        ≡ (if requires_path key.items section.now then Some place
+        else get same_key places.old key)) }
 {
     if section.optional {
         return Ok(());

@@ -49,7 +49,8 @@ fn got_checked(
     path: &Path,
 ) -> Result<(), Stop<Key>>
     requires { IsTable sections.now places.now }
-    ensures { GivesIn (λ _. tt) result (and_then (file_at given.now file) (got_checked sections.now path.now)) }
+    ensures { GivesIn (λ _. tt) result
+        (and_then (file_at given.now file) (got_checked sections.now path.now)) }
 {
     match given.file(file)? {
         Answer::Bytes(_) => Ok(()),
@@ -73,7 +74,8 @@ fn source_checked(
     source: &SectionSource,
 ) -> Result<(), Stop<Key>>
     requires { IsTable sections.now places.now }
-    ensures { GivesIn (λ _. tt) result (source_checked depex.now given.now file sections.now source.now) }
+    ensures { GivesIn (λ _. tt) result
+        (source_checked depex.now given.now file sections.now source.now) }
 {
     match source {
         SectionSource::Tree(path) => {
@@ -89,8 +91,8 @@ fn source_checked(
     }
 }
 
-/// Refuses the first file of sections that is too long, or that isn't there and is required, by the table of their
-/// places.
+/// Refuses the first file of sections that is too long, or that isn't there and is required, by the
+/// table of their places.
 #[tactic(auto, unfolding(crate::specs::Sections::files_checked))]
 pub fn files_checked(
     alloc: Global,
@@ -100,7 +102,8 @@ pub fn files_checked(
     sections: &[SectionPlan],
 ) -> Result<(), Stop<Key>>
     requires { IsTable sections.now places.now }
-    ensures { GivesIn (λ _. tt) result (files_checked depex.now given.now sections.now 0 sections.now) }
+    ensures { GivesIn (λ _. tt) result
+        (files_checked depex.now given.now sections.now 0 sections.now) }
 {
     let mut file = 0;
     let mut left = sections;
@@ -128,7 +131,8 @@ pub fn own_expression<'a>(
     sections: &[SectionPlan],
     given: &Given<'a, Out>,
 ) -> Result<&'a [u8], Stop<Key>>
-    ensures { GivesIn (λ bytes. bytes.now) result (own_expression depex.now sections.now given.now) }
+    ensures { GivesIn (λ bytes. bytes.now) result
+        (own_expression depex.now sections.now given.now) }
 {
     if takes_depex(depex, sections) {
         return depex_of_out(given.part(file_count(depex, sections))?);
@@ -242,7 +246,8 @@ fn got_part(
     section: &SectionPlan,
     path: &Path,
 ) -> Result<Option<Part>, Stop<Key>>
-    ensures value { GivesIn (λ part. part) result (and_then (file_at given.now file) (got_part section.now path.now)) }
+    ensures value { GivesIn (λ part. part) result
+        (and_then (file_at given.now file) (got_part section.now path.now)) }
     ensures guid { IfOk result MayHaveGuid }
 {
     match given.file(file)? {
@@ -262,7 +267,8 @@ fn expression_part(
     path: &Path,
     expression: &[u8],
 ) -> Result<Option<Part>, Stop<Key>>
-    ensures value { GivesIn (λ part. part) result (expression_part section.now path.now expression.now) }
+    ensures value { GivesIn (λ part. part) result
+        (expression_part section.now path.now expression.now) }
     ensures guid { IfOk result MayHaveGuid }
 {
     if expression.is_empty() {
@@ -293,7 +299,8 @@ fn source_part(
     file: usize,
     section: &SectionPlan,
 ) -> Result<Option<Part>, Stop<Key>>
-    ensures value { GivesIn (λ part. part) result (source_part depex.now expression.now given.now file section.now section.now.source) }
+    ensures value { GivesIn (λ part. part) result
+        (source_part depex.now expression.now given.now file section.now section.now.source) }
     ensures guid { IfOk result MayHaveGuid }
 {
     match &section.source {
@@ -319,7 +326,8 @@ pub fn parts(
     given: &Given<'_, Out>,
     sections: &[SectionPlan],
 ) -> Result<Rows<Part>, Stop<Key>>
-    ensures value { GivesIn (λ parts. parts) result (parts_from depex.now expression.now given.now 0 sections.now) }
+    ensures value { GivesIn (λ parts. parts) result
+        (parts_from depex.now expression.now given.now 0 sections.now) }
     ensures guids { IfOk result (All HasGuid) }
 {
     let mut parts = Rows::new(alloc);

@@ -1,5 +1,5 @@
--- The descriptions of modules and their libraries, and the packages that they name, by the answers of
--- a step; the rule is this project's own.
+-- The descriptions of modules and their libraries, and the packages that they name, by the answers
+-- of a step; the rule is this project's own.
 use Rattle.std.specs.Prelude.{◌≡◌, ℕ, ◌+◌, nat_eq, List, [], ◌∷◌, length, Result, Ok, Err, if◌then◌else◌}
 use Rattle.std.specs.List.{filter_map}
 use Rattle.std.specs.Cmp.Lexicographic.{pointwise}
@@ -53,8 +53,8 @@ held_package path dec = Ok (record { path = path; doc = dec })
 abbrev pub package_at : List (Answer Out) → ℕ → List ℕ → Result Package Fault
 package_at given i path = and_then (and_then (part_at given i) dec_of_out) (held_package path)
 
--- What stands for each of some things among answers, that of the first at this place. Each thing has so
--- many answers.
+-- What stands for each of some things among answers, that of the first at this place. Each thing
+-- has so many answers.
 unfoldable pub taken : {X Y : Type 0} → (X → ℕ) → (List (Answer Out) → ℕ → X → Result Y Fault)
     → List (Answer Out) → ℕ → List X → Result (List Y) Fault
 taken count pick given i [] = Ok []
@@ -102,7 +102,13 @@ package_paths arch infs = filter_map path_field (packages_in arch infs)
 
 abbrev pub described : Linked → List InfDoc → Result Described Fault
 described held infs =
-    Ok (record { «module» = held.«module»; infs = infs; packages = package_paths held.«module».arch infs })
+    Ok
+    (record {
+      «module» = held.«module»;
+      infs = infs;
+      packages =
+          package_paths held.«module».arch infs;
+    })
 
 abbrev pub path_count : Linked → ℕ
 path_count held = length held.paths

@@ -38,6 +38,7 @@ module_ask platform flash commands dynamic parts = record {
 }
 
 -- the values of a module
-abbrev pub values_given : PlatformDoc → FlashDoc → List PcdSet → Values → ModuleParts → Result Values Fault
+abbrev pub values_given : PlatformDoc → FlashDoc → List PcdSet → Values → ModuleParts
+    → Result Values Fault
 values_given platform flash commands dynamic parts =
     module_values (module_ask platform flash commands dynamic parts)

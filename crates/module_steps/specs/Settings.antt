@@ -1,4 +1,5 @@
--- The modules of a build, and what the words say of its PCDs (EDK II Build specification, options -a,
+-- The modules of a build, and what the words say of its PCDs (EDK II Build specification, options
+-- -a,
 -- -x and --pcd; EDK II DSC specification, SUPPORTED_ARCHITECTURES and [Components]).
 use Rattle.std.specs.Prelude.{ℕ, ◌+◌, ◌==◌, ◌&&◌, Bool, false, List, [], ◌∷◌, ◌++◌, length, take, drop, map, fold, Option, Some, None, Result, Ok, Err, if◌then◌else◌}
 use Rattle.std.specs.List.{position, slice_split, flat_map, list_any}
@@ -73,7 +74,8 @@ is_supported supported (Some arch) = has_arch supported arch
 -- ArchUnsupported: the words name an architecture that the platform doesn't support
 unfoldable pub arch_unsupported : PlatformDoc → List ℕ → Option Fault
 arch_unsupported platform text =
-    if is_supported platform.arches (arch_named text) then None else Some (fault_of 232 platform.at text)
+    if is_supported platform.arches (arch_named text) then None
+    else Some (fault_of 232 platform.at text)
 
 -- SkuUnknown: the words choose a SKU that the platform doesn't have
 abbrev pub skus_fault : PlatformDoc → List (List ℕ) → Option Fault
@@ -87,7 +89,14 @@ named_skus text = if length text == 0 then [] else text ∷ []
 abbrev pub set_named : Place → List ℕ → List ℕ → Option ℕ → Result PcdSet Fault
 set_named at pcd value None = Err misfit
 set_named at pcd value (Some dot) =
-    Ok (record { at = at; rank = 1; pcd = record { space = take dot pcd; name = drop (dot + 1) pcd }; value = value })
+    Ok
+    (record {
+      at = at;
+      rank = 1;
+      pcd =
+          record { space = take dot pcd; name = drop (dot + 1) pcd };
+      value = value;
+    })
 
 abbrev pub set_by : Place → List ℕ → Option ℕ → Result PcdSet Fault
 set_by at text None = Err misfit

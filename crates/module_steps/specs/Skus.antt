@@ -1,4 +1,5 @@
--- Whether the walk from each SKU by its parents ends at DEFAULT (EDK II DSC specification, section 3.5).
+-- Whether the walk from each SKU by its parents ends at DEFAULT (EDK II DSC specification, section
+-- 3.5).
 use Rattle.std.specs.Prelude.{ℕ, zero, suc, ◌||◌, Bool, false, List, length, Option, Some, None, codes}
 use Rattle.std.specs.List.{list_all}
 use Rattle.std.specs.Option.{option_map}

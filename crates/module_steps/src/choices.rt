@@ -49,7 +49,8 @@ pub fn with_more(
     paths: &[Path],
 ) -> Result<Rows<InfDoc>, Stop<Key>>
     ensures value { GivesIn (λ infs. infs) result (with_more known given.now paths.now) }
-    ensures known { (path : List ℕ) → is_known known path ≡ true → IfOk result (λ infs. is_known infs path ≡ true) }
+    ensures known { (path : List ℕ) → is_known known path ≡ true
+        → IfOk result (λ infs. is_known infs path ≡ true) }
 {
     let mut infs = known;
     let (more, _next) = infs_from(alloc, given, 0, paths)?;

@@ -140,7 +140,8 @@ fn push_inf(
     path: &Path,
     infs: &mut Rows<InfDoc>,
 ) -> Result<usize, Stop<Key>>
-    ensures value { (more : Result (List InfModel) Fault) → Steps result infs.old infs.new (inf_at given.now place path.now) more }
+    ensures value { (more : Result (List InfModel) Fault)
+        → Steps result infs.old infs.new (inf_at given.now place path.now) more }
     ensures stopped { Stopped result (inf_at given.now place path.now) }
     ensures next { IfOk result (λ next. next ≡ place + 1) }
 {
@@ -178,7 +179,8 @@ fn push_package(
     path: &Path,
     packages: &mut Rows<Package>,
 ) -> Result<usize, Stop<Key>>
-    ensures value { (more : Result (List Held) Fault) → Steps result packages.old packages.new (package_at given.now place path.now) more }
+    ensures value { (more : Result (List Held) Fault)
+        → Steps result packages.old packages.new (package_at given.now place path.now) more }
     ensures stopped { Stopped result (package_at given.now place path.now) }
     ensures next { IfOk result (λ next. next ≡ place + 1) }
 {
@@ -347,8 +349,8 @@ pub fn described_from(
     Ok(all)
 }
 
-/// What values come from: a module with its descriptions and its packages, of which the first stands at
-/// a place, and the place behind them.
+/// What values come from: a module with its descriptions and its packages, of which the first
+/// stands at a place, and the place behind them.
 #[tactic(auto, unfolding(crate::specs::Parts::parts_at))]
 pub fn parts_at(
     alloc: Global,

@@ -61,7 +61,8 @@ fn module_ask(
     dynamic: &Shared<Values>,
     parts: ModuleParts,
 ) -> Result<ModuleAsk, WantOfMemory>
-    ensures { IfOk result (λ ask. ask ≡ module_ask platform.now flash.now commands dynamic.now parts) }
+    ensures { IfOk result
+        (λ ask. ask ≡ module_ask platform.now flash.now commands dynamic.now parts) }
 {
     Ok(ModuleAsk {
         platform: platform.copy(alloc)?,

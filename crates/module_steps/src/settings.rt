@@ -21,8 +21,8 @@ use pcd_resolve::skus::{is_all, skus_known};
 use std::alloc::{AllocError, Global};
 use step_pack::Key;
 
-/// What the words and the platform settle of a build's PCDs: the values that the words give, the SKUs
-/// that they choose, the architectures that are built, and the modules in order.
+/// What the words and the platform settle of a build's PCDs: the values that the words give, the
+/// SKUs that they choose, the architectures that are built, and the modules in order.
 #[derive(Drop)]
 pub struct Setting {
     pub commands: Rows<PcdSet>,
@@ -239,7 +239,8 @@ fn byte_at(text: &[u8], wanted: u8) -> Option<usize>
 }
 
 fn set_named(alloc: Global, at: &Place, pcd: &[u8], value: &[u8]) -> Result<PcdSet, Stop<Key>>
-    ensures { GivesIn (λ set. set) result (set_named at.now pcd.now value.now (position (λ byte. byte == 46) pcd.now)) }
+    ensures { GivesIn (λ set. set) result
+        (set_named at.now pcd.now value.now (position (λ byte. byte == 46) pcd.now)) }
 {
     let Some(dot) = byte_at(pcd, b'.') else {
         return Err(Stop::Misfit);
@@ -331,8 +332,8 @@ fn setting_by(
     })
 }
 
-/// What the words settle: their architectures, their SKU and the values that they give PCDs. Faults 229
-/// of the SKU and then 232 of an architecture.
+/// What the words settle: their architectures, their SKU and the values that they give PCDs. Faults
+/// 229 of the SKU and then 232 of an architecture.
 #[tactic(auto, unfolding(crate::specs::Settings::setting_of))]
 pub fn setting_of(
     alloc: Global,

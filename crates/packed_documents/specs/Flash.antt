@@ -1,4 +1,5 @@
--- The spelling of flash descriptions: the fields of a record in order, and an enum as the number of the variant, in the order of declaration, and its fields. The rule is this project's own.
+-- The spelling of flash descriptions: the fields of a record in order, and an enum as the number of
+-- the variant, in the order of declaration, and its fields. The rule is this project's own.
 use Rattle.std.specs.Prelude.{◌≡◌, ◌⊎◌, ℕ, List, refl}
 use Rattle.std.proofs.Common.{inl, inr}
 use Rattle.build_base.specs.declared.fault.Place.{Place}
@@ -37,7 +38,8 @@ region_kind_back (region_kind.Tree path) = refl
 region_kind_back (region_kind.Volume number) = refl
 
 unfoldable pub region_kind_form : Form RegionKind
-region_kind_form = form_by region_kind_parts region_kind_of region_kind_back (tagged_form (arm unit_form (arm text_form (arm path_form (last_arm (number_form 4))))))
+region_kind_form = form_by region_kind_parts region_kind_of region_kind_back
+    (tagged_form (arm unit_form (arm text_form (arm path_form (last_arm (number_form 4))))))
 
 unfoldable pub region_form : Form Region
 region_form = form_by (λ x. (x.at, (x.offset, (x.size, x.kind))))
@@ -57,13 +59,34 @@ unfoldable pub device_plan_second_form : Form (ℕ × (ℕ × (List Region)))
 device_plan_second_form = pair_form (number_form 8) (pair_form byte_form (rows_form region_form))
 
 abbrev pub device_plan_of : ((Place × ((List ℕ) × ℕ))) × ((ℕ × (ℕ × (List Region)))) → DevicePlan
-device_plan_of p = record { at = p.0.0; name = p.0.1.0; base = p.0.1.1; size = p.1.0; erase = p.1.1.0; regions = p.1.1.1 }
+device_plan_of p =
+    record {
+      at = p.0.0;
+      name = p.0.1.0;
+      base = p.0.1.1;
+      size = p.1.0;
+      erase = p.1.1.0;
+      regions =
+          p.1.1.1;
+    }
 
 unfoldable pub device_plan_form : Form DevicePlan
-device_plan_form = form_by (λ x. (device_plan_first x, device_plan_second x)) device_plan_of (λ x. refl)
+device_plan_form = form_by (λ x. (device_plan_first x, device_plan_second x)) device_plan_of
+    (λ x. refl)
     (pair_form device_plan_first_form device_plan_second_form)
 
 unfoldable pub flash_doc_form : Form FlashDoc
 flash_doc_form = form_by (λ x. (x.at, (x.sets, (x.devices, (x.volumes, x.rule_list)))))
-    (λ p. record { at = p.0; sets = p.1.0; devices = p.1.1.0; volumes = p.1.1.1.0; rule_list = p.1.1.1.1 }) (λ x. refl)
-    (pair_form place_form (pair_form (rows_form pcd_set_form) (pair_form (rows_form device_plan_form) (pair_form (rows_form volume_plan_form) (rows_form rule_doc_form)))))
+    (λ p.
+    record {
+      at = p.0;
+      sets = p.1.0;
+      devices = p.1.1.0;
+      volumes = p.1.1.1.0;
+      rule_list =
+          p.1.1.1.1;
+    }) (λ x. refl)
+    (pair_form place_form
+    (pair_form (rows_form pcd_set_form)
+    (pair_form (rows_form device_plan_form)
+    (pair_form (rows_form volume_plan_form) (rows_form rule_doc_form)))))

@@ -31,23 +31,40 @@ call_form = form_by (λ x. (x.inf, x.name))
 
 unfoldable pub choice_form : Form Choice
 choice_form = form_by (λ x. (x.library, (x.instances, (x.constructors, x.destructors))))
-    (λ p. record { library = p.0; instances = p.1.0; constructors = p.1.1.0; destructors = p.1.1.1 }) (λ x. refl)
-    (pair_form bool_form (pair_form (rows_form path_form) (pair_form (rows_form call_form) (rows_form call_form))))
+    (λ p.
+    record { library = p.0; instances = p.1.0; constructors = p.1.1.0; destructors = p.1.1.1 })
+    (λ x. refl)
+    (pair_form bool_form
+    (pair_form (rows_form path_form) (pair_form (rows_form call_form) (rows_form call_form))))
 
 abbrev pub pcd_row_first : PcdRow → PcdName × (Kind × (Datum × ℕ))
 pcd_row_first x = (x.pcd, (x.kind, (x.datum, x.token)))
 
 unfoldable pub pcd_row_first_form : Form (PcdName × (Kind × (Datum × ℕ)))
-pcd_row_first_form = pair_form pcd_name_form (pair_form kind_form (pair_form datum_form (number_form 4)))
+pcd_row_first_form = pair_form pcd_name_form
+    (pair_form kind_form (pair_form datum_form (number_form 4)))
 
 abbrev pub pcd_row_second : PcdRow → ℕ × (ℕ × ((List ℕ) × (List ℕ)))
 pcd_row_second x = (x.max, (x.rank, (x.sku, x.value)))
 
 unfoldable pub pcd_row_second_form : Form (ℕ × (ℕ × ((List ℕ) × (List ℕ))))
-pcd_row_second_form = pair_form (number_form 4) (pair_form byte_form (pair_form text_form text_form))
+pcd_row_second_form = pair_form (number_form 4)
+    (pair_form byte_form (pair_form text_form text_form))
 
-abbrev pub pcd_row_of : ((PcdName × (Kind × (Datum × ℕ)))) × ((ℕ × (ℕ × ((List ℕ) × (List ℕ))))) → PcdRow
-pcd_row_of p = record { pcd = p.0.0; kind = p.0.1.0; datum = p.0.1.1.0; token = p.0.1.1.1; max = p.1.0; rank = p.1.1.0; sku = p.1.1.1.0; value = p.1.1.1.1 }
+abbrev pub pcd_row_of : ((PcdName × (Kind × (Datum × ℕ))))
+    × ((ℕ × (ℕ × ((List ℕ) × (List ℕ))))) → PcdRow
+pcd_row_of p =
+    record {
+      pcd = p.0.0;
+      kind = p.0.1.0;
+      datum = p.0.1.1.0;
+      token = p.0.1.1.1;
+      max = p.1.0;
+      rank =
+          p.1.1.0;
+      sku = p.1.1.1.0;
+      value = p.1.1.1.1;
+    }
 
 unfoldable pub pcd_row_form : Form PcdRow
 pcd_row_form = form_by (λ x. (pcd_row_first x, pcd_row_second x)) pcd_row_of (λ x. refl)

@@ -33,7 +33,17 @@ unfoldable pub dec_pcd_second_form : Form ((List ℕ) × (Datum × ℕ))
 dec_pcd_second_form = pair_form text_form (pair_form datum_form (number_form 4))
 
 abbrev pub dec_pcd_of : ((Place × (Arch × (Kind × PcdName)))) × (((List ℕ) × (Datum × ℕ))) → DecPcd
-dec_pcd_of p = record { at = p.0.0; arch = p.0.1.0; kind = p.0.1.1.0; pcd = p.0.1.1.1; default = p.1.0; datum = p.1.1.0; token = p.1.1.1 }
+dec_pcd_of p =
+    record {
+      at = p.0.0;
+      arch = p.0.1.0;
+      kind = p.0.1.1.0;
+      pcd = p.0.1.1.1;
+      default = p.1.0;
+      datum =
+          p.1.1.0;
+      token = p.1.1.1;
+    }
 
 unfoldable pub dec_pcd_form : Form DecPcd
 dec_pcd_form = form_by (λ x. (dec_pcd_first x, dec_pcd_second x)) dec_pcd_of (λ x. refl)
@@ -41,5 +51,8 @@ dec_pcd_form = form_by (λ x. (dec_pcd_first x, dec_pcd_second x)) dec_pcd_of (�
 
 unfoldable pub dec_doc_form : Form DecDoc
 dec_doc_form = form_by (λ x. (x.at, (x.name, (x.guid, (x.guids, x.pcds)))))
-    (λ p. record { at = p.0; name = p.1.0; guid = p.1.1.0; guids = p.1.1.1.0; pcds = p.1.1.1.1 }) (λ x. refl)
-    (pair_form place_form (pair_form text_form (pair_form guid_form (pair_form (rows_form named_guid_form) (rows_form dec_pcd_form)))))
+    (λ p. record { at = p.0; name = p.1.0; guid = p.1.1.0; guids = p.1.1.1.0; pcds = p.1.1.1.1 })
+    (λ x. refl)
+    (pair_form place_form
+    (pair_form text_form
+    (pair_form guid_form (pair_form (rows_form named_guid_form) (rows_form dec_pcd_form)))))

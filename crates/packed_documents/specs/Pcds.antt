@@ -1,4 +1,5 @@
--- The spelling of PCD names and of what is set: their fields in order. The rule is this project's own.
+-- The spelling of PCD names and of what is set: their fields in order. The rule is this project's
+-- own.
 use Rattle.std.specs.Prelude.{refl}
 use Rattle.doc_types.specs.declared.pcd.PcdName.{PcdName}
 use Rattle.doc_types.specs.declared.pcd.PcdSet.{PcdSet}

@@ -1,4 +1,5 @@
--- The spelling of platform descriptions: the fields of a record in order, and an enum as the number of the variant, in the order of declaration, and its fields. The rule is this project's own.
+-- The spelling of platform descriptions: the fields of a record in order, and an enum as the number
+-- of the variant, in the order of declaration, and its fields. The rule is this project's own.
 use Rattle.std.specs.Prelude.{◌≡◌, ◌⊎◌, ℕ, List, Option, refl}
 use Rattle.std.proofs.Common.{inl, inr}
 use Rattle.build_base.specs.declared.guid.Guid.{Guid}
@@ -30,15 +31,21 @@ sku_form = form_by (λ x. (x.id, (x.name, x.parent)))
 
 unfoldable pub library_line_form : Form LibraryLine
 library_line_form = form_by (λ x. (x.at, (x.arch, (x.kind, (x.class, x.instance)))))
-    (λ p. record { at = p.0; arch = p.1.0; kind = p.1.1.0; class = p.1.1.1.0; instance = p.1.1.1.1 }) (λ x. refl)
-    (pair_form place_form (pair_form arch_form (pair_form (option_form module_type_form) (pair_form text_form path_form))))
+    (λ p.
+    record { at = p.0; arch = p.1.0; kind = p.1.1.0; class = p.1.1.1.0; instance = p.1.1.1.1 })
+    (λ x. refl)
+    (pair_form place_form
+    (pair_form arch_form
+    (pair_form (option_form module_type_form) (pair_form text_form path_form))))
 
 abbrev pub StoreParts : Type 0
-StoreParts = (Unit {0}) ⊎ (((List ℕ) × ((List ℕ) × (ℕ × (List ℕ)))) ⊎ ((Option ℕ) × (List (List ℕ))))
+StoreParts = (Unit {0})
+    ⊎ (((List ℕ) × ((List ℕ) × (ℕ × (List ℕ)))) ⊎ ((Option ℕ) × (List (List ℕ))))
 
 abbrev pub store_parts : Store → StoreParts
 store_parts store.Plain = inl tt
-store_parts (store.Hii variable guid offset attributes) = inr (inl (variable, (guid, (offset, attributes))))
+store_parts (store.Hii variable guid offset attributes) =
+    inr (inl (variable, (guid, (offset, attributes))))
 store_parts (store.Vpd offset rest) = inr (inr ((offset, rest)))
 
 abbrev pub store_of : StoreParts → Store
@@ -52,7 +59,11 @@ store_back (store.Hii variable guid offset attributes) = refl
 store_back (store.Vpd offset rest) = refl
 
 unfoldable pub store_form : Form Store
-store_form = form_by store_parts store_of store_back (tagged_form (arm unit_form (arm (pair_form text_form (pair_form text_form (pair_form (number_form 4) text_form))) (last_arm (pair_form (option_form (number_form 4)) (rows_form text_form))))))
+store_form = form_by store_parts store_of store_back
+    (tagged_form
+    (arm unit_form
+    (arm (pair_form text_form (pair_form text_form (pair_form (number_form 4) text_form)))
+    (last_arm (pair_form (option_form (number_form 4)) (rows_form text_form))))))
 
 abbrev pub pcd_line_first : PcdLine → Place × (Arch × Kind)
 pcd_line_first x = (x.at, (x.arch, x.kind))
@@ -70,13 +81,29 @@ abbrev pub pcd_line_third : PcdLine → (Option Datum) × ((Option ℕ) × Store
 pcd_line_third x = (x.datum, (x.max, x.store))
 
 unfoldable pub pcd_line_third_form : Form ((Option Datum) × ((Option ℕ) × Store))
-pcd_line_third_form = pair_form (option_form datum_form) (pair_form (option_form (number_form 4)) store_form)
+pcd_line_third_form = pair_form (option_form datum_form)
+    (pair_form (option_form (number_form 4)) store_form)
 
-abbrev pub pcd_line_of : ((Place × (Arch × Kind))) × ((((List ℕ) × (PcdName × (Option (List ℕ))))) × (((Option Datum) × ((Option ℕ) × Store)))) → PcdLine
-pcd_line_of p = record { at = p.0.0; arch = p.0.1.0; kind = p.0.1.1; sku = p.1.0.0; pcd = p.1.0.1.0; value = p.1.0.1.1; datum = p.1.1.0; max = p.1.1.1.0; store = p.1.1.1.1 }
+abbrev pub pcd_line_of : ((Place × (Arch × Kind)))
+    × ((((List ℕ) × (PcdName × (Option (List ℕ))))) × (((Option Datum) × ((Option ℕ) × Store))))
+    → PcdLine
+pcd_line_of p =
+    record {
+      at = p.0.0;
+      arch = p.0.1.0;
+      kind = p.0.1.1;
+      sku = p.1.0.0;
+      pcd = p.1.0.1.0;
+      value =
+          p.1.0.1.1;
+      datum = p.1.1.0;
+      max = p.1.1.1.0;
+      store = p.1.1.1.1;
+    }
 
 unfoldable pub pcd_line_form : Form PcdLine
-pcd_line_form = form_by (λ x. (pcd_line_first x, (pcd_line_second x, pcd_line_third x))) pcd_line_of (λ x. refl)
+pcd_line_form = form_by (λ x. (pcd_line_first x, (pcd_line_second x, pcd_line_third x))) pcd_line_of
+    (λ x. refl)
     (pair_form pcd_line_first_form (pair_form pcd_line_second_form pcd_line_third_form))
 
 abbrev pub component_first : Component → Place × (Arch × (List ℕ))
@@ -89,10 +116,20 @@ abbrev pub component_second : Component → (Option Guid) × ((List LibraryLine)
 component_second x = (x.file_guid, (x.libraries, x.pcds))
 
 unfoldable pub component_second_form : Form ((Option Guid) × ((List LibraryLine) × (List PcdLine)))
-component_second_form = pair_form (option_form guid_form) (pair_form (rows_form library_line_form) (rows_form pcd_line_form))
+component_second_form = pair_form (option_form guid_form)
+    (pair_form (rows_form library_line_form) (rows_form pcd_line_form))
 
-abbrev pub component_of : ((Place × (Arch × (List ℕ)))) × (((Option Guid) × ((List LibraryLine) × (List PcdLine)))) → Component
-component_of p = record { at = p.0.0; arch = p.0.1.0; inf = p.0.1.1; file_guid = p.1.0; libraries = p.1.1.0; pcds = p.1.1.1 }
+abbrev pub component_of : ((Place × (Arch × (List ℕ))))
+    × (((Option Guid) × ((List LibraryLine) × (List PcdLine)))) → Component
+component_of p =
+    record {
+      at = p.0.0;
+      arch = p.0.1.0;
+      inf = p.0.1.1;
+      file_guid = p.1.0;
+      libraries = p.1.1.0;
+      pcds = p.1.1.1;
+    }
 
 unfoldable pub component_form : Form Component
 component_form = form_by (λ x. (component_first x, component_second x)) component_of (λ x. refl)
@@ -104,21 +141,46 @@ platform_doc_first x = (x.at, (x.name, (x.guid, x.output)))
 unfoldable pub platform_doc_first_form : Form (Place × ((List ℕ) × (Guid × (List ℕ))))
 platform_doc_first_form = pair_form place_form (pair_form text_form (pair_form guid_form path_form))
 
-abbrev pub platform_doc_second : PlatformDoc → (List Arch) × ((List ℕ) × ((Option (List ℕ)) × (List Sku)))
+abbrev pub platform_doc_second : PlatformDoc → (List Arch)
+    × ((List ℕ) × ((Option (List ℕ)) × (List Sku)))
 platform_doc_second x = (x.arches, (x.sku_choice, (x.flash, x.skus)))
 
-unfoldable pub platform_doc_second_form : Form ((List Arch) × ((List ℕ) × ((Option (List ℕ)) × (List Sku))))
-platform_doc_second_form = pair_form (rows_form arch_form) (pair_form text_form (pair_form (option_form path_form) (rows_form sku_form)))
+unfoldable pub platform_doc_second_form :
+    Form ((List Arch) × ((List ℕ) × ((Option (List ℕ)) × (List Sku))))
+platform_doc_second_form = pair_form (rows_form arch_form)
+    (pair_form text_form (pair_form (option_form path_form) (rows_form sku_form)))
 
-abbrev pub platform_doc_third : PlatformDoc → (List LibraryLine) × ((List Component) × ((List PcdLine) × (List Macro)))
+abbrev pub platform_doc_third : PlatformDoc → (List LibraryLine)
+    × ((List Component) × ((List PcdLine) × (List Macro)))
 platform_doc_third x = (x.libraries, (x.components, (x.pcds, x.macros)))
 
-unfoldable pub platform_doc_third_form : Form ((List LibraryLine) × ((List Component) × ((List PcdLine) × (List Macro))))
-platform_doc_third_form = pair_form (rows_form library_line_form) (pair_form (rows_form component_form) (pair_form (rows_form pcd_line_form) (rows_form macro_form)))
+unfoldable pub platform_doc_third_form :
+    Form ((List LibraryLine) × ((List Component) × ((List PcdLine) × (List Macro))))
+platform_doc_third_form = pair_form (rows_form library_line_form)
+    (pair_form (rows_form component_form)
+    (pair_form (rows_form pcd_line_form) (rows_form macro_form)))
 
-abbrev pub platform_doc_of : ((Place × ((List ℕ) × (Guid × (List ℕ))))) × ((((List Arch) × ((List ℕ) × ((Option (List ℕ)) × (List Sku))))) × (((List LibraryLine) × ((List Component) × ((List PcdLine) × (List Macro)))))) → PlatformDoc
-platform_doc_of p = record { at = p.0.0; name = p.0.1.0; guid = p.0.1.1.0; output = p.0.1.1.1; arches = p.1.0.0; sku_choice = p.1.0.1.0; flash = p.1.0.1.1.0; skus = p.1.0.1.1.1; libraries = p.1.1.0; components = p.1.1.1.0; pcds = p.1.1.1.1.0; macros = p.1.1.1.1.1 }
+abbrev pub platform_doc_of : ((Place × ((List ℕ) × (Guid × (List ℕ)))))
+    × ((((List Arch) × ((List ℕ) × ((Option (List ℕ)) × (List Sku)))))
+    × (((List LibraryLine) × ((List Component) × ((List PcdLine) × (List Macro)))))) → PlatformDoc
+platform_doc_of p =
+    record {
+      at = p.0.0;
+      name = p.0.1.0;
+      guid = p.0.1.1.0;
+      output = p.0.1.1.1;
+      arches = p.1.0.0;
+      sku_choice = p.1.0.1.0;
+      flash = p.1.0.1.1.0;
+      skus = p.1.0.1.1.1;
+      libraries = p.1.1.0;
+      components = p.1.1.1.0;
+      pcds = p.1.1.1.1.0;
+      macros = p.1.1.1.1.1;
+    }
 
 unfoldable pub platform_doc_form : Form PlatformDoc
-platform_doc_form = form_by (λ x. (platform_doc_first x, (platform_doc_second x, platform_doc_third x))) platform_doc_of (λ x. refl)
+platform_doc_form =
+    form_by (λ x. (platform_doc_first x, (platform_doc_second x, platform_doc_third x)))
+    platform_doc_of (λ x. refl)
     (pair_form platform_doc_first_form (pair_form platform_doc_second_form platform_doc_third_form))

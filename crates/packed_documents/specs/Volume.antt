@@ -1,4 +1,5 @@
--- The spelling of volumes: the fields of a record in order, and an enum as the number of the variant, in the order of declaration, and its fields. The rule is this project's own.
+-- The spelling of volumes: the fields of a record in order, and an enum as the number of the
+-- variant, in the order of declaration, and its fields. The rule is this project's own.
 use Rattle.std.specs.Prelude.{◌≡◌, ◌⊎◌, ℕ, Bool, List, Option, refl}
 use Rattle.std.proofs.Common.{inl, inr}
 use Rattle.build_base.specs.declared.guid.Guid.{Guid}
@@ -44,7 +45,8 @@ align_back align.Auto = refl
 align_back (align.Bytes bytes) = refl
 
 unfoldable pub align_form : Form Align
-align_form = form_by align_parts align_of align_back (tagged_form (arm unit_form (arm unit_form (last_arm (number_form 4)))))
+align_form = form_by align_parts align_of align_back
+    (tagged_form (arm unit_form (arm unit_form (last_arm (number_form 4)))))
 
 abbrev pub SectionSourceParts : Type 0
 SectionSourceParts = (List ℕ) ⊎ ((List ℕ) ⊎ (ℕ ⊎ ((List ℕ) ⊎ (List ℕ))))
@@ -71,41 +73,70 @@ section_source_back (section_source.Words text) = refl
 section_source_back (section_source.Refused text) = refl
 
 unfoldable pub section_source_form : Form SectionSource
-section_source_form = form_by section_source_parts section_source_of section_source_back (tagged_form (arm path_form (arm text_form (arm (number_form 4) (arm text_form (last_arm text_form))))))
+section_source_form = form_by section_source_parts section_source_of section_source_back
+    (tagged_form
+    (arm path_form (arm text_form (arm (number_form 4) (arm text_form (last_arm text_form))))))
 
 abbrev pub section_plan_first : SectionPlan → Place × (ℕ × (Bool × Align))
 section_plan_first x = (x.at, (x.kind, (x.optional, x.align)))
 
 unfoldable pub section_plan_first_form : Form (Place × (ℕ × (Bool × Align)))
-section_plan_first_form = pair_form place_form (pair_form byte_form (pair_form bool_form align_form))
+section_plan_first_form = pair_form place_form
+    (pair_form byte_form (pair_form bool_form align_form))
 
 abbrev pub section_plan_second : SectionPlan → ℕ × ((Option Guid) × SectionSource)
 section_plan_second x = (x.number, (x.guid, x.source))
 
 unfoldable pub section_plan_second_form : Form (ℕ × ((Option Guid) × SectionSource))
-section_plan_second_form = pair_form (number_form 2) (pair_form (option_form guid_form) section_source_form)
+section_plan_second_form = pair_form (number_form 2)
+    (pair_form (option_form guid_form) section_source_form)
 
-abbrev pub section_plan_of : ((Place × (ℕ × (Bool × Align)))) × ((ℕ × ((Option Guid) × SectionSource))) → SectionPlan
-section_plan_of p = record { at = p.0.0; kind = p.0.1.0; optional = p.0.1.1.0; align = p.0.1.1.1; number = p.1.0; guid = p.1.1.0; source = p.1.1.1 }
+abbrev pub section_plan_of : ((Place × (ℕ × (Bool × Align))))
+    × ((ℕ × ((Option Guid) × SectionSource))) → SectionPlan
+section_plan_of p =
+    record {
+      at = p.0.0;
+      kind = p.0.1.0;
+      optional = p.0.1.1.0;
+      align = p.0.1.1.1;
+      number = p.1.0;
+      guid = p.1.1.0;
+      source = p.1.1.1;
+    }
 
 unfoldable pub section_plan_form : Form SectionPlan
-section_plan_form = form_by (λ x. (section_plan_first x, section_plan_second x)) section_plan_of (λ x. refl)
+section_plan_form = form_by (λ x. (section_plan_first x, section_plan_second x)) section_plan_of
+    (λ x. refl)
     (pair_form section_plan_first_form section_plan_second_form)
 
 abbrev pub file_plan_first : FilePlan → Place × (ℕ × ((Option Guid) × Bool))
 file_plan_first x = (x.at, (x.file_type, (x.guid, x.fixed)))
 
 unfoldable pub file_plan_first_form : Form (Place × (ℕ × ((Option Guid) × Bool)))
-file_plan_first_form = pair_form place_form (pair_form byte_form (pair_form (option_form guid_form) bool_form))
+file_plan_first_form = pair_form place_form
+    (pair_form byte_form (pair_form (option_form guid_form) bool_form))
 
 abbrev pub file_plan_second : FilePlan → Bool × (Align × ((Option (List ℕ)) × (List SectionPlan)))
 file_plan_second x = (x.checksum, (x.align, (x.whole, x.sections)))
 
-unfoldable pub file_plan_second_form : Form (Bool × (Align × ((Option (List ℕ)) × (List SectionPlan))))
-file_plan_second_form = pair_form bool_form (pair_form align_form (pair_form (option_form path_form) (rows_form section_plan_form)))
+unfoldable pub file_plan_second_form : Form
+    (Bool × (Align × ((Option (List ℕ)) × (List SectionPlan))))
+file_plan_second_form = pair_form bool_form
+    (pair_form align_form (pair_form (option_form path_form) (rows_form section_plan_form)))
 
-abbrev pub file_plan_of : ((Place × (ℕ × ((Option Guid) × Bool)))) × ((Bool × (Align × ((Option (List ℕ)) × (List SectionPlan))))) → FilePlan
-file_plan_of p = record { at = p.0.0; file_type = p.0.1.0; guid = p.0.1.1.0; fixed = p.0.1.1.1; checksum = p.1.0; align = p.1.1.0; whole = p.1.1.1.0; sections = p.1.1.1.1 }
+abbrev pub file_plan_of : ((Place × (ℕ × ((Option Guid) × Bool))))
+    × ((Bool × (Align × ((Option (List ℕ)) × (List SectionPlan))))) → FilePlan
+file_plan_of p =
+    record {
+      at = p.0.0;
+      file_type = p.0.1.0;
+      guid = p.0.1.1.0;
+      fixed = p.0.1.1.1;
+      checksum = p.1.0;
+      align = p.1.1.0;
+      whole = p.1.1.1.0;
+      sections = p.1.1.1.1;
+    }
 
 unfoldable pub file_plan_form : Form FilePlan
 file_plan_form = form_by (λ x. (file_plan_first x, file_plan_second x)) file_plan_of (λ x. refl)
@@ -121,10 +152,21 @@ abbrev pub inf_line_second : InfLine → (List ℕ) × ((Option (List ℕ)) × (
 inf_line_second x = (x.template, (x.version, x.ui))
 
 unfoldable pub inf_line_second_form : Form ((List ℕ) × ((Option (List ℕ)) × (Option (List ℕ))))
-inf_line_second_form = pair_form text_form (pair_form (option_form text_form) (option_form text_form))
+inf_line_second_form = pair_form text_form
+    (pair_form (option_form text_form) (option_form text_form))
 
-abbrev pub inf_line_of : ((Place × ((List ℕ) × (Option Arch)))) × (((List ℕ) × ((Option (List ℕ)) × (Option (List ℕ))))) → InfLine
-inf_line_of p = record { at = p.0.0; inf = p.0.1.0; arch = p.0.1.1; template = p.1.0; version = p.1.1.0; ui = p.1.1.1 }
+abbrev pub inf_line_of : ((Place × ((List ℕ) × (Option Arch))))
+    × (((List ℕ) × ((Option (List ℕ)) × (Option (List ℕ))))) → InfLine
+inf_line_of p =
+    record {
+      at = p.0.0;
+      inf = p.0.1.0;
+      arch = p.0.1.1;
+      template = p.1.0;
+      version = p.1.1.0;
+      ui =
+          p.1.1.1;
+    }
 
 unfoldable pub inf_line_form : Form InfLine
 inf_line_form = form_by (λ x. (inf_line_first x, inf_line_second x)) inf_line_of (λ x. refl)
@@ -146,7 +188,8 @@ member_back (member.Inf line) = refl
 member_back (member.File guid) = refl
 
 unfoldable pub member_form : Form Member
-member_form = form_by member_parts member_of member_back (tagged_form (arm inf_line_form (last_arm guid_form)))
+member_form = form_by member_parts member_of member_back
+    (tagged_form (arm inf_line_form (last_arm guid_form)))
 
 abbrev pub ItemParts : Type 0
 ItemParts = (Place × (Bool × (List Member))) ⊎ (FilePlan ⊎ InfLine)
@@ -167,24 +210,37 @@ item_back (item.File file) = refl
 item_back (item.Inf line) = refl
 
 unfoldable pub item_form : Form Item
-item_form = form_by item_parts item_of item_back (tagged_form (arm (pair_form place_form (pair_form bool_form (rows_form member_form))) (arm file_plan_form (last_arm inf_line_form))))
+item_form = form_by item_parts item_of item_back
+    (tagged_form (arm (pair_form place_form (pair_form bool_form (rows_form member_form)))
+    (arm file_plan_form (last_arm inf_line_form))))
 
 unfoldable pub rule_doc_form : Form RuleDoc
 rule_doc_form = form_by (λ x. (x.at, (x.arch, (x.module_type, (x.template, x.file)))))
-    (λ p. record { at = p.0; arch = p.1.0; module_type = p.1.1.0; template = p.1.1.1.0; file = p.1.1.1.1 }) (λ x. refl)
-    (pair_form place_form (pair_form arch_form (pair_form module_type_form (pair_form text_form file_plan_form))))
+    (λ p.
+    record {
+      at = p.0;
+      arch = p.1.0;
+      module_type = p.1.1.0;
+      template = p.1.1.1.0;
+      file =
+          p.1.1.1.1;
+    }) (λ x. refl)
+    (pair_form place_form
+    (pair_form arch_form (pair_form module_type_form (pair_form text_form file_plan_form))))
 
 abbrev pub volume_head_first : VolumeHead → Place × ((List ℕ) × (ℕ × ℕ))
 volume_head_first x = (x.at, (x.name, (x.attributes, x.erase)))
 
 unfoldable pub volume_head_first_form : Form (Place × ((List ℕ) × (ℕ × ℕ)))
-volume_head_first_form = pair_form place_form (pair_form text_form (pair_form (number_form 4) byte_form))
+volume_head_first_form = pair_form place_form
+    (pair_form text_form (pair_form (number_form 4) byte_form))
 
 abbrev pub volume_head_second : VolumeHead → ℕ × ((Option ℕ) × (Option Guid))
 volume_head_second x = (x.block_size, (x.size, x.name_guid))
 
 unfoldable pub volume_head_second_form : Form (ℕ × ((Option ℕ) × (Option Guid)))
-volume_head_second_form = pair_form (number_form 8) (pair_form (option_form (number_form 8)) (option_form guid_form))
+volume_head_second_form = pair_form (number_form 8)
+    (pair_form (option_form (number_form 8)) (option_form guid_form))
 
 abbrev pub volume_head_third : VolumeHead → (Option ℕ) × (Bool × Bool)
 volume_head_third x = (x.base, (x.force, x.ffs3))
@@ -192,11 +248,27 @@ volume_head_third x = (x.base, (x.force, x.ffs3))
 unfoldable pub volume_head_third_form : Form ((Option ℕ) × (Bool × Bool))
 volume_head_third_form = pair_form (option_form (number_form 8)) (pair_form bool_form bool_form)
 
-abbrev pub volume_head_of : ((Place × ((List ℕ) × (ℕ × ℕ)))) × (((ℕ × ((Option ℕ) × (Option Guid)))) × (((Option ℕ) × (Bool × Bool)))) → VolumeHead
-volume_head_of p = record { at = p.0.0; name = p.0.1.0; attributes = p.0.1.1.0; erase = p.0.1.1.1; block_size = p.1.0.0; size = p.1.0.1.0; name_guid = p.1.0.1.1; base = p.1.1.0; force = p.1.1.1.0; ffs3 = p.1.1.1.1 }
+abbrev pub volume_head_of : ((Place × ((List ℕ) × (ℕ × ℕ))))
+    × (((ℕ × ((Option ℕ) × (Option Guid)))) × (((Option ℕ) × (Bool × Bool)))) → VolumeHead
+volume_head_of p =
+    record {
+      at = p.0.0;
+      name = p.0.1.0;
+      attributes = p.0.1.1.0;
+      erase = p.0.1.1.1;
+      block_size =
+          p.1.0.0;
+      size = p.1.0.1.0;
+      name_guid = p.1.0.1.1;
+      base = p.1.1.0;
+      force = p.1.1.1.0;
+      ffs3 =
+          p.1.1.1.1;
+    }
 
 unfoldable pub volume_head_form : Form VolumeHead
-volume_head_form = form_by (λ x. (volume_head_first x, (volume_head_second x, volume_head_third x))) volume_head_of (λ x. refl)
+volume_head_form = form_by (λ x. (volume_head_first x, (volume_head_second x, volume_head_third x)))
+    volume_head_of (λ x. refl)
     (pair_form volume_head_first_form (pair_form volume_head_second_form volume_head_third_form))
 
 unfoldable pub volume_plan_form : Form VolumePlan

@@ -1,4 +1,5 @@
--- The spelling of enums without fields: the number of the variant, in the order of declaration. The rule is this project's own.
+-- The spelling of enums without fields: the number of the variant, in the order of declaration. The
+-- rule is this project's own.
 use Rattle.std.specs.Prelude.{◌≡◌, ℕ, ◌==◌, if◌then◌else◌, refl}
 use Rattle.doc_types.specs.declared.arch.Arch.{Arch}
 use Rattle.doc_types.specs.declared.pcd.Asked.{Asked}
@@ -26,7 +27,9 @@ arch_number arch.Ebc = 7
 
 abbrev pub arch_of : ℕ → Arch
 arch_of n =
-    if n == 0 then arch.Common else if n == 1 then arch.Ia32 else if n == 2 then arch.X64 else if n == 3 then arch.Arm else if n == 4 then arch.Aarch64 else if n == 5 then arch.Riscv64 else if n == 6 then arch.Loongarch64 else arch.Ebc
+    if n == 0 then arch.Common else if n == 1 then arch.Ia32 else if n == 2 then arch.X64
+    else if n == 3 then arch.Arm else if n == 4 then arch.Aarch64 else if n == 5
+    then arch.Riscv64 else if n == 6 then arch.Loongarch64 else arch.Ebc
 
 pub arch_back : (x : Arch) → arch_of (arch_number x) ≡ x
 arch_back arch.Common = refl
@@ -61,7 +64,15 @@ module_type_number module_type.HostApplication = 15
 
 abbrev pub module_type_of : ℕ → ModuleType
 module_type_of n =
-    if n == 0 then module_type.Base else if n == 1 then module_type.Sec else if n == 2 then module_type.PeiCore else if n == 3 then module_type.Peim else if n == 4 then module_type.DxeCore else if n == 5 then module_type.DxeDriver else if n == 6 then module_type.DxeRuntimeDriver else if n == 7 then module_type.DxeSalDriver else if n == 8 then module_type.DxeSmmDriver else if n == 9 then module_type.SmmCore else if n == 10 then module_type.MmStandalone else if n == 11 then module_type.MmCoreStandalone else if n == 12 then module_type.UefiDriver else if n == 13 then module_type.UefiApplication else if n == 14 then module_type.UserDefined else module_type.HostApplication
+    if n == 0 then module_type.Base else if n == 1 then module_type.Sec else if n == 2
+    then module_type.PeiCore else if n == 3 then module_type.Peim else if n == 4
+    then module_type.DxeCore else if n == 5 then module_type.DxeDriver else if n == 6
+    then module_type.DxeRuntimeDriver else if n == 7 then module_type.DxeSalDriver
+    else if n == 8 then module_type.DxeSmmDriver else if n == 9 then module_type.SmmCore
+    else if n == 10 then module_type.MmStandalone else if n == 11
+    then module_type.MmCoreStandalone else if n == 12 then module_type.UefiDriver
+    else if n == 13 then module_type.UefiApplication else if n == 14
+    then module_type.UserDefined else module_type.HostApplication
 
 pub module_type_back : (x : ModuleType) → module_type_of (module_type_number x) ≡ x
 module_type_back module_type.Base = refl
@@ -93,7 +104,8 @@ kind_number kind.DynamicEx = 4
 
 abbrev pub kind_of : ℕ → Kind
 kind_of n =
-    if n == 0 then kind.FixedAtBuild else if n == 1 then kind.PatchableInModule else if n == 2 then kind.FeatureFlag else if n == 3 then kind.Dynamic else kind.DynamicEx
+    if n == 0 then kind.FixedAtBuild else if n == 1 then kind.PatchableInModule else if n == 2
+    then kind.FeatureFlag else if n == 3 then kind.Dynamic else kind.DynamicEx
 
 pub kind_back : (x : Kind) → kind_of (kind_number x) ≡ x
 kind_back kind.FixedAtBuild = refl
@@ -115,7 +127,8 @@ datum_number datum.Void = 5
 
 abbrev pub datum_of : ℕ → Datum
 datum_of n =
-    if n == 0 then datum.U8 else if n == 1 then datum.U16 else if n == 2 then datum.U32 else if n == 3 then datum.U64 else if n == 4 then datum.Boolean else datum.Void
+    if n == 0 then datum.U8 else if n == 1 then datum.U16 else if n == 2 then datum.U32
+    else if n == 3 then datum.U64 else if n == 4 then datum.Boolean else datum.Void
 
 pub datum_back : (x : Datum) → datum_of (datum_number x) ≡ x
 datum_back datum.U8 = refl
@@ -137,7 +150,8 @@ asked_number asked.Ex = 4
 
 abbrev pub asked_of : ℕ → Asked
 asked_of n =
-    if n == 0 then asked.Fixed else if n == 1 then asked.Feature else if n == 2 then asked.Patch else if n == 3 then asked.Any else asked.Ex
+    if n == 0 then asked.Fixed else if n == 1 then asked.Feature else if n == 2 then asked.Patch
+    else if n == 3 then asked.Any else asked.Ex
 
 pub asked_back : (x : Asked) → asked_of (asked_number x) ≡ x
 asked_back asked.Fixed = refl

@@ -88,7 +88,8 @@ type DevicePlanSecond = (u64, (u8, Rows<RegionForm>));
 // Adds its fields from `at` on.
 #[tactic(auto, unfolding(crate::specs::Flash::device_plan_first_form, packed_values::specs::Parts::pair_form))]
 fn put_device_plan_first(value: &DevicePlan, out: &mut Vec<u8>) -> Result<(), WantOfMemory>
-    ensures { OnOk result (IsPut device_plan_first_form out.old.items (device_plan_first value.now) out.new.items) }
+    ensures { OnOk result
+        (IsPut device_plan_first_form out.old.items (device_plan_first value.now) out.new.items) }
 {
     all_put!(value, out; at: Place, name: Text, base: u64)
 }
@@ -96,7 +97,8 @@ fn put_device_plan_first(value: &DevicePlan, out: &mut Vec<u8>) -> Result<(), Wa
 // Adds its fields from `size` on.
 #[tactic(auto, unfolding(crate::specs::Flash::device_plan_second_form, packed_values::specs::Parts::pair_form))]
 fn put_device_plan_second(value: &DevicePlan, out: &mut Vec<u8>) -> Result<(), WantOfMemory>
-    ensures { OnOk result (IsPut device_plan_second_form out.old.items (device_plan_second value.now) out.new.items) }
+    ensures { OnOk result
+        (IsPut device_plan_second_form out.old.items (device_plan_second value.now) out.new.items) }
 {
     all_put!(value, out; size: u64, erase: u8, regions: Rows<RegionForm>)
 }

@@ -81,7 +81,8 @@ type PcdRowSecond = (u32, (u8, (Text, Text)));
 // Adds its fields from `pcd` on.
 #[tactic(auto, unfolding(crate::specs::Made::pcd_row_first_form, packed_values::specs::Parts::pair_form))]
 fn put_pcd_row_first(value: &PcdRow, out: &mut Vec<u8>) -> Result<(), WantOfMemory>
-    ensures { OnOk result (IsPut pcd_row_first_form out.old.items (pcd_row_first value.now) out.new.items) }
+    ensures { OnOk result
+        (IsPut pcd_row_first_form out.old.items (pcd_row_first value.now) out.new.items) }
 {
     all_put!(value, out; pcd: PcdNameForm, kind: KindForm, datum: DatumForm, token: u32)
 }
@@ -89,7 +90,8 @@ fn put_pcd_row_first(value: &PcdRow, out: &mut Vec<u8>) -> Result<(), WantOfMemo
 // Adds its fields from `max` on.
 #[tactic(auto, unfolding(crate::specs::Made::pcd_row_second_form, packed_values::specs::Parts::pair_form))]
 fn put_pcd_row_second(value: &PcdRow, out: &mut Vec<u8>) -> Result<(), WantOfMemory>
-    ensures { OnOk result (IsPut pcd_row_second_form out.old.items (pcd_row_second value.now) out.new.items) }
+    ensures { OnOk result
+        (IsPut pcd_row_second_form out.old.items (pcd_row_second value.now) out.new.items) }
 {
     all_put!(value, out; max: u32, rank: u8, sku: Text, value: Text)
 }

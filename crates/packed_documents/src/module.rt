@@ -101,7 +101,8 @@ type InfDocFourth = (Rows<NamedForm>, (Rows<UsedPcdForm>, Rows<DepexPartForm>));
 // Adds its fields from `at` on.
 #[tactic(auto, unfolding(crate::specs::Module::inf_doc_first_form, packed_values::specs::Parts::pair_form))]
 fn put_inf_doc_first(value: &InfDoc, out: &mut Vec<u8>) -> Result<(), WantOfMemory>
-    ensures { OnOk result (IsPut inf_doc_first_form out.old.items (inf_doc_first value.now) out.new.items) }
+    ensures { OnOk result
+        (IsPut inf_doc_first_form out.old.items (inf_doc_first value.now) out.new.items) }
 {
     all_put!(value, out; at: Place, base_name: Text, file_guid: Guid, module_type: ModuleTypeForm)
 }
@@ -109,7 +110,8 @@ fn put_inf_doc_first(value: &InfDoc, out: &mut Vec<u8>) -> Result<(), WantOfMemo
 // Adds its fields from `version` on.
 #[tactic(auto, unfolding(crate::specs::Module::inf_doc_second_form, packed_values::specs::Parts::pair_form))]
 fn put_inf_doc_second(value: &InfDoc, out: &mut Vec<u8>) -> Result<(), WantOfMemory>
-    ensures { OnOk result (IsPut inf_doc_second_form out.old.items (inf_doc_second value.now) out.new.items) }
+    ensures { OnOk result
+        (IsPut inf_doc_second_form out.old.items (inf_doc_second value.now) out.new.items) }
 {
     all_put!(value, out; version: Text, entry_points: Rows<NamedForm>, constructors: Rows<NamedForm>, destructors: Rows<NamedForm>)
 }
@@ -117,7 +119,8 @@ fn put_inf_doc_second(value: &InfDoc, out: &mut Vec<u8>) -> Result<(), WantOfMem
 // Adds its fields from `serves` on.
 #[tactic(auto, unfolding(crate::specs::Module::inf_doc_third_form, packed_values::specs::Parts::pair_form))]
 fn put_inf_doc_third(value: &InfDoc, out: &mut Vec<u8>) -> Result<(), WantOfMemory>
-    ensures { OnOk result (IsPut inf_doc_third_form out.old.items (inf_doc_third value.now) out.new.items) }
+    ensures { OnOk result
+        (IsPut inf_doc_third_form out.old.items (inf_doc_third value.now) out.new.items) }
 {
     all_put!(value, out; serves: Rows<ServedForm>, packages: Rows<NamedForm>, classes: Rows<NamedForm>)
 }
@@ -125,7 +128,8 @@ fn put_inf_doc_third(value: &InfDoc, out: &mut Vec<u8>) -> Result<(), WantOfMemo
 // Adds its fields from `guids` on.
 #[tactic(auto, unfolding(crate::specs::Module::inf_doc_fourth_form, packed_values::specs::Parts::pair_form))]
 fn put_inf_doc_fourth(value: &InfDoc, out: &mut Vec<u8>) -> Result<(), WantOfMemory>
-    ensures { OnOk result (IsPut inf_doc_fourth_form out.old.items (inf_doc_fourth value.now) out.new.items) }
+    ensures { OnOk result
+        (IsPut inf_doc_fourth_form out.old.items (inf_doc_fourth value.now) out.new.items) }
 {
     all_put!(value, out; guids: Rows<NamedForm>, pcds: Rows<UsedPcdForm>, depex: Rows<DepexPartForm>)
 }

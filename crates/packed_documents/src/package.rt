@@ -40,7 +40,8 @@ type DecPcdSecond = (Text, (DatumForm, u32));
 // Adds its fields from `at` on.
 #[tactic(auto, unfolding(crate::specs::Package::dec_pcd_first_form, packed_values::specs::Parts::pair_form))]
 fn put_dec_pcd_first(value: &DecPcd, out: &mut Vec<u8>) -> Result<(), WantOfMemory>
-    ensures { OnOk result (IsPut dec_pcd_first_form out.old.items (dec_pcd_first value.now) out.new.items) }
+    ensures { OnOk result
+        (IsPut dec_pcd_first_form out.old.items (dec_pcd_first value.now) out.new.items) }
 {
     all_put!(value, out; at: Place, arch: ArchForm, kind: KindForm, pcd: PcdNameForm)
 }
@@ -48,7 +49,8 @@ fn put_dec_pcd_first(value: &DecPcd, out: &mut Vec<u8>) -> Result<(), WantOfMemo
 // Adds its fields from `default` on.
 #[tactic(auto, unfolding(crate::specs::Package::dec_pcd_second_form, packed_values::specs::Parts::pair_form))]
 fn put_dec_pcd_second(value: &DecPcd, out: &mut Vec<u8>) -> Result<(), WantOfMemory>
-    ensures { OnOk result (IsPut dec_pcd_second_form out.old.items (dec_pcd_second value.now) out.new.items) }
+    ensures { OnOk result
+        (IsPut dec_pcd_second_form out.old.items (dec_pcd_second value.now) out.new.items) }
 {
     all_put!(value, out; default: Text, datum: DatumForm, token: u32)
 }

@@ -115,7 +115,8 @@ type PcdLineThird = (Option<DatumForm>, (Option<u32>, StoreForm));
 // Adds its fields from `at` on.
 #[tactic(auto, unfolding(crate::specs::Platform::pcd_line_first_form, packed_values::specs::Parts::pair_form))]
 fn put_pcd_line_first(value: &PcdLine, out: &mut Vec<u8>) -> Result<(), WantOfMemory>
-    ensures { OnOk result (IsPut pcd_line_first_form out.old.items (pcd_line_first value.now) out.new.items) }
+    ensures { OnOk result
+        (IsPut pcd_line_first_form out.old.items (pcd_line_first value.now) out.new.items) }
 {
     all_put!(value, out; at: Place, arch: ArchForm, kind: KindForm)
 }
@@ -123,7 +124,8 @@ fn put_pcd_line_first(value: &PcdLine, out: &mut Vec<u8>) -> Result<(), WantOfMe
 // Adds its fields from `sku` on.
 #[tactic(auto, unfolding(crate::specs::Platform::pcd_line_second_form, packed_values::specs::Parts::pair_form))]
 fn put_pcd_line_second(value: &PcdLine, out: &mut Vec<u8>) -> Result<(), WantOfMemory>
-    ensures { OnOk result (IsPut pcd_line_second_form out.old.items (pcd_line_second value.now) out.new.items) }
+    ensures { OnOk result
+        (IsPut pcd_line_second_form out.old.items (pcd_line_second value.now) out.new.items) }
 {
     all_put!(value, out; sku: Text, pcd: PcdNameForm, value: Option<Text>)
 }
@@ -131,7 +133,8 @@ fn put_pcd_line_second(value: &PcdLine, out: &mut Vec<u8>) -> Result<(), WantOfM
 // Adds its fields from `datum` on.
 #[tactic(auto, unfolding(crate::specs::Platform::pcd_line_third_form, packed_values::specs::Parts::pair_form))]
 fn put_pcd_line_third(value: &PcdLine, out: &mut Vec<u8>) -> Result<(), WantOfMemory>
-    ensures { OnOk result (IsPut pcd_line_third_form out.old.items (pcd_line_third value.now) out.new.items) }
+    ensures { OnOk result
+        (IsPut pcd_line_third_form out.old.items (pcd_line_third value.now) out.new.items) }
 {
     all_put!(value, out; datum: Option<DatumForm>, max: Option<u32>, store: StoreForm)
 }
@@ -195,7 +198,8 @@ type ComponentSecond = (Option<Guid>, (Rows<LibraryLineForm>, Rows<PcdLineForm>)
 // Adds its fields from `at` on.
 #[tactic(auto, unfolding(crate::specs::Platform::component_first_form, packed_values::specs::Parts::pair_form))]
 fn put_component_first(value: &Component, out: &mut Vec<u8>) -> Result<(), WantOfMemory>
-    ensures { OnOk result (IsPut component_first_form out.old.items (component_first value.now) out.new.items) }
+    ensures { OnOk result
+        (IsPut component_first_form out.old.items (component_first value.now) out.new.items) }
 {
     all_put!(value, out; at: Place, arch: ArchForm, inf: Path)
 }
@@ -203,7 +207,8 @@ fn put_component_first(value: &Component, out: &mut Vec<u8>) -> Result<(), WantO
 // Adds its fields from `file_guid` on.
 #[tactic(auto, unfolding(crate::specs::Platform::component_second_form, packed_values::specs::Parts::pair_form))]
 fn put_component_second(value: &Component, out: &mut Vec<u8>) -> Result<(), WantOfMemory>
-    ensures { OnOk result (IsPut component_second_form out.old.items (component_second value.now) out.new.items) }
+    ensures { OnOk result
+        (IsPut component_second_form out.old.items (component_second value.now) out.new.items) }
 {
     all_put!(value, out; file_guid: Option<Guid>, libraries: Rows<LibraryLineForm>, pcds: Rows<PcdLineForm>)
 }
@@ -265,7 +270,8 @@ type PlatformDocThird = (
 // Adds its fields from `at` on.
 #[tactic(auto, unfolding(crate::specs::Platform::platform_doc_first_form, packed_values::specs::Parts::pair_form))]
 fn put_platform_doc_first(value: &PlatformDoc, out: &mut Vec<u8>) -> Result<(), WantOfMemory>
-    ensures { OnOk result (IsPut platform_doc_first_form out.old.items (platform_doc_first value.now) out.new.items) }
+    ensures { OnOk result
+        (IsPut platform_doc_first_form out.old.items (platform_doc_first value.now) out.new.items) }
 {
     all_put!(value, out; at: Place, name: Text, guid: Guid, output: Path)
 }
@@ -273,7 +279,9 @@ fn put_platform_doc_first(value: &PlatformDoc, out: &mut Vec<u8>) -> Result<(), 
 // Adds its fields from `arches` on.
 #[tactic(auto, unfolding(crate::specs::Platform::platform_doc_second_form, packed_values::specs::Parts::pair_form))]
 fn put_platform_doc_second(value: &PlatformDoc, out: &mut Vec<u8>) -> Result<(), WantOfMemory>
-    ensures { OnOk result (IsPut platform_doc_second_form out.old.items (platform_doc_second value.now) out.new.items) }
+    ensures { OnOk result
+        (IsPut platform_doc_second_form out.old.items (platform_doc_second value.now)
+        out.new.items) }
 {
     all_put!(value, out; arches: Rows<ArchForm>, sku_choice: Text, flash: Option<Path>, skus: Rows<SkuForm>)
 }
@@ -281,7 +289,8 @@ fn put_platform_doc_second(value: &PlatformDoc, out: &mut Vec<u8>) -> Result<(),
 // Adds its fields from `libraries` on.
 #[tactic(auto, unfolding(crate::specs::Platform::platform_doc_third_form, packed_values::specs::Parts::pair_form))]
 fn put_platform_doc_third(value: &PlatformDoc, out: &mut Vec<u8>) -> Result<(), WantOfMemory>
-    ensures { OnOk result (IsPut platform_doc_third_form out.old.items (platform_doc_third value.now) out.new.items) }
+    ensures { OnOk result
+        (IsPut platform_doc_third_form out.old.items (platform_doc_third value.now) out.new.items) }
 {
     all_put!(value, out; libraries: Rows<LibraryLineForm>, components: Rows<ComponentForm>, pcds: Rows<PcdLineForm>, macros: Rows<Macro>)
 }

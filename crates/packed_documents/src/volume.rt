@@ -119,7 +119,8 @@ type SectionPlanSecond = (u16, (Option<Guid>, SectionSourceForm));
 // Adds its fields from `at` on.
 #[tactic(auto, unfolding(crate::specs::Volume::section_plan_first_form, packed_values::specs::Parts::pair_form))]
 fn put_section_plan_first(value: &SectionPlan, out: &mut Vec<u8>) -> Result<(), WantOfMemory>
-    ensures { OnOk result (IsPut section_plan_first_form out.old.items (section_plan_first value.now) out.new.items) }
+    ensures { OnOk result
+        (IsPut section_plan_first_form out.old.items (section_plan_first value.now) out.new.items) }
 {
     all_put!(value, out; at: Place, kind: u8, optional: bool, align: AlignForm)
 }
@@ -127,7 +128,9 @@ fn put_section_plan_first(value: &SectionPlan, out: &mut Vec<u8>) -> Result<(), 
 // Adds its fields from `number` on.
 #[tactic(auto, unfolding(crate::specs::Volume::section_plan_second_form, packed_values::specs::Parts::pair_form))]
 fn put_section_plan_second(value: &SectionPlan, out: &mut Vec<u8>) -> Result<(), WantOfMemory>
-    ensures { OnOk result (IsPut section_plan_second_form out.old.items (section_plan_second value.now) out.new.items) }
+    ensures { OnOk result
+        (IsPut section_plan_second_form out.old.items (section_plan_second value.now)
+        out.new.items) }
 {
     all_put!(value, out; number: u16, guid: Option<Guid>, source: SectionSourceForm)
 }
@@ -186,7 +189,8 @@ type FilePlanSecond = (bool, (AlignForm, (Option<Path>, Rows<SectionPlanForm>)))
 // Adds its fields from `at` on.
 #[tactic(auto, unfolding(crate::specs::Volume::file_plan_first_form, packed_values::specs::Parts::pair_form))]
 fn put_file_plan_first(value: &FilePlan, out: &mut Vec<u8>) -> Result<(), WantOfMemory>
-    ensures { OnOk result (IsPut file_plan_first_form out.old.items (file_plan_first value.now) out.new.items) }
+    ensures { OnOk result
+        (IsPut file_plan_first_form out.old.items (file_plan_first value.now) out.new.items) }
 {
     all_put!(value, out; at: Place, file_type: u8, guid: Option<Guid>, fixed: bool)
 }
@@ -194,7 +198,8 @@ fn put_file_plan_first(value: &FilePlan, out: &mut Vec<u8>) -> Result<(), WantOf
 // Adds its fields from `checksum` on.
 #[tactic(auto, unfolding(crate::specs::Volume::file_plan_second_form, packed_values::specs::Parts::pair_form))]
 fn put_file_plan_second(value: &FilePlan, out: &mut Vec<u8>) -> Result<(), WantOfMemory>
-    ensures { OnOk result (IsPut file_plan_second_form out.old.items (file_plan_second value.now) out.new.items) }
+    ensures { OnOk result
+        (IsPut file_plan_second_form out.old.items (file_plan_second value.now) out.new.items) }
 {
     all_put!(value, out; checksum: bool, align: AlignForm, whole: Option<Path>, sections: Rows<SectionPlanForm>)
 }
@@ -255,7 +260,8 @@ type InfLineSecond = (Text, (Option<Text>, Option<Text>));
 // Adds its fields from `at` on.
 #[tactic(auto, unfolding(crate::specs::Volume::inf_line_first_form, packed_values::specs::Parts::pair_form))]
 fn put_inf_line_first(value: &InfLine, out: &mut Vec<u8>) -> Result<(), WantOfMemory>
-    ensures { OnOk result (IsPut inf_line_first_form out.old.items (inf_line_first value.now) out.new.items) }
+    ensures { OnOk result
+        (IsPut inf_line_first_form out.old.items (inf_line_first value.now) out.new.items) }
 {
     all_put!(value, out; at: Place, inf: Path, arch: Option<ArchForm>)
 }
@@ -263,7 +269,8 @@ fn put_inf_line_first(value: &InfLine, out: &mut Vec<u8>) -> Result<(), WantOfMe
 // Adds its fields from `template` on.
 #[tactic(auto, unfolding(crate::specs::Volume::inf_line_second_form, packed_values::specs::Parts::pair_form))]
 fn put_inf_line_second(value: &InfLine, out: &mut Vec<u8>) -> Result<(), WantOfMemory>
-    ensures { OnOk result (IsPut inf_line_second_form out.old.items (inf_line_second value.now) out.new.items) }
+    ensures { OnOk result
+        (IsPut inf_line_second_form out.old.items (inf_line_second value.now) out.new.items) }
 {
     all_put!(value, out; template: Text, version: Option<Text>, ui: Option<Text>)
 }
@@ -427,7 +434,8 @@ type VolumeHeadThird = (Option<u64>, (bool, bool));
 // Adds its fields from `at` on.
 #[tactic(auto, unfolding(crate::specs::Volume::volume_head_first_form, packed_values::specs::Parts::pair_form))]
 fn put_volume_head_first(value: &VolumeHead, out: &mut Vec<u8>) -> Result<(), WantOfMemory>
-    ensures { OnOk result (IsPut volume_head_first_form out.old.items (volume_head_first value.now) out.new.items) }
+    ensures { OnOk result
+        (IsPut volume_head_first_form out.old.items (volume_head_first value.now) out.new.items) }
 {
     all_put!(value, out; at: Place, name: Text, attributes: u32, erase: u8)
 }
@@ -435,7 +443,8 @@ fn put_volume_head_first(value: &VolumeHead, out: &mut Vec<u8>) -> Result<(), Wa
 // Adds its fields from `block_size` on.
 #[tactic(auto, unfolding(crate::specs::Volume::volume_head_second_form, packed_values::specs::Parts::pair_form))]
 fn put_volume_head_second(value: &VolumeHead, out: &mut Vec<u8>) -> Result<(), WantOfMemory>
-    ensures { OnOk result (IsPut volume_head_second_form out.old.items (volume_head_second value.now) out.new.items) }
+    ensures { OnOk result
+        (IsPut volume_head_second_form out.old.items (volume_head_second value.now) out.new.items) }
 {
     all_put!(value, out; block_size: u64, size: Option<u64>, name_guid: Option<Guid>)
 }
@@ -443,7 +452,8 @@ fn put_volume_head_second(value: &VolumeHead, out: &mut Vec<u8>) -> Result<(), W
 // Adds its fields from `base` on.
 #[tactic(auto, unfolding(crate::specs::Volume::volume_head_third_form, packed_values::specs::Parts::pair_form))]
 fn put_volume_head_third(value: &VolumeHead, out: &mut Vec<u8>) -> Result<(), WantOfMemory>
-    ensures { OnOk result (IsPut volume_head_third_form out.old.items (volume_head_third value.now) out.new.items) }
+    ensures { OnOk result
+        (IsPut volume_head_third_form out.old.items (volume_head_third value.now) out.new.items) }
 {
     all_put!(value, out; base: Option<u64>, force: bool, ffs3: bool)
 }

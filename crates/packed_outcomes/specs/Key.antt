@@ -1,4 +1,5 @@
--- The spelling of the keys of steps: the number of the variant, in the order of declaration, and its fields. The rule is this project's own.
+-- The spelling of the keys of steps: the number of the variant, in the order of declaration, and
+-- its fields. The rule is this project's own.
 use Rattle.std.specs.Prelude.{◌≡◌, ◌⊎◌, ℕ, List, refl}
 use Rattle.std.proofs.Common.{inl, inr}
 use Rattle.doc_types.specs.declared.choice.Module.{Module}
@@ -11,7 +12,14 @@ use Rattle.packed_values.specs.Arms.{arm, last_arm, tagged_form, unit_form}
 use Rattle.packed_documents.specs.Made.{module_form}
 
 abbrev pub KeyParts : Type 0
-KeyParts = List ℕ ⊎ (List ℕ ⊎ (Unit {0} ⊎ (Unit {0} ⊎ (Module ⊎ (Unit {0} ⊎ (Module ⊎ (Module ⊎ (Module ⊎ ((ℕ × ℕ) ⊎ (ℕ ⊎ (ℕ ⊎ (Unit {0} ⊎ (Unit {0} ⊎ (Unit {0} ⊎ ℕ))))))))))))))
+KeyParts = List ℕ
+    ⊎ (List ℕ
+    ⊎ (Unit {0}
+    ⊎ (Unit {0}
+    ⊎ (Module
+    ⊎ (Unit {0}
+    ⊎ (Module
+    ⊎ (Module ⊎ (Module ⊎ ((ℕ × ℕ) ⊎ (ℕ ⊎ (ℕ ⊎ (Unit {0} ⊎ (Unit {0} ⊎ (Unit {0} ⊎ ℕ))))))))))))))
 
 abbrev pub key_parts : Key → KeyParts
 key_parts (key.Dec path) = inl path
@@ -23,13 +31,20 @@ key_parts key.PlatformPcds = inr (inr (inr (inr (inr (inl tt)))))
 key_parts (key.Values built) = inr (inr (inr (inr (inr (inr (inl built))))))
 key_parts (key.Code built) = inr (inr (inr (inr (inr (inr (inr (inl built)))))))
 key_parts (key.Depex built) = inr (inr (inr (inr (inr (inr (inr (inr (inl built))))))))
-key_parts (key.File volume item) = inr (inr (inr (inr (inr (inr (inr (inr (inr (inl (volume, item))))))))))
-key_parts (key.Volume number) = inr (inr (inr (inr (inr (inr (inr (inr (inr (inr (inl number))))))))))
-key_parts (key.Device number) = inr (inr (inr (inr (inr (inr (inr (inr (inr (inr (inr (inl number)))))))))))
-key_parts key.Report = inr (inr (inr (inr (inr (inr (inr (inr (inr (inr (inr (inr (inl tt))))))))))))
-key_parts key.All = inr (inr (inr (inr (inr (inr (inr (inr (inr (inr (inr (inr (inr (inl tt)))))))))))))
-key_parts key.Vpd = inr (inr (inr (inr (inr (inr (inr (inr (inr (inr (inr (inr (inr (inr (inl tt))))))))))))))
-key_parts (key.Based number) = inr (inr (inr (inr (inr (inr (inr (inr (inr (inr (inr (inr (inr (inr (inr number))))))))))))))
+key_parts (key.File volume item) =
+    inr (inr (inr (inr (inr (inr (inr (inr (inr (inl (volume, item))))))))))
+key_parts (key.Volume number) =
+    inr (inr (inr (inr (inr (inr (inr (inr (inr (inr (inl number))))))))))
+key_parts (key.Device number) =
+    inr (inr (inr (inr (inr (inr (inr (inr (inr (inr (inr (inl number)))))))))))
+key_parts key.Report =
+    inr (inr (inr (inr (inr (inr (inr (inr (inr (inr (inr (inr (inl tt))))))))))))
+key_parts key.All =
+    inr (inr (inr (inr (inr (inr (inr (inr (inr (inr (inr (inr (inr (inl tt)))))))))))))
+key_parts key.Vpd =
+    inr (inr (inr (inr (inr (inr (inr (inr (inr (inr (inr (inr (inr (inr (inl tt))))))))))))))
+key_parts (key.Based number) =
+    inr (inr (inr (inr (inr (inr (inr (inr (inr (inr (inr (inr (inr (inr (inr number))))))))))))))
 
 abbrev pub key_of : KeyParts → Key
 key_of (inl path) = key.Dec path
@@ -43,11 +58,17 @@ key_of (inr (inr (inr (inr (inr (inr (inr (inl built)))))))) = key.Code built
 key_of (inr (inr (inr (inr (inr (inr (inr (inr (inl built))))))))) = key.Depex built
 key_of (inr (inr (inr (inr (inr (inr (inr (inr (inr (inl p)))))))))) = key.File p.0 p.1
 key_of (inr (inr (inr (inr (inr (inr (inr (inr (inr (inr (inl number))))))))))) = key.Volume number
-key_of (inr (inr (inr (inr (inr (inr (inr (inr (inr (inr (inr (inl number)))))))))))) = key.Device number
+key_of (inr (inr (inr (inr (inr (inr (inr (inr (inr (inr (inr (inl number)))))))))))) =
+    key.Device number
 key_of (inr (inr (inr (inr (inr (inr (inr (inr (inr (inr (inr (inr (inl _))))))))))))) = key.Report
-key_of (inr (inr (inr (inr (inr (inr (inr (inr (inr (inr (inr (inr (inr (inl _)))))))))))))) = key.All
-key_of (inr (inr (inr (inr (inr (inr (inr (inr (inr (inr (inr (inr (inr (inr (inl _))))))))))))))) = key.Vpd
-key_of (inr (inr (inr (inr (inr (inr (inr (inr (inr (inr (inr (inr (inr (inr (inr number))))))))))))))) = key.Based number
+key_of (inr (inr (inr (inr (inr (inr (inr (inr (inr (inr (inr (inr (inr (inl _)))))))))))))) =
+    key.All
+key_of (inr (inr (inr (inr (inr (inr (inr (inr (inr (inr (inr (inr (inr (inr (inl _))))))))))))))) =
+    key.Vpd
+key_of
+    (inr
+    (inr (inr (inr (inr (inr (inr (inr (inr (inr (inr (inr (inr (inr (inr number))))))))))))))) =
+    key.Based number
 
 pub key_back : (x : Key) → key_of (key_parts x) ≡ x
 key_back (key.Dec path) = refl
@@ -68,4 +89,18 @@ key_back key.Vpd = refl
 key_back (key.Based number) = refl
 
 unfoldable pub key_form : Form Key
-key_form = form_by key_parts key_of key_back (tagged_form (arm path_form (arm path_form (arm unit_form (arm unit_form (arm module_form (arm unit_form (arm module_form (arm module_form (arm module_form (arm (pair_form (number_form 4) (number_form 4)) (arm (number_form 4) (arm (number_form 4) (arm unit_form (arm unit_form (arm unit_form (last_arm (number_form 4))))))))))))))))))
+key_form = form_by key_parts key_of key_back
+    (tagged_form
+    (arm path_form
+    (arm path_form
+    (arm unit_form
+    (arm unit_form
+    (arm module_form
+    (arm unit_form
+    (arm module_form
+    (arm module_form
+    (arm module_form
+    (arm (pair_form (number_form 4) (number_form 4))
+    (arm (number_form 4)
+    (arm (number_form 4)
+    (arm unit_form (arm unit_form (arm unit_form (last_arm (number_form 4))))))))))))))))))

@@ -1,4 +1,5 @@
--- The spelling of what steps give: the fields of a record in order, and an enum as the number of the variant, in the order of declaration, and its fields. The rule is this project's own.
+-- The spelling of what steps give: the fields of a record in order, and an enum as the number of
+-- the variant, in the order of declaration, and its fields. The rule is this project's own.
 use Rattle.std.specs.Prelude.{◌≡◌, ◌⊎◌, ℕ, List, Option, refl}
 use Rattle.std.proofs.Common.{inl, inr}
 use Rattle.doc_types.specs.declared.choice.Choice.{Choice}
@@ -30,7 +31,14 @@ output_form = form_by (λ x. (x.path, (x.from, x.part)))
     (pair_form path_form (pair_form key_form byte_form))
 
 abbrev pub OutParts : Type 0
-OutParts = DecDoc ⊎ (InfDoc ⊎ (PlatformDoc ⊎ (FlashDoc ⊎ (Choice ⊎ (Values ⊎ ((Option Texts) ⊎ (List ℕ ⊎ (FileImage ⊎ (List ℕ ⊎ (List ℕ ⊎ (List ℕ ⊎ (List Output ⊎ Vpd))))))))))))
+OutParts = DecDoc
+    ⊎ (InfDoc
+    ⊎ (PlatformDoc
+    ⊎ (FlashDoc
+    ⊎ (Choice
+    ⊎ (Values
+    ⊎ ((Option Texts)
+    ⊎ (List ℕ ⊎ (FileImage ⊎ (List ℕ ⊎ (List ℕ ⊎ (List ℕ ⊎ (List Output ⊎ Vpd))))))))))))
 
 abbrev pub out_parts : Out → OutParts
 out_parts (out.Dec document) = inl document
@@ -44,9 +52,12 @@ out_parts (out.Depex bytes) = inr (inr (inr (inr (inr (inr (inr (inl bytes))))))
 out_parts (out.File file) = inr (inr (inr (inr (inr (inr (inr (inr (inl file))))))))
 out_parts (out.Volume image) = inr (inr (inr (inr (inr (inr (inr (inr (inr (inl image)))))))))
 out_parts (out.Device image) = inr (inr (inr (inr (inr (inr (inr (inr (inr (inr (inl image))))))))))
-out_parts (out.Report text) = inr (inr (inr (inr (inr (inr (inr (inr (inr (inr (inr (inl text)))))))))))
-out_parts (out.All outputs) = inr (inr (inr (inr (inr (inr (inr (inr (inr (inr (inr (inr (inl outputs))))))))))))
-out_parts (out.Vpd image) = inr (inr (inr (inr (inr (inr (inr (inr (inr (inr (inr (inr (inr image))))))))))))
+out_parts (out.Report text) =
+    inr (inr (inr (inr (inr (inr (inr (inr (inr (inr (inr (inl text)))))))))))
+out_parts (out.All outputs) =
+    inr (inr (inr (inr (inr (inr (inr (inr (inr (inr (inr (inr (inl outputs))))))))))))
+out_parts (out.Vpd image) =
+    inr (inr (inr (inr (inr (inr (inr (inr (inr (inr (inr (inr (inr image))))))))))))
 
 abbrev pub out_of : OutParts → Out
 out_of (inl document) = out.Dec document
@@ -60,9 +71,12 @@ out_of (inr (inr (inr (inr (inr (inr (inr (inl bytes)))))))) = out.Depex bytes
 out_of (inr (inr (inr (inr (inr (inr (inr (inr (inl file))))))))) = out.File file
 out_of (inr (inr (inr (inr (inr (inr (inr (inr (inr (inl image)))))))))) = out.Volume image
 out_of (inr (inr (inr (inr (inr (inr (inr (inr (inr (inr (inl image))))))))))) = out.Device image
-out_of (inr (inr (inr (inr (inr (inr (inr (inr (inr (inr (inr (inl text)))))))))))) = out.Report text
-out_of (inr (inr (inr (inr (inr (inr (inr (inr (inr (inr (inr (inr (inl outputs))))))))))))) = out.All outputs
-out_of (inr (inr (inr (inr (inr (inr (inr (inr (inr (inr (inr (inr (inr image))))))))))))) = out.Vpd image
+out_of (inr (inr (inr (inr (inr (inr (inr (inr (inr (inr (inr (inl text)))))))))))) =
+    out.Report text
+out_of (inr (inr (inr (inr (inr (inr (inr (inr (inr (inr (inr (inr (inl outputs))))))))))))) =
+    out.All outputs
+out_of (inr (inr (inr (inr (inr (inr (inr (inr (inr (inr (inr (inr (inr image))))))))))))) =
+    out.Vpd image
 
 pub out_back : (x : Out) → out_of (out_parts x) ≡ x
 out_back (out.Dec document) = refl
@@ -81,4 +95,16 @@ out_back (out.All outputs) = refl
 out_back (out.Vpd image) = refl
 
 unfoldable pub out_form : Form Out
-out_form = form_by out_parts out_of out_back (tagged_form (arm dec_doc_form (arm inf_doc_form (arm platform_doc_form (arm flash_doc_form (arm choice_form (arm values_form (arm (option_form texts_form) (arm text_form (arm file_image_form (arm text_form (arm text_form (arm text_form (arm (rows_form output_form) (last_arm vpd_form)))))))))))))))
+out_form = form_by out_parts out_of out_back
+    (tagged_form
+    (arm dec_doc_form
+    (arm inf_doc_form
+    (arm platform_doc_form
+    (arm flash_doc_form
+    (arm choice_form
+    (arm values_form
+    (arm (option_form texts_form)
+    (arm text_form
+    (arm file_image_form
+    (arm text_form
+    (arm text_form (arm text_form (arm (rows_form output_form) (last_arm vpd_form)))))))))))))))

@@ -1,4 +1,5 @@
--- The spelling of asks, answers and outcomes: the number of the variant, in the order of declaration, and its fields. The rule is this project's own.
+-- The spelling of asks, answers and outcomes: the number of the variant, in the order of
+-- declaration, and its fields. The rule is this project's own.
 use Rattle.std.specs.Prelude.{◌≡◌, ◌⊎◌, ℕ, List, refl}
 use Rattle.std.proofs.Common.{inl, inr}
 use Rattle.build_base.specs.declared.fault.Fault.{Fault}
@@ -37,7 +38,8 @@ ask_back (ask.Field number) = refl
 ask_back (ask.Part part) = refl
 
 unfoldable pub ask_form : Form (Ask Key)
-ask_form = form_by ask_parts ask_of ask_back (tagged_form (arm path_form (arm byte_form (last_arm key_form))))
+ask_form = form_by ask_parts ask_of ask_back
+    (tagged_form (arm path_form (arm byte_form (last_arm key_form))))
 
 abbrev pub OutcomeParts : Type 0
 OutcomeParts = Out ⊎ Fault
@@ -55,7 +57,8 @@ outcome_back (outcome.Good given) = refl
 outcome_back (outcome.Bad fault) = refl
 
 unfoldable pub outcome_form : Form (Outcome Out)
-outcome_form = form_by outcome_parts outcome_of outcome_back (tagged_form (arm out_form (last_arm fault_form)))
+outcome_form = form_by outcome_parts outcome_of outcome_back
+    (tagged_form (arm out_form (last_arm fault_form)))
 
 abbrev pub AnswerParts : Type 0
 AnswerParts = Unit {0} ⊎ (Unit {0} ⊎ (List ℕ ⊎ (List ℕ ⊎ Outcome Out)))
@@ -82,4 +85,6 @@ answer_back (answer.Field text) = refl
 answer_back (answer.Part given) = refl
 
 unfoldable pub answer_form : Form (Answer Out)
-answer_form = form_by answer_parts answer_of answer_back (tagged_form (arm unit_form (arm unit_form (arm text_form (arm text_form (last_arm outcome_form))))))
+answer_form = form_by answer_parts answer_of answer_back
+    (tagged_form
+    (arm unit_form (arm unit_form (arm text_form (arm text_form (last_arm outcome_form))))))

@@ -18,7 +18,9 @@ use step_pack::{Key, Out};
 
 /// The key whose packed form the bytes are; nothing exactly where they are the form of none.
 pub fn unpack_key(alloc: Global, bytes: &[u8]) -> Result<Option<Key>, WantOfMemory>
-    ensures { IfOk result (λ r. MatchOption r ((key : KeyOf) → IsSpelling key_form key bytes.now → ⊥) (λ key. IsSpelling key_form key bytes.now)) }
+    ensures { IfOk result
+        (λ r. MatchOption r ((key : KeyOf) → IsSpelling key_form key bytes.now → ⊥)
+        (λ key. IsSpelling key_form key bytes.now)) }
 {
     unpack_value::<KeyForm>(alloc, bytes)
 }
@@ -32,7 +34,9 @@ pub fn pack_outcome(alloc: Global, value: &Outcome<Out>) -> Result<Text, WantOfM
 
 /// The outcome whose packed form the bytes are; nothing exactly where they are the form of none.
 pub fn unpack_outcome(alloc: Global, bytes: &[u8]) -> Result<Option<Outcome<Out>>, WantOfMemory>
-    ensures { IfOk result (λ r. MatchOption r ((value : OutcomeOf OutOf) → IsSpelling outcome_form value bytes.now → ⊥) (λ value. IsSpelling outcome_form value bytes.now)) }
+    ensures { IfOk result
+        (λ r. MatchOption r ((value : OutcomeOf OutOf) → IsSpelling outcome_form value bytes.now
+        → ⊥) (λ value. IsSpelling outcome_form value bytes.now)) }
 {
     unpack_value::<OutcomeForm>(alloc, bytes)
 }

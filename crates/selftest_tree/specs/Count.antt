@@ -14,5 +14,6 @@ unfoldable pub count_of : List ℕ → Option ℕ
 count_of (a ∷ []) = if is_leading a then Some (a - 48) else None
 count_of (a ∷ b ∷ []) = if is_leading a && is_digit b then Some (10 * (a - 48) + (b - 48)) else None
 count_of (a ∷ b ∷ c ∷ []) =
-    if is_leading a && is_digit b && is_digit c then Some (100 * (a - 48) + 10 * (b - 48) + (c - 48)) else None
+    if is_leading a && is_digit b && is_digit c
+    then Some (100 * (a - 48) + 10 * (b - 48) + (c - 48)) else None
 count_of text = if pointwise nat_eq text (codes "1000") then Some 1000 else None

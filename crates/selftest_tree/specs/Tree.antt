@@ -14,7 +14,8 @@ module_file k = held (module_path k) (module_text (codes "TRUE") k) ∷ []
 -- the files with n modules
 unfoldable pub selftest_files : ℕ → List Held
 selftest_files n =
-    (held (codes "T.dec") package_text ∷ held (codes "T.dsc") (platform_text n) ∷ held (codes "T.fdf") (flash_text n) ∷ []) ++ for_each module_file n
+    (held (codes "T.dec") package_text ∷ held (codes "T.dsc") (platform_text n)
+    ∷ held (codes "T.fdf") (flash_text n) ∷ []) ++ for_each module_file n
 
 -- the first module's text with FALSE in place of TRUE
 abbrev pub edited_text : List ℕ

@@ -9,7 +9,8 @@ fn value_of(digit: u8) -> u64
     u64::from(digit - b'0')
 }
 
-/// As many as a decimal number without a leading zero says, or none where it isn't one from 1 to 1,000.
+/// As many as a decimal number without a leading zero says, or none where it isn't one from 1 to
+/// 1,000.
 #[tactic(auto, unfolding(crate::specs::Count::count_of))]
 pub fn count_of(text: &[u8]) -> Option<u64>
     ensures { result ≡ count_of text.now }

@@ -1,4 +1,5 @@
-//! The workspace that `selftest` builds: a package, a platform, a flash description, and as many modules as are wanted.
+//! The workspace that `selftest` builds: a package, a platform, a flash description, and as many
+//! modules as are wanted.
 #![tactic(auto)]
 
 pub mod constant_texts;

@@ -9,7 +9,8 @@ use Rattle.step_engine.specs.declared.edits.Edit.{Edit}
 abbrev pub with_edit : Edit → Files → Files
 with_edit e files path = if pointwise nat_eq e.path path then e.bytes else files path
 
--- the files after all edits in their order: at each path the last edit of it, else what the files have
+-- the files after all edits in their order: at each path the last edit of it, else what the files
+-- have
 abbrev pub edited : List Edit → Files → Files
 edited [] files = files
 edited (e ∷ edits) files = edited edits (with_edit e files)
@@ -21,4 +22,5 @@ over edits held = option_map (edited edits) held
 -- the last edit of a path, else the one that was found before
 abbrev pub last_edit : Option Edit → List Edit → List ℕ → Option Edit
 last_edit found [] path = found
-last_edit found (e ∷ edits) path = last_edit (if pointwise nat_eq e.path path then Some e else found) edits path
+last_edit found (e ∷ edits) path =
+    last_edit (if pointwise nat_eq e.path path then Some e else found) edits path

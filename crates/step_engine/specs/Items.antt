@@ -28,12 +28,14 @@ pub record IsStill {K O : Type 0} (s : Setting K O) (k : K) (x y : State K O) : 
   pub kept : AreKept s y
 
 -- the step has asked its next asks
-pub record IsAsked {K O : Type 0} (s : Setting K O) (y : State K O) (k : K) (talk : List (Batch K O)) (asks : List (Ask K)) : Type 0 where
+pub record IsAsked {K O : Type 0} (s : Setting K O) (y : State K O) (k : K)
+    (talk : List (Batch K O)) (asks : List (Ask K)) : Type 0 where
   pub running : IsRunning s k y talk
   pub next : s.means.next k talk ≡ Some asks
 
 -- the first batches of the only old entry of its key are right
-pub record IsCheck {K O : Type 0} (s : Setting K O) (y : State K O) (e : Entry K O) (i : ℕ) : Type 0 where
+pub record IsCheck {K O : Type 0} (s : Setting K O) (y : State K O) (e : Entry K O) (i : ℕ)
+    : Type 0 where
   pub old : Contains s.old e
   pub only : (d : Entry K O) → Contains s.old d → d.key ≡ e.key → d ≡ e
   pub checking : IsChecking s e.talk.batches i y
@@ -49,7 +51,8 @@ item_key (item.Asked a) = a.key
 item_key (item.Check c) = c.entry.key
 
 -- what came of an asked step: it waits, or is to make its next turn
-pub record IsResumed {K O : Type 0} (s : Setting K O) (k : K) (x y : State K O) (a : Item K O) : Type 0 where
+pub record IsResumed {K O : Type 0} (s : Setting K O) (k : K) (x y : State K O) (a : Item K O)
+    : Type 0 where
   pub still : IsStill s k x y
   pub item : IsItem s y a
   pub key : item_key a ≡ k
@@ -66,7 +69,8 @@ IsOutcome s k y (checked.Right e) = IsGood s y e × (e.key ≡ k)
 IsOutcome s k y (checked.Wrong j) = ((w : World) → IsHere s w → IsStale s.means w s.old k) × (j ≡ k)
 IsOutcome s k y (checked.Next c) = IsCheck s y c.entry c.batch × (c.entry.key ≡ k)
 
-pub record IsCheckedOn {K O : Type 0} (s : Setting K O) (k : K) (x y : State K O) (r : Checked K O) : Type 0 where
+pub record IsCheckedOn {K O : Type 0} (s : Setting K O) (k : K) (x y : State K O) (r : Checked K O)
+    : Type 0 where
   pub still : IsStill s k x y
   pub outcome : IsOutcome s k y r
 
@@ -98,7 +102,8 @@ IsNewRun k (item.Asked a) = ⊥
 IsNewRun k (item.Check c) = ⊥
 
 -- a key that was checked is granted, and runs
-pub record IsRerun {K O : Type 0} (k : K) (book book' : List K) (t u : Known K) (a : Item K O) : Type 0 where
+pub record IsRerun {K O : Type 0} (k : K) (book book' : List K) (t u : Known K) (a : Item K O)
+    : Type 0 where
   pub was : t k ≡ Some Checking
   pub book_is : book' ≡ book ++ k ∷ []
   pub placed : IsPlaced k Running t u
@@ -110,16 +115,20 @@ pub record IsReady {K O : Type 0} (s : Setting K O) (y : State K O) (t : Known K
   pub finds : Finds t y.fresh
 
 -- an act for a key: what holds between calls goes on to hold
-pub record IsAct {K O : Type 0} (s : Setting K O) (k : K) (y z : State K O) (t u : Known K) : Type 0 where
+pub record IsAct {K O : Type 0} (s : Setting K O) (k : K) (y z : State K O) (t u : Known K)
+    : Type 0 where
   pub ready : IsReady s z u
   pub grows : Grows y.fresh z.fresh
-  pub going : (top : K) (x : State K O) → IsGoing s top x y t → IsWanted s top k → IsGoing s top x z u
+  pub going : (top : K) (x : State K O) → IsGoing s top x y t → IsWanted s top k
+      → IsGoing s top x z u
 
 -- and what is left under way of the key
-pub record IsAdvanced {K O : Type 0} (s : Setting K O) (k : K) (y z : State K O) (t u : Known K) (r : Option (Item K O)) : Type 0 where
+pub record IsAdvanced {K O : Type 0} (s : Setting K O) (k : K) (y z : State K O) (t u : Known K)
+    (r : Option (Item K O)) : Type 0 where
   pub act : IsAct s k y z t u
   pub item : IfSome r (λ (a : Item K O). IsItem s z a × (item_key a ≡ k))
 
 -- after every answer: what the book and the reads gained
 abbrev pub Notes : {K O : Type 0} → Setting K O → K → State K O → State K O → Known K → Type 0
-Notes {K} {O} s k y z t = (top : K) (x : State K O) → IsGoing s top x y t → IsWanted s top k → AreNoted s top x z
+Notes {K} {O} s k y z t = (top : K) (x : State K O) → IsGoing s top x y t → IsWanted s top k
+    → AreNoted s top x z

@@ -13,7 +13,8 @@ Holds {K} {O} waiting a = (w : Waiting K O) × Contains waiting w × (w.item ≡
 
 -- it waits for a part
 abbrev pub Parks : {K O : Type 0} → (K → K → Ordering) → BTreeMap K (Queue K O) → Item K O → Type 0
-Parks {K} {O} cmp parked a = (k : K) × (q : Queue K O) × (get cmp parked k ≡ Some q) × Holds q.list.items a
+Parks {K} {O} cmp parked a = (k : K) × (q : Queue K O) × (get cmp parked k ≡ Some q)
+    × Holds q.list.items a
 
 -- it is under way
 abbrev pub IsIn : {K O : Type 0} → (K → K → Ordering) → Pool K O → Item K O → Type 0

@@ -28,14 +28,19 @@ IsStarted p = (p ≡ Some Running) ⊎ IsDone p
 
 -- the number of a key that is done is that of its entry
 abbrev pub Finds : {K O : Type 0} → Known K → List (Entry K O) → Type 0
-Finds {K} {O} t fresh = (k : K) (i : ℕ) → t k ≡ Some (Done i) → (e : Entry K O) × (slice_get fresh i ≡ Some e) × (e.key ≡ k)
+Finds {K} {O} t fresh = (k : K) (i : ℕ) → t k ≡ Some (Done i) → (e : Entry K O)
+    × (slice_get fresh i ≡ Some e) × (e.key ≡ k)
 
-pub record IsTable {K O : Type 0} (t : Known K) (added : List K) (fresh : List (Entry K O)) : Type 0 where
+pub record IsTable {K O : Type 0} (t : Known K) (added : List K) (fresh : List (Entry K O))
+    : Type 0 where
   pub one : (i : ℕ) (e : Entry K O) → slice_get fresh i ≡ Some e → t e.key ≡ Some (Done i)
   pub started : (k : K) → Contains added k → IsStarted (t k)
   pub running : (k : K) → t k ≡ Some Running → Contains added k
   pub finds : Finds t fresh
 
--- a key that stood at the place has its entry made, at the end of the entries; one that didn't is left as it was
-abbrev pub IsMadeAt : {K O : Type 0} → Place → Entry K O → Known K → Known K → List (Entry K O) → List (Entry K O) → Type 0
-IsMadeAt p e t u fresh fresh' = ((fresh' ≡ fresh) × (u ≡ t)) ⊎ ((t e.key ≡ Some p) × (fresh' ≡ fresh ++ e ∷ []) × IsPlaced e.key (Done (length fresh)) t u)
+-- a key that stood at the place has its entry made, at the end of the entries; one that didn't is
+-- left as it was
+abbrev pub IsMadeAt : {K O : Type 0} → Place → Entry K O → Known K → Known K → List (Entry K O)
+    → List (Entry K O) → Type 0
+IsMadeAt p e t u fresh fresh' = ((fresh' ≡ fresh) × (u ≡ t))
+    ⊎ ((t e.key ≡ Some p) × (fresh' ≡ fresh ++ e ∷ []) × IsPlaced e.key (Done (length fresh)) t u)

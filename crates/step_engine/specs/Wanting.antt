@@ -19,7 +19,8 @@ ArePartsOf asks old k = Contains old k ⊎ Contains asks (ask.Part k)
 abbrev pub IsAskedBy : {K O : Type 0} → K → Item K O → Type 0
 IsAskedBy k (item.Run r) = ⊥
 IsAskedBy k (item.Asked a) = Contains a.asks (ask.Part k)
-IsAskedBy {K} {O} k (item.Check c) = (b : Batch K O) × (slice_get c.entry.talk.batches c.batch ≡ Some b) × Contains (asks_of b.pairs) (ask.Part k)
+IsAskedBy {K} {O} k (item.Check c) = (b : Batch K O)
+    × (slice_get c.entry.talk.batches c.batch ≡ Some b) × Contains (asks_of b.pairs) (ask.Part k)
 
 -- the key was wanted, or the item asks for it
 abbrev pub WantsItem : {K O : Type 0} → Item K O → List K → K → Type 0

@@ -45,13 +45,21 @@ fn resume<R: Rules, T: Tree>(
     learned: &mut Learned<R::Key>,
     acts: &mut u64,
 ) -> Result<Item<R::Key, R::Out>, EngineRefusal>
-    requires kept { AreKept (setting R.means (over edits.now (T.held tree.old)) job.now old.now) (state fresh.now.items (knowledge R.Key.cmp learned.old) [] (T.reads tree.old)) }
+    requires kept { AreKept (setting R.means (over edits.now (T.held tree.old)) job.now old.now)
+        (state fresh.now.items (knowledge R.Key.cmp learned.old) [] (T.reads tree.old)) }
     requires finds { Finds (place_at R.Key.cmp places.now) fresh.now.items }
-    requires asked { IsAsked (setting R.means (over edits.now (T.held tree.old)) job.now old.now) (state fresh.now.items (knowledge R.Key.cmp learned.old) [] (T.reads tree.old)) asked.key asked.talk.batches asked.asks }
+    requires asked { IsAsked (setting R.means (over edits.now (T.held tree.old)) job.now old.now)
+        (state fresh.now.items (knowledge R.Key.cmp learned.old) [] (T.reads tree.old)) asked.key
+        asked.talk.batches asked.asks }
     ensures held { T.held tree.new ≡ T.held tree.old }
     ensures count { Counts (T.faults tree.old) (T.faults tree.new) result }
-    ensures adds { Adds (setting R.means (over edits.now (T.held tree.old)) job.now old.now) asked.key (state fresh.now.items (knowledge R.Key.cmp learned.old) [] (T.reads tree.old)) (state fresh.now.items (knowledge R.Key.cmp learned.new) [] (T.reads tree.new)) }
-    ensures ok { IfOk result (IsResumed (setting R.means (over edits.now (T.held tree.old)) job.now old.now) asked.key (state fresh.now.items (knowledge R.Key.cmp learned.old) [] (T.reads tree.old)) (state fresh.now.items (knowledge R.Key.cmp learned.new) [] (T.reads tree.new))) }
+    ensures adds { Adds (setting R.means (over edits.now (T.held tree.old)) job.now old.now)
+        asked.key (state fresh.now.items (knowledge R.Key.cmp learned.old) [] (T.reads tree.old))
+        (state fresh.now.items (knowledge R.Key.cmp learned.new) [] (T.reads tree.new)) }
+    ensures ok { IfOk result
+        (IsResumed (setting R.means (over edits.now (T.held tree.old)) job.now old.now) asked.key
+        (state fresh.now.items (knowledge R.Key.cmp learned.old) [] (T.reads tree.old))
+        (state fresh.now.items (knowledge R.Key.cmp learned.new) [] (T.reads tree.new))) }
 {
     let Asked {
         key,
@@ -90,13 +98,23 @@ fn check_next<R: Rules, T: Tree>(
     learned: &mut Learned<R::Key>,
     acts: &mut u64,
 ) -> Result<Checked<R::Key, R::Out>, EngineRefusal>
-    requires kept { AreKept (setting R.means (over edits.now (T.held tree.old)) job.now old.now) (state fresh.now.items (knowledge R.Key.cmp learned.old) [] (T.reads tree.old)) }
+    requires kept { AreKept (setting R.means (over edits.now (T.held tree.old)) job.now old.now)
+        (state fresh.now.items (knowledge R.Key.cmp learned.old) [] (T.reads tree.old)) }
     requires finds { Finds (place_at R.Key.cmp places.now) fresh.now.items }
-    requires check { IsCheck (setting R.means (over edits.now (T.held tree.old)) job.now old.now) (state fresh.now.items (knowledge R.Key.cmp learned.old) [] (T.reads tree.old)) check.entry check.batch }
+    requires check { IsCheck (setting R.means (over edits.now (T.held tree.old)) job.now old.now)
+        (state fresh.now.items (knowledge R.Key.cmp learned.old) [] (T.reads tree.old)) check.entry
+        check.batch }
     ensures held { T.held tree.new ≡ T.held tree.old }
     ensures count { Counts (T.faults tree.old) (T.faults tree.new) result }
-    ensures adds { Adds (setting R.means (over edits.now (T.held tree.old)) job.now old.now) check.entry.key (state fresh.now.items (knowledge R.Key.cmp learned.old) [] (T.reads tree.old)) (state fresh.now.items (knowledge R.Key.cmp learned.new) [] (T.reads tree.new)) }
-    ensures ok { IfOk result (IsCheckedOn (setting R.means (over edits.now (T.held tree.old)) job.now old.now) check.entry.key (state fresh.now.items (knowledge R.Key.cmp learned.old) [] (T.reads tree.old)) (state fresh.now.items (knowledge R.Key.cmp learned.new) [] (T.reads tree.new))) }
+    ensures adds { Adds (setting R.means (over edits.now (T.held tree.old)) job.now old.now)
+        check.entry.key (state fresh.now.items (knowledge R.Key.cmp learned.old) []
+        (T.reads tree.old))
+        (state fresh.now.items (knowledge R.Key.cmp learned.new) [] (T.reads tree.new)) }
+    ensures ok { IfOk result
+        (IsCheckedOn (setting R.means (over edits.now (T.held tree.old)) job.now old.now)
+        check.entry.key (state fresh.now.items (knowledge R.Key.cmp learned.old) []
+        (T.reads tree.old))
+        (state fresh.now.items (knowledge R.Key.cmp learned.new) [] (T.reads tree.new))) }
 {
     let Check { entry, batch } = check;
     let talk = entry.talk.value();
@@ -138,12 +156,24 @@ pub fn advance<R: Rules, T: Tree>(
     learned: &mut Learned<R::Key>,
     acts: &mut u64,
 ) -> Result<Option<Item<R::Key, R::Out>>, EngineRefusal>
-    requires ready { IsReady (setting R.means (over edits.now (T.held tree.old)) job.now old.now) (state fresh.old.items (knowledge R.Key.cmp learned.old) book.old (T.reads tree.old)) (place_at R.Key.cmp places.old) }
-    requires item { IsItem (setting R.means (over edits.now (T.held tree.old)) job.now old.now) (state fresh.old.items (knowledge R.Key.cmp learned.old) book.old (T.reads tree.old)) item }
+    requires ready { IsReady (setting R.means (over edits.now (T.held tree.old)) job.now old.now)
+        (state fresh.old.items (knowledge R.Key.cmp learned.old) book.old (T.reads tree.old))
+        (place_at R.Key.cmp places.old) }
+    requires item { IsItem (setting R.means (over edits.now (T.held tree.old)) job.now old.now)
+        (state fresh.old.items (knowledge R.Key.cmp learned.old) book.old (T.reads tree.old)) item }
     ensures held { T.held tree.new ≡ T.held tree.old }
     ensures count { Counts (T.faults tree.old) (T.faults tree.new) result }
-    ensures notes { Notes (setting R.means (over edits.now (T.held tree.old)) job.now old.now) (item_key item) (state fresh.old.items (knowledge R.Key.cmp learned.old) book.old (T.reads tree.old)) (state fresh.new.items (knowledge R.Key.cmp learned.new) book.new (T.reads tree.new)) (place_at R.Key.cmp places.old) }
-    ensures ok { IfOk result (IsAdvanced (setting R.means (over edits.now (T.held tree.old)) job.now old.now) (item_key item) (state fresh.old.items (knowledge R.Key.cmp learned.old) book.old (T.reads tree.old)) (state fresh.new.items (knowledge R.Key.cmp learned.new) book.new (T.reads tree.new)) (place_at R.Key.cmp places.old) (place_at R.Key.cmp places.new)) }
+    ensures notes { Notes (setting R.means (over edits.now (T.held tree.old)) job.now old.now)
+        (item_key item) (state fresh.old.items (knowledge R.Key.cmp learned.old) book.old
+        (T.reads tree.old))
+        (state fresh.new.items (knowledge R.Key.cmp learned.new) book.new (T.reads tree.new))
+        (place_at R.Key.cmp places.old) }
+    ensures ok { IfOk result
+        (IsAdvanced (setting R.means (over edits.now (T.held tree.old)) job.now old.now)
+        (item_key item) (state fresh.old.items (knowledge R.Key.cmp learned.old) book.old
+        (T.reads tree.old))
+        (state fresh.new.items (knowledge R.Key.cmp learned.new) book.new (T.reads tree.new))
+        (place_at R.Key.cmp places.old) (place_at R.Key.cmp places.new)) }
 {
     match item {
         Item::Run(run) => Ok(Some(Item::Run(run))),
@@ -178,7 +208,8 @@ fn sort_in<K: Drop, O: Drop>(
     runs: &mut Vec<Run<K, O>>,
     rest: &mut Vec<Item<K, O>>,
 ) -> Result<(), WantOfMemory>
-    ensures { OnOk result (SortsIn left runs.old.items runs.new.items rest.old.items rest.new.items) }
+    ensures { OnOk result
+        (SortsIn left runs.old.items runs.new.items rest.old.items rest.new.items) }
 {
     match left {
         None => Ok(()),
@@ -197,7 +228,8 @@ fn sort_in<K: Drop, O: Drop>(
     }
 }
 
-/// One step forward for each key under way: the runs that are to make their next turns, and the rest.
+/// One step forward for each key under way: the runs that are to make their next turns, and the
+/// rest.
 pub fn advance_all<R: Rules, T: Tree>(
     alloc: Global,
     rules: &R,
@@ -213,13 +245,28 @@ pub fn advance_all<R: Rules, T: Tree>(
     acts: &mut u64,
     rest: &mut Vec<Item<R::Key, R::Out>>,
 ) -> Result<Vec<Run<R::Key, R::Out>>, EngineRefusal>
-    requires ready { IsReady (setting R.means (over edits.now (T.held tree.old)) job.now old.now) (state fresh.old.items (knowledge R.Key.cmp learned.old) book.old (T.reads tree.old)) (place_at R.Key.cmp places.old) }
-    requires items { AreItems (setting R.means (over edits.now (T.held tree.old)) job.now old.now) (state fresh.old.items (knowledge R.Key.cmp learned.old) book.old (T.reads tree.old)) items.items }
+    requires ready { IsReady (setting R.means (over edits.now (T.held tree.old)) job.now old.now)
+        (state fresh.old.items (knowledge R.Key.cmp learned.old) book.old (T.reads tree.old))
+        (place_at R.Key.cmp places.old) }
+    requires items { AreItems (setting R.means (over edits.now (T.held tree.old)) job.now old.now)
+        (state fresh.old.items (knowledge R.Key.cmp learned.old) book.old (T.reads tree.old))
+        items.items }
     requires none { rest.old.items ≡ [] }
     ensures held { T.held tree.new ≡ T.held tree.old }
     ensures count { Counts (T.faults tree.old) (T.faults tree.new) result }
-    ensures notes { ListNotes (setting R.means (over edits.now (T.held tree.old)) job.now old.now) (state fresh.old.items (knowledge R.Key.cmp learned.old) book.old (T.reads tree.old)) (state fresh.new.items (knowledge R.Key.cmp learned.new) book.new (T.reads tree.new)) (place_at R.Key.cmp places.old) (λ top. AreItemsWanted (setting R.means (over edits.now (T.held tree.old)) job.now old.now) top items.items) }
-    ensures ok { IfOk result (λ runs. IsList (setting R.means (over edits.now (T.held tree.old)) job.now old.now) (state fresh.old.items (knowledge R.Key.cmp learned.old) book.old (T.reads tree.old)) (state fresh.new.items (knowledge R.Key.cmp learned.new) book.new (T.reads tree.new)) (place_at R.Key.cmp places.old) (place_at R.Key.cmp places.new) (λ top. AreItemsWanted (setting R.means (over edits.now (T.held tree.old)) job.now old.now) top items.items) runs.items rest.new.items) }
+    ensures notes { ListNotes (setting R.means (over edits.now (T.held tree.old)) job.now old.now)
+        (state fresh.old.items (knowledge R.Key.cmp learned.old) book.old (T.reads tree.old))
+        (state fresh.new.items (knowledge R.Key.cmp learned.new) book.new (T.reads tree.new))
+        (place_at R.Key.cmp places.old)
+        (λ top. AreItemsWanted (setting R.means (over edits.now (T.held tree.old)) job.now old.now)
+        top items.items) }
+    ensures ok { IfOk result
+        (λ runs. IsList (setting R.means (over edits.now (T.held tree.old)) job.now old.now)
+        (state fresh.old.items (knowledge R.Key.cmp learned.old) book.old (T.reads tree.old))
+        (state fresh.new.items (knowledge R.Key.cmp learned.new) book.new (T.reads tree.new))
+        (place_at R.Key.cmp places.old) (place_at R.Key.cmp places.new)
+        (λ top. AreItemsWanted (setting R.means (over edits.now (T.held tree.old)) job.now old.now)
+        top items.items) runs.items rest.new.items) }
 {
     let mut runs = Vec::new(alloc);
     for item in items {

@@ -40,8 +40,10 @@ fn field(alloc: Global, job: &Rows<Text>, number: u8) -> Result<Shared<Text>, Wa
 
 /// Whether a part that is asked is of lower rank.
 pub fn is_lower<R: Rules>(rules: &R, key: &R::Key, ask: &Ask<R::Key>) -> bool
-    ensures yes { result ≡ true → (part : R.Key) → ask.now ≡ Ask.Part part → R.means.rank part < R.means.rank key.now }
-    ensures no { result ≡ false → (part : R.Key) × (ask.now ≡ Ask.Part part) × (R.means.rank key.now ≤ R.means.rank part) }
+    ensures yes { result ≡ true → (part : R.Key) → ask.now ≡ Ask.Part part
+        → R.means.rank part < R.means.rank key.now }
+    ensures no { result ≡ false → (part : R.Key) × (ask.now ≡ Ask.Part part)
+        × (R.means.rank key.now ≤ R.means.rank part) }
 {
     match ask {
         Ask::Part(part) => rules.rank(part) < rules.rank(key),
@@ -82,14 +84,27 @@ fn answer<R: Rules, T: Tree>(
     edits: &Edits,
     learned: &mut Learned<R::Key>,
 ) -> Result<Option<Answer<R::Out>>, EngineRefusal>
-    requires kept { AreKept (setting R.means (over edits.now (T.held tree.old)) job.now old.now) (state fresh.now.items (knowledge R.Key.cmp learned.old) [] (T.reads tree.old)) }
+    requires kept { AreKept (setting R.means (over edits.now (T.held tree.old)) job.now old.now)
+        (state fresh.now.items (knowledge R.Key.cmp learned.old) [] (T.reads tree.old)) }
     requires finds { Finds (place_at R.Key.cmp places.now) fresh.now.items }
-    requires lower { (part : R.Key) → ask.now ≡ Ask.Part part → R.means.rank part < R.means.rank key.now }
-    requires next { (w : World) → IsHere (setting R.means (over edits.now (T.held tree.old)) job.now old.now) w → (asks : List (Ask R.Key)) × Contains asks ask.now × IsNext R.means w key.now asks }
+    requires lower { (part : R.Key) → ask.now ≡ Ask.Part part
+        → R.means.rank part < R.means.rank key.now }
+    requires next { (w : World)
+        → IsHere (setting R.means (over edits.now (T.held tree.old)) job.now old.now) w
+        → (asks : List (Ask R.Key)) × Contains asks ask.now × IsNext R.means w key.now asks }
     ensures held { T.held tree.new ≡ T.held tree.old }
     ensures count { Counts (T.faults tree.old) (T.faults tree.new) result }
-    ensures adds { Adds (setting R.means (over edits.now (T.held tree.old)) job.now old.now) key.now (state fresh.now.items (knowledge R.Key.cmp learned.old) [] (T.reads tree.old)) (state fresh.now.items (knowledge R.Key.cmp learned.new) [] (T.reads tree.new)) }
-    ensures ok { IfOk result (λ r. MatchOption r (IsStill (setting R.means (over edits.now (T.held tree.old)) job.now old.now) key.now (state fresh.now.items (knowledge R.Key.cmp learned.old) [] (T.reads tree.old)) (state fresh.now.items (knowledge R.Key.cmp learned.new) [] (T.reads tree.new))) (IsAnswered (setting R.means (over edits.now (T.held tree.old)) job.now old.now) key.now ask.now (state fresh.now.items (knowledge R.Key.cmp learned.old) [] (T.reads tree.old)) (state fresh.now.items (knowledge R.Key.cmp learned.new) [] (T.reads tree.new)))) }
+    ensures adds { Adds (setting R.means (over edits.now (T.held tree.old)) job.now old.now) key.now
+        (state fresh.now.items (knowledge R.Key.cmp learned.old) [] (T.reads tree.old))
+        (state fresh.now.items (knowledge R.Key.cmp learned.new) [] (T.reads tree.new)) }
+    ensures ok { IfOk result
+        (λ r. MatchOption r
+        (IsStill (setting R.means (over edits.now (T.held tree.old)) job.now old.now) key.now
+        (state fresh.now.items (knowledge R.Key.cmp learned.old) [] (T.reads tree.old))
+        (state fresh.now.items (knowledge R.Key.cmp learned.new) [] (T.reads tree.new)))
+        (IsAnswered (setting R.means (over edits.now (T.held tree.old)) job.now old.now) key.now
+        ask.now (state fresh.now.items (knowledge R.Key.cmp learned.old) [] (T.reads tree.old))
+        (state fresh.now.items (knowledge R.Key.cmp learned.new) [] (T.reads tree.new)))) }
 {
     match ask {
         Ask::File(path) => {
@@ -118,14 +133,27 @@ pub fn answers<R: Rules, T: Tree>(
     edits: &Edits,
     learned: &mut Learned<R::Key>,
 ) -> Result<Option<Rows<Pair<R::Key, R::Out>>>, EngineRefusal>
-    requires kept { AreKept (setting R.means (over edits.now (T.held tree.old)) job.now old.now) (state fresh.now.items (knowledge R.Key.cmp learned.old) [] (T.reads tree.old)) }
+    requires kept { AreKept (setting R.means (over edits.now (T.held tree.old)) job.now old.now)
+        (state fresh.now.items (knowledge R.Key.cmp learned.old) [] (T.reads tree.old)) }
     requires finds { Finds (place_at R.Key.cmp places.now) fresh.now.items }
-    requires lower { AreLower (setting R.means (over edits.now (T.held tree.old)) job.now old.now) key.now asks.now }
-    requires next { (w : World) → IsHere (setting R.means (over edits.now (T.held tree.old)) job.now old.now) w → IsNext R.means w key.now asks.now }
+    requires lower { AreLower (setting R.means (over edits.now (T.held tree.old)) job.now old.now)
+        key.now asks.now }
+    requires next { (w : World)
+        → IsHere (setting R.means (over edits.now (T.held tree.old)) job.now old.now) w
+        → IsNext R.means w key.now asks.now }
     ensures held { T.held tree.new ≡ T.held tree.old }
     ensures count { Counts (T.faults tree.old) (T.faults tree.new) result }
-    ensures adds { Adds (setting R.means (over edits.now (T.held tree.old)) job.now old.now) key.now (state fresh.now.items (knowledge R.Key.cmp learned.old) [] (T.reads tree.old)) (state fresh.now.items (knowledge R.Key.cmp learned.new) [] (T.reads tree.new)) }
-    ensures ok { IfOk result (λ r. MatchOption r (IsStill (setting R.means (over edits.now (T.held tree.old)) job.now old.now) key.now (state fresh.now.items (knowledge R.Key.cmp learned.old) [] (T.reads tree.old)) (state fresh.now.items (knowledge R.Key.cmp learned.new) [] (T.reads tree.new))) (AreAnswered (setting R.means (over edits.now (T.held tree.old)) job.now old.now) key.now asks.now (state fresh.now.items (knowledge R.Key.cmp learned.old) [] (T.reads tree.old)) (state fresh.now.items (knowledge R.Key.cmp learned.new) [] (T.reads tree.new)))) }
+    ensures adds { Adds (setting R.means (over edits.now (T.held tree.old)) job.now old.now) key.now
+        (state fresh.now.items (knowledge R.Key.cmp learned.old) [] (T.reads tree.old))
+        (state fresh.now.items (knowledge R.Key.cmp learned.new) [] (T.reads tree.new)) }
+    ensures ok { IfOk result
+        (λ r. MatchOption r
+        (IsStill (setting R.means (over edits.now (T.held tree.old)) job.now old.now) key.now
+        (state fresh.now.items (knowledge R.Key.cmp learned.old) [] (T.reads tree.old))
+        (state fresh.now.items (knowledge R.Key.cmp learned.new) [] (T.reads tree.new)))
+        (AreAnswered (setting R.means (over edits.now (T.held tree.old)) job.now old.now) key.now
+        asks.now (state fresh.now.items (knowledge R.Key.cmp learned.old) [] (T.reads tree.old))
+        (state fresh.now.items (knowledge R.Key.cmp learned.new) [] (T.reads tree.new)))) }
 {
     let mut pairs = Rows::new(alloc);
     for ask in asks.items() {
@@ -149,7 +177,9 @@ fn note_compared<K: StepKey, O: Drop>(
     same: bool,
     compared: &mut Compared<K>,
 ) -> Result<(), WantOfMemory>
-    ensures { OnOk result ((compared.new ≡ compared.old) ⊎ (Agree old.now × IsPlaced part.now same (compared_at K.cmp compared.old) (compared_at K.cmp compared.new))) }
+    ensures { OnOk result ((compared.new ≡ compared.old)
+        ⊎ (Agree old.now × IsPlaced part.now same (compared_at K.cmp compared.old)
+        (compared_at K.cmp compared.new))) }
 {
     if !old.agrees() {
         return Ok(());
@@ -174,8 +204,10 @@ fn check_part<K: StepKey, O: Same + Drop>(
     requires compared { AreCompared old.now fresh.now.items (compared_at K.cmp compared.old) }
     requires asked { pair.now.ask ≡ Ask.Part part.now }
     requires old { HasPair old.now pair.now }
-    ensures same { IfOk result (λ r. IfSome r (λ same. IsCompared fresh.now.items part.now same pair.now.answer)) }
-    ensures compared { OnOk result (AreCompared old.now fresh.now.items (compared_at K.cmp compared.new)) }
+    ensures same { IfOk result
+        (λ r. IfSome r (λ same. IsCompared fresh.now.items part.now same pair.now.answer)) }
+    ensures compared { OnOk result
+        (AreCompared old.now fresh.now.items (compared_at K.cmp compared.new)) }
 {
     if let Some(same) = compared.get(part) {
         return Ok(Some(same));
@@ -204,15 +236,28 @@ fn check_pair<R: Rules, T: Tree>(
     edits: &Edits,
     learned: &mut Learned<R::Key>,
 ) -> Result<Option<bool>, EngineRefusal>
-    requires kept { AreKept (setting R.means (over edits.now (T.held tree.old)) job.now old.now) (state fresh.now.items (knowledge R.Key.cmp learned.old) [] (T.reads tree.old)) }
+    requires kept { AreKept (setting R.means (over edits.now (T.held tree.old)) job.now old.now)
+        (state fresh.now.items (knowledge R.Key.cmp learned.old) [] (T.reads tree.old)) }
     requires finds { Finds (place_at R.Key.cmp places.now) fresh.now.items }
-    requires lower { (part : R.Key) → pair.now.ask ≡ Ask.Part part → R.means.rank part < R.means.rank key.now }
-    requires next { (w : World) → IsHere (setting R.means (over edits.now (T.held tree.old)) job.now old.now) w → (asks : List (Ask R.Key)) × Contains asks pair.now.ask × IsNext R.means w key.now asks }
+    requires lower { (part : R.Key) → pair.now.ask ≡ Ask.Part part
+        → R.means.rank part < R.means.rank key.now }
+    requires next { (w : World)
+        → IsHere (setting R.means (over edits.now (T.held tree.old)) job.now old.now) w
+        → (asks : List (Ask R.Key)) × Contains asks pair.now.ask × IsNext R.means w key.now asks }
     requires old { HasPair old.now pair.now }
     ensures held { T.held tree.new ≡ T.held tree.old }
     ensures count { Counts (T.faults tree.old) (T.faults tree.new) result }
-    ensures adds { Adds (setting R.means (over edits.now (T.held tree.old)) job.now old.now) key.now (state fresh.now.items (knowledge R.Key.cmp learned.old) [] (T.reads tree.old)) (state fresh.now.items (knowledge R.Key.cmp learned.new) [] (T.reads tree.new)) }
-    ensures ok { IfOk result (λ r. MatchOption r (IsStill (setting R.means (over edits.now (T.held tree.old)) job.now old.now) key.now (state fresh.now.items (knowledge R.Key.cmp learned.old) [] (T.reads tree.old)) (state fresh.now.items (knowledge R.Key.cmp learned.new) [] (T.reads tree.new))) (IsCheckedPair (setting R.means (over edits.now (T.held tree.old)) job.now old.now) key.now pair.now (state fresh.now.items (knowledge R.Key.cmp learned.old) [] (T.reads tree.old)) (state fresh.now.items (knowledge R.Key.cmp learned.new) [] (T.reads tree.new)))) }
+    ensures adds { Adds (setting R.means (over edits.now (T.held tree.old)) job.now old.now) key.now
+        (state fresh.now.items (knowledge R.Key.cmp learned.old) [] (T.reads tree.old))
+        (state fresh.now.items (knowledge R.Key.cmp learned.new) [] (T.reads tree.new)) }
+    ensures ok { IfOk result
+        (λ r. MatchOption r
+        (IsStill (setting R.means (over edits.now (T.held tree.old)) job.now old.now) key.now
+        (state fresh.now.items (knowledge R.Key.cmp learned.old) [] (T.reads tree.old))
+        (state fresh.now.items (knowledge R.Key.cmp learned.new) [] (T.reads tree.new)))
+        (IsCheckedPair (setting R.means (over edits.now (T.held tree.old)) job.now old.now) key.now
+        pair.now (state fresh.now.items (knowledge R.Key.cmp learned.old) [] (T.reads tree.old))
+        (state fresh.now.items (knowledge R.Key.cmp learned.new) [] (T.reads tree.new)))) }
 {
     if let Ask::Part(part) = &pair.ask {
         let same = check_part(alloc, old, part, pair, fresh, places, &mut learned.compared)?;
@@ -241,14 +286,26 @@ pub fn check_batch<R: Rules, T: Tree>(
     edits: &Edits,
     learned: &mut Learned<R::Key>,
 ) -> Result<Option<bool>, EngineRefusal>
-    requires kept { AreKept (setting R.means (over edits.now (T.held tree.old)) job.now old.now) (state fresh.now.items (knowledge R.Key.cmp learned.old) [] (T.reads tree.old)) }
+    requires kept { AreKept (setting R.means (over edits.now (T.held tree.old)) job.now old.now)
+        (state fresh.now.items (knowledge R.Key.cmp learned.old) [] (T.reads tree.old)) }
     requires finds { Finds (place_at R.Key.cmp places.now) fresh.now.items }
-    requires next { (w : World) → IsHere (setting R.means (over edits.now (T.held tree.old)) job.now old.now) w → IsNext R.means w key.now (asks_of pairs.now) }
+    requires next { (w : World)
+        → IsHere (setting R.means (over edits.now (T.held tree.old)) job.now old.now) w
+        → IsNext R.means w key.now (asks_of pairs.now) }
     requires old { (p : Pair R.Key R.Out) → Contains pairs.now p → HasPair old.now p }
     ensures held { T.held tree.new ≡ T.held tree.old }
     ensures count { Counts (T.faults tree.old) (T.faults tree.new) result }
-    ensures adds { Adds (setting R.means (over edits.now (T.held tree.old)) job.now old.now) key.now (state fresh.now.items (knowledge R.Key.cmp learned.old) [] (T.reads tree.old)) (state fresh.now.items (knowledge R.Key.cmp learned.new) [] (T.reads tree.new)) }
-    ensures ok { IfOk result (λ r. MatchOption r (IsStill (setting R.means (over edits.now (T.held tree.old)) job.now old.now) key.now (state fresh.now.items (knowledge R.Key.cmp learned.old) [] (T.reads tree.old)) (state fresh.now.items (knowledge R.Key.cmp learned.new) [] (T.reads tree.new))) (IsCheckedBatch (setting R.means (over edits.now (T.held tree.old)) job.now old.now) key.now pairs.now (state fresh.now.items (knowledge R.Key.cmp learned.old) [] (T.reads tree.old)) (state fresh.now.items (knowledge R.Key.cmp learned.new) [] (T.reads tree.new)))) }
+    ensures adds { Adds (setting R.means (over edits.now (T.held tree.old)) job.now old.now) key.now
+        (state fresh.now.items (knowledge R.Key.cmp learned.old) [] (T.reads tree.old))
+        (state fresh.now.items (knowledge R.Key.cmp learned.new) [] (T.reads tree.new)) }
+    ensures ok { IfOk result
+        (λ r. MatchOption r
+        (IsStill (setting R.means (over edits.now (T.held tree.old)) job.now old.now) key.now
+        (state fresh.now.items (knowledge R.Key.cmp learned.old) [] (T.reads tree.old))
+        (state fresh.now.items (knowledge R.Key.cmp learned.new) [] (T.reads tree.new)))
+        (IsCheckedBatch (setting R.means (over edits.now (T.held tree.old)) job.now old.now) key.now
+        pairs.now (state fresh.now.items (knowledge R.Key.cmp learned.old) [] (T.reads tree.old))
+        (state fresh.now.items (knowledge R.Key.cmp learned.new) [] (T.reads tree.new)))) }
 {
     let mut right = true;
     for pair in pairs.items() {

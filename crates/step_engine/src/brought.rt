@@ -23,8 +23,8 @@ use build_base::text::{Text, WantOfMemory};
 use std::alloc::Global;
 use std::thread::Threads;
 
-/// What a build gives: the outcome of its key, the cache that it leaves, how many keys it needed, and
-/// whether it leaves the cache that it was handed.
+/// What a build gives: the outcome of its key, the cache that it leaves, how many keys it needed,
+/// and whether it leaves the cache that it was handed.
 #[derive(Drop)]
 pub struct Brought<K: StepKey, O: Drop> {
     pub result: Outcome<O>,
@@ -105,7 +105,8 @@ fn is_idle<K: StepKey, O: Drop>(
     first: usize,
     book: &Book<K>,
 ) -> bool
-    ensures idle { IsTrue result ↔ ((length book.now ≡ first) × (length left.now ≡ length old.now)) }
+    ensures idle { IsTrue result ↔ ((length book.now ≡ first)
+        × (length left.now ≡ length old.now)) }
     ensures sorted { AreInOrder K.cmp old.now }
     ensures order { AreInOrder K.cmp left.now }
 {
@@ -145,11 +146,15 @@ pub fn bring<H: Threads + Sync, R: Rules, T: Tree, G: Gate>(
 
     // Each step once, and only where wanted.
     ensures ran { Ran (setting R.means (T.held tree.old) job.now cache) top book.old book.new }
-    ensures all { OnOk result (RanAll (setting R.means (T.held tree.old) job.now cache) top book.old book.new) }
-    ensures read { HasRead (setting R.means (T.held tree.old) job.now cache) top (T.reads tree.old) (T.reads tree.new) }
+    ensures all { OnOk result
+        (RanAll (setting R.means (T.held tree.old) job.now cache) top book.old book.new) }
+    ensures read { HasRead (setting R.means (T.held tree.old) job.now cache) top (T.reads tree.old)
+        (T.reads tree.new) }
 
     // Where the tree tells what it holds and the cache is sound.
-    ensures built { IfOk result (λ b. Built R.Key.cmp (setting R.means (T.held tree.old) job.now cache) top b.result b.cache b.needed) }
+    ensures built { IfOk result
+        (λ b. Built R.Key.cmp (setting R.means (T.held tree.old) job.now cache) top b.result b.cache
+        b.needed) }
 
     // It leaves the cache as it was where it says so, which it does where nothing ran.
     ensures unchanged { IfOk result (λ b. b.unchanged ≡ true → b.cache ≡ cache) }
@@ -161,7 +166,8 @@ pub fn bring<H: Threads + Sync, R: Rules, T: Tree, G: Gate>(
     )
 }
 
-/// The outcome of a key over edits of the tree's files, from the entries that an earlier build left.
+/// The outcome of a key over edits of the tree's files, from the entries that an earlier build
+/// left.
 ///
 /// A path that has an edit isn't read from the tree. All else is as in `bring`.
 pub fn bring_over<H: Threads + Sync, R: Rules, T: Tree, G: Gate>(
@@ -190,12 +196,18 @@ pub fn bring_over<H: Threads + Sync, R: Rules, T: Tree, G: Gate>(
     ensures own { IfOk result (λ b. IsEntryOf top b.result b.cache) }
 
     // Each step once, and only where wanted.
-    ensures ran { Ran (setting R.means (over edits.now (T.held tree.old)) job.now cache) top book.old book.new }
-    ensures all { OnOk result (RanAll (setting R.means (over edits.now (T.held tree.old)) job.now cache) top book.old book.new) }
-    ensures read { HasRead (setting R.means (over edits.now (T.held tree.old)) job.now cache) top (T.reads tree.old) (T.reads tree.new) }
+    ensures ran { Ran (setting R.means (over edits.now (T.held tree.old)) job.now cache) top
+        book.old book.new }
+    ensures all { OnOk result
+        (RanAll (setting R.means (over edits.now (T.held tree.old)) job.now cache) top book.old
+        book.new) }
+    ensures read { HasRead (setting R.means (over edits.now (T.held tree.old)) job.now cache) top
+        (T.reads tree.old) (T.reads tree.new) }
 
     // Where the tree tells what it holds and the cache is sound.
-    ensures built { IfOk result (λ b. Built R.Key.cmp (setting R.means (over edits.now (T.held tree.old)) job.now cache) top b.result b.cache b.needed) }
+    ensures built { IfOk result
+        (λ b. Built R.Key.cmp (setting R.means (over edits.now (T.held tree.old)) job.now cache) top
+        b.result b.cache b.needed) }
 
     // It leaves the cache as it was where it says so, which it does where nothing ran.
     ensures unchanged { IfOk result (λ b. b.unchanged ≡ true → b.cache ≡ cache) }

@@ -8,8 +8,8 @@ use build_base::text::WantOfMemory;
 use std::alloc::Global;
 use std::marker::Model;
 
-/// At most one entry for a key, seen as the list of entries in ascending order of their keys. `agrees`
-/// is set only where all answers to one part are known to be the same.
+/// At most one entry for a key, seen as the list of entries in ascending order of their keys.
+/// `agrees` is set only where all answers to one part are known to be the same.
 #[derive(Drop)]
 pub struct Cache<K: StepKey, O: Drop> {
     store: Vec<Entry<K, O>>,
@@ -27,7 +27,8 @@ impl<K: StepKey, O: Drop> Model for Cache<K, O> {
 
     ghost view = { λ c. c.store.items };
 
-    ghost invariant = { λ c. AreInOrder K.cmp c.store.items × (c.agrees ≡ true → Agree c.store.items) };
+    ghost invariant = { λ c. AreInOrder K.cmp c.store.items
+        × (c.agrees ≡ true → Agree c.store.items) };
 }
 
 impl<K: StepKey, O: Drop> Cache<K, O> {
@@ -99,7 +100,8 @@ impl<K: StepKey, O: Drop> Cache<K, O> {
     // The entry of a key.
     pub(crate) fn get(&self, key: &K) -> Option<&Entry<K, O>>
         ensures some { IfSome result (λ e. Contains self.now e.now × (e.now.key ≡ key.now)) }
-        ensures only { IfSome result (λ e. (d : Entry K O) → Contains self.now d → d.key ≡ key.now → d ≡ e.now) }
+        ensures only { IfSome result (λ e. (d : Entry K O) → Contains self.now d → d.key ≡ key.now
+            → d ≡ e.now) }
         ensures none { IfNone result (HasKey self.now key.now → ⊥) }
     {
         match place(&self.store, key) {

@@ -46,7 +46,8 @@ impl<K: StepKey> Compared<K> {
 
     /// Notes whether the old answers to a part are its outcome.
     pub fn note(&mut self, part: K, same: bool) -> Result<(), WantOfMemory>
-        ensures ok { OnOk result (IsPlaced part same (compared_at K.cmp self.old) (compared_at K.cmp self.new)) }
+        ensures ok { OnOk result
+            (IsPlaced part same (compared_at K.cmp self.old) (compared_at K.cmp self.new)) }
         ensures err { OnErr result (self.new ≡ self.old) }
     {
         if self.map.insert(part, same).is_err() {

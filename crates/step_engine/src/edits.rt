@@ -17,7 +17,8 @@ pub struct Edit {
     pub bytes: Option<Shared<Text>>,
 }
 
-/// Edits of a workspace in their order, seen as the list of them. Of those of one path the last counts.
+/// Edits of a workspace in their order, seen as the list of them. Of those of one path the last
+/// counts.
 #[derive(Debug, Drop)]
 pub struct Edits {
     rows: Rows<Edit>,
@@ -44,7 +45,8 @@ impl Edits {
 
     /// From now on the path has these bytes. A refusal drops them.
     pub fn put(&mut self, path: Path, bytes: Shared<Text>) -> Result<(), WantOfMemory>
-        ensures ok { OnOk result (self.new ≡ self.old ++ (record { path = path; bytes = Some bytes }) ∷ []) }
+        ensures ok { OnOk result (self.new ≡ self.old
+            ++ (record { path = path; bytes = Some bytes }) ∷ []) }
         ensures err { OnErr result (self.new ≡ self.old) }
     {
         self.rows.push(Edit {
@@ -55,7 +57,8 @@ impl Edits {
 
     /// From now on there is no file at the path.
     pub fn drop_file(&mut self, path: Path) -> Result<(), WantOfMemory>
-        ensures ok { OnOk result (self.new ≡ self.old ++ (record { path = path; bytes = None }) ∷ []) }
+        ensures ok { OnOk result (self.new ≡ self.old ++ (record { path = path; bytes = None })
+            ∷ []) }
         ensures err { OnErr result (self.new ≡ self.old) }
     {
         self.rows.push(Edit { path, bytes: None })

@@ -46,7 +46,8 @@ fn put_all<K: StepKey, O: Same + Drop>(
 ) -> Result<Cache<K, O>, WantOfMemory>
     ensures same { IsOneEach entries.items → IfOk result (λ cache. AreSame entries.items cache) }
     ensures sorted { IfOk result (AreInOrder K.cmp) }
-    ensures only { IfOk result (λ cache. (e : Entry K O) → Contains cache e → Contains entries.items e) }
+    ensures only { IfOk result (λ cache. (e : Entry K O) → Contains cache e
+        → Contains entries.items e) }
 {
     let mut cache = Cache::new(alloc);
     for entry in entries {
@@ -55,8 +56,8 @@ fn put_all<K: StepKey, O: Same + Drop>(
     Ok(cache)
 }
 
-/// The cache of these entries, one for a key, and whether all their answers to one part are known to
-/// be the same.
+/// The cache of these entries, one for a key, and whether all their answers to one part are known
+/// to be the same.
 pub fn in_order<K: StepKey, O: Same + Drop>(
     alloc: Global,
     entries: Vec<Entry<K, O>>,

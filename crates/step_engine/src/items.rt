@@ -46,7 +46,8 @@ pub enum Item<K, O> {
     Check(Check<K, O>),
 }
 
-/// A key under way with parts that it asks for, which may not be done; the last one is looked at first.
+/// A key under way with parts that it asks for, which may not be done; the last one is looked at
+/// first.
 #[derive(Drop)]
 pub struct Waiting<K, O> {
     pub item: Item<K, O>,
@@ -69,7 +70,8 @@ pub enum Checked<K, O> {
 
 /// A batch of an entry.
 pub fn batch_at<K, O>(entry: &Entry<K, O>, number: usize) -> Option<&Batch<K, O>>
-    ensures some { IfSome result (λ b. (number < length entry.now.talk.batches) × (b.now ≡ get_or entry.now.talk.batches number b.now)) }
+    ensures some { IfSome result (λ b. (number < length entry.now.talk.batches)
+        × (b.now ≡ get_or entry.now.talk.batches number b.now)) }
     ensures none { IfNone result (length entry.now.talk.batches ≤ number) }
 {
     let talk = entry.talk.value();

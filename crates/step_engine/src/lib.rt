@@ -1,4 +1,5 @@
-//! Cached steps over any rules: conversations, entries, and builds that run a step only where none of its entries is valid.
+//! Cached steps over any rules: conversations, entries, and builds that run a step only where none
+//! of its entries is valid.
 #![tactic(auto)]
 
 mod advance;

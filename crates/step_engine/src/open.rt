@@ -24,7 +24,11 @@ fn open<K: StepKey, O: Same + Drop>(
     book: &mut Book<K>,
     places: &mut Places<K>,
 ) -> Result<Option<Item<K, O>>, WantOfMemory>
-    ensures ok { IfOk result (λ r. MatchOption r ((book.new ≡ book.old) × (place_at K.cmp places.new ≡ place_at K.cmp places.old)) (IsOpened key.now old.now book.old book.new (place_at K.cmp places.old) (place_at K.cmp places.new))) }
+    ensures ok { IfOk result
+        (λ r. MatchOption r ((book.new ≡ book.old)
+        × (place_at K.cmp places.new ≡ place_at K.cmp places.old))
+        (IsOpened key.now old.now book.old book.new (place_at K.cmp places.old)
+        (place_at K.cmp places.new))) }
     ensures err { OnErr result (book.new ≡ book.old) }
 {
     let None = places.get(key) else {
@@ -60,8 +64,11 @@ pub fn open_all<K: StepKey, O: Same + Drop>(
     book: &mut Book<K>,
     places: &mut Places<K>,
 ) -> Result<Vec<Item<K, O>>, WantOfMemory>
-    ensures ok { IfOk result (λ items. Opens keys.now.items old.now book.old (place_at K.cmp places.old) book.new (place_at K.cmp places.new) items.items) }
-    ensures noted { OpensNoted keys.now.items old.now book.old (place_at K.cmp places.old) book.new }
+    ensures ok { IfOk result
+        (λ items. Opens keys.now.items old.now book.old (place_at K.cmp places.old) book.new
+        (place_at K.cmp places.new) items.items) }
+    ensures noted { OpensNoted keys.now.items old.now book.old (place_at K.cmp places.old)
+        book.new }
 {
     let mut items = Vec::new(alloc);
     for key in keys {

@@ -8,7 +8,8 @@ use std::alloc::Global;
 use std::collections::BTreeMap;
 use std::marker::Model;
 
-/// Where a key stands: its old entry is checked, its step runs, or its entry is made, and has this number.
+/// Where a key stands: its old entry is checked, its step runs, or its entry is made, and has this
+/// number.
 #[derive(Clone, Copy, Debug)]
 pub enum Place {
     Checking,
@@ -16,7 +17,8 @@ pub enum Place {
     Done(usize),
 }
 
-/// The place of each key that a build has met, seen as the list of both in ascending order of the keys.
+/// The place of each key that a build has met, seen as the list of both in ascending order of the
+/// keys.
 #[derive(Drop)]
 pub struct Places<K: StepKey> {
     map: BTreeMap<K, Place>,
@@ -53,7 +55,8 @@ impl<K: StepKey> Places<K> {
 
     /// Notes where a key stands.
     pub fn note(&mut self, key: K, place: Place) -> Result<(), WantOfMemory>
-        ensures ok { OnOk result (IsPlaced key place (place_at K.cmp self.old) (place_at K.cmp self.new)) }
+        ensures ok { OnOk result
+            (IsPlaced key place (place_at K.cmp self.old) (place_at K.cmp self.new)) }
         ensures err { OnErr result (self.new ≡ self.old) }
     {
         if self.map.insert(key, place).is_err() {

@@ -40,7 +40,8 @@ pub fn park<K: StepKey, O: Drop>(
     waiting: Waiting<K, O>,
     parked: &mut BTreeMap<K, Queue<K, O>>,
 ) -> Result<(), WantOfMemory>
-    ensures { OnOk result ((a : Item K O) → Parks K.cmp parked.new a → (waiting.item ≡ a) ⊎ Parks K.cmp parked.old a) }
+    ensures { OnOk result ((a : Item K O) → Parks K.cmp parked.new a → (waiting.item ≡ a)
+        ⊎ Parks K.cmp parked.old a) }
 {
     let mut list = taken(alloc, &part, parked);
     if list.push(waiting).is_err() {
@@ -59,7 +60,8 @@ pub fn wake<K: StepKey, O: Drop>(
     parked: &mut BTreeMap<K, Queue<K, O>>,
     woken: &mut Vec<Waiting<K, O>>,
 ) -> Result<(), WantOfMemory>
-    ensures { OnOk result ((a : Item K O) → Parks K.cmp parked.new a ⊎ Holds woken.new.items a → Parks K.cmp parked.old a ⊎ Holds woken.old.items a) }
+    ensures { OnOk result ((a : Item K O) → Parks K.cmp parked.new a
+        ⊎ Holds woken.new.items a → Parks K.cmp parked.old a ⊎ Holds woken.old.items a) }
 {
     let mut list = taken(alloc, part, parked);
     if woken.append(&mut list).is_err() {

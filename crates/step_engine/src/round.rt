@@ -47,12 +47,27 @@ pub fn round<H: Threads + Sync, R: Rules, T: Tree, G: Gate>(
 ) -> Result<Vec<Item<R::Key, R::Out>>, EngineRefusal>
     requires some { 1 ≤ workers }
     requires most { workers ≤ 64 }
-    requires ready { IsReady (setting R.means (over edits.now (T.held tree.old)) job.now old.now) (state fresh.old.items (knowledge R.Key.cmp learned.old) book.old (T.reads tree.old)) (place_at R.Key.cmp places.old) }
-    requires items { AreItems (setting R.means (over edits.now (T.held tree.old)) job.now old.now) (state fresh.old.items (knowledge R.Key.cmp learned.old) book.old (T.reads tree.old)) items.items }
+    requires ready { IsReady (setting R.means (over edits.now (T.held tree.old)) job.now old.now)
+        (state fresh.old.items (knowledge R.Key.cmp learned.old) book.old (T.reads tree.old))
+        (place_at R.Key.cmp places.old) }
+    requires items { AreItems (setting R.means (over edits.now (T.held tree.old)) job.now old.now)
+        (state fresh.old.items (knowledge R.Key.cmp learned.old) book.old (T.reads tree.old))
+        items.items }
     ensures held { T.held tree.new ≡ T.held tree.old }
     ensures count { Counts (T.faults tree.old) (T.faults tree.new) result }
-    ensures notes { ListNotes (setting R.means (over edits.now (T.held tree.old)) job.now old.now) (state fresh.old.items (knowledge R.Key.cmp learned.old) book.old (T.reads tree.old)) (state fresh.new.items (knowledge R.Key.cmp learned.new) book.new (T.reads tree.new)) (place_at R.Key.cmp places.old) (λ top. AreItemsWanted (setting R.means (over edits.now (T.held tree.old)) job.now old.now) top items.items) }
-    ensures ok { IfOk result (λ left. IsList (setting R.means (over edits.now (T.held tree.old)) job.now old.now) (state fresh.old.items (knowledge R.Key.cmp learned.old) book.old (T.reads tree.old)) (state fresh.new.items (knowledge R.Key.cmp learned.new) book.new (T.reads tree.new)) (place_at R.Key.cmp places.old) (place_at R.Key.cmp places.new) (λ top. AreItemsWanted (setting R.means (over edits.now (T.held tree.old)) job.now old.now) top items.items) [] left.items) }
+    ensures notes { ListNotes (setting R.means (over edits.now (T.held tree.old)) job.now old.now)
+        (state fresh.old.items (knowledge R.Key.cmp learned.old) book.old (T.reads tree.old))
+        (state fresh.new.items (knowledge R.Key.cmp learned.new) book.new (T.reads tree.new))
+        (place_at R.Key.cmp places.old)
+        (λ top. AreItemsWanted (setting R.means (over edits.now (T.held tree.old)) job.now old.now)
+        top items.items) }
+    ensures ok { IfOk result
+        (λ left. IsList (setting R.means (over edits.now (T.held tree.old)) job.now old.now)
+        (state fresh.old.items (knowledge R.Key.cmp learned.old) book.old (T.reads tree.old))
+        (state fresh.new.items (knowledge R.Key.cmp learned.new) book.new (T.reads tree.new))
+        (place_at R.Key.cmp places.old) (place_at R.Key.cmp places.new)
+        (λ top. AreItemsWanted (setting R.means (over edits.now (T.held tree.old)) job.now old.now)
+        top items.items) [] left.items) }
 {
     let mut left = Vec::new(alloc);
     let runs = advance_all(

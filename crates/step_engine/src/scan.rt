@@ -31,8 +31,12 @@ fn scan<R: Rules>(
     opened: &mut Vec<Item<R::Key, R::Out>>,
 ) -> Result<(), WantOfMemory>
     ensures noted { ScansNoted item old.now book.old (place_at R.Key.cmp places.old) book.new }
-    ensures ok { OnOk result ((more : List (Item R.Key R.Out)) × (opened.new.items ≡ opened.old.items ++ more) × Scans item old.now book.old (place_at R.Key.cmp places.old) book.new (place_at R.Key.cmp places.new) more) }
-    ensures held { OnOk result ((a : Item R.Key R.Out) → Holds waiting.new.items a → (item ≡ a) ⊎ Holds waiting.old.items a) }
+    ensures ok { OnOk result ((more : List (Item R.Key R.Out))
+        × (opened.new.items ≡ opened.old.items ++ more)
+        × Scans item old.now book.old (place_at R.Key.cmp places.old) book.new
+        (place_at R.Key.cmp places.new) more) }
+    ensures held { OnOk result ((a : Item R.Key R.Out) → Holds waiting.new.items a → (item ≡ a)
+        ⊎ Holds waiting.old.items a) }
 {
     let parts = parts_of(alloc, rules, &item, places)?;
     let mut more = open_all(alloc, old, &parts, book, places)?;
@@ -55,9 +59,13 @@ fn scan_all<R: Rules>(
     book: &mut Book<R::Key>,
     waiting: &mut Vec<Waiting<R::Key, R::Out>>,
 ) -> Result<Vec<Item<R::Key, R::Out>>, WantOfMemory>
-    ensures noted { ScansAllNoted items.items old.now book.old (place_at R.Key.cmp places.old) book.new }
-    ensures ok { IfOk result (λ opened. ScansAll items.items old.now book.old (place_at R.Key.cmp places.old) book.new (place_at R.Key.cmp places.new) opened.items) }
-    ensures held { OnOk result ((a : Item R.Key R.Out) → Holds waiting.new.items a → Contains items.items a ⊎ Holds waiting.old.items a) }
+    ensures noted { ScansAllNoted items.items old.now book.old (place_at R.Key.cmp places.old)
+        book.new }
+    ensures ok { IfOk result
+        (λ opened. ScansAll items.items old.now book.old (place_at R.Key.cmp places.old) book.new
+        (place_at R.Key.cmp places.new) opened.items) }
+    ensures held { OnOk result ((a : Item R.Key R.Out) → Holds waiting.new.items a
+        → Contains items.items a ⊎ Holds waiting.old.items a) }
 {
     let mut opened = Vec::new(alloc);
     for item in items {
@@ -74,7 +82,9 @@ fn sort_one<K: StepKey, O: Drop>(
     parked: &mut BTreeMap<K, Queue<K, O>>,
     able: &mut Vec<Item<K, O>>,
 ) -> Result<(), WantOfMemory>
-    ensures { OnOk result ((a : Item K O) → Contains able.new.items a ⊎ Parks K.cmp parked.new a → (one.item ≡ a) ⊎ (Contains able.old.items a ⊎ Parks K.cmp parked.old a)) }
+    ensures { OnOk result ((a : Item K O) → Contains able.new.items a
+        ⊎ Parks K.cmp parked.new a → (one.item ≡ a)
+        ⊎ (Contains able.old.items a ⊎ Parks K.cmp parked.old a)) }
 {
     let Waiting { item, parts } = one;
     let mut parts = parts;
@@ -95,7 +105,8 @@ fn sort_all<K: StepKey, O: Drop>(
     places: &Places<K>,
     parked: &mut BTreeMap<K, Queue<K, O>>,
 ) -> Result<Vec<Item<K, O>>, WantOfMemory>
-    ensures { IfOk result (λ able. (a : Item K O) → Contains able.items a ⊎ Parks K.cmp parked.new a → Holds waiting.items a ⊎ Parks K.cmp parked.old a) }
+    ensures { IfOk result (λ able. (a : Item K O) → Contains able.items a
+        ⊎ Parks K.cmp parked.new a → Holds waiting.items a ⊎ Parks K.cmp parked.old a) }
 {
     let mut able = Vec::new(alloc);
     for one in waiting {
@@ -113,9 +124,14 @@ pub fn take_able<R: Rules>(
     places: &mut Places<R::Key>,
     book: &mut Book<R::Key>,
 ) -> Result<Vec<Item<R::Key, R::Out>>, WantOfMemory>
-    ensures noted { ReadiesNoted R.Key.cmp pool.old old.now book.old (place_at R.Key.cmp places.old) book.new }
-    ensures ok { OnOk result (Readies R.Key.cmp pool.old old.now book.old (place_at R.Key.cmp places.old) book.new (place_at R.Key.cmp places.new) pool.new.news.items) }
-    ensures held { IfOk result (λ able. (a : Item R.Key R.Out) → Contains able.items a ⊎ (Holds pool.new.woken.items a ⊎ Parks R.Key.cmp pool.new.parked a) → IsIn R.Key.cmp pool.old a) }
+    ensures noted { ReadiesNoted R.Key.cmp pool.old old.now book.old (place_at R.Key.cmp places.old)
+        book.new }
+    ensures ok { OnOk result
+        (Readies R.Key.cmp pool.old old.now book.old (place_at R.Key.cmp places.old) book.new
+        (place_at R.Key.cmp places.new) pool.new.news.items) }
+    ensures held { IfOk result (λ able. (a : Item R.Key R.Out) → Contains able.items a
+        ⊎ (Holds pool.new.woken.items a ⊎ Parks R.Key.cmp pool.new.parked a)
+        → IsIn R.Key.cmp pool.old a) }
 {
     let news = replace(&mut pool.news, Vec::new(alloc));
     let mut waiting = replace(&mut pool.woken, Vec::new(alloc));
@@ -132,7 +148,8 @@ fn wake_all<K: StepKey, O: Drop>(
     parked: &mut BTreeMap<K, Queue<K, O>>,
     woken: &mut Vec<Waiting<K, O>>,
 ) -> Result<(), WantOfMemory>
-    ensures { OnOk result ((a : Item K O) → Parks K.cmp parked.new a ⊎ Holds woken.new.items a → Parks K.cmp parked.old a ⊎ Holds woken.old.items a) }
+    ensures { OnOk result ((a : Item K O) → Parks K.cmp parked.new a
+        ⊎ Holds woken.new.items a → Parks K.cmp parked.old a ⊎ Holds woken.old.items a) }
 {
     for entry in made {
         wake(alloc, &entry.key, parked, woken)?;
@@ -140,7 +157,8 @@ fn wake_all<K: StepKey, O: Drop>(
     Ok(())
 }
 
-/// Puts back what is left of a round, and wakes the keys that wait for entries made from `first` on.
+/// Puts back what is left of a round, and wakes the keys that wait for entries made from `first`
+/// on.
 pub fn put_back<K: StepKey, O: Drop>(
     alloc: Global,
     left: Vec<Item<K, O>>,
@@ -148,7 +166,8 @@ pub fn put_back<K: StepKey, O: Drop>(
     first: usize,
     pool: &mut Pool<K, O>,
 ) -> Result<(), WantOfMemory>
-    ensures { OnOk result ((a : Item K O) → IsIn K.cmp pool.new a → Contains left.items a ⊎ IsIn K.cmp pool.old a) }
+    ensures { OnOk result ((a : Item K O) → IsIn K.cmp pool.new a → Contains left.items a
+        ⊎ IsIn K.cmp pool.old a) }
 {
     let mut left = left;
     if pool.news.append(&mut left).is_err() {

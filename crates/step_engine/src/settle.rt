@@ -54,12 +54,27 @@ fn visit<H: Threads + Sync, R: Rules, T: Tree, G: Gate>(
 ) -> Result<(), EngineRefusal>
     requires some { 1 ≤ workers }
     requires most { workers ≤ 64 }
-    requires ready { IsReady (setting R.means (over edits.now (T.held tree.old)) job.now old.now) (state fresh.old.items (knowledge R.Key.cmp learned.old) book.old (T.reads tree.old)) (place_at R.Key.cmp places.old) }
-    requires items { AreUnderWay R.Key.cmp (setting R.means (over edits.now (T.held tree.old)) job.now old.now) (state fresh.old.items (knowledge R.Key.cmp learned.old) book.old (T.reads tree.old)) pool.old }
+    requires ready { IsReady (setting R.means (over edits.now (T.held tree.old)) job.now old.now)
+        (state fresh.old.items (knowledge R.Key.cmp learned.old) book.old (T.reads tree.old))
+        (place_at R.Key.cmp places.old) }
+    requires items { AreUnderWay R.Key.cmp
+        (setting R.means (over edits.now (T.held tree.old)) job.now old.now)
+        (state fresh.old.items (knowledge R.Key.cmp learned.old) book.old (T.reads tree.old))
+        pool.old }
     ensures held { T.held tree.new ≡ T.held tree.old }
     ensures count { Counts (T.faults tree.old) (T.faults tree.new) result }
-    ensures notes { ListNotes (setting R.means (over edits.now (T.held tree.old)) job.now old.now) (state fresh.old.items (knowledge R.Key.cmp learned.old) book.old (T.reads tree.old)) (state fresh.new.items (knowledge R.Key.cmp learned.new) book.new (T.reads tree.new)) (place_at R.Key.cmp places.old) (λ top. AreAllWanted R.Key.cmp (setting R.means (over edits.now (T.held tree.old)) job.now old.now) top pool.old) }
-    ensures ok { IfOk result (λ _. IsVisited R.Key.cmp (setting R.means (over edits.now (T.held tree.old)) job.now old.now) (state fresh.old.items (knowledge R.Key.cmp learned.old) book.old (T.reads tree.old)) (state fresh.new.items (knowledge R.Key.cmp learned.new) book.new (T.reads tree.new)) (place_at R.Key.cmp places.old) (place_at R.Key.cmp places.new) pool.old pool.new) }
+    ensures notes { ListNotes (setting R.means (over edits.now (T.held tree.old)) job.now old.now)
+        (state fresh.old.items (knowledge R.Key.cmp learned.old) book.old (T.reads tree.old))
+        (state fresh.new.items (knowledge R.Key.cmp learned.new) book.new (T.reads tree.new))
+        (place_at R.Key.cmp places.old)
+        (λ top. AreAllWanted R.Key.cmp
+        (setting R.means (over edits.now (T.held tree.old)) job.now old.now) top pool.old) }
+    ensures ok { IfOk result
+        (λ _. IsVisited R.Key.cmp
+        (setting R.means (over edits.now (T.held tree.old)) job.now old.now)
+        (state fresh.old.items (knowledge R.Key.cmp learned.old) book.old (T.reads tree.old))
+        (state fresh.new.items (knowledge R.Key.cmp learned.new) book.new (T.reads tree.new))
+        (place_at R.Key.cmp places.old) (place_at R.Key.cmp places.new) pool.old pool.new) }
 {
     let able = take_able(alloc, rules, old, pool, places, book)?;
     count_act(acts, !pool.news.is_empty());
@@ -80,8 +95,11 @@ fn begin<K: StepKey, O: Same + Drop>(
     places: &mut Places<K>,
     book: &mut Book<K>,
 ) -> Result<Pool<K, O>, WantOfMemory>
-    ensures noted { OpensNoted (top.now ∷ []) old.now book.old (place_at K.cmp places.old) book.new }
-    ensures ok { IfOk result (λ pool. Begins K.cmp top.now old.now book.old (place_at K.cmp places.old) book.new (place_at K.cmp places.new) pool) }
+    ensures noted { OpensNoted (top.now ∷ []) old.now book.old (place_at K.cmp places.old)
+        book.new }
+    ensures ok { IfOk result
+        (λ pool. Begins K.cmp top.now old.now book.old (place_at K.cmp places.old) book.new
+        (place_at K.cmp places.new) pool) }
 {
     let key = top.copy(alloc)?;
     let mut keys = Vec::new(alloc);
@@ -98,10 +116,10 @@ fn begin<K: StepKey, O: Same + Drop>(
 
 /// The outcome of a key, for the sake of which other keys are brought.
 ///
-/// Each visit does something for some key: it opens one, makes its turn, answers or checks a batch of
-/// it, or makes its entry. What is done is counted, up to the greatest number of 64 bits, and a visit
-/// that did nothing is the last one. A key waits only for parts of lower rank, so one of those under
-/// way is always able to go on, and the top key is done before that.
+/// Each visit does something for some key: it opens one, makes its turn, answers or checks a batch
+/// of it, or makes its entry. What is done is counted, up to the greatest number of 64 bits, and a
+/// visit that did nothing is the last one. A key waits only for parts of lower rank, so one of
+/// those under way is always able to go on, and the top key is done before that.
 pub fn settle<H: Threads + Sync, R: Rules, T: Tree, G: Gate>(
     rt: &H,
     alloc: Global,
@@ -120,11 +138,22 @@ pub fn settle<H: Threads + Sync, R: Rules, T: Tree, G: Gate>(
 ) -> Result<Outcome<R::Out>, EngineRefusal>
     requires some { 1 ≤ workers }
     requires most { workers ≤ 64 }
-    requires ready { IsReady (setting R.means (over edits.now (T.held tree.old)) job.now old.now) (state fresh.old.items (knowledge R.Key.cmp learned.old) book.old (T.reads tree.old)) (place_at R.Key.cmp places.old) }
+    requires ready { IsReady (setting R.means (over edits.now (T.held tree.old)) job.now old.now)
+        (state fresh.old.items (knowledge R.Key.cmp learned.old) book.old (T.reads tree.old))
+        (place_at R.Key.cmp places.old) }
     ensures held { T.held tree.new ≡ T.held tree.old }
     ensures count { Counts (T.faults tree.old) (T.faults tree.new) result }
-    ensures notes { TopNotes (setting R.means (over edits.now (T.held tree.old)) job.now old.now) top.now (state fresh.old.items (knowledge R.Key.cmp learned.old) book.old (T.reads tree.old)) (state fresh.new.items (knowledge R.Key.cmp learned.new) book.new (T.reads tree.new)) (place_at R.Key.cmp places.old) }
-    ensures ok { IfOk result (λ r. IsBroughtTo (setting R.means (over edits.now (T.held tree.old)) job.now old.now) top.now (state fresh.old.items (knowledge R.Key.cmp learned.old) book.old (T.reads tree.old)) (state fresh.new.items (knowledge R.Key.cmp learned.new) book.new (T.reads tree.new)) (place_at R.Key.cmp places.old) (place_at R.Key.cmp places.new) r) }
+    ensures notes { TopNotes (setting R.means (over edits.now (T.held tree.old)) job.now old.now)
+        top.now (state fresh.old.items (knowledge R.Key.cmp learned.old) book.old
+        (T.reads tree.old))
+        (state fresh.new.items (knowledge R.Key.cmp learned.new) book.new (T.reads tree.new))
+        (place_at R.Key.cmp places.old) }
+    ensures ok { IfOk result
+        (λ r. IsBroughtTo (setting R.means (over edits.now (T.held tree.old)) job.now old.now)
+        top.now (state fresh.old.items (knowledge R.Key.cmp learned.old) book.old
+        (T.reads tree.old))
+        (state fresh.new.items (knowledge R.Key.cmp learned.new) book.new (T.reads tree.new))
+        (place_at R.Key.cmp places.old) (place_at R.Key.cmp places.new) r) }
 {
     let mut pool = begin(alloc, old, top, places, book)?;
     let mut waves = 0;

@@ -22,7 +22,8 @@ pub fn grant<K: StepKey>(
     book: &mut Book<K>,
     places: &mut Places<K>,
 ) -> Result<Permit, WantOfMemory>
-    ensures ok { OnOk result ((book.new ≡ book.old ++ key.now ∷ []) × IsPlaced key.now AtRun (place_at K.cmp places.old) (place_at K.cmp places.new)) }
+    ensures ok { OnOk result ((book.new ≡ book.old ++ key.now ∷ [])
+        × IsPlaced key.now AtRun (place_at K.cmp places.old) (place_at K.cmp places.new)) }
     ensures err { OnErr result (book.new ≡ book.old) }
 {
     let noted = key.copy(alloc)?;
@@ -39,7 +40,9 @@ fn make<K: StepKey, O: Drop>(
     fresh: &mut Vec<Entry<K, O>>,
     places: &mut Places<K>,
 ) -> Result<(), WantOfMemory>
-    ensures { OnOk result ((fresh.new.items ≡ fresh.old.items ++ entry ∷ []) × IsPlaced entry.key (AtDone (vec_len fresh.old)) (place_at K.cmp places.old) (place_at K.cmp places.new)) }
+    ensures { OnOk result ((fresh.new.items ≡ fresh.old.items ++ entry ∷ [])
+        × IsPlaced entry.key (AtDone (vec_len fresh.old)) (place_at K.cmp places.old)
+        (place_at K.cmp places.new)) }
 {
     let key = entry.key.copy(alloc)?;
     places.note(key, Place::Done(fresh.len()))?;
@@ -56,7 +59,9 @@ pub fn make_new<K: StepKey, O: Drop>(
     fresh: &mut Vec<Entry<K, O>>,
     places: &mut Places<K>,
 ) -> Result<(), WantOfMemory>
-    ensures { OnOk result (IsMadeAt AtRun entry (place_at K.cmp places.old) (place_at K.cmp places.new) fresh.old.items fresh.new.items) }
+    ensures { OnOk result
+        (IsMadeAt AtRun entry (place_at K.cmp places.old) (place_at K.cmp places.new)
+        fresh.old.items fresh.new.items) }
 {
     let Some(Place::Running) = places.get(&entry.key) else {
         return Ok(());
@@ -72,7 +77,9 @@ pub fn make_old<K: StepKey, O: Drop>(
     fresh: &mut Vec<Entry<K, O>>,
     places: &mut Places<K>,
 ) -> Result<(), WantOfMemory>
-    ensures { OnOk result (IsMadeAt AtCheck entry (place_at K.cmp places.old) (place_at K.cmp places.new) fresh.old.items fresh.new.items) }
+    ensures { OnOk result
+        (IsMadeAt AtCheck entry (place_at K.cmp places.old) (place_at K.cmp places.new)
+        fresh.old.items fresh.new.items) }
 {
     let Some(Place::Checking) = places.get(&entry.key) else {
         return Ok(());
@@ -88,7 +95,10 @@ pub fn rerun<K: StepKey, O: Drop>(
     book: &mut Book<K>,
     places: &mut Places<K>,
 ) -> Result<Option<Item<K, O>>, WantOfMemory>
-    ensures ok { IfOk result (λ r. MatchOption r ((book.new ≡ book.old) × (place_at K.cmp places.new ≡ place_at K.cmp places.old)) (IsRerun key book.old book.new (place_at K.cmp places.old) (place_at K.cmp places.new))) }
+    ensures ok { IfOk result
+        (λ r. MatchOption r ((book.new ≡ book.old)
+        × (place_at K.cmp places.new ≡ place_at K.cmp places.old))
+        (IsRerun key book.old book.new (place_at K.cmp places.old) (place_at K.cmp places.new))) }
     ensures err { OnErr result (book.new ≡ book.old) }
 {
     let Some(Place::Checking) = places.get(&key) else {

@@ -55,7 +55,9 @@ pub fn take_turn<K: StepKey, O: Drop>(
     fresh: &mut Vec<Entry<K, O>>,
     places: &mut Places<K>,
 ) -> Result<Option<Item<K, O>>, WantOfMemory>
-    ensures { IfOk result (λ r. TakesUp turned.key turned.talk turned.turn (place_at K.cmp places.old) (place_at K.cmp places.new) fresh.old.items fresh.new.items r) }
+    ensures { IfOk result
+        (λ r. TakesUp turned.key turned.talk turned.turn (place_at K.cmp places.old)
+        (place_at K.cmp places.new) fresh.old.items fresh.new.items r) }
 {
     let Turned { key, talk, turn } = turned;
     match turn {
@@ -97,7 +99,9 @@ pub fn take_all<K: StepKey, O: Drop>(
     places: &mut Places<K>,
     rest: &mut Vec<Item<K, O>>,
 ) -> Result<(), WantOfMemory>
-    ensures { OnOk result (Takes fresh.old.items (place_at K.cmp places.old) done.items rest.old.items fresh.new.items (place_at K.cmp places.new) rest.new.items) }
+    ensures { OnOk result
+        (Takes fresh.old.items (place_at K.cmp places.old) done.items rest.old.items fresh.new.items
+        (place_at K.cmp places.new) rest.new.items) }
 {
     for turned in done {
         let left = take_turn(alloc, turned, fresh, places)?;

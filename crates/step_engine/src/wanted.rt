@@ -22,7 +22,8 @@ fn want<R: Rules>(
     places: &Places<R::Key>,
     wanted: &mut Vec<R::Key>,
 ) -> Result<(), WantOfMemory>
-    ensures { OnOk result ((k : R.Key) → Contains wanted.new.items k → AddsParts ask.now wanted.old.items k) }
+    ensures { OnOk result ((k : R.Key) → Contains wanted.new.items k
+        → AddsParts ask.now wanted.old.items k) }
 {
     if !is_lower(rules, key, ask) {
         return Ok(());
@@ -49,7 +50,8 @@ fn want_asks<R: Rules>(
     places: &Places<R::Key>,
     wanted: &mut Vec<R::Key>,
 ) -> Result<(), WantOfMemory>
-    ensures { OnOk result ((k : R.Key) → Contains wanted.new.items k → ArePartsOf asks.now wanted.old.items k) }
+    ensures { OnOk result ((k : R.Key) → Contains wanted.new.items k
+        → ArePartsOf asks.now wanted.old.items k) }
 {
     for ask in asks.items() {
         want(alloc, rules, key, ask, places, wanted)?;
@@ -66,7 +68,8 @@ fn want_pairs<R: Rules>(
     places: &Places<R::Key>,
     wanted: &mut Vec<R::Key>,
 ) -> Result<(), WantOfMemory>
-    ensures { OnOk result ((k : R.Key) → Contains wanted.new.items k → ArePartsOf (asks_of pairs.now) wanted.old.items k) }
+    ensures { OnOk result ((k : R.Key) → Contains wanted.new.items k
+        → ArePartsOf (asks_of pairs.now) wanted.old.items k) }
 {
     for pair in pairs.items() {
         want(alloc, rules, key, &pair.ask, places, wanted)?;
@@ -82,7 +85,8 @@ fn want_item<R: Rules>(
     places: &Places<R::Key>,
     wanted: &mut Vec<R::Key>,
 ) -> Result<(), WantOfMemory>
-    ensures { OnOk result ((k : R.Key) → Contains wanted.new.items k → WantsItem item.now wanted.old.items k) }
+    ensures { OnOk result ((k : R.Key) → Contains wanted.new.items k
+        → WantsItem item.now wanted.old.items k) }
 {
     match item {
         Item::Run(_) => Ok(()),

@@ -7,7 +7,8 @@ use build_base::{Got, Path, Rows, Text, Tree, TreeFailed, WantOfMemory};
 use std::alloc::Global;
 use std::marker::Model;
 
-/// Files in memory, of which each call answers where there is memory. The first of two files of one path counts.
+/// Files in memory, of which each call answers where there is memory. The first of two files of one
+/// path counts.
 #[derive(Drop)]
 pub struct ListedTree {
     tree: MemoryTree,
@@ -39,8 +40,10 @@ impl ListedTree {
     pub fn put(&mut self, path: Path, bytes: Text) -> Result<(), WantOfMemory>
         ensures ok { OnOk result (IfSome (⟦<ListedTree as Tree>⟧.held self.old) (λ files.
             ⟦<ListedTree as Tree>⟧.held self.new ≡ Some (with_file files path bytes))) }
-        ensures err { OnErr result (⟦<ListedTree as Tree>⟧.held self.new ≡ ⟦<ListedTree as Tree>⟧.held self.old) }
-        ensures reads { ⟦<ListedTree as Tree>⟧.reads self.new ≡ ⟦<ListedTree as Tree>⟧.reads self.old }
+        ensures err { OnErr result (⟦<ListedTree as Tree>⟧.held self.new
+            ≡ ⟦<ListedTree as Tree>⟧.held self.old) }
+        ensures reads { ⟦<ListedTree as Tree>⟧.reads self.new
+            ≡ ⟦<ListedTree as Tree>⟧.reads self.old }
     {
         self.tree.put(path, bytes)
     }
@@ -49,7 +52,8 @@ impl ListedTree {
     pub fn drop_file(&mut self, path: &Path)
         ensures held { IfSome (⟦<ListedTree as Tree>⟧.held self.old) (λ files.
             ⟦<ListedTree as Tree>⟧.held self.new ≡ Some (without_file files path.now)) }
-        ensures reads { ⟦<ListedTree as Tree>⟧.reads self.new ≡ ⟦<ListedTree as Tree>⟧.reads self.old }
+        ensures reads { ⟦<ListedTree as Tree>⟧.reads self.new
+            ≡ ⟦<ListedTree as Tree>⟧.reads self.old }
     {
         self.tree.drop_file(path);
     }

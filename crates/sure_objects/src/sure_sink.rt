@@ -30,7 +30,17 @@ impl Model for SureSink {
 impl SureSink {
     /// A sink with this room, whose memory is taken here.
     pub fn new(alloc: Global, room: Room) -> Result<SureSink, WantOfMemory>
-        ensures { IfOk result (λ s. s ≡ record { kept = []; written = Some []; faults = 0; calls_left = room.calls; bytes_left = room.bytes; fails = []; calls = 0 }) }
+        ensures { IfOk result
+            (λ s. s
+            ≡ record {
+              kept = [];
+              written = Some [];
+              faults = 0;
+              calls_left = room.calls;
+              bytes_left = room.bytes;
+              fails = [];
+              calls = 0;
+            }) }
     {
         let sink = MemorySink::new(alloc, room, Rows::new(alloc))?;
         Ok(SureSink { sink })

@@ -13,7 +13,8 @@ pub enum Forms {
     Tabled(TabledTree),
 }
 
-// Written out, so that a caller that lets a tree go has one call here and not a case for each variant.
+// Written out, so that a caller that lets a tree go has one call here and not a case for each
+// variant.
 impl Drop for Forms {
     fn drop(self) {
         match self {
@@ -23,8 +24,9 @@ impl Drop for Forms {
     }
 }
 
-/// Files in memory, of which each call answers where there is memory. The first of two files of one path counts. A path is
-/// looked up in a table, where there was memory for one when the tree was made.
+/// Files in memory, of which each call answers where there is memory. The first of two files of one
+/// path counts. A path is looked up in a table, where there was memory for one when the tree was
+/// made.
 #[derive(Drop)]
 pub struct SureTree {
     form: Forms,
@@ -47,7 +49,8 @@ impl SureTree {
     pub fn put(&mut self, path: Path, bytes: Text) -> Result<(), WantOfMemory>
         ensures ok { OnOk result (IfSome (⟦<SureTree as Tree>⟧.held self.old) (λ files.
             ⟦<SureTree as Tree>⟧.held self.new ≡ Some (with_file files path bytes))) }
-        ensures err { OnErr result (⟦<SureTree as Tree>⟧.held self.new ≡ ⟦<SureTree as Tree>⟧.held self.old) }
+        ensures err { OnErr result (⟦<SureTree as Tree>⟧.held self.new
+            ≡ ⟦<SureTree as Tree>⟧.held self.old) }
         ensures reads { ⟦<SureTree as Tree>⟧.reads self.new ≡ ⟦<SureTree as Tree>⟧.reads self.old }
     {
         match &mut self.form {

@@ -20,7 +20,8 @@ pub struct TabledTree {
 
 // Makes these bytes the file at the path.
 fn put_in(files: &mut BTreeMap<Path, Text>, path: Path, bytes: Text) -> Result<(), WantOfMemory>
-    ensures ok { OnOk result (found_in files.new.entries ≡ with_file (found_in files.old.entries) path bytes) }
+    ensures ok { OnOk result (found_in files.new.entries
+        ≡ with_file (found_in files.old.entries) path bytes) }
     ensures err { OnErr result (files.new.entries ≡ files.old.entries) }
 {
     match files.insert(path, bytes) {
@@ -34,7 +35,8 @@ fn put_copy(
     files: &mut BTreeMap<Path, Text>,
     file: &Held,
 ) -> Result<(), WantOfMemory>
-    ensures { OnOk result (found_in files.new.entries ≡ with_file (found_in files.old.entries) file.now.path file.now.bytes) }
+    ensures { OnOk result (found_in files.new.entries
+        ≡ with_file (found_in files.old.entries) file.now.path file.now.bytes) }
 {
     let path = file.path.copy(alloc)?;
     let bytes = file.bytes.copy(alloc)?;
@@ -71,8 +73,10 @@ impl TabledTree {
 
     /// Makes these bytes the file at the path.
     pub fn put(&mut self, path: Path, bytes: Text) -> Result<(), WantOfMemory>
-        ensures ok { OnOk result (found_in self.new.files.entries ≡ with_file (found_in self.old.files.entries) path bytes) }
-        ensures err { OnErr result (found_in self.new.files.entries ≡ found_in self.old.files.entries) }
+        ensures ok { OnOk result (found_in self.new.files.entries
+            ≡ with_file (found_in self.old.files.entries) path bytes) }
+        ensures err { OnErr result (found_in self.new.files.entries
+            ≡ found_in self.old.files.entries) }
         ensures reads { self.new.reads ≡ self.old.reads }
     {
         put_in(&mut self.files, path, bytes)
@@ -80,7 +84,8 @@ impl TabledTree {
 
     /// Takes the file at the path out, if there is one.
     pub fn drop_file(&mut self, path: &Path)
-        ensures held { found_in self.new.files.entries ≡ without_file (found_in self.old.files.entries) path.now }
+        ensures held { found_in self.new.files.entries
+            ≡ without_file (found_in self.old.files.entries) path.now }
         ensures reads { self.new.reads ≡ self.old.reads }
     {
         self.files.remove(path);

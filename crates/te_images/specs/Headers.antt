@@ -11,4 +11,5 @@ pub record AreHeaders (file : List ℕ) (headers : PeHeaders) : Type 0 where
   pub plus : headers.is_pe32_plus ≡ is_pe32_plus file
   pub inside : section_table file ≤ length file
   pub least : IMAGE_SIZEOF_OPTIONAL32_HEADER ≤ size_of_optional_header file
-  pub least_plus : IsTrue (is_pe32_plus file) → IMAGE_SIZEOF_OPTIONAL64_HEADER ≤ size_of_optional_header file
+  pub least_plus : IsTrue (is_pe32_plus file)
+      → IMAGE_SIZEOF_OPTIONAL64_HEADER ≤ size_of_optional_header file

@@ -1,4 +1,5 @@
--- The headers of a PE file, by the PE/COFF format: what stands where, and what is wrong with a file.
+-- The headers of a PE file, by the PE/COFF format: what stands where, and what is wrong with a
+-- file.
 use Rattle.std.specs.Prelude.{ℕ, ◌+◌, ◌*◌, ◌==◌, ◌&&◌, ◌||◌, Bool, not, nat_lt, nat_le, if◌then◌else◌, List, [], ◌∷◌, length, Result}
 use Rattle.byteorder.specs.Endian.{little_from}
 use Rattle.build_base.specs.First.{first_holding, unless}
@@ -51,7 +52,8 @@ abbrev pub base_of_code : List ℕ → ℕ
 base_of_code file = number_at 4 (optional_header file + 0x14) file
 
 abbrev pub image_base : List ℕ → ℕ
-image_base file = if is_pe32_plus file then number_at 8 (optional_header file + 0x18) file else number_at 4 (optional_header file + 0x1C) file
+image_base file = if is_pe32_plus file then number_at 8 (optional_header file + 0x18) file
+    else number_at 4 (optional_header file + 0x1C) file
 
 abbrev pub section_alignment : List ℕ → ℕ
 section_alignment file = number_at 4 (optional_header file + 0x20) file
@@ -63,20 +65,25 @@ abbrev pub subsystem : List ℕ → ℕ
 subsystem file = number_at 2 (optional_header file + 0x44) file
 
 abbrev pub number_of_rva_and_sizes : List ℕ → ℕ
-number_of_rva_and_sizes file = number_at 4 (optional_header file + (if is_pe32_plus file then 0x6C else 0x5C)) file
+number_of_rva_and_sizes file =
+    number_at 4 (optional_header file + (if is_pe32_plus file then 0x6C else 0x5C)) file
 
 -- where in the optional header a data directory stands
 abbrev pub directory_offset : List ℕ → ℕ → ℕ
-directory_offset file k = (if is_pe32_plus file then IMAGE_SIZEOF_OPTIONAL64_HEADER else IMAGE_SIZEOF_OPTIONAL32_HEADER) + 8 * k
+directory_offset file k =
+    (if is_pe32_plus file then IMAGE_SIZEOF_OPTIONAL64_HEADER else IMAGE_SIZEOF_OPTIONAL32_HEADER)
+    + 8 * k
 
 abbrev pub has_directory : List ℕ → ℕ → Bool
-has_directory file k = nat_lt k (number_of_rva_and_sizes file) && nat_le (directory_offset file k + 8) (size_of_optional_header file)
+has_directory file k = nat_lt k (number_of_rva_and_sizes file)
+    && nat_le (directory_offset file k + 8) (size_of_optional_header file)
 
 -- The address and the size in a data directory, or zeros where the optional header doesn't have it.
 unfoldable pub data_directory : List ℕ → ℕ → List ℕ
 data_directory file k =
     let at = optional_header file + directory_offset file k in
-    if has_directory file k then number_at 4 at file ∷ number_at 4 (at + 4) file ∷ [] else 0 ∷ 0 ∷ []
+    if has_directory file k then number_at 4 at file ∷ number_at 4 (at + 4) file ∷ []
+    else 0 ∷ 0 ∷ []
 
 -- Section table: a header for each section
 
@@ -95,7 +102,12 @@ pe_checks file =
     ∷ (not (signature file == IMAGE_NT_SIGNATURE), NotPe)
     ∷ (nat_lt (size_of_optional_header file) IMAGE_SIZEOF_OPTIONAL32_HEADER, NotPe)
     ∷ (nat_lt (length file) (section_table file), Truncated)
-    ∷ (not (magic file == IMAGE_NT_OPTIONAL_HDR32_MAGIC || (is_pe32_plus file && nat_le IMAGE_SIZEOF_OPTIONAL64_HEADER (size_of_optional_header file))), NotPe)
+    ∷ (
+      not (magic file == IMAGE_NT_OPTIONAL_HDR32_MAGIC
+          || (is_pe32_plus file && nat_le IMAGE_SIZEOF_OPTIONAL64_HEADER
+          (size_of_optional_header file))),
+      NotPe,
+    )
     ∷ []
 
 -- SectionAlignment, or the first check up to the magic that fails.

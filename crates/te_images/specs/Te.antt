@@ -45,6 +45,7 @@ directory_bytes pair = little_bytes 4 (slice_index pair 0) ++ little_bytes 4 (sl
 -- The 40 bytes: "VZ", then each value in its own size, little-endian.
 unfoldable pub te_bytes : TeHead → List ℕ
 te_bytes head =
-    codes "VZ" ++ little_bytes 2 head.machine ++ (head.sections ∷ head.subsystem ∷ []) ++ little_bytes 2 head.stripped
+    codes "VZ" ++ little_bytes 2 head.machine ++ (head.sections ∷ head.subsystem ∷ [])
+    ++ little_bytes 2 head.stripped
     ++ little_bytes 4 head.entry ++ little_bytes 4 head.code ++ little_bytes 8 head.base
     ++ directory_bytes head.relocation ++ directory_bytes head.debug

@@ -1,4 +1,5 @@
-//! TE images of PE modules (UEFI PI specification, volume 1): the header, and what of the file stays.
+//! TE images of PE modules (UEFI PI specification, volume 1): the header, and what of the file
+//! stays.
 #![tactic(auto)]
 
 mod fault;

@@ -182,7 +182,8 @@ impl PeHeaders {
 
     // Where in the optional header the data directories start.
     fn directories(self) -> u64
-        ensures { result ≡ (if self.is_pe32_plus then IMAGE_SIZEOF_OPTIONAL64_HEADER else IMAGE_SIZEOF_OPTIONAL32_HEADER) }
+        ensures { result ≡ (if self.is_pe32_plus then IMAGE_SIZEOF_OPTIONAL64_HEADER
+            else IMAGE_SIZEOF_OPTIONAL32_HEADER) }
     {
         if self.is_pe32_plus {
             IMAGE_SIZEOF_OPTIONAL64_HEADER as u64

@@ -1,5 +1,5 @@
--- What the step of a module's texts gives, once all that it asks is answered (EDK II Build specification, AutoGen
--- files; EDK II DSC specification, FILE_GUID of a component).
+-- What the step of a module's texts gives, once all that it asks is answered (EDK II Build
+-- specification, AutoGen files; EDK II DSC specification, FILE_GUID of a component).
 use Rattle.std.specs.Prelude.{Bool, ◌&&◌, find, if◌then◌else◌, List, [], ◌∷◌, Option, Some, None, Result, Ok, Err}
 use Rattle.std.specs.Str.{bytes_eq}
 use Rattle.build_base.specs.First.{and_then}
@@ -18,7 +18,8 @@ use Rattle.doc_types.specs.declared.texts.Texts.{Texts}
 use Rattle.doc_types.specs.declared.values.Values.{Values}
 use Rattle.pcd_resolve.specs.Names.{serves}
 
--- the module's component: that of its INF file, for its architecture or for all; a platform has one at most
+-- the module's component: that of its INF file, for its architecture or for all; a platform has one
+-- at most
 abbrev pub is_component : Module → Component → Bool
 is_component m component = bytes_eq component.inf m.inf && serves component.arch m.arch
 
@@ -52,7 +53,9 @@ some_texts (Ok texts) = Ok (Some texts)
 some_texts (Err fault) = Err fault
 
 -- both texts of a module; a library has none
-unfoldable pub code_given : PlatformDoc → Choice → Values → ModuleParts → Result (Option Texts) Fault
+unfoldable pub code_given : PlatformDoc → Choice → Values → ModuleParts
+    → Result (Option Texts) Fault
 code_given platform choice values parts =
     if choice.library then Ok None
-    else and_then (file_guid platform parts) (λ guid. some_texts (code_texts (code_ask guid parts choice values)))
+    else and_then (file_guid platform parts)
+    (λ guid. some_texts (code_texts (code_ask guid parts choice values)))

@@ -1,5 +1,5 @@
--- What the step of a module's dependency expression gives, once all that it asks is answered (UEFI PI specification,
--- volumes 1 and 2; EDK II INF specification, [Depex]).
+-- What the step of a module's dependency expression gives, once all that it asks is answered (UEFI
+-- PI specification, volumes 1 and 2; EDK II INF specification, [Depex]).
 use Rattle.std.specs.Prelude.{ℕ, ◌==◌, Bool, ◌&&◌, if◌then◌else◌, List, [], ◌∷◌, length, map, filter, Result, Ok, Err}
 use Rattle.std.specs.List.{flat_map}
 use Rattle.std.specs.Str.{bytes_eq}
@@ -20,7 +20,8 @@ use Rattle.doc_types.specs.declared.parts.Package.{Package}
 use Rattle.library_choice.specs.Lines.{type_covers}
 use Rattle.pcd_resolve.specs.Names.{serves}
 
--- a section applies where it is for the module's architecture or for all, and for its type or for all
+-- a section applies where it is for the module's architecture or for all, and for its type or for
+-- all
 unfoldable pub applies : Arch → ModuleType → DepexPart → Bool
 applies arch kind part = serves part.arch arch && type_covers part.kind kind
 
@@ -29,7 +30,8 @@ counts arch line = serves line.arch arch
 
 -- the lines of a package that count for an architecture, where it is the package of this path
 abbrev pub names_at : Arch → List ℕ → Package → List NamedGuid
-names_at arch path held = if bytes_eq held.path path then filter (counts arch) held.doc.guids else []
+names_at arch path held = if bytes_eq held.path path then filter (counts arch) held.doc.guids
+    else []
 
 -- those of the package that a line of an INF file names, where that line counts
 abbrev pub names_by : Arch → List Package → Named → List NamedGuid

@@ -1,5 +1,5 @@
--- What the step of the report gives by the answers of the steps that it asks (EDK II Build specification, build report;
--- EDK II DSC specification, [SkuIds]).
+-- What the step of the report gives by the answers of the steps that it asks (EDK II Build
+-- specification, build report; EDK II DSC specification, [SkuIds]).
 use Rattle.std.specs.Prelude.{ℕ, ◌+◌, List, [], filter, Result, Ok, Err}
 use Rattle.build_base.specs.First.{and_then}
 use Rattle.build_base.specs.declared.fault.Fault.{Fault}
@@ -25,14 +25,15 @@ use Rattle.text_steps.specs.declared.report.Heading.{Heading}
 abbrev pub modules_set : Setting → Result (List Module) Fault
 modules_set setting = Ok setting.modules
 
--- The modules that are built, once the platform supports the architectures that the words name. The words' SKU and the
--- values that they give PCDs aren't looked at.
+-- The modules that are built, once the platform supports the architectures that the words name. The
+-- words' SKU and the values that they give PCDs aren't looked at.
 unfoldable pub report_modules : PlatformDoc → List ℕ → Result (List Module) Fault
 report_modules platform arches = and_then (setting_of platform arches [] []) modules_set
 
 -- the chosen SKUs: that of the words, else those of the platform
 unfoldable pub report_skus : PlatformDoc → List ℕ → List Sku
-report_skus platform sku = filter (is_chosen (wanted (named_skus sku) platform.sku_choice)) platform.skus
+report_skus platform sku = filter (is_chosen (wanted (named_skus sku) platform.sku_choice))
+    platform.skus
 
 -- what stands at the head of a report
 abbrev pub heading_of : PlatformDoc → List ℕ → List ℕ → List ℕ → Heading
@@ -54,7 +55,8 @@ module_report m choice values =
 -- a module has two answers: its libraries, and its values
 unfoldable pub report_at : List (Answer Out) → ℕ → Module → Result ModuleReport Fault
 report_at given i m =
-    and_then (choice_at given i) (λ choice. and_then (values_at given (i + 1)) (module_report m choice))
+    and_then (choice_at given i)
+    (λ choice. and_then (values_at given (i + 1)) (module_report m choice))
 
 abbrev pub two : Module → ℕ
 two m = 2
@@ -77,7 +79,8 @@ text_of platform heading dynamic modules =
     Ok (report_text (report_ask platform heading dynamic modules))
 
 -- the report, by the rows of dynamic PCDs and what is told of each module
-unfoldable pub report_given : PlatformDoc → Heading → List Module → List (Answer Out) → Result (List ℕ) Fault
+unfoldable pub report_given : PlatformDoc → Heading → List Module → List (Answer Out)
+    → Result (List ℕ) Fault
 report_given platform heading modules given =
     and_then (values_at given 0) (λ dynamic.
     and_then (reports_from given 1 modules) (text_of platform heading dynamic))

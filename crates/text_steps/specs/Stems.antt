@@ -1,5 +1,6 @@
--- The path of a module without the extension of its INF file, below which its outputs stand (EDK II Build specification,
--- build output; which part of a name is its extension is this project's own rule).
+-- The path of a module without the extension of its INF file, below which its outputs stand (EDK II
+-- Build specification, build output; which part of a name is its extension is this project's own
+-- rule).
 use Rattle.std.specs.Prelude.{ℕ, ◌-◌, ◌+◌, ◌==◌, not, if◌then◌else◌, List, length, take, drop}
 use Rattle.std.specs.List.{list_all, suffix_len}
 
@@ -15,7 +16,8 @@ last_name path = drop (size_to 47 path) path
 abbrev pub before_dot : List ℕ → List ℕ
 before_dot name = take (size_to 46 name - 1) name
 
--- A name's extension begins at its last dot. Where nothing but dots stands before that, the name has none.
+-- A name's extension begins at its last dot. Where nothing but dots stands before that, the name
+-- has none.
 unfoldable pub stem_of : List ℕ → List ℕ
 stem_of path =
     if list_all (λ b. b == 46) (before_dot (last_name path)) then path

@@ -17,7 +17,8 @@ fn push_built(alloc: Global, asks: &mut Rows<Ask<Key>>, module: &Module) -> Resu
     asks.push(Ask::Part(Key::Depex(module.copy(alloc)?)))
 }
 
-/// Appends what a build asks of its modules, module by module: the description, the texts and the expression.
+/// Appends what a build asks of its modules, module by module: the description, the texts and the
+/// expression.
 pub fn push_module_asks(
     alloc: Global,
     asks: &mut Rows<Ask<Key>>,
@@ -55,7 +56,8 @@ fn push_all_told(
     Ok(())
 }
 
-/// What a report asks: the rows of dynamic PCDs, and then of each module its libraries and its values.
+/// What a report asks: the rows of dynamic PCDs, and then of each module its libraries and its
+/// values.
 pub fn report_asks(alloc: Global, modules: &[Module]) -> Result<Rows<Ask<Key>>, WantOfMemory>
     ensures { IfOk result (λ asks. asks ≡ report_asks modules.now) }
 {

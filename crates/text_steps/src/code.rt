@@ -93,7 +93,8 @@ pub fn code_given(
     values: &Shared<Values>,
     parts: ModuleParts,
 ) -> Result<Option<Texts>, Stop<Key>>
-    ensures { GivesIn (λ texts. texts) result (code_given platform.now choice.now values.now parts) }
+    ensures { GivesIn (λ texts. texts) result
+        (code_given platform.now choice.now values.now parts) }
 {
     if choice.library {
         return Ok(None);

@@ -1,4 +1,5 @@
-//! What the steps of texts, dependency expressions and the report ask, and what they give by the answers.
+//! What the steps of texts, dependency expressions and the report ask, and what they give by the
+//! answers.
 #![tactic(auto)]
 
 pub mod asks;

@@ -30,7 +30,8 @@ pub struct Heading {
     pub skus: Rows<Sku>,
 }
 
-/// The modules that are built. Fault 232 of an architecture that the words name and the platform doesn't support.
+/// The modules that are built. Fault 232 of an architecture that the words name and the platform
+/// doesn't support.
 #[tactic(auto, unfolding(crate::specs::Report::report_modules))]
 pub fn report_modules(
     alloc: Global,
@@ -163,7 +164,8 @@ fn push_report(
     module: &Module,
     reports: &mut Rows<ModuleReport>,
 ) -> Result<usize, Stop<Key>>
-    ensures value { (more : Result (List Report) Fault) → Steps result reports.old reports.new (report_at given.now place «module».now) more }
+    ensures value { (more : Result (List Report) Fault)
+        → Steps result reports.old reports.new (report_at given.now place «module».now) more }
     ensures stopped { Stopped result (report_at given.now place «module».now) }
     ensures next { IfOk result (λ next. next ≡ place + 2) }
 {
@@ -220,7 +222,8 @@ pub fn report_given(
     modules: &[Module],
     given: &Given<'_, Out>,
 ) -> Result<Text, Stop<Key>>
-    ensures { GivesIn (λ text. text) result (report_given platform.now heading modules.now given.now) }
+    ensures { GivesIn (λ text. text) result
+        (report_given platform.now heading modules.now given.now) }
 {
     let dynamic = values_at(given, 0)?;
     let reports = reports_from(alloc, given, modules)?;

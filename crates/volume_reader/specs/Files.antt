@@ -9,7 +9,8 @@ use Rattle.volume_reader.specs.declared.listed.Listed.{Listed}
 use Rattle.volume_reader.specs.declared.listed.ListedSection.{ListedSection}
 use Rattle.volume_reader.specs.Sections.{sections_of}
 
--- Fields of the header that some bytes begin with. Numbers are little-endian, and what lies past the end reads as 0.
+-- Fields of the header that some bytes begin with. Numbers are little-endian, and what lies past
+-- the end reads as 0.
 
 unfoldable pub file_name : List ℕ → List ℕ
 file_name bytes = take 16 bytes
@@ -31,7 +32,8 @@ file_state bytes = slice_index bytes 0x17
 
 -- the size, which in the header of a large file stands behind the state
 unfoldable pub stated_size : List ℕ → ℕ
-stated_size bytes = if head_at bytes == 32 then little_from 0x18 8 bytes else little_from 0x14 3 bytes
+stated_size bytes = if head_at bytes == 32 then little_from 0x18 8 bytes
+    else little_from 0x14 3 bytes
 
 unfoldable pub body_in : List ℕ → List ℕ
 body_in bytes = drop (head_at bytes) (take (stated_size bytes) bytes)
@@ -42,19 +44,24 @@ has_header ffs3 bytes = nat_le (head_at bytes) (length bytes) && (ffs3 || head_a
 
 -- It has its own checksum, and the state of a whole file under the erase polarity.
 unfoldable pub has_state : ℕ → List ℕ → Bool
-has_state erase bytes = header_check bytes == header_sum (take (head_at bytes) bytes) && file_state bytes == state_of erase
+has_state erase bytes = header_check bytes == header_sum (take (head_at bytes) bytes)
+    && file_state bytes == state_of erase
 
 -- The size is at least the header's, and within the bytes.
 unfoldable pub has_size : List ℕ → Bool
-has_size bytes = nat_le (head_at bytes) (stated_size bytes) && nat_le (stated_size bytes) (length bytes)
+has_size bytes = nat_le (head_at bytes) (stated_size bytes)
+    && nat_le (stated_size bytes) (length bytes)
 
 -- The file checksum is that of the body under the attribute CHECKSUM, and else the fixed one.
 unfoldable pub has_check : List ℕ → Bool
-has_check bytes = file_check bytes == (if file_attributes bytes / FFS_ATTRIB_CHECKSUM % 2 == 1 then zero_byte (body_in bytes) else FFS_FIXED_CHECKSUM)
+has_check bytes = file_check bytes ==
+    (if file_attributes bytes / FFS_ATTRIB_CHECKSUM % 2 == 1 then zero_byte (body_in bytes)
+    else FFS_FIXED_CHECKSUM)
 
 -- whether these bytes begin with a file, in a volume of FFS3 or of FFS2 under this erase polarity
 unfoldable pub is_file : Bool → ℕ → List ℕ → Bool
-is_file ffs3 erase bytes = has_header ffs3 bytes && has_state erase bytes && has_size bytes && has_check bytes
+is_file ffs3 erase bytes = has_header ffs3 bytes && has_state erase bytes && has_size bytes
+    && has_check bytes
 
 -- a header and a body lie within these bytes
 pub record HasBody (bytes : List ℕ) : Type 0 where
@@ -63,7 +70,8 @@ pub record HasBody (bytes : List ℕ) : Type 0 where
   pub least : head_at bytes ≤ stated_size bytes
   pub inside : stated_size bytes ≤ length bytes
 
--- the sections of the file that stands at a place; files of raw data and pads have none, nor has a body that is no list of sections
+-- the sections of the file that stands at a place; files of raw data and pads have none, nor has a
+-- body that is no list of sections
 unfoldable pub file_sections : Bool → ℕ → List ℕ → List ListedSection
 file_sections ffs3 place bytes =
     if file_type bytes == EFI_FV_FILETYPE_RAW || file_type bytes == EFI_FV_FILETYPE_FFS_PAD then []

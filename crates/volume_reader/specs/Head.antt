@@ -60,10 +60,12 @@ has_names bytes =
 -- Its length is even and at least 0x48; the volume's is at least that, and within the bytes.
 unfoldable pub has_lengths : List ℕ → Bool
 has_lengths bytes =
-    header_length bytes % 2 == 0 && nat_le 0x48 (header_length bytes) && nat_le (header_length bytes) (fv_length bytes)
+    header_length bytes % 2 == 0 && nat_le 0x48 (header_length bytes)
+    && nat_le (header_length bytes) (fv_length bytes)
     && nat_le (fv_length bytes) (length bytes)
 
--- The block map fills the header to its end. Its last entry, and no other, is (0, 0). Its blocks have as many bytes as the volume.
+-- The block map fills the header to its end. Its last entry, and no other, is (0, 0). Its blocks
+-- have as many bytes as the volume.
 unfoldable pub has_blocks : List ℕ → Bool
 has_blocks bytes =
     (header_length bytes - 0x38) % 8 == 0 && is_map_end bytes (block_entries bytes - 1)
@@ -80,4 +82,5 @@ is_head bytes = has_names bytes && has_lengths bytes && has_blocks bytes && has_
 
 -- the least multiple of 16 from a place on at which a volume's header stands
 unfoldable pub volume_from : List ℕ → ℕ → Option ℕ
-volume_from bytes from = find (λ at. at % 16 == 0 && is_head (drop at bytes)) (range_with_len from (length bytes - from))
+volume_from bytes from = find (λ at. at % 16 == 0 && is_head (drop at bytes))
+    (range_with_len from (length bytes - from))

@@ -30,21 +30,25 @@ file_system_word ffs3 = if ffs3 then codes "FFS3" else codes "FFS2"
 -- `volume 0xOFFSET 0xLENGTH FFS2`
 unfoldable pub volume_line : ℕ → ℕ → VolumeList → List ℕ
 volume_line indent offset list =
-    blanks indent ++ codes "volume " ++ hex offset ++ codes " " ++ hex list.length ++ codes " " ++ file_system_word list.ffs3 ++ codes "\n"
+    blanks indent ++ codes "volume " ++ hex offset ++ codes " " ++ hex list.length ++ codes " "
+    ++ file_system_word list.ffs3 ++ codes "\n"
 
 -- `pad 0xPLACE 0xSIZE`
 unfoldable pub pad_line : ℕ → Listed → List ℕ
-pad_line indent file = blanks indent ++ codes "pad " ++ hex file.place ++ codes " " ++ hex file.size ++ codes "\n"
+pad_line indent file = blanks indent ++ codes "pad " ++ hex file.place ++ codes " " ++ hex file.size
+    ++ codes "\n"
 
 -- `file 0xPLACE GUID TT 0xSIZE`
 unfoldable pub file_line : ℕ → Listed → List ℕ
 file_line indent file =
-    blanks indent ++ codes "file " ++ hex file.place ++ codes " " ++ guid_text file.guid ++ codes " " ++ two_digits file.file_type ++ codes " "
+    blanks indent ++ codes "file " ++ hex file.place ++ codes " " ++ guid_text file.guid
+    ++ codes " " ++ two_digits file.file_type ++ codes " "
     ++ hex file.size ++ codes "\n"
 
 -- `section KK 0xSIZE`
 unfoldable pub section_line : ℕ → ListedSection → List ℕ
-section_line indent section = blanks indent ++ codes "section " ++ two_digits section.kind ++ codes " " ++ hex section.size ++ codes "\n"
+section_line indent section = blanks indent ++ codes "section " ++ two_digits section.kind
+    ++ codes " " ++ hex section.size ++ codes "\n"
 
 -- `free 0xSIZE`
 unfoldable pub free_line : ℕ → ℕ → List ℕ

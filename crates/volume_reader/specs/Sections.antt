@@ -1,5 +1,6 @@
--- The sections of a file that is read (UEFI PI specification, volume 3, section 3.2.4). They are those that a file is made with: in FFS3
--- a section whose size doesn't fit has that size behind its kind.
+-- The sections of a file that is read (UEFI PI specification, volume 3, section 3.2.4). They are
+-- those that a file is made with: in FFS3 a section whose size doesn't fit has that size behind its
+-- kind.
 use Rattle.std.specs.Prelude.{◌≤◌, ◌<◌, IsTrue, ℕ, zero, suc, ◌+◌, ◌-◌, ◌==◌, ◌&&◌, Bool, nat_lt, nat_le, if◌then◌else◌, List, [], ◌∷◌, length, take, drop, slice_index, Option, Some, None}
 use Rattle.std.specs.List.{list_all}
 use Rattle.std.specs.Option.{option_map}
@@ -29,15 +30,20 @@ section_size ffs3 bytes = if is_extended ffs3 bytes then extended_size bytes els
 -- where its content stands in it: behind the header, and in a SUBTYPE_GUID section behind a GUID
 unfoldable pub content_at : Bool → List ℕ → ℕ
 content_at ffs3 bytes =
-    (if is_extended ffs3 bytes then 8 else 4) + (if section_kind bytes == EFI_SECTION_FREEFORM_SUBTYPE_GUID then 16 else 0)
+    (if is_extended ffs3 bytes then 8 else 4)
+    + (if section_kind bytes == EFI_SECTION_FREEFORM_SUBTYPE_GUID then 16 else 0)
 
--- a size stands behind the kind where with the header of 4 bytes it would be over the limit, and there alone
+-- a size stands behind the kind where with the header of 4 bytes it would be over the limit, and
+-- there alone
 unfoldable pub has_size_form : Bool → List ℕ → Bool
-has_size_form ffs3 bytes = if is_extended ffs3 bytes then nat_lt SECTION_LIMIT (extended_size bytes - 4) else nat_le (short_size bytes) SECTION_LIMIT
+has_size_form ffs3 bytes = if is_extended ffs3 bytes
+    then nat_lt SECTION_LIMIT (extended_size bytes - 4) else nat_le (short_size bytes) SECTION_LIMIT
 
 -- whether these bytes begin with a section
 unfoldable pub is_section : Bool → List ℕ → Bool
-is_section ffs3 bytes = has_size_form ffs3 bytes && nat_le (content_at ffs3 bytes) (section_size ffs3 bytes) && nat_le (section_size ffs3 bytes) (length bytes)
+is_section ffs3 bytes = has_size_form ffs3 bytes
+    && nat_le (content_at ffs3 bytes) (section_size ffs3 bytes)
+    && nat_le (section_size ffs3 bytes) (length bytes)
 
 -- the fields that tell a section's size lie within these bytes
 pub record HasFields (ffs3 : Bool) (bytes : List ℕ) : Type 0 where
@@ -47,11 +53,17 @@ pub record HasFields (ffs3 : Bool) (bytes : List ℕ) : Type 0 where
 -- the section that stands at a place of the volume
 abbrev pub listed_section : Bool → ℕ → List ℕ → ListedSection
 listed_section ffs3 place bytes =
-    record { kind = section_kind bytes; size = section_size ffs3 bytes; start = place + content_at ffs3 bytes }
+    record {
+      kind = section_kind bytes;
+      size = section_size ffs3 bytes;
+      start =
+          place + content_at ffs3 bytes;
+    }
 
 -- whether a section follows on this end of the one before: at the next multiple of 4, behind zeros
 unfoldable pub follows : Bool → List ℕ → ℕ → Bool
-follows ffs3 body at = list_all (λ b. b == 0) (take (up4 at - at) (drop at body)) && is_section ffs3 (drop (up4 at) body)
+follows ffs3 body at = list_all (λ b. b == 0) (take (up4 at - at) (drop at body))
+    && is_section ffs3 (drop (up4 at) body)
 
 -- a section that follows lies within the body
 pub record IsNext (ffs3 : Bool) (body : List ℕ) (at : ℕ) : Type 0 where
@@ -59,8 +71,8 @@ pub record IsNext (ffs3 : Bool) (body : List ℕ) (at : ℕ) : Type 0 where
   pub inside : up4 at + section_size ffs3 (drop (up4 at) body) ≤ length body
   pub some : at < up4 at + section_size ffs3 (drop (up4 at) body)
 
--- The sections of a body, which stands at a place of the volume, from an end on, where they are at most so many less one; None where
--- what is left is no list of sections.
+-- The sections of a body, which stands at a place of the volume, from an end on, where they are at
+-- most so many less one; None where what is left is no list of sections.
 unfoldable pub sections_from : ℕ → Bool → ℕ → List ℕ → ℕ → Option (List ListedSection)
 sections_from zero ffs3 place body at = None
 sections_from (suc n) ffs3 place body at =

@@ -20,26 +20,38 @@ with_files files (Err place) = Err place
 unfoldable pub are_erased : ℕ → List ℕ → Bool
 are_erased erase bytes = list_all (λ b. b == free_byte erase) bytes
 
--- What a volume holds from a place on, where its files are at most so many less one, or the place of the first wrong one. Where all bytes to
--- the volume's end are erased they are free; past the end there are none, and none is free. Else a file stands there, and the next
--- follows at the least multiple of 8 from its end on.
+-- What a volume holds from a place on, where its files are at most so many less one, or the place
+-- of the first wrong one. Where all bytes to the volume's end are erased they are free; past the
+-- end there are none, and none is free. Else a file stands there, and the next follows at the least
+-- multiple of 8 from its end on.
 unfoldable pub held_from : ℕ → Bool → ℕ → List ℕ → ℕ → Result Held ℕ
 held_from zero ffs3 erase volume at = Err at
 held_from (suc n) ffs3 erase volume at =
     if are_erased erase (drop at volume) then Ok (record { files = []; free = length volume - at })
     else if is_file ffs3 erase (drop at volume) then
-    with_files (listed_file ffs3 at (drop at volume) ∷ []) (held_from n ffs3 erase volume (up 8 (at + stated_size (drop at volume))))
+    with_files (listed_file ffs3 at (drop at volume) ∷ [])
+    (held_from n ffs3 erase volume (up 8 (at + stated_size (drop at volume))))
     else Err at
 
 abbrev pub list_of : List ℕ → Result Held ℕ → Result VolumeList ℕ
-list_of bytes (Ok held) = Ok (record { length = fv_length bytes; ffs3 = is_ffs3 bytes; files = held.files; free = held.free })
+list_of bytes (Ok held) =
+    Ok
+    (record {
+      length = fv_length bytes;
+      ffs3 = is_ffs3 bytes;
+      files = held.files;
+      free =
+          held.free;
+    })
 list_of bytes (Err place) = Err place
 
--- What the volume holds that these bytes begin with, or the place of its first wrong file. Files have some bytes each, so they are at most as many as the volume's.
+-- What the volume holds that these bytes begin with, or the place of its first wrong file. Files
+-- have some bytes each, so they are at most as many as the volume's.
 unfoldable pub volume_list : List ℕ → Result VolumeList ℕ
 volume_list bytes =
     let volume = take (fv_length bytes) bytes in
-    list_of bytes (held_from (length volume + 1) (is_ffs3 bytes) (erase_polarity bytes) volume (up 8 (header_length bytes)))
+    list_of bytes (held_from (length volume + 1) (is_ffs3 bytes) (erase_polarity bytes) volume
+    (up 8 (header_length bytes)))
 
 -- the refusal is that of this outcome, unless memory was wanting
 abbrev pub Fails : {T : Type 0} → ReadRefusal → Result T ℕ → Type 0

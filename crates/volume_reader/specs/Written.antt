@@ -1,4 +1,5 @@
--- What a volume that is written has, in the words of its reader (UEFI PI specification, volume 3, sections 3.2.1 to 3.2.3).
+-- What a volume that is written has, in the words of its reader (UEFI PI specification, volume 3,
+-- sections 3.2.1 to 3.2.3).
 use Rattle.std.specs.Prelude.{◌≡◌, ℕ, ◌+◌, ◌-◌, ◌^◌, ◌<◌, ◌==◌, ◌||◌, Bool, not, if◌then◌else◌, List, [], ◌∷◌, ◌++◌, length, map, replicate, bit_and, All, Option, Some, None, IfSome, unwrap_or, Result, Ok, Err}
 use Rattle.std.specs.List.{filter, find}
 use Rattle.build_base.specs.Runs.{free_byte}
@@ -50,7 +51,8 @@ body_sections ffs3 place (Err fault) = []
 -- those of a file; files of raw data and pads have none
 unfoldable pub made_sections : Bool → ℕ → Made → List ListedSection
 made_sections ffs3 place made =
-    if made.plan.file_type == EFI_FV_FILETYPE_RAW || made.plan.file_type == EFI_FV_FILETYPE_FFS_PAD then []
+    if made.plan.file_type == EFI_FV_FILETYPE_RAW || made.plan.file_type == EFI_FV_FILETYPE_FFS_PAD
+    then []
     else body_sections ffs3 (place + head_at made.file.bytes) (body_of made.plan made.plan.body)
 
 -- a file of a plan, at a place
@@ -65,7 +67,15 @@ made_row ffs3 place made = record {
 
 -- a pad file, whose name is of ones
 unfoldable pub pad_row : ℕ → ℕ → Listed
-pad_row place size = record { place = place; guid = record { 0 = replicate 16 0xFF }; file_type = EFI_FV_FILETYPE_FFS_PAD; size = size; sections = [] }
+pad_row place size =
+    record {
+      place = place;
+      guid = record { 0 = replicate 16 0xFF };
+      file_type =
+          EFI_FV_FILETYPE_FFS_PAD;
+      size = size;
+      sections = [];
+    }
 
 -- a file at its start, and between an end and it a pad file where there is space
 unfoldable pub placed_rows : Bool → ℕ → ℕ → Made → List Listed
@@ -76,7 +86,8 @@ placed_rows ffs3 at start made =
 -- files one after another from an end on
 unfoldable pub files_rows : Bool → ℕ → List Made → List Listed
 files_rows ffs3 at [] = []
-files_rows ffs3 at (made ∷ more) = placed_rows ffs3 at (file_start at made.file) made ++ files_rows ffs3 (file_end at made.file) more
+files_rows ffs3 at (made ∷ more) = placed_rows ffs3 at (file_start at made.file) made
+    ++ files_rows ffs3 (file_end at made.file) more
 
 -- the pad file that holds the extended header
 abbrev pub extended_rows : Option Guid → List Listed
@@ -101,7 +112,8 @@ plain_end head made = end_of (first_end head.name_guid) (files_of (plain_made ma
 -- the files and pad files of a volume of this length, in the order of their places
 unfoldable pub written_rows : VolumeHead → List Made → ℕ → List Listed
 written_rows head made size =
-    extended_rows head.name_guid ++ (files_rows head.ffs3 (first_end head.name_guid) (plain_made made)
+    extended_rows head.name_guid
+    ++ (files_rows head.ffs3 (first_end head.name_guid) (plain_made made)
     ++ top_rows head.ffs3 (plain_end head made) size (top_made made))
 
 -- what is free behind the last file, from the next multiple of 8 on; behind a top file nothing

@@ -41,10 +41,13 @@ fn block_bytes(bytes: &[u8], k: usize) -> u64
     num_blocks(bytes, k) as u64 * block_length(bytes, k) as u64
 }
 
-// Whether none of the first so many entries is the end, and their blocks have so many bytes. It reads no further than those bytes.
+// Whether none of the first so many entries is the end, and their blocks have so many bytes. It
+// reads no further than those bytes.
 fn fill(bytes: &[u8], last: usize, size: u64) -> bool
     requires { 0x40 + 8 * last ≤ length bytes.now }
-    ensures { result ≡ (not (list_any (is_map_end bytes.now) (range_with_len 0 last)) && sum_by (block_bytes bytes.now) (range_with_len 0 last) == size) }
+    ensures { result
+        ≡ (not (list_any (is_map_end bytes.now) (range_with_len 0 last))
+        && sum_by (block_bytes bytes.now) (range_with_len 0 last) == size) }
 {
     let mut total: u128 = 0;
     for k in 0..last {

@@ -134,7 +134,8 @@ fn has_check(bytes: &[u8]) -> bool
     bytes[0x11] == FFS_FIXED_CHECKSUM
 }
 
-/// Whether a file stands at the front of some bytes, in a volume of FFS3 or FFS2 and this erase polarity.
+/// Whether a file stands at the front of some bytes, in a volume of FFS3 or FFS2 and this erase
+/// polarity.
 #[tactic(auto, unfolding(crate::specs::Files::is_file))]
 pub(crate) fn is_file(ffs3: bool, erase: u8, bytes: &[u8]) -> bool
     ensures value { result ≡ is_file ffs3 erase bytes.now }
@@ -153,7 +154,8 @@ pub(crate) fn is_file(ffs3: bool, erase: u8, bytes: &[u8]) -> bool
 }
 
 fn is_listed(file_type: u8) -> bool
-    ensures { result ≡ not (file_type == EFI_FV_FILETYPE_RAW || file_type == EFI_FV_FILETYPE_FFS_PAD) }
+    ensures { result
+        ≡ not (file_type == EFI_FV_FILETYPE_RAW || file_type == EFI_FV_FILETYPE_FFS_PAD) }
 {
     if file_type == EFI_FV_FILETYPE_RAW {
         return false;

@@ -1,4 +1,5 @@
-//! Reading of images: the firmware volumes in them, with their files and sections (UEFI PI specification, volume 3).
+//! Reading of images: the firmware volumes in them, with their files and sections (UEFI PI
+//! specification, volume 3).
 #![tactic(auto)]
 
 mod blocks;

@@ -2,8 +2,8 @@
 use build_base::{Guid, Rows, WantOfMemory};
 use thiserror::Error;
 
-/// A volume: its length in bytes, whether its file system is FFS3 and not FFS2, its files in order, pad files among
-/// them, and how many bytes are free behind them.
+/// A volume: its length in bytes, whether its file system is FFS3 and not FFS2, its files in order,
+/// pad files among them, and how many bytes are free behind them.
 #[derive(Debug, Drop)]
 pub struct VolumeList {
     pub length: u64,
@@ -12,8 +12,8 @@ pub struct VolumeList {
     pub free: u64,
 }
 
-/// A file: where it stands in its volume, its name and its type. `size` counts its header. A file whose body isn't
-/// a list of sections has none.
+/// A file: where it stands in its volume, its name and its type. `size` counts its header. A file
+/// whose body isn't a list of sections has none.
 #[derive(Debug, Drop)]
 pub struct Listed {
     pub place: u64,

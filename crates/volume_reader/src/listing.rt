@@ -118,9 +118,9 @@ fn bad_file(alloc: Global, at: &Place, place: u64) -> Result<Refusal, WantOfMemo
     Ok(refuse(alloc, 742, at, detail.as_slice()))
 }
 
-/// The listing of the image that is the file of this path: its volumes in order, each with its files, their sections and
-/// the volumes in those, to a depth of eight. A file in which no volume is found is the fault 741, a volume with a wrong file
-/// the fault 742.
+/// The listing of the image that is the file of this path: its volumes in order, each with its
+/// files, their sections and the volumes in those, to a depth of eight. A file in which no volume
+/// is found is the fault 741, a volume with a wrong file the fault 742.
 #[tactic(auto, unfolding(crate::specs::Listing::listing))]
 pub fn list_text(alloc: Global, path: &Path, bytes: &[u8]) -> Result<Text, Refusal>
     ensures { Answers result (listing path.now bytes.now) }

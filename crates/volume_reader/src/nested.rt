@@ -75,7 +75,8 @@ fn put_section(
     section: &ListedSection,
 ) -> Result<(), WantOfMemory>
     requires { indent + 6 * depth ≤ 1004 }
-    ensures { OnOk result (out.new.items ≡ out.old.items ++ section_text (content_text depth) indent bytes.now section.now) }
+    ensures { OnOk result (out.new.items ≡ out.old.items
+        ++ section_text (content_text depth) indent bytes.now section.now) }
 {
     put_section_line(alloc, out, indent, section)?;
     if section.kind != EFI_SECTION_FIRMWARE_VOLUME_IMAGE {
@@ -94,7 +95,8 @@ fn put_sections(
     sections: &[ListedSection],
 ) -> Result<(), WantOfMemory>
     requires { indent + 6 * depth ≤ 1004 }
-    ensures { OnOk result (out.new.items ≡ out.old.items ++ flat_map (section_text (content_text depth) indent bytes.now) sections.now) }
+    ensures { OnOk result (out.new.items ≡ out.old.items
+        ++ flat_map (section_text (content_text depth) indent bytes.now) sections.now) }
 {
     let mut left = sections;
     while let [section, rest @ ..] = left {
@@ -115,7 +117,8 @@ fn put_file(
     file: &Listed,
 ) -> Result<(), WantOfMemory>
     requires { indent + 6 * depth ≤ 1002 }
-    ensures { OnOk result (out.new.items ≡ out.old.items ++ file_text (content_text depth) indent bytes.now file.now) }
+    ensures { OnOk result (out.new.items ≡ out.old.items
+        ++ file_text (content_text depth) indent bytes.now file.now) }
 {
     if file.file_type == EFI_FV_FILETYPE_FFS_PAD {
         return put_pad_line(alloc, out, indent, file);
@@ -134,7 +137,8 @@ fn put_files(
     files: &[Listed],
 ) -> Result<(), WantOfMemory>
     requires { indent + 6 * depth ≤ 1002 }
-    ensures { OnOk result (out.new.items ≡ out.old.items ++ flat_map (file_text (content_text depth) indent bytes.now) files.now) }
+    ensures { OnOk result (out.new.items ≡ out.old.items
+        ++ flat_map (file_text (content_text depth) indent bytes.now) files.now) }
 {
     let mut left = files;
     while let [file, rest @ ..] = left {
@@ -144,7 +148,8 @@ fn put_files(
     Ok(())
 }
 
-/// Adds the text of the volume that some bytes begin with, at an offset, where so many volumes may stand one in the other below it.
+/// Adds the text of the volume that some bytes begin with, at an offset, where so many volumes may
+/// stand one in the other below it.
 #[cycle(volumes)]
 #[tactic(auto, unfolding(crate::specs::Listing::volume_text))]
 pub(crate) fn put_volume(
@@ -157,7 +162,8 @@ pub(crate) fn put_volume(
     list: &VolumeList,
 ) -> Result<(), WantOfMemory>
     requires { indent + 6 * depth ≤ 1000 }
-    ensures { OnOk result (out.new.items ≡ out.old.items ++ volume_text (content_text depth) indent offset bytes.now list.now) }
+    ensures { OnOk result (out.new.items ≡ out.old.items
+        ++ volume_text (content_text depth) indent offset bytes.now list.now) }
 {
     put_volume_line(alloc, out, indent, offset, list)?;
     put_files(alloc, out, depth, indent + 2, bytes, list.files.items())?;

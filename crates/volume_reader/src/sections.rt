@@ -165,7 +165,8 @@ fn follows(ffs3: bool, body: &[u8], at: u64) -> bool
     is_section(ffs3, rest(body, start))
 }
 
-/// The sections of a body that stands at a place of the volume; None where it is no list of sections.
+/// The sections of a body that stands at a place of the volume; None where it is no list of
+/// sections.
 pub fn sections_of(
     alloc: Global,
     ffs3: bool,

@@ -83,15 +83,16 @@ fn read_list(alloc: Global, bytes: &[u8]) -> Result<VolumeList, ReadRefusal>
     })
 }
 
-/// What the volume holds that some bytes begin with. A wrong file is named by its place in the volume. A volume that
-/// is written reads back as its files and the pad files between them.
+/// What the volume holds that some bytes begin with. A wrong file is named by its place in the
+/// volume. A volume that is written reads back as its files and the pad files between them.
 pub fn read_volume(alloc: Global, bytes: &[u8]) -> Result<VolumeList, ReadRefusal>
     requires { IsTrue (is_head bytes.now) }
     ensures value { Reads result (volume_list bytes.now) }
     ensures near { IfErr result IsNear }
     ensures some { IfOk result (λ list. 0 < list.length) }
     ensures inside { IfOk result (λ list. list.length ≤ length bytes.now) }
-    ensures written { (head : VolumeHead) (made : List Made) → IsWritten head made bytes.now → IfOk result (λ list. list ≡ written_list head made (length bytes.now)) }
+    ensures written { (head : VolumeHead) (made : List Made) → IsWritten head made bytes.now
+        → IfOk result (λ list. list ≡ written_list head made (length bytes.now)) }
 {
     read_list(alloc, bytes)
 }

@@ -1,5 +1,6 @@
--- The entries of the image of vital product data (EDK II DSC specification, [PcdsDynamicVpd] sections): which lines of the
--- platform give one, and of which row of values. The format of the image is this project's own.
+-- The entries of the image of vital product data (EDK II DSC specification, [PcdsDynamicVpd]
+-- sections): which lines of the platform give one, and of which row of values. The format of the
+-- image is this project's own.
 use Rattle.std.specs.Prelude.{ℕ, Bool, true, false, not, ◌&&◌, if◌then◌else◌, List, [], ◌∷◌, ◌++◌, find, Option, Some, None, codes}
 use Rattle.std.specs.List.{list_any}
 use Rattle.std.specs.Str.{bytes_eq}
@@ -65,7 +66,8 @@ is_line_of arches name line = counts arches line && bytes_eq (line_label line) n
 
 -- the row that is left to a name by the lines below: none where one of them has the name
 abbrev pub row_left : List Arch → List PcdRow → List PcdLine → List ℕ → Option PcdRow
-row_left arches rows below name = if list_any (is_line_of arches name) below then None else find (is_row_of name) rows
+row_left arches rows below name = if list_any (is_line_of arches name) below then None
+    else find (is_row_of name) rows
 
 abbrev pub with_row : PcdLine → Option PcdRow → List Entry
 with_row line None = []
@@ -73,9 +75,11 @@ with_row line (Some row) = record { line = line; row = row } ∷ []
 
 -- what a line gives, with these below it
 unfoldable pub entry_in : List Arch → List PcdRow → List PcdLine → PcdLine → List Entry
-entry_in arches rows below line = if counts arches line then with_row line (row_left arches rows below (line_label line)) else []
+entry_in arches rows below line = if counts arches line
+    then with_row line (row_left arches rows below (line_label line)) else []
 
--- The lines that count, in their order. Of those of one PCD and SKU the last counts, and only where there is a row.
+-- The lines that count, in their order. Of those of one PCD and SKU the last counts, and only where
+-- there is a row.
 unfoldable pub entries : List Arch → List PcdRow → List PcdLine → List Entry
 entries arches rows [] = []
 entries arches rows (line ∷ below) = entry_in arches rows below line ++ entries arches rows below

@@ -26,4 +26,5 @@ pieces_in all = map piece_of (filter has_bytes all)
 
 -- the entries that have bytes, written one behind another
 unfoldable pub laid_out : List Placed → List ℕ
-laid_out all = put_pieces 0xFF [] (pieces_in all) ++ replicate (greatest_end all - length (put_pieces 0xFF [] (pieces_in all))) 0xFF
+laid_out all = put_pieces 0xFF [] (pieces_in all)
+    ++ replicate (greatest_end all - length (put_pieces 0xFF [] (pieces_in all))) 0xFF

@@ -42,7 +42,8 @@ pub record Placed : Type 0 where
 unfoldable pub end_of : Placed → ℕ
 end_of placed = placed.offset + size_of placed.entry.row
 
--- whether the bytes from start to end and those from first to last, both without the ends, have one in common
+-- whether the bytes from start to end and those from first to last, both without the ends, have one
+-- in common
 unfoldable pub share : ℕ → ℕ → ℕ → ℕ → Bool
 share start end first last = nat_lt (max start first) (min end last)
 
@@ -88,23 +89,28 @@ first_from test (suc count) n = if test n then n else first_from test count (suc
 
 -- the least multiple of an alignment at which so many bytes are free; past all ends they are
 unfoldable pub least_place : List Placed → ℕ → ℕ → ℕ
-least_place taken align size = align * first_from (λ n. is_free taken size (align * n)) (greatest_end taken) 0
+least_place taken align size =
+    align * first_from (λ n. is_free taken size (align * n)) (greatest_end taken) 0
 
--- the entries that are placed before one with `*`: those with a written offset, and those above with `*`
+-- the entries that are placed before one with `*`: those with a written offset, and those above
+-- with `*`
 abbrev pub placed_before : List Placed → List Placed → List Placed
 placed_before fixed above = fixed ++ filter is_starred above
 
 abbrev pub offset_by : List Placed → List Placed → Entry → Option ℕ → ℕ
 offset_by fixed above entry (Some offset) = offset
-offset_by fixed above entry None = least_place (placed_before fixed above) (align_of entry.row.datum) (size_of entry.row)
+offset_by fixed above entry None =
+    least_place (placed_before fixed above) (align_of entry.row.datum) (size_of entry.row)
 
 unfoldable pub placed_next : List Placed → List Placed → Entry → Placed
-placed_next fixed above entry = record { entry = entry; offset = offset_by fixed above entry (written_offset entry) }
+placed_next fixed above entry =
+    record { entry = entry; offset = offset_by fixed above entry (written_offset entry) }
 
 -- entries in line order, behind those above
 unfoldable pub placed_from : List Placed → List Placed → List Entry → List Placed
 placed_from fixed above [] = above
-placed_from fixed above (entry ∷ entries) = placed_from fixed (above ++ placed_next fixed above entry ∷ []) entries
+placed_from fixed above (entry ∷ entries) =
+    placed_from fixed (above ++ placed_next fixed above entry ∷ []) entries
 
 -- all entries, each at its place, in line order
 unfoldable pub placed : List Entry → List Placed
@@ -113,18 +119,23 @@ placed entries = placed_from (written entries) [] entries
 -- `start < end` of what two have in common
 unfoldable pub overlap_of : Placed → Placed → Fault
 overlap_of placed other =
-    fault_of 721 placed.entry.line.at (decimal (max placed.offset other.offset) ++ codes " < " ++ decimal (min (end_of placed) (end_of other)))
+    fault_of 721 placed.entry.line.at
+    (decimal (max placed.offset other.offset) ++ codes " < "
+    ++ decimal (min (end_of placed) (end_of other)))
 
 abbrev pub overlap_with : List Placed → Placed → Option Fault
-overlap_with above placed = option_map (overlap_of placed) (find (shares placed.offset (end_of placed)) above)
+overlap_with above placed = option_map (overlap_of placed)
+    (find (shares placed.offset (end_of placed)) above)
 
 -- the first that has a byte in common with one above, and the first such one
 unfoldable pub overlap_fault : List Placed → List Placed → Option Fault
 overlap_fault above [] = None
-overlap_fault above (placed ∷ more) = or_else (overlap_with above placed) (overlap_fault (above ++ placed ∷ []) more)
+overlap_fault above (placed ∷ more) =
+    or_else (overlap_with above placed) (overlap_fault (above ++ placed ∷ []) more)
 
 unfoldable pub end_fault : Placed → Option Fault
-end_fault placed = if nat_lt end_limit (end_of placed) then Some (fault_of 722 placed.entry.line.at (decimal (end_of placed))) else None
+end_fault placed = if nat_lt end_limit (end_of placed)
+    then Some (fault_of 722 placed.entry.line.at (decimal (end_of placed))) else None
 
 -- the first that ends too late
 unfoldable pub long_fault : List Placed → Option Fault
@@ -135,14 +146,17 @@ long_fault (placed ∷ more) = or_else (end_fault placed) (long_fault more)
 abbrev pub all_ended : List Placed → Result (List Placed) Fault
 all_ended all = unless (long_fault all) all
 
--- All entries, each at its place, or the first fault. Those with a written offset come first in both faults.
+-- All entries, each at its place, or the first fault. Those with a written offset come first in
+-- both faults.
 unfoldable pub placed_by : List Entry → Result (List Placed) Fault
-placed_by entries = or_fault (overlap_fault [] (written entries)) (or_fault (long_fault (written entries)) (all_ended (placed entries)))
+placed_by entries = or_fault (overlap_fault [] (written entries))
+    (or_fault (long_fault (written entries)) (all_ended (placed entries)))
 
 -- before the first that doesn't start before it
 unfoldable pub put_in_order : Placed → List Placed → List Placed
 put_in_order placed [] = placed ∷ []
-put_in_order placed (other ∷ more) = if nat_le placed.offset other.offset then placed ∷ other ∷ more else other ∷ put_in_order placed more
+put_in_order placed (other ∷ more) = if nat_le placed.offset other.offset then placed ∷ other ∷ more
+    else other ∷ put_in_order placed more
 
 -- by their offsets, and those of one offset in the order that they have
 unfoldable pub in_order : List Placed → List Placed

@@ -1,5 +1,5 @@
--- What of the image is taken, as the code holds it: stretches in order, and for each type a number below which no multiple of
--- its alignment is free.
+-- What of the image is taken, as the code holds it: stretches in order, and for each type a number
+-- below which no multiple of its alignment is free.
 use Rattle.std.specs.Prelude.{◌≡◌, ℕ, ◌+◌, ◌*◌, ◌<◌, ◌≤◌, ◌^◌, max, nat_le, Bool, true, false, if◌then◌else◌, List, [], ◌∷◌, Result, slice_index_or}
 use Rattle.std.specs.Int.{div_ceil}
 use Rattle.std.specs.List.{list_any}
@@ -22,7 +22,8 @@ meets start end stretch = share start end stretch.start stretch.end
 -- one behind another, from a place on, each with bytes
 unfoldable pub AreLaid : ℕ → List Stretch → Type 0
 AreLaid at [] = Unit {0}
-AreLaid at (stretch ∷ more) = (at ≤ stretch.start) × (stretch.start < stretch.end) × AreLaid stretch.end more
+AreLaid at (stretch ∷ more) = (at ≤ stretch.start) × (stretch.start < stretch.end)
+    × AreLaid stretch.end more
 
 abbrev pub AreBelow : List Stretch → Type 0
 AreBelow [] = Unit {0}
@@ -32,7 +33,8 @@ AreBelow (stretch ∷ more) = (stretch.end ≤ room_limit) × AreBelow more
 unfoldable pub first_multiple : List Stretch → ℕ → ℕ → ℕ → ℕ
 first_multiple [] align size n = n
 first_multiple (stretch ∷ more) align size n =
-    if nat_le (align * n + size) stretch.start then n else first_multiple more align size (max n (div_ceil stretch.end align))
+    if nat_le (align * n + size) stretch.start then n
+    else first_multiple more align size (max n (div_ceil stretch.end align))
 
 abbrev pub slot : Datum → ℕ
 slot U8 = 0
@@ -51,11 +53,13 @@ least_size datum = width datum
 pub record IsNext (taken : List Stretch) (align size from n : ℕ) : Type 0 where
   pub after : from ≤ n
   pub free : list_any (meets (align * n) (align * n + size)) taken ≡ false
-  pub none : (m : ℕ) → from ≤ m → m < n → list_any (meets (align * m) (align * m + size)) taken ≡ true
+  pub none : (m : ℕ) → from ≤ m → m < n → list_any (meets (align * m) (align * m + size)) taken
+      ≡ true
 
 -- at no lower multiple a type's least value is free
 abbrev pub IsPast : List Placed → Datum → ℕ → Type 0
-IsPast placed datum n = (m : ℕ) → m < n → list_any (shares (align_of datum * m) (align_of datum * m + least_size datum)) placed ≡ true
+IsPast placed datum n = (m : ℕ) → m < n
+    → list_any (shares (align_of datum * m) (align_of datum * m + least_size datum)) placed ≡ true
 
 abbrev pub low_of : Room → Datum → ℕ
 low_of room datum = slice_index_or room.lows (slot datum) 0
@@ -68,12 +72,18 @@ pub record IsRoom (room : Room) : Type 0 where
 -- a room has what these entries take
 pub record Holds (placed : List Placed) (room : Room) : Type 0 where
   pub sound : IsRoom room
-  pub same : (start size : ℕ) → list_any (shares start (start + size)) placed ≡ list_any (meets start (start + size)) room.taken.items
+  pub same : (start size : ℕ) → list_any (shares start (start + size)) placed
+      ≡ list_any (meets start (start + size)) room.taken.items
   pub past : (datum : Datum) → IsPast placed datum (low_of room datum)
 
 -- an entry with `*`, behind these
 abbrev pub starred_at : List Placed → Entry → Placed
-starred_at placed entry = record { entry = entry; offset = least_place placed (align_of entry.row.datum) (size_of entry.row) }
+starred_at placed entry =
+    record {
+      entry = entry;
+      offset =
+          least_place placed (align_of entry.row.datum) (size_of entry.row);
+    }
 
 -- an entry that doesn't end too late
 abbrev pub ended : Placed → Result Placed Fault

@@ -26,8 +26,11 @@ picked xs (Some place) = slice_get xs place
 
 -- a table gives for each name the place of its first row from a place on
 abbrev pub IsTableFrom : {S : Type 0} → List PcdRow → ℕ → HashMap (Vec ℕ) ℕ S → Type 0
-IsTableFrom rows n table = (key : Vec ℕ) → picked rows (get same_key table key) ≡ find (is_row_of key.items) (drop n rows)
+IsTableFrom rows n table = (key : Vec ℕ) → picked rows (get same_key table key)
+    ≡ find (is_row_of key.items) (drop n rows)
 
 -- a table gives for each name the place of the row that the lines below leave to it
-abbrev pub IsLeft : {S : Type 0} → List Arch → List PcdRow → List PcdLine → HashMap (Vec ℕ) ℕ S → Type 0
-IsLeft arches rows below table = (key : Vec ℕ) → picked rows (get same_key table key) ≡ row_left arches rows below key.items
+abbrev pub IsLeft : {S : Type 0} → List Arch → List PcdRow → List PcdLine → HashMap (Vec ℕ) ℕ S
+    → Type 0
+IsLeft arches rows below table = (key : Vec ℕ)
+    → picked rows (get same_key table key) ≡ row_left arches rows below key.items

@@ -1,4 +1,5 @@
--- The image of vital product data, and the text that lists what stands in it. Both formats are this project's own.
+-- The image of vital product data, and the text that lists what stands in it. Both formats are this
+-- project's own.
 use Rattle.std.specs.Prelude.{◌≡◌, ℕ, ◌+◌, false, List, ◌++◌, map, take, drop, Result, Ok, codes, decimal}
 use Rattle.std.specs.Int.{w32, to_le_bytes}
 use Rattle.std.specs.List.{AllPairs, flat_map}
@@ -20,7 +21,8 @@ entry_bytes placed = padded (size_of placed.entry.row) placed.entry.row.value
 abbrev pub piece_of : Placed → Piece
 piece_of placed = record { start = placed.offset; bytes = entry_bytes placed }
 
--- each byte is that of the entry that holds its place, and else FF; the image ends with the last of them
+-- each byte is that of the entry that holds its place, and else FF; the image ends with the last of
+-- them
 unfoldable pub image_with : List Placed → List ℕ
 image_with all = image_of 0xFF (map piece_of all) (greatest_end all)
 
@@ -31,16 +33,23 @@ in_row word = codes " " ++ word
 -- `Space.Name SKU 0xOFFSET SIZE V`, the size in decimal
 unfoldable pub map_line : Placed → List ℕ
 map_line placed =
-    line_label placed.entry.line ++ in_row (printed U32 (to_le_bytes w32 placed.offset)) ++ in_row (decimal (size_of placed.entry.row))
+    line_label placed.entry.line ++ in_row (printed U32 (to_le_bytes w32 placed.offset))
+    ++ in_row (decimal (size_of placed.entry.row))
     ++ in_row (printed placed.entry.row.datum placed.entry.row.value) ++ codes "\n"
 
 abbrev pub place_of : Placed → VpdPlace
 place_of placed =
-    record { pcd = placed.entry.line.pcd; sku = sku_of placed.entry.line; offset = placed.offset; size = size_of placed.entry.row }
+    record {
+      pcd = placed.entry.line.pcd;
+      sku = sku_of placed.entry.line;
+      offset = placed.offset;
+      size = size_of placed.entry.row;
+    }
 
 -- what is made of entries by their offsets
 unfoldable pub vpd_from : List Placed → Vpd
-vpd_from all = record { image = image_with all; map = flat_map map_line all; places = map place_of all }
+vpd_from all =
+    record { image = image_with all; map = flat_map map_line all; places = map place_of all }
 
 -- what is made of entries, or their first fault
 unfoldable pub vpd_by : List Entry → Result Vpd Fault
@@ -55,7 +64,8 @@ vpd_of ask = vpd_by (entries_of ask)
 
 -- no byte is one of two places
 abbrev pub AreApart : List VpdPlace → Type 0
-AreApart places = AllPairs (λ p q. share p.offset (p.offset + p.size) q.offset (q.offset + q.size) ≡ false) places
+AreApart places =
+    AllPairs (λ p q. share p.offset (p.offset + p.size) q.offset (q.offset + q.size) ≡ false) places
 
 abbrev pub read_at : List ℕ → VpdPlace → List ℕ
 read_at image place = take place.size (drop place.offset image)

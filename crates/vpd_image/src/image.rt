@@ -35,7 +35,8 @@ fn put_padded(out: &mut Vec<u8>, size: usize, value: &[u8]) -> Result<(), WantOf
 // An entry behind those of lesser offsets.
 #[tactic(auto, unfolding(build_base::specs::Pieces::put_pieces))]
 fn put_entry(out: &mut Vec<u8>, placed: &PlacedLine<'_>) -> Result<(), WantOfMemory>
-    ensures { OnOk result (out.new.items ≡ put_pieces 0xFF out.old.items (pieces_in (placed_view placed.now ∷ []))) }
+    ensures { OnOk result
+        (out.new.items ≡ put_pieces 0xFF out.old.items (pieces_in (placed_view placed.now ∷ []))) }
 {
     let size = size_of(placed.entry.row) as usize;
     if 0 < size {
@@ -47,7 +48,8 @@ fn put_entry(out: &mut Vec<u8>, placed: &PlacedLine<'_>) -> Result<(), WantOfMem
 }
 
 fn put_entries(alloc: Global, all: &[PlacedLine<'_>]) -> Result<Vec<u8>, WantOfMemory>
-    ensures { IfOk result (λ v. v.items ≡ put_pieces 0xFF [] (pieces_in (map placed_view all.now))) }
+    ensures { IfOk result
+        (λ v. v.items ≡ put_pieces 0xFF [] (pieces_in (map placed_view all.now))) }
 {
     let mut out = Vec::new(alloc);
     for i in 0..all.len() {
@@ -90,7 +92,8 @@ fn put_word(out: &mut Vec<u8>, word: &[u8]) -> Result<(), AllocError>
 }
 
 fn put_offset(alloc: Global, out: &mut Vec<u8>, offset: u32) -> Result<(), WantOfMemory>
-    ensures { OnOk result (out.new.items ≡ out.old.items ++ in_row (printed U32 (to_le_bytes w32 offset))) }
+    ensures { OnOk result (out.new.items ≡ out.old.items
+        ++ in_row (printed U32 (to_le_bytes w32 offset))) }
 {
     let text = print_value(alloc, Datum::U32, &offset.to_le_bytes())?;
     put_word(out, text.bytes())?;

@@ -1,5 +1,6 @@
-//! The image of vital product data: the values of the PCDs of VPD lines, each in its place (EDK II DSC specification,
-//! [PcdsDynamicVpd] sections). The format of the image and of its map is this project's own.
+//! The image of vital product data: the values of the PCDs of VPD lines, each in its place (EDK II
+//! DSC specification, [PcdsDynamicVpd] sections). The format of the image and of its map is this
+//! project's own.
 #![tactic(auto)]
 
 pub mod ask;

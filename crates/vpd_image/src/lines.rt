@@ -83,7 +83,8 @@ fn put_row<'a>(
     row: Option<&'a PcdRow>,
     found: &mut Vec<EntryLine<'a>>,
 ) -> Result<(), WantOfMemory>
-    ensures { OnOk result (map entry_view found.new.items ≡ map entry_view found.old.items ++ with_row line.now (option_map (λ r. r.now) row.entry)) }
+    ensures { OnOk result (map entry_view found.new.items
+        ≡ map entry_view found.old.items ++ with_row line.now (option_map (λ r. r.now) row.entry)) }
 {
     if let Some(row) = row {
         if found.push(EntryLine { line, row }).is_err() {
@@ -103,8 +104,11 @@ fn put_line<'a>(
     table: &mut IndexMap<Vec<u8>, usize>,
     found: &mut Vec<EntryLine<'a>>,
 ) -> Result<(), WantOfMemory>
-    ensures left { (below : List Line) → IsLeft arches.now rows.now below table.old → OnOk result (IsLeft arches.now rows.now (line.now ∷ below) table.new) }
-    ensures found { (below : List Line) → IsLeft arches.now rows.now below table.old → OnOk result (map entry_view found.new.items ≡ map entry_view found.old.items ++ entry_in arches.now rows.now below line.now) }
+    ensures left { (below : List Line) → IsLeft arches.now rows.now below table.old
+        → OnOk result (IsLeft arches.now rows.now (line.now ∷ below) table.new) }
+    ensures found { (below : List Line) → IsLeft arches.now rows.now below table.old
+        → OnOk result (map entry_view found.new.items
+        ≡ map entry_view found.old.items ++ entry_in arches.now rows.now below line.now) }
 {
     if !counts(arches, line) {
         return Ok(());
@@ -120,7 +124,8 @@ fn entries_up<'a>(
     rows: &'a [PcdRow],
     lines: &'a [PcdLine],
 ) -> Result<Vec<EntryLine<'a>>, WantOfMemory>
-    ensures { IfOk result (λ v. map entry_view v.items ≡ reverse (entries arches.now rows.now lines.now)) }
+    ensures { IfOk result (λ v. map entry_view v.items
+        ≡ reverse (entries arches.now rows.now lines.now)) }
 {
     let mut table = rows_by_label(alloc, rows)?;
     let mut found = Vec::new(alloc);

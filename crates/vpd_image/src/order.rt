@@ -8,7 +8,8 @@ use build_base::WantOfMemory;
 
 /// The entries by their offsets, those of one offset in the order that they have.
 pub fn in_order<'a>(placed: Vec<PlacedLine<'a>>) -> Result<Vec<PlacedLine<'a>>, WantOfMemory>
-    ensures { IfOk result (λ v. map placed_view v.items ≡ in_order (map placed_view placed.entry.items)) }
+    ensures { IfOk result (λ v. map placed_view v.items
+        ≡ in_order (map placed_view placed.entry.items)) }
 {
     let mut placed = placed;
     placed.sort_by_key(|one| one.offset)?;

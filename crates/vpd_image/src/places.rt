@@ -39,7 +39,8 @@ fn put_written<'a>(
     entry: &EntryLine<'a>,
     offset: Option<u32>,
 ) -> Result<(), WantOfMemory>
-    ensures { OnOk result (map placed_view found.new.items ≡ map placed_view found.old.items ++ placed_if (entry_view entry.now) offset) }
+    ensures { OnOk result (map placed_view found.new.items
+        ≡ map placed_view found.old.items ++ placed_if (entry_view entry.now) offset) }
 {
     if let Some(offset) = offset {
         let placed = PlacedLine {
@@ -102,7 +103,8 @@ fn compared(alloc: Global, first: u64, second: u64) -> Result<Text, WantOfMemory
 }
 
 fn refuse_compared(alloc: Global, at: &Place, first: u64, second: u64) -> Refusal
-    ensures { Finds result (Some (fault_of 721 at.now (decimal first ++ codes " < " ++ decimal second))) }
+    ensures { Finds result
+        (Some (fault_of 721 at.now (decimal first ++ codes " < " ++ decimal second))) }
 {
     match compared(alloc, first, second) {
         Ok(detail) => refuse(alloc, 721, at, detail.bytes()),
@@ -142,8 +144,10 @@ fn take_written(
     placed: &PlacedLine<'_>,
 ) -> Result<(), Refusal>
     requires { Holds (map placed_view above.now) room.old }
-    ensures fault { Checks result (overlap_with (map placed_view above.now) (placed_view placed.now)) }
-    ensures kept { OnOk result (Holds (map placed_view above.now ++ placed_view placed.now ∷ []) room.new) }
+    ensures fault { Checks result
+        (overlap_with (map placed_view above.now) (placed_view placed.now)) }
+    ensures kept { OnOk result
+        (Holds (map placed_view above.now ++ placed_view placed.now ∷ []) room.new) }
 {
     let size = size_of(placed.entry.row) as u64;
     if size == 0 {

@@ -16,7 +16,8 @@ use std::alloc::Global;
 // The least place of a row's value.
 fn least(room: &mut Room, row: &PcdRow) -> u64
     requires { IsRoom room.old }
-    ensures place { (placed : List Placed) → Holds placed room.old → result ≡ least_place placed (align_of row.now.datum) (size_of row.now) }
+    ensures place { (placed : List Placed) → Holds placed room.old
+        → result ≡ least_place placed (align_of row.now.datum) (size_of row.now) }
     ensures kept { (placed : List Placed) → Holds placed room.old → Holds placed room.new }
     ensures small { result ≤ 0x1000000000 }
 {
@@ -30,7 +31,9 @@ fn least(room: &mut Room, row: &PcdRow) -> u64
 // Takes bytes that are free, if any.
 fn take(room: &mut Room, start: u64, size: u64) -> Result<(), WantOfMemory>
     requires { start + size ≤ room_limit }
-    ensures { (placed : List Placed) (p : Placed) → Holds placed room.old → is_free placed size start ≡ true → p.offset ≡ start → size_of p.entry.row ≡ size → OnOk result (Holds (placed ++ p ∷ []) room.new) }
+    ensures { (placed : List Placed) (p : Placed) → Holds placed room.old
+        → is_free placed size start ≡ true → p.offset ≡ start → size_of p.entry.row ≡ size
+        → OnOk result (Holds (placed ++ p ∷ []) room.new) }
 {
     if size == 0 {
         return Ok(());
@@ -47,8 +50,10 @@ fn place_starred<'a>(
     entry: &EntryLine<'a>,
 ) -> Result<PlacedLine<'a>, Refusal>
     requires { IsRoom room.old }
-    ensures value { (placed : List Placed) → Holds placed room.old → AnswersAs placed_view result (ended (starred_at placed (entry_view entry.now))) }
-    ensures kept { (placed : List Placed) → Holds placed room.old → OnOk result (Holds (placed ++ starred_at placed (entry_view entry.now) ∷ []) room.new) }
+    ensures value { (placed : List Placed) → Holds placed room.old
+        → AnswersAs placed_view result (ended (starred_at placed (entry_view entry.now))) }
+    ensures kept { (placed : List Placed) → Holds placed room.old
+        → OnOk result (Holds (placed ++ starred_at placed (entry_view entry.now) ∷ []) room.new) }
 {
     let size = size_of(entry.row) as u64;
     let start = least(room, entry.row);
@@ -68,7 +73,8 @@ fn place_written<'a>(
     entry: &EntryLine<'a>,
     offset: u32,
 ) -> Result<PlacedLine<'a>, Refusal>
-    ensures { AnswersAs placed_view result (ended (record { entry = entry_view entry.now; offset = offset })) }
+    ensures { AnswersAs placed_view result
+        (ended (record { entry = entry_view entry.now; offset = offset })) }
 {
     let placed = PlacedLine {
         entry: *entry,
@@ -87,9 +93,15 @@ fn place<'a>(
     above: &[PlacedLine<'a>],
     entry: &EntryLine<'a>,
 ) -> Result<PlacedLine<'a>, Refusal>
-    requires { Holds (placed_before (map placed_view fixed.now) (map placed_view above.now)) room.old }
-    ensures value { AnswersAs placed_view result (ended (placed_next (map placed_view fixed.now) (map placed_view above.now) (entry_view entry.now))) }
-    ensures kept { OnOk result (Holds (placed_before (map placed_view fixed.now) (map placed_view above.now ++ placed_next (map placed_view fixed.now) (map placed_view above.now) (entry_view entry.now) ∷ [])) room.new) }
+    requires { Holds (placed_before (map placed_view fixed.now) (map placed_view above.now))
+        room.old }
+    ensures value { AnswersAs placed_view result
+        (ended (placed_next (map placed_view fixed.now) (map placed_view above.now)
+        (entry_view entry.now))) }
+    ensures kept { OnOk result
+        (Holds (placed_before (map placed_view fixed.now)
+        (map placed_view above.now ++ placed_next (map placed_view fixed.now)
+        (map placed_view above.now) (entry_view entry.now) ∷ [])) room.new) }
 {
     match offset_in(&entry.line.store) {
         Some(offset) => place_written(alloc, entry, offset),
@@ -105,10 +117,17 @@ fn put_next<'a>(
     done: &mut Vec<PlacedLine<'a>>,
     entry: &EntryLine<'a>,
 ) -> Result<(), Refusal>
-    requires { Holds (placed_before (map placed_view fixed.now) (map placed_view done.old.items)) room.old }
-    ensures fault { Checks result (end_fault (placed_next (map placed_view fixed.now) (map placed_view done.old.items) (entry_view entry.now))) }
-    ensures next { OnOk result (map placed_view done.new.items ≡ map placed_view done.old.items ++ placed_next (map placed_view fixed.now) (map placed_view done.old.items) (entry_view entry.now) ∷ []) }
-    ensures kept { OnOk result (Holds (placed_before (map placed_view fixed.now) (map placed_view done.new.items)) room.new) }
+    requires { Holds (placed_before (map placed_view fixed.now) (map placed_view done.old.items))
+        room.old }
+    ensures fault { Checks result
+        (end_fault (placed_next (map placed_view fixed.now) (map placed_view done.old.items)
+        (entry_view entry.now))) }
+    ensures next { OnOk result (map placed_view done.new.items
+        ≡ map placed_view done.old.items ++ placed_next (map placed_view fixed.now)
+        (map placed_view done.old.items) (entry_view entry.now) ∷ []) }
+    ensures kept { OnOk result
+        (Holds (placed_before (map placed_view fixed.now) (map placed_view done.new.items))
+        room.new) }
 {
     let placed = place(alloc, room, fixed, done.as_slice(), entry)?;
     if done.push(placed).is_err() {
@@ -125,7 +144,8 @@ pub fn place_all<'a>(
     entries: &[EntryLine<'a>],
 ) -> Result<Vec<PlacedLine<'a>>, Refusal>
     requires { Holds (map placed_view fixed.now) room.old }
-    ensures { AnswersAs (λ v. map placed_view v.items) result (all_ended (placed_from (map placed_view fixed.now) [] (map entry_view entries.now))) }
+    ensures { AnswersAs (λ v. map placed_view v.items) result
+        (all_ended (placed_from (map placed_view fixed.now) [] (map entry_view entries.now))) }
 {
     let mut done = Vec::new(alloc);
     for i in 0..entries.len() {

@@ -16,8 +16,8 @@ pub struct Stretch {
     pub end: u64,
 }
 
-/// The stretches that are taken, one behind another, and for each type of values a number below which no multiple of
-/// its alignment is free.
+/// The stretches that are taken, one behind another, and for each type of values a number below
+/// which no multiple of its alignment is free.
 #[derive(Drop)]
 pub struct Room {
     pub taken: Vec<Stretch>,
@@ -41,8 +41,10 @@ fn slot(datum: Datum) -> usize
 // How many stretches end at a place or before it.
 fn passed(taken: &[Stretch], at: u64) -> usize
     ensures within { result ≤ length taken.now }
-    ensures before { AreLaid 0 taken.now → AllByRecursion (λ s. s.end ≤ at) (take result taken.now) }
-    ensures behind { AreLaid 0 taken.now → AllByRecursion (λ s. at < s.end) (drop result taken.now) }
+    ensures before { AreLaid 0 taken.now
+        → AllByRecursion (λ s. s.end ≤ at) (take result taken.now) }
+    ensures behind { AreLaid 0 taken.now
+        → AllByRecursion (λ s. at < s.end) (drop result taken.now) }
 {
     taken.partition_point(|stretch| stretch.end <= at)
 }
@@ -120,7 +122,8 @@ impl Room {
     pub fn is_free(&self, start: u64, size: u64) -> bool
         requires size { 0 < size }
         requires end { start + size ≤ room_limit }
-        ensures { (placed : List Placed) → Holds placed self.now → result ≡ is_free placed size start }
+        ensures { (placed : List Placed) → Holds placed self.now
+            → result ≡ is_free placed size start }
     {
         is_clear(self.taken.as_slice(), start, size)
     }
@@ -129,7 +132,9 @@ impl Room {
     pub fn put(&mut self, start: u64, size: u64) -> Result<(), WantOfMemory>
         requires size { 0 < size }
         requires end { start + size ≤ room_limit }
-        ensures { (placed : List Placed) (p : Placed) → Holds placed self.old → is_free placed size start ≡ true → p.offset ≡ start → size_of p.entry.row ≡ size → OnOk result (Holds (placed ++ p ∷ []) self.new) }
+        ensures { (placed : List Placed) (p : Placed) → Holds placed self.old
+            → is_free placed size start ≡ true → p.offset ≡ start → size_of p.entry.row ≡ size
+            → OnOk result (Holds (placed ++ p ∷ []) self.new) }
     {
         let place = passed(self.taken.as_slice(), start);
         let end = start + size;
@@ -141,7 +146,8 @@ impl Room {
     pub fn least(&mut self, datum: Datum, size: u64) -> u64
         requires room { IsRoom self.old }
         requires size { (least_size datum ≤ size) × (size ≤ room_limit) }
-        ensures place { (placed : List Placed) → Holds placed self.old → result ≡ least_place placed (align_of datum) size }
+        ensures place { (placed : List Placed) → Holds placed self.old
+            → result ≡ least_place placed (align_of datum) size }
         ensures kept { (placed : List Placed) → Holds placed self.old → Holds placed self.new }
         ensures room { IsRoom self.new }
         ensures small { result ≤ 8 * room_limit }

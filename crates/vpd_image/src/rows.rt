@@ -18,7 +18,9 @@ fn put_row(
     row: &PcdRow,
     place: usize,
 ) -> Result<(), WantOfMemory>
-    ensures { (key : Bytes ℕ) → OnOk result (get same_key table.new key ≡ (if is_row_of key.items row.now then Some place else get same_key table.old key)) }
+    ensures { (key : Bytes ℕ)
+        → OnOk result (get same_key table.new key
+        ≡ (if is_row_of key.items row.now then Some place else get same_key table.old key)) }
 {
     let key = row_label(alloc, row)?;
     match table.insert(key, place) {
@@ -59,7 +61,8 @@ pub fn take_row<'a>(
     key: &Vec<u8>,
 ) -> Option<&'a PcdRow>
     ensures row { option_copied result ≡ picked rows.now (get same_key table.old key.now) }
-    ensures others { (other : Bytes ℕ) → get same_key table.new other ≡ cond (same_key key.now other) None (get same_key table.old other) }
+    ensures others { (other : Bytes ℕ) → get same_key table.new other
+        ≡ cond (same_key key.now other) None (get same_key table.old other) }
 {
     picked(rows, table.swap_remove(key))
 }

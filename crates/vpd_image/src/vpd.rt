@@ -35,7 +35,8 @@ fn place_behind<'a>(
     entries: &[EntryLine<'a>],
 ) -> Result<Vec<PlacedLine<'a>>, Refusal>
     requires { map placed_view fixed.now ≡ written (map entry_view entries.now) }
-    ensures value { AnswersAs (λ v. map placed_view v.items) result (placed_by (map entry_view entries.now)) }
+    ensures value { AnswersAs (λ v. map placed_view v.items) result
+        (placed_by (map entry_view entries.now)) }
     ensures apart { IfOk result (λ v. Apart (map placed_view v.items)) }
 {
     let mut room = Room::new(alloc);
@@ -50,7 +51,8 @@ fn place_entries<'a>(
     alloc: Global,
     entries: &[EntryLine<'a>],
 ) -> Result<Vec<PlacedLine<'a>>, Refusal>
-    ensures value { AnswersAs (λ v. map placed_view v.items) result (placed_by (map entry_view entries.now)) }
+    ensures value { AnswersAs (λ v. map placed_view v.items) result
+        (placed_by (map entry_view entries.now)) }
     ensures apart { IfOk result (λ v. Apart (map placed_view v.items)) }
 {
     let fixed = written(alloc, entries)?;
@@ -68,9 +70,9 @@ fn vpd_by(alloc: Global, entries: &[EntryLine<'_>]) -> Result<Vpd, Refusal>
     Ok(vpd)
 }
 
-/// The image of the VPD lines of a platform, its map and its places. `VpdOverlap` stands at the first line whose written
-/// offset gives it a byte of one above, `VpdTooLong` at the first that ends behind 0x1000000, those with a written offset
-/// before those with `*`.
+/// The image of the VPD lines of a platform, its map and its places. `VpdOverlap` stands at the
+/// first line whose written offset gives it a byte of one above, `VpdTooLong` at the first that
+/// ends behind 0x1000000, those with a written offset before those with `*`.
 #[tactic(auto, unfolding(crate::specs::Vpd::vpd_of, crate::specs::Vpd::entries_of))]
 pub fn vpd_of(alloc: Global, permit: Permit, ask: &VpdAsk) -> Result<Vpd, Refusal>
     ensures value { Answers result (vpd_of ask.now) }

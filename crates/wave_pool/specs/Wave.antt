@@ -7,5 +7,6 @@ abbrev pub AreCallable : {F I : Type 0} → (F → I → Type 0) → F → List 
 AreCallable pre work items = All (pre work) items
 
 -- result k is one that the work may answer for item k
-abbrev pub AreAnswers : {F I R E : Type 0} → (F → I → Result R E → Type 0) → F → List I → List R → Type 0
+abbrev pub AreAnswers : {F I R E : Type 0} → (F → I → Result R E → Type 0) → F → List I → List R
+    → Type 0
 AreAnswers post work items results = AllZip (λ i r. post work i (Ok r)) items results

@@ -73,12 +73,16 @@ fn halves<
     let theirs = workers - ours;
     let next = first + cut as u64;
     let front = move || -> Result<Vec<R>, WantOfMemory>
-        requires { IsSync H.row × IsSync F.row × IsSync G.row × IsSend I.row × IsSend R.row × AreCallable F.pre work.now low.items × (first + vec_len low ≤ pieces) }
-        ensures { IfOk result (λ results. AreAnswers F.post work.entry.now low.items results.items) }
+        requires { IsSync H.row × IsSync F.row × IsSync G.row × IsSend I.row × IsSend R.row
+            × AreCallable F.pre work.now low.items × (first + vec_len low ≤ pieces) }
+        ensures { IfOk result
+            (λ results. AreAnswers F.post work.entry.now low.items results.items) }
     { halves(rt, alloc, low, ours, gate, wave, first, pieces, work) };
     let back = move || -> Result<Vec<R>, WantOfMemory>
-        requires { IsSync H.row × IsSync F.row × IsSync G.row × IsSend I.row × IsSend R.row × AreCallable F.pre work.now high.items × (next + vec_len high ≤ pieces) }
-        ensures { IfOk result (λ results. AreAnswers F.post work.entry.now high.items results.items) }
+        requires { IsSync H.row × IsSync F.row × IsSync G.row × IsSend I.row × IsSend R.row
+            × AreCallable F.pre work.now high.items × (next + vec_len high ≤ pieces) }
+        ensures { IfOk result
+            (λ results. AreAnswers F.post work.entry.now high.items results.items) }
     { halves(rt, alloc, high, theirs, gate, wave, next, pieces, work) };
     let (a, b) = join(rt, front, back);
     let mut all = a?;
