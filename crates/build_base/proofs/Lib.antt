@@ -15,3 +15,4 @@ pub mod ChoiceLemmas
 pub mod ResultLemmas
 pub mod RunLemmas
 mod ImageLemmas
+mod PartLemmas

@@ -1,5 +1,5 @@
 //! Bytes, seen by contracts as a list of numbers.
-ghost use Rattle.std.specs.Prelude.{◌≡◌, IfOk};
+ghost use Rattle.std.specs.Prelude.{◌≡◌, IfOk, take, drop};
 ghost use Rattle.std.proofs.Common.{rules};
 ghost use Rattle.std.specs.Prelude.{nat_eq};
 ghost use Rattle.std.specs.Cmp.Rules.{comparing};
@@ -60,6 +60,16 @@ impl Text {
         ensures { IfOk result (λ t. t ≡ bytes.now) }
     {
         Ok(Text::from_vec(Vec::from_slice(alloc, bytes)?))
+    }
+
+    /// So many of its bytes behind a start, or as many as there are. Of a shared text no byte is
+    /// copied.
+    pub fn part(&self, alloc: Global, start: usize, count: usize) -> Result<Text, WantOfMemory>
+        ensures { IfOk result (λ t. t ≡ take count (drop start self.now)) }
+    {
+        Ok(Text {
+            store: self.store.part(alloc, start, count)?,
+        })
     }
 
     /// Its bytes.

@@ -19,19 +19,16 @@ pub fn put_bytes(bytes: &[u8], out: &mut Vec<u8>) -> Result<(), WantOfMemory>
     Ok(())
 }
 
-/// Takes the bytes of a text.
+/// Takes a text, which shares the bytes that it is read from where they can be shared.
 #[tactic(auto, unfolding(crate::specs::Plain::text_form, crate::specs::Plain::number_form))]
-pub fn take_bytes<'a>(
-    alloc: Global,
-    input: &mut Input<'a>,
-) -> Result<Option<&'a [u8]>, WantOfMemory>
+pub(crate) fn take_text(alloc: Global, input: &mut Input) -> Result<Option<Text>, WantOfMemory>
     ensures { IfOk result
         (λ r. MatchOption r (IsUnread text_form input.old)
-        (λ s. IsRead text_form input.old s.now input.new)) }
+        (λ s. IsRead text_form input.old s input.new)) }
 {
     match u64::take(alloc, input)? {
         None => Ok(None),
-        Some(count) => Ok(input.bytes(count)),
+        Some(count) => input.text(alloc, count),
     }
 }
 
@@ -45,21 +42,8 @@ impl Packed for Text {
     }
 
     fn take(alloc: Global, input: &mut Input) -> Result<Option<Text>, WantOfMemory> {
-        match take_bytes(alloc, input)? {
-            None => Ok(None),
-            Some(bytes) => Ok(Some(Text::of(alloc, bytes)?)),
-        }
+        take_text(alloc, input)
     }
-}
-
-// The path that a text is.
-fn path_of(alloc: Global, text: &[u8]) -> Result<Option<Path>, WantOfMemory>
-    ensures { IfOk result
-        (λ r. MatchOption r (is_path text.now ≡ false)
-        (λ p. (p ≡ text.now) × (is_path text.now ≡ true))) }
-{
-    let text = Text::of(alloc, text)?;
-    Ok(Path::of_text(text))
 }
 
 impl Packed for Path {
@@ -74,9 +58,9 @@ impl Packed for Path {
 
     #[tactic(auto, unfolding(crate::specs::Plain::path_form), using(crate::proofs::WhereLemmas::no_path))]
     fn take(alloc: Global, input: &mut Input) -> Result<Option<Path>, WantOfMemory> {
-        match take_bytes(alloc, input)? {
+        match take_text(alloc, input)? {
             None => Ok(None),
-            Some(text) => match path_of(alloc, text)? {
+            Some(text) => match Path::of_text(text) {
                 None => Ok(None),
                 Some(path) => Ok(Some(path)),
             },

@@ -3,7 +3,7 @@ ghost use Rattle.std.specs.Prelude.{◌≡◌, ◌++◌, ◌<◌, ◌^◌, lengt
 ghost use Rattle.packed_values.specs.Form.{IsPut, IsRead, IsUnread};
 ghost use Rattle.packed_values.specs.Plain.{text_form};
 
-use crate::bytes::take_bytes;
+use crate::bytes::take_text;
 use crate::input::Input;
 use crate::packed::Packed;
 use build_base::{Image, Rows, Run, Text, WantOfMemory};
@@ -21,12 +21,11 @@ fn put_pieces(image: &Image, out: &mut Vec<u8>) -> Result<(), WantOfMemory>
     Ok(())
 }
 
-// The image of these bytes.
+// The image of the bytes of a text.
 #[tactic(auto, unfolding(build_base::specs::Runs::runs_bytes, build_base::specs::Runs::are_blank))]
-fn image_of(alloc: Global, bytes: &[u8]) -> Result<Image, WantOfMemory>
-    ensures { IfOk result (λ image. image ≡ bytes.now) }
+fn image_of(alloc: Global, text: Text) -> Result<Image, WantOfMemory>
+    ensures { IfOk result (λ image. image ≡ text) }
 {
-    let text = Text::of(alloc, bytes)?;
     let mut runs = Rows::new(alloc);
     runs.push(Run::Bytes(text))?;
     Ok(Image::of_runs(runs))
@@ -44,9 +43,9 @@ impl Packed for Image {
     }
 
     fn take(alloc: Global, input: &mut Input) -> Result<Option<Image>, WantOfMemory> {
-        match take_bytes(alloc, input)? {
+        match take_text(alloc, input)? {
             None => Ok(None),
-            Some(bytes) => Ok(Some(image_of(alloc, bytes)?)),
+            Some(text) => Ok(Some(image_of(alloc, text)?)),
         }
     }
 }

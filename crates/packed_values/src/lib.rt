@@ -13,4 +13,4 @@ pub mod whole;
 
 pub use input::Input;
 pub use packed::Packed;
-pub use whole::{pack_value, unpack_value};
+pub use whole::{pack_value, unpack_behind, unpack_value};

@@ -1,5 +1,5 @@
 //! Bytes that are one value's spelling.
-ghost use Rattle.std.specs.Prelude.{◌≡◌, ℕ, List, IfOk, MatchOption};
+ghost use Rattle.std.specs.Prelude.{◌≡◌, ℕ, List, drop, IfOk, MatchOption};
 ghost use Rattle.packed_values.specs.Form.{IsSpelling};
 
 use crate::input::Input;
@@ -16,18 +16,14 @@ pub fn pack_value<T: Packed>(alloc: Global, value: &T::Value) -> Result<Text, Wa
     Ok(Text::from_vec(out))
 }
 
-/// The value whose spelling the bytes are; nothing exactly where they are none.
+// The value whose spelling is all that is left; nothing exactly where that is none.
 #[tactic(auto, using(crate::proofs::WholeLemmas::unspelled, crate::proofs::WholeLemmas::spelled_less))]
-pub fn unpack_value<T: Packed>(
-    alloc: Global,
-    bytes: &[u8],
-) -> Result<Option<T::Value>, WantOfMemory>
+fn only_value<T: Packed>(alloc: Global, input: &mut Input) -> Result<Option<T::Value>, WantOfMemory>
     ensures { IfOk result
-        (λ r. MatchOption r ((x : T.Value) → IsSpelling T.form x bytes.now → ⊥)
-        (λ x. IsSpelling T.form x bytes.now)) }
+        (λ r. MatchOption r ((x : T.Value) → IsSpelling T.form x input.old → ⊥)
+        (λ x. IsSpelling T.form x input.old)) }
 {
-    let mut input = Input::new(bytes);
-    match T::take(alloc, &mut input)? {
+    match T::take(alloc, input)? {
         None => Ok(None),
         Some(value) => {
             if input.is_empty() {
@@ -37,6 +33,32 @@ pub fn unpack_value<T: Packed>(
             }
         }
     }
+}
+
+/// The value whose spelling the bytes are; nothing exactly where they are none.
+pub fn unpack_value<T: Packed>(
+    alloc: Global,
+    bytes: &[u8],
+) -> Result<Option<T::Value>, WantOfMemory>
+    ensures { IfOk result
+        (λ r. MatchOption r ((x : T.Value) → IsSpelling T.form x bytes.now → ⊥)
+        (λ x. IsSpelling T.form x bytes.now)) }
+{
+    only_value::<T>(alloc, &mut Input::new(bytes))
+}
+
+/// The value whose spelling a text is but for so many bytes at its front; nothing exactly where it
+/// is none. The value's texts share the bytes of a shared text.
+pub fn unpack_behind<T: Packed>(
+    alloc: Global,
+    front: usize,
+    text: &Text,
+) -> Result<Option<T::Value>, WantOfMemory>
+    ensures { IfOk result
+        (λ r. MatchOption r ((x : T.Value) → IsSpelling T.form x (drop front text.now) → ⊥)
+        (λ x. IsSpelling T.form x (drop front text.now))) }
+{
+    only_value::<T>(alloc, &mut Input::behind(front, text))
 }
 
 /// Bytes are the spelling of one value at most.
