@@ -4,15 +4,25 @@ ghost use Rattle.std.specs.Prelude.{◌≡◌, None};
 
 use crate::outside::{Sink, SinkFailed, Target};
 use crate::path::Path;
-use std::fs::{self, OpenOptions};
+use crate::same::Same;
+use std::fs::{self, Files, OpenOptions};
 use std::io::{self, ErrorKind, Write};
 use std::rt::Runtime;
 use std::str;
 
-/// Writes below the current folder, and makes the folders that are missing.
+/// The file that was written last, at its end.
+#[derive(Drop)]
+struct Opened<F: Drop> {
+    path: Path,
+    file: F,
+}
+
+/// Writes below the current folder, and makes the folders that are missing. The file that it wrote
+/// last stays open, so that the pieces of a file open it once.
 #[derive(Drop)]
 pub struct DiskSink<R: Runtime + AllocGlobal> {
     rt: R,
+    last: Option<Opened<R::File>>,
     faults: u64,
 }
 
@@ -21,7 +31,11 @@ impl<R: Runtime + AllocGlobal> DiskSink<R> {
     pub fn new(rt: R) -> DiskSink<R>
         ensures { ⟦<DiskSink<R> as Sink>⟧.faults result ≡ 0 }
     {
-        DiskSink { rt, faults: 0 }
+        DiskSink {
+            rt,
+            last: None,
+            faults: 0,
+        }
     }
 }
 
@@ -44,35 +58,75 @@ fn create_in<R: Runtime + AllocGlobal>(rt: &R, folder: &str, name: &str) -> io::
     }
 }
 
-fn start_file<R: Runtime + AllocGlobal>(rt: &R, path: &Path, bytes: &[u8]) -> io::Result<()> {
+// A new file of the path, which is made empty where it is there.
+fn start_file<R: Runtime + AllocGlobal>(rt: &R, path: &Path) -> io::Result<R::File> {
     match (
         str::from_utf8(folder_of(path.bytes())),
         str::from_utf8(path.bytes()),
     ) {
-        (Ok(folder), Ok(name)) => create_in(rt, folder, name)?.write_all(bytes),
+        (Ok(folder), Ok(name)) => create_in(rt, folder, name),
         _ => Err(ErrorKind::NotFound.into()),
     }
 }
 
-fn extend_file<R: Runtime + AllocGlobal>(rt: &R, path: &Path, bytes: &[u8]) -> io::Result<()> {
+// The file of the path, to be written behind its end.
+fn further_file<R: Runtime + AllocGlobal>(rt: &R, path: &Path) -> io::Result<R::File> {
     match str::from_utf8(path.bytes()) {
-        Ok(name) => OpenOptions::new()
-            .append(true)
-            .open(rt, name)?
-            .write_all(bytes),
+        Ok(name) => OpenOptions::new().append(true).open(rt, name),
         Err(_) => Err(ErrorKind::NotFound.into()),
     }
 }
 
-fn emit_to<R: Runtime + AllocGlobal>(rt: &R, target: &Target, bytes: &[u8]) -> io::Result<()> {
-    match target {
-        Target::Start(path) => start_file(rt, path, bytes),
-        Target::More(path) => extend_file(rt, path, bytes),
-        Target::Out => io::writer(rt).write_all(bytes),
-        Target::Err => match str::from_utf8(bytes) {
-            Ok(text) => rt.eprint(text),
-            Err(_) => Err(ErrorKind::InvalidData.into()),
-        },
+fn write_err<R: Runtime>(rt: &R, bytes: &[u8]) -> io::Result<()> {
+    match str::from_utf8(bytes) {
+        Ok(text) => rt.eprint(text),
+        Err(_) => Err(ErrorKind::InvalidData.into()),
+    }
+}
+
+impl<R: Runtime + AllocGlobal> DiskSink<R> {
+    // Keeps a file open, unless memory is wanting for its path.
+    fn keep(&mut self, path: &Path, file: R::File)
+        ensures { self.new.faults ≡ self.old.faults }
+    {
+        if let Ok(path) = path.copy(self.rt.alloc()) {
+            self.last = Some(Opened { path, file });
+        }
+    }
+
+    fn start(&mut self, path: &Path, bytes: &[u8]) -> io::Result<()>
+        ensures { self.new.faults ≡ self.old.faults }
+    {
+        self.last = None;
+        let mut file = start_file(&self.rt, path)?;
+        file.write_all(bytes)?;
+        self.keep(path, file);
+        Ok(())
+    }
+
+    fn extend(&mut self, path: &Path, bytes: &[u8]) -> io::Result<()>
+        ensures { self.new.faults ≡ self.old.faults }
+    {
+        if let Some(last) = &mut self.last {
+            if last.path.bytes() == path.bytes() {
+                return last.file.write_all(bytes);
+            }
+        }
+        let mut file = further_file(&self.rt, path)?;
+        file.write_all(bytes)?;
+        self.keep(path, file);
+        Ok(())
+    }
+
+    fn emit_to(&mut self, target: &Target, bytes: &[u8]) -> io::Result<()>
+        ensures { self.new.faults ≡ self.old.faults }
+    {
+        match target {
+            Target::Start(path) => self.start(path, bytes),
+            Target::More(path) => self.extend(path, bytes),
+            Target::Out => io::writer(&self.rt).write_all(bytes),
+            Target::Err => write_err(&self.rt, bytes),
+        }
     }
 }
 
@@ -82,7 +136,7 @@ impl<R: Runtime + AllocGlobal> Sink for DiskSink<R> {
     ghost faults = { λ s. s.faults };
 
     fn emit(&mut self, target: &Target, bytes: &[u8]) -> Result<(), SinkFailed> {
-        match emit_to(&self.rt, target, bytes) {
+        match self.emit_to(target, bytes) {
             Ok(()) => Ok(()),
             Err(_) => {
                 self.faults = self.faults.saturating_add(1);

@@ -84,7 +84,10 @@ impl<R: Runtime + AllocGlobal> Keeper for DiskKeeper<R> {
                 if bytes.len() > LIMIT {
                     return Ok(None);
                 }
-                Ok(Some(Text::from_vec(bytes)))
+                match Text::shared(self.rt.alloc(), bytes) {
+                    Ok(text) => Ok(Some(text)),
+                    Err(_) => Err(KeeperFailed::WantOfMemory),
+                }
             }
             Err(error) => match error.kind() {
                 ErrorKind::NotFound => Ok(None),
