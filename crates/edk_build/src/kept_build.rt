@@ -25,7 +25,7 @@ use build_rules::adopt;
 use build_words::{Job, job_fields};
 use std::alloc::Global;
 use std::thread::Threads;
-use step_cache::{Kept, NEWEST, pack, unpack};
+use step_cache::{Kept, NEWEST, pack, unpack_text};
 use step_engine::{Cache, Edits};
 use step_pack::{Key, Out};
 
@@ -51,13 +51,13 @@ fn adopted(kept: Kept) -> Loaded
     }
 }
 
-// The cache that bytes stand for.
+// The cache that a text stands for.
 #[tactic(auto, using(crate::proofs::KeptLemmas::stands_for, crate::proofs::KeptLemmas::newest_text))]
-fn cache_in(alloc: Global, bytes: &[u8]) -> Result<Loaded, WantOfMemory>
-    ensures stands { IfOk result (λ l. StandsFor (Some bytes.now) l.cache) }
-    ensures text { IfOk result (λ l. l.is_text ≡ true → IsCacheText l.cache bytes.now) }
+fn cache_in(alloc: Global, text: &Text) -> Result<Loaded, WantOfMemory>
+    ensures stands { IfOk result (λ l. StandsFor (Some text.now) l.cache) }
+    ensures text { IfOk result (λ l. l.is_text ≡ true → IsCacheText l.cache text.now) }
 {
-    match unpack(alloc, bytes)? {
+    match unpack_text(alloc, text)? {
         Some(kept) => Ok(adopted(kept)),
         None => Ok(Loaded {
             cache: Cache::new(alloc),
@@ -81,7 +81,7 @@ fn load_cache<K: Keeper>(alloc: Global, keeper: &mut K) -> Result<Loaded, Stop>
             cache: Cache::new(alloc),
             is_text: false,
         }),
-        Ok(Some(text)) => match cache_in(alloc, text.bytes()) {
+        Ok(Some(text)) => match cache_in(alloc, &text) {
             Ok(loaded) => Ok(loaded),
             Err(_) => Err(Stop::WantOfMemory),
         },

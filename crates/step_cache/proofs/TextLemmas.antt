@@ -10,14 +10,20 @@ use Rattle.packed_values.proofs.WholeLemmas.{spelled_once}
 use Rattle.step_engine.specs.declared.talk.Entry.{Entry}
 use Rattle.step_pack.specs.declared.key.Key.{Key}
 use Rattle.step_pack.specs.declared.out.Out.{Out}
-use Rattle.step_cache.specs.CacheText.{pooled, body_of, head_of, is_edition, edition_in, cache_text, IsTextOf, IsNoTextOf, IsNoText}
+use Rattle.step_cache.specs.CacheText.{pooled, body_of, head_of, is_edition, newest, edition_in, cache_text, IsTextOf, IsNoTextOf, IsNoText}
 use Rattle.step_cache.specs.Checking.{IsCacheOf}
 use Rattle.step_cache.specs.Numbered.{pooled_form}
 use Rattle.step_cache.specs.declared.numbered.Pooled.{Pooled}
 
-length_head : (e n : ℕ) → length (head_of e n) ≡ 20
+pub length_head : (e n : ℕ) → length (head_of e n) ≡ 20
 unfolding number_form
 length_head e n = refl
+
+-- what is written behind room for a head
+pub text_from : (front body items text : List ℕ) → length front ≡ 20 → items ≡ front ++ body
+    → text ≡ head_of newest (length (drop 20 items)) ++ drop 20 items → text ≡ head_of newest (length body) ++ body
+text_from front body items text long is whole =
+    whole ∙ ap (λ (b : List ℕ). head_of newest (length b) ++ b) (ap (drop 20) is ∙ drop_at front body 20 long)
 
 body_at : (e : ℕ) (es : List (Entry Key Out)) (bytes : List ℕ) → IsTextOf e es bytes → drop 20 bytes ≡ body_of es
 unfolding cache_text

@@ -1,8 +1,7 @@
 -- A pool of texts, each once, in the order in which they are first used. The rule is this project's own.
-use Rattle.std.specs.Prelude.{ℕ, Bool, List, [], ◌∷◌, ◌++◌, map, nat_eq, fold, if◌then◌else◌}
+use Rattle.std.specs.Prelude.{ℕ, Bool, List, [], ◌∷◌, ◌++◌, nat_eq, fold, if◌then◌else◌}
 use Rattle.std.specs.List.{list_any, position_or_len}
 use Rattle.std.specs.Cmp.Lexicographic.{pointwise}
-use Rattle.std.specs.Global.{Vec}
 
 -- whether the texts are the same
 unfoldable pub text_is : List ℕ → List ℕ → Bool
@@ -25,10 +24,3 @@ pool_of texts = with_texts [] texts
 -- the place of a text, or the number of texts where it isn't there
 unfoldable pub number_in : List (List ℕ) → List ℕ → ℕ
 number_in pool text = position_or_len (text_is text) pool
-
--- texts as keys of a table
-abbrev pub same_key : Vec ℕ → Vec ℕ → Bool
-same_key a b = pointwise nat_eq a.items b.items
-
-abbrev pub texts_of : List (Vec ℕ) → List (List ℕ)
-texts_of keys = map (λ (k : Vec ℕ). k.items) keys

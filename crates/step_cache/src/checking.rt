@@ -4,7 +4,7 @@ ghost use Rattle.step_cache.specs.Checking.{each_new, used, asks_use, batches_us
 
 use crate::numbered::{Asked, Numbered, Pooled};
 use crate::pool::Pool;
-use build_base::{Rows, Text, WantOfMemory};
+use build_base::{Rows, Same, Text, WantOfMemory};
 use std::alloc::Global;
 use step_engine::Entry;
 use step_pack::{Key, Out};
@@ -17,8 +17,7 @@ fn each_new(alloc: Global, pool: &[Text]) -> Result<bool, WantOfMemory>
     let mut seen = Pool::new(alloc);
     let mut left = pool;
     while let [text, rest @ ..] = left {
-        let own = Vec::from_slice(alloc, text.bytes())?;
-        if !seen.add(own)? {
+        if !seen.add(text.copy(alloc)?)? {
             return Ok(false);
         }
         left = rest;

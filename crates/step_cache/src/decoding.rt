@@ -7,7 +7,7 @@ ghost use Rattle.step_cache.specs.Decoding.{IsDecoded, AreDecoded, value_at, all
 use crate::numbered::{Asked, Numbered, Pooled};
 use build_base::{Rows, Same, Text, WantOfMemory};
 use packed_outcomes::talk::{AnswerForm, OutcomeForm};
-use packed_values::unpack_value;
+use packed_values::unpack_behind;
 use shared_value::Shared;
 use std::alloc::Global;
 use step_engine::{Answer, Batch, Entry, Outcome, Pair, Talk};
@@ -25,7 +25,7 @@ fn answers_of(alloc: Global, pool: &[Text]) -> Result<Rows<Option<Answer<Out>>>,
 {
     let mut rows = Rows::new(alloc);
     for text in pool {
-        let answer = unpack_value::<AnswerForm>(alloc, text.bytes())?;
+        let answer = unpack_behind::<AnswerForm>(alloc, 0, text)?;
         rows.push(answer)?;
     }
     Ok(rows)
@@ -36,7 +36,7 @@ fn outcomes_of(alloc: Global, pool: &[Text]) -> Result<Rows<Option<Outcome<Out>>
 {
     let mut rows = Rows::new(alloc);
     for text in pool {
-        let outcome = unpack_value::<OutcomeForm>(alloc, text.bytes())?;
+        let outcome = unpack_behind::<OutcomeForm>(alloc, 0, text)?;
         rows.push(outcome)?;
     }
     Ok(rows)

@@ -4,6 +4,7 @@
 mod agreeing;
 mod checking;
 mod decoding;
+mod keys;
 mod known;
 pub mod laws;
 pub mod numbered;
@@ -12,6 +13,6 @@ mod reading;
 mod text;
 mod writing;
 
-pub use reading::{Kept, unpack};
+pub use reading::{Kept, unpack, unpack_text};
 pub use text::NEWEST;
 pub use writing::pack;

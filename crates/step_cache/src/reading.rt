@@ -1,5 +1,5 @@
 //! A cache from its text.
-ghost use Rattle.std.specs.Prelude.{◌≡◌, ◌≤◌, true, false, List, ℕ, length, take, drop, IfOk, MatchOption};
+ghost use Rattle.std.specs.Prelude.{◌≡◌, ◌≤◌, ◌^◌, true, false, List, ℕ, length, nat_lt, take, drop, IfOk, MatchOption};
 ghost use Rattle.step_cache.specs.CacheText.{head_of, is_edition, IsNoText, IsNoTextOf, IsTextOf};
 ghost use Rattle.step_cache.specs.Checking.{ascend, IsCacheOf};
 ghost use Rattle.step_engine.specs.Caches.{AreInOrder};
@@ -12,8 +12,8 @@ use crate::agreeing::agreeing;
 use crate::checking::{are_used, ascend};
 use crate::decoding::{decoded_of, entries_in};
 use crate::numbered::Pooled;
-use crate::text::{HEAD, edition_in, is_edition, is_head, parts_of, tail};
-use build_base::{Same, WantOfMemory};
+use crate::text::{HEAD, edition_in, fits, is_edition, is_head, parts_of};
+use build_base::{Same, Text, WantOfMemory};
 use std::alloc::Global;
 use step_engine::{Cache, Entry};
 use step_pack::{Key, Out};
@@ -77,14 +77,15 @@ pub struct Kept {
 fn unpack_body(
     alloc: Global,
     edition: u32,
-    bytes: &[u8],
+    bytes: &Text,
 ) -> Result<Option<Cache<Key, Out>>, WantOfMemory>
     requires long { 20 ≤ length bytes.now }
     requires known { is_edition edition ≡ true }
     requires head { take 20 bytes.now ≡ head_of edition (length (drop 20 bytes.now)) }
+    requires fits { nat_lt (length bytes.now) (256 ^ 8) ≡ true }
     ensures { IfOk result (λ r. MatchOption r (IsNoTextOf edition bytes.now) (λ entries. IsTextOf edition entries bytes.now)) }
 {
-    let parts = match parts_of(alloc, tail(bytes))? {
+    let parts = match parts_of(alloc, bytes)? {
         None => return Ok(None),
         Some(parts) => parts,
     };
@@ -95,31 +96,44 @@ fn unpack_body(
 }
 
 // The same where the bytes have room for a head.
-
-fn unpack_long(alloc: Global, bytes: &[u8]) -> Result<Option<Kept>, WantOfMemory>
+fn unpack_long(alloc: Global, bytes: &Text) -> Result<Option<Kept>, WantOfMemory>
     requires { 20 ≤ length bytes.now }
-    ensures { IfOk result (λ r. MatchOption r (IsNoText bytes.now) (λ kept. IsTextOf kept.edition kept.cache bytes.now)) }
+    ensures { IfOk result (λ r. MatchOption r (IsNoText bytes.now)
+        (λ kept. IsTextOf kept.edition kept.cache bytes.now)) }
 {
-    let edition = edition_in(bytes);
+    let edition = edition_in(bytes.bytes());
     if !is_edition(edition) {
         return Ok(None);
     }
-    if !is_head(alloc, edition, bytes)? {
+    if !is_head(alloc, edition, bytes.bytes())? {
         return Ok(None);
     }
+    fits(bytes);
     match unpack_body(alloc, edition, bytes)? {
         None => Ok(None),
         Some(cache) => Ok(Some(Kept { edition, cache })),
     }
 }
 
-/// The cache whose text the bytes are, and the text's edition; nothing exactly where they are the text of none.
+/// The cache whose text this is, and the text's edition; nothing exactly where it is the text of
+/// none. What the cache holds shares the bytes of a shared text.
 #[tactic(auto, using(crate::proofs::TextLemmas::too_short))]
-pub fn unpack(alloc: Global, bytes: &[u8]) -> Result<Option<Kept>, WantOfMemory>
-    ensures { IfOk result (λ r. MatchOption r (IsNoText bytes.now) (λ kept. IsTextOf kept.edition kept.cache bytes.now)) }
+pub fn unpack_text(alloc: Global, text: &Text) -> Result<Option<Kept>, WantOfMemory>
+    ensures { IfOk result (λ r. MatchOption r (IsNoText text.now)
+        (λ kept. IsTextOf kept.edition kept.cache text.now)) }
 {
-    if bytes.len() < HEAD {
+    if text.bytes().len() < HEAD {
         return Ok(None);
     }
-    unpack_long(alloc, bytes)
+    unpack_long(alloc, text)
+}
+
+/// The cache whose text the bytes are, and the text's edition; nothing exactly where they are the
+/// text of none.
+pub fn unpack(alloc: Global, bytes: &[u8]) -> Result<Option<Kept>, WantOfMemory>
+    ensures { IfOk result (λ r. MatchOption r (IsNoText bytes.now)
+        (λ kept. IsTextOf kept.edition kept.cache bytes.now)) }
+{
+    let own = Vec::from_slice(alloc, bytes)?;
+    unpack_text(alloc, &Text::shared(alloc, own)?)
 }

@@ -1,5 +1,5 @@
 //! The head and the body of a text.
-ghost use Rattle.std.specs.Prelude.{◌≡◌, ◌++◌, ◌≤◌, ◌↔◌, IsTrue, IfOk, OnOk, MatchOption, length, drop, take};
+ghost use Rattle.std.specs.Prelude.{◌≡◌, ◌++◌, ◌≤◌, ◌^◌, ◌↔◌, true, IsTrue, IfOk, OnOk, MatchOption, length, nat_lt, drop, take};
 ghost use Rattle.packed_values.specs.Form.{IsSpelling};
 ghost use Rattle.packed_values.specs.Plain.{number_form};
 ghost use Rattle.step_cache.specs.CacheText.{edition_in, head_of, is_edition, newest};
@@ -8,7 +8,7 @@ ghost use Rattle.step_cache.specs.declared.numbered.Pooled.{Pooled as PooledOf};
 
 use crate::numbered::Pooled;
 use build_base::{Text, WantOfMemory};
-use packed_values::{Packed, unpack_value};
+use packed_values::{Packed, unpack_behind};
 use std::alloc::Global;
 
 /// How many bytes stand before the body.
@@ -37,18 +37,58 @@ fn put_head(edition: u32, count: u64, out: &mut Vec<u8>) -> Result<(), WantOfMem
     u64::put(&(HEAD as u64 + count), out)
 }
 
-/// A body, and what stands before it in the newest edition.
-pub(crate) fn text_of(alloc: Global, body: &[u8]) -> Result<Text, WantOfMemory>
-    ensures { IfOk result (λ text. text ≡ head_of newest (length body.now) ++ body.now) }
+// Room for a head, and for so many bytes behind it.
+fn room(alloc: Global, more: usize) -> Result<Vec<u8>, WantOfMemory>
+    ensures { IfOk result (λ text. length text.items ≡ 20) }
 {
-    let mut out = Vec::new(alloc);
-    put_head(NEWEST, body.len() as u64, &mut out)?;
-    out.extend_from_slice(body)?;
-    Ok(Text::from_vec(out))
+    let mut text = Vec::from_slice(alloc, [0; HEAD].as_slice())?;
+    text.reserve(more)?;
+    Ok(text)
 }
 
-/// What stands behind the head.
-pub(crate) fn tail(bytes: &[u8]) -> &[u8]
+// Writes a head over what stands at the front.
+fn set_front(text: &mut [u8], head: &[u8])
+    requires room { 20 ≤ length text.old }
+    requires head { length head.now ≡ 20 }
+    ensures { text.new ≡ head.now ++ drop 20 text.old }
+{
+    text[..HEAD].copy_from_slice(head);
+}
+
+// The text of the newest edition with what stands behind room for a head as its body.
+#[tactic(auto, using(crate::proofs::TextLemmas::length_head))]
+fn with_head(alloc: Global, mut text: Vec<u8>) -> Result<Text, WantOfMemory>
+    requires { 20 ≤ length text.items }
+    ensures { IfOk result (λ t. t ≡ head_of newest (length (drop 20 text.items))
+        ++ drop 20 text.items) }
+{
+    let mut head = Vec::new(alloc);
+    put_head(NEWEST, (text.len() - HEAD) as u64, &mut head)?;
+    set_front(text.as_mut_slice(), head.as_slice());
+    Ok(Text::from_vec(text))
+}
+
+/// The text of the newest edition with these parts, which take about so many bytes.
+pub(crate) fn text_of(alloc: Global, parts: &Pooled, more: usize) -> Result<Text, WantOfMemory>
+    ensures value { OnOk result (pooled_form.is_value parts.now ≡ true) }
+    ensures text { IfOk result (λ t. t ≡ head_of newest (length (pooled_form.spelling parts.now))
+        ++ pooled_form.spelling parts.now) }
+{
+    let mut text = room(alloc, more)?;
+    Pooled::put(parts, &mut text)?;
+    let whole = with_head(alloc, text)?;
+    Ok(whole)
+}
+
+/// Shows that the length of a text has 64 bits.
+pub(crate) fn fits(text: &Text)
+    ensures { nat_lt (length text.now) (256 ^ 8) ≡ true }
+{
+    let _bytes = text.bytes();
+}
+
+// What stands behind the head.
+fn tail(bytes: &[u8]) -> &[u8]
     requires { 20 ≤ length bytes.now }
     ensures { result.now ≡ drop 20 bytes.now }
 {
@@ -80,9 +120,11 @@ pub(crate) fn is_head(alloc: Global, edition: u32, bytes: &[u8]) -> Result<bool,
     Ok(front(bytes) == head.as_slice())
 }
 
-/// The parts whose spelling the body is, where there are any.
-pub(crate) fn parts_of(alloc: Global, body: &[u8]) -> Result<Option<Pooled>, WantOfMemory>
-    ensures { IfOk result (λ r. MatchOption r ((parts : PooledOf) → IsSpelling pooled_form parts body.now → ⊥) (λ parts. IsSpelling pooled_form parts body.now)) }
+/// The parts whose spelling stands behind the head, where there are any.
+pub(crate) fn parts_of(alloc: Global, text: &Text) -> Result<Option<Pooled>, WantOfMemory>
+    ensures { IfOk result (λ r. MatchOption r
+        ((parts : PooledOf) → IsSpelling pooled_form parts (drop 20 text.now) → ⊥)
+        (λ parts. IsSpelling pooled_form parts (drop 20 text.now))) }
 {
-    unpack_value::<Pooled>(alloc, body)
+    unpack_behind::<Pooled>(alloc, HEAD, text)
 }

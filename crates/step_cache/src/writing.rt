@@ -13,10 +13,10 @@ ghost use Rattle.step_pack.specs.Keys.{key_cmp};
 use crate::known::{Known, known_number, note_number};
 use crate::numbered::{Asked, Numbered, Pooled};
 use crate::pool::Pool;
-use crate::text::text_of;
+use crate::text::{fits, text_of};
 use build_base::{Rows, Same, Text, WantOfMemory};
 use packed_outcomes::talk::{AnswerForm, OutcomeForm};
-use packed_values::{Packed, pack_value};
+use packed_values::Packed;
 use std::alloc::Global;
 use step_engine::{Answer, Batch, Cache, Entry, Outcome, Pair};
 use step_pack::{Key, Out};
@@ -29,7 +29,7 @@ fn answer_number(alloc: Global, pool: &mut Pool, answer: &Answer<Out>) -> Result
 {
     let mut text = Vec::new(alloc);
     AnswerForm::put(answer, &mut text)?;
-    pool.number(text)
+    pool.number(Text::from_vec(text))
 }
 
 // The number of a result's packed form, which is put into the pool where it isn't there.
@@ -44,7 +44,7 @@ fn result_number(
 {
     let mut text = Vec::new(alloc);
     OutcomeForm::put(outcome, &mut text)?;
-    pool.number(text)
+    pool.number(Text::from_vec(text))
 }
 
 // The number of a pair's answer, which is packed. It is noted where all answers to its part are the same.
@@ -213,12 +213,22 @@ fn make_pooled(alloc: Global, cache: &Cache<Key, Out>) -> Result<Pooled, WantOfM
     Ok(Pooled { pool, entries })
 }
 
+// How many bytes the texts have together, at least where they are many.
+fn size_of(pool: &[Text]) -> usize {
+    let mut size: usize = 0;
+    for text in pool {
+        size = size.saturating_add(text.bytes().len());
+    }
+    size
+}
+
 /// The text of a cache. Each cache has one.
 #[tactic(auto, unfolding(crate::specs::CacheText::cache_text))]
 pub fn pack(alloc: Global, cache: &Cache<Key, Out>) -> Result<Text, WantOfMemory>
     ensures { IfOk result (λ text. IsCacheText cache.now text) }
 {
     let parts = make_pooled(alloc, cache)?;
-    let body = pack_value::<Pooled>(alloc, &parts)?;
-    text_of(alloc, body.bytes())
+    let text = text_of(alloc, &parts, size_of(parts.pool.items()))?;
+    fits(&text);
+    Ok(text)
 }
