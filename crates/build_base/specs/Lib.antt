@@ -9,6 +9,7 @@ pub mod Spelling
 pub mod MemoryTree
 pub mod MemorySink
 pub mod SinkState
+pub mod FaultCodes
 pub mod FaultNames
 pub mod Pieces
 pub mod Least

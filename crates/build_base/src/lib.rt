@@ -7,6 +7,7 @@ pub mod bytes;
 pub mod disk_sink;
 pub mod disk_tree;
 pub mod fault;
+pub mod fault_codes;
 pub mod fault_names;
 pub mod fields;
 pub mod file_limit;

@@ -36,6 +36,7 @@ use Rattle.module_images.specs.Modules.{plan_given}
 use Rattle.build_rules.specs.Outputs.{output_folder, path_below}
 use Rattle.build_rules.specs.Trees.{EdkStages, given_as, platform_in}
 use Rattle.build_rules.specs.VpdLines.{has_vpd}
+use Rattle.build_base.specs.FaultCodes.{VOLUME_UNKNOWN}
 
 abbrev pub flash_of_out : Out → Result FlashDoc Fault
 flash_of_out (out.Flash document) = Ok document
@@ -48,7 +49,7 @@ flash_in given i = and_then (part_at given i) flash_of_out
 -- what a number names, or the fault that it names nothing
 abbrev pub numbered : {A : Type 0} → FlashDoc → Option A → Result A Fault
 numbered flash (Some x) = Ok x
-numbered flash None = Err (fault_of 251 flash.at [])
+numbered flash None = Err (fault_of VOLUME_UNKNOWN flash.at [])
 
 abbrev pub volume_at : FlashDoc → ℕ → Result VolumePlan Fault
 volume_at flash v = numbered flash (slice_get flash.volumes v)

@@ -17,6 +17,7 @@ use Rattle.doc_types.specs.declared.volume.VolumePlan.{VolumePlan}
 use Rattle.flash_document.specs.Names.{place_of}
 use Rattle.flash_document.specs.Numbering.{has}
 use Rattle.build_rules.specs.declared.wanted.Wanted.{Wanted}
+use Rattle.build_base.specs.FaultCodes.{IMAGE_UNKNOWN}
 
 -- the line of the words that wants a device, and the one that wants a volume
 abbrev pub device_line : DevicePlan → List ℕ
@@ -35,7 +36,8 @@ is_among lines line = is_some (place_of lines line)
 -- A line names a device or a volume; its name stands behind its first three bytes.
 abbrev pub image_unknown : FlashDoc → List ℕ → Option Fault
 image_unknown flash line =
-    if is_among (image_lines flash) line then None else Some (fault_of 260 flash.at (drop 3 line))
+    if is_among (image_lines flash) line then None
+    else Some (fault_of IMAGE_UNKNOWN flash.at (drop 3 line))
 
 abbrev pub kind_volume : RegionKind → List ℕ
 kind_volume kind.Empty = []

@@ -11,6 +11,7 @@ use crate::documents::platform_in;
 use crate::outputs::{output_folder, path_below};
 use crate::shapes::EdkRules;
 use crate::vpd::has_vpd;
+use build_base::fault_codes::VOLUME_UNKNOWN;
 use build_base::{Image, Path, Permit, Place, Refusal, refuse};
 use build_stages::{Given, Known, Stop, gather};
 use doc_types::flash::{DevicePlan, FlashDoc};
@@ -65,7 +66,7 @@ fn numbered<'a, A>(
 {
     match named {
         Some(named) => Ok(named),
-        None => Err(Stop::from(refuse(alloc, 251, &flash.at, b"".as_slice()))),
+        None => Err(Stop::from(refuse(alloc, VOLUME_UNKNOWN, &flash.at, b"".as_slice()))),
     }
 }
 

@@ -11,6 +11,7 @@ ghost use Rattle.flash_document.specs.Numbering.{has};
 ghost use Rattle.build_rules.specs.Wanted.{device_line, volume_line, image_lines, is_among, image_unknown, kind_volume, region_volumes, volumes_where, held_volumes, device_marks, volume_marks, wanted_by, wanted_among, all_wanted, wanted_of, is_marked};
 
 use crate::defines::cut_at_feeds;
+use build_base::fault_codes::IMAGE_UNKNOWN;
 use build_base::{Refusal, Rows, Text, WantOfMemory, refuse};
 use build_stages::Stop;
 use doc_types::flash::{DevicePlan, FlashDoc, Region, RegionKind};
@@ -152,7 +153,7 @@ fn image_unknown(
     if images.has(alloc, line)? {
         return Ok(());
     }
-    Err(refuse(alloc, 260, &flash.at, name_in(line)))
+    Err(refuse(alloc, IMAGE_UNKNOWN, &flash.at, name_in(line)))
 }
 
 // Refuses the first line that names no image.

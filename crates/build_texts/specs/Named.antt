@@ -20,6 +20,7 @@ use Rattle.doc_types.specs.declared.parts.Package.{Package}
 use Rattle.pcd_resolve.specs.Listing.{packages_of}
 use Rattle.pcd_resolve.specs.Marks.{with_marks}
 use Rattle.pcd_resolve.specs.Names.{serves}
+use Rattle.build_base.specs.FaultCodes.{AUTOGEN_GUID_UNKNOWN}
 
 -- A line of the package of a path.
 pub record Declared : Type 0 where
@@ -57,7 +58,7 @@ Found = List ℕ × Guid
 
 -- 511: no package of the INF declares the name for the architecture
 abbrev pub found : Named → Option Guid → Result (List Found) Fault
-found named None = Err (fault_of 511 named.at named.name)
+found named None = Err (fault_of AUTOGEN_GUID_UNKNOWN named.at named.name)
 found named (Some guid) = Ok ((named.name, guid) ∷ [])
 
 -- what a line of an INF with these packages names; a line of another architecture names nothing

@@ -11,6 +11,7 @@ ghost use Rattle.pcd_resolve.specs.Marks.{is_kept, with_marks};
 ghost use Rattle.build_texts.specs.Views.{declared_view, entry_view, given, seen};
 
 use crate::packages::{DeclaredGuid, first_guid, lines_by_name};
+use build_base::fault_codes::AUTOGEN_GUID_UNKNOWN;
 use build_base::{Guid, Refusal, WantOfMemory, refuse};
 use doc_types::arch::Arch;
 use doc_types::module::{InfDoc, Named};
@@ -38,7 +39,7 @@ fn found<'a>(
     ensures { AnswersAs given result (found named.now guid) }
 {
     match guid {
-        None => Err(refuse(alloc, 511, &named.at, named.name.bytes())),
+        None => Err(refuse(alloc, AUTOGEN_GUID_UNKNOWN, &named.at, named.name.bytes())),
         Some(guid) => Ok(Some(FoundGuid {
             name: named.name.bytes(),
             guid,

@@ -29,6 +29,7 @@ use Rattle.dec_docs.specs.GuidLines as guids
 use Rattle.dec_docs.specs.KeyLines.{key_faults, key_row}
 use Rattle.dec_docs.specs.Package.{faults_in, row_in, line_faults, line_row, Lists}
 use Rattle.dec_docs.specs.PcdLines as pcds
+use Rattle.build_base.specs.FaultCodes.{BAD_NUMBER, BAD_TOKEN, DEC_BAD_GUID}
 
 -- a GUID's line
 named : (line : Taken) (arch : Arch) (name : List ℕ) (guid : Option GuidBytes) (t : Bool) (one other : Fault)
@@ -39,7 +40,7 @@ named line arch name guid false one other e = absurd cc
 
 guid_field_given : (line : Taken) (arch : Arch) (field : List ℕ) (pair : Option (List ℕ × List ℕ)) → least_of (guids.field_faults line field pair) ≡ None → IsSome (guids.field_row line arch pair)
 guid_field_given line arch field (Some p) e =
-    named line arch p.0 (guid_of_braces p.1) (is_identifier p.0) (fault_of 202 line.at p.1) (guids.bad_line line)
+    named line arch p.0 (guid_of_braces p.1) (is_identifier p.0) (fault_of DEC_BAD_GUID line.at p.1) (guids.bad_line line)
     (least_first (guids.pair_fault line p.0 p.1 (guid_of_braces p.1)) [] (least_rest (guids.words_fault line p.0 p.1) (guids.pair_fault line p.0 p.1 (guid_of_braces p.1) ∷ []) e))
 guid_field_given line arch field None e = absurd (bad (least_rest (undefined_macro line.at field) (Some (guids.bad_line line) ∷ []) e))
   where
@@ -59,7 +60,7 @@ made line arch kind (Some pcd) default None token number missing w p t = absurd 
 made line arch kind (Some pcd) default (Some datum) token None missing w p t = absurd cc
 made line arch kind (Some pcd) default (Some datum) token (Some number) missing w p t = fits (nat_lt number 4294967296) t
   where
-    fits : (b : Bool) → (if b then None else Some (fault_of 205 line.at token)) ≡ None → IsSome (pcds.made_pcd line arch kind (Some pcd) default (Some datum) (if b then Some number else None))
+    fits : (b : Bool) → (if b then None else Some (fault_of BAD_TOKEN line.at token)) ≡ None → IsSome (pcds.made_pcd line arch kind (Some pcd) default (Some datum) (if b then Some number else None))
     fits true h = refl
     fits false h = absurd cc
 
@@ -75,13 +76,13 @@ fields_given line arch kind (name ∷ []) e = other line (name ∷ []) e
 fields_given line arch kind (name ∷ default ∷ []) e = other line (name ∷ default ∷ []) e
 fields_given line arch kind (name ∷ default ∷ datum ∷ []) e = other line (name ∷ default ∷ datum ∷ []) e
 fields_given line arch kind (name ∷ default ∷ datum ∷ token ∷ []) e =
-    let number = wanted (number_of token) (fault_of 113 line.at token) in
+    let number = wanted (number_of token) (fault_of BAD_NUMBER line.at token) in
     let words = pcds.words_fault line name default datum in
     let parts = pcds.parts_fault line (pcd_name_of name) default (datum_named datum) in
     let last = pcds.token_fault line token (number_of token) in
     let after = least_rest number (words ∷ parts ∷ last ∷ []) e in
     let behind = least_rest words (parts ∷ last ∷ []) after in
-    made line arch kind (pcd_name_of name) default (datum_named datum) token (number_of token) (fault_of 113 line.at token)
+    made line arch kind (pcd_name_of name) default (datum_named datum) token (number_of token) (fault_of BAD_NUMBER line.at token)
     (least_first number (words ∷ parts ∷ last ∷ []) e)
     (least_first parts (last ∷ []) behind)
     (least_first last [] (least_rest parts (last ∷ []) behind))
@@ -108,7 +109,7 @@ mapped f None h = absurd cc
 pub key_given : (line : Taken) (k : DecKey) (value : List ℕ) → least_of (key_faults line (Some k) value) ≡ None → IsSome (key_row (Some k) value)
 key_given line key.Name value e = refl
 key_given line key.Guid value e =
-    let guid = wanted (guid_of value) (fault_of 202 line.at value) in
+    let guid = wanted (guid_of value) (fault_of DEC_BAD_GUID line.at value) in
     mapped _ (guid_of value)
-    (wanted_given (guid_of value) (fault_of 202 line.at value)
+    (wanted_given (guid_of value) (fault_of DEC_BAD_GUID line.at value)
     (least_first guid [] (least_rest (undefined_macro line.at value) (guid ∷ []) (least_read line (undefined_macro line.at value ∷ guid ∷ []) e))))

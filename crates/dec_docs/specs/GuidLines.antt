@@ -14,6 +14,7 @@ use Rattle.doc_types.specs.declared.arch.Arch.{Arch}
 use Rattle.dec_docs.specs.declared.rows.Declared.TheVariants as row
 use Rattle.dec_docs.specs.declared.rows.Said.{Said}
 use Rattle.dec_docs.specs.declared.rows.Said.TheVariants.{Row}
+use Rattle.build_base.specs.FaultCodes.{DEC_BAD_GUID}
 
 -- a macro that isn't defined
 abbrev pub words_fault : Taken → List ℕ → List ℕ → Option Fault
@@ -22,11 +23,11 @@ words_fault line name value =
 
 -- a line that declares no name of a GUID
 abbrev pub bad_line : Taken → Fault
-bad_line line = fault_of 202 line.at line.text
+bad_line line = fault_of DEC_BAD_GUID line.at line.text
 
 abbrev pub pair_fault : Taken → List ℕ → List ℕ → Option GuidBytes → Option Fault
 pair_fault line name value guid = if is_identifier name
-    then wanted guid (fault_of 202 line.at value) else Some (bad_line line)
+    then wanted guid (fault_of DEC_BAD_GUID line.at value) else Some (bad_line line)
 
 abbrev pub field_faults : Taken → List ℕ → Option (List ℕ × List ℕ) → List (Option Fault)
 field_faults line field (Some p) = words_fault line p.0 p.1

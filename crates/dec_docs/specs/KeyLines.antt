@@ -15,6 +15,7 @@ use Rattle.dec_docs.specs.declared.key_line.DecKey as key_type
 use Rattle.dec_docs.specs.declared.key_line.DecKey.TheVariants as key
 use Rattle.dec_docs.specs.declared.rows.Said.{Said}
 use Rattle.dec_docs.specs.declared.rows.Said.TheVariants.{Name, Guid}
+use Rattle.build_base.specs.FaultCodes.{DEC_BAD_GUID}
 
 abbrev pub keys : List (List ℕ × key_type.DecKey)
 keys = (codes "PACKAGE_NAME", key.Name) ∷ (codes "PACKAGE_GUID", key.Guid) ∷ []
@@ -28,7 +29,7 @@ key_faults line (Some key.Name) value =
     of_read_line line (fault_in (segment_name line.at value) ∷ [])
 key_faults line (Some key.Guid) value =
     of_read_line line (undefined_macro line.at value
-    ∷ wanted (guid_of value) (fault_of 202 line.at value) ∷ [])
+    ∷ wanted (guid_of value) (fault_of DEC_BAD_GUID line.at value) ∷ [])
 key_faults line None value = []
 
 abbrev pub key_row : Option key_type.DecKey → List ℕ → Option Said

@@ -27,6 +27,7 @@ use Rattle.dec_docs.specs.GuidLines.{guid_line_faults, guid_line_row}
 use Rattle.dec_docs.specs.PcdLines.{pcd_line_faults, pcd_line_row}
 use Rattle.dec_docs.specs.Repeats.{repeats_fault}
 use Rattle.dec_docs.specs.Sections.{head_meaning}
+use Rattle.build_base.specs.FaultCodes.{DEC_MISSING_KEY, DEC_UNKNOWN_SECTION}
 
 abbrev pub faults_in : Taken → DecSection → List (Option Fault)
 faults_in line Defines = key_line_faults line
@@ -49,9 +50,9 @@ line_row line entry = row_in line entry.arch entry.section
 abbrev pub dec_grammar : Grammar Entry Said
 dec_grammar =
     record {
-      head_faults = λ line head. meaning_faults 206 line head (head_meaning head);
+      head_faults = λ line head. meaning_faults DEC_UNKNOWN_SECTION line head (head_meaning head);
       scope_of = λ head. meaning_scope (head_meaning head);
-      stray = 206;
+      stray = DEC_UNKNOWN_SECTION;
       faults = λ above line entry. line_faults line entry;
       row_of = λ above line entry. line_row line entry;
       at_heads = λ above line heads. None;
@@ -104,8 +105,8 @@ with_required root name guid rows =
 
 abbrev pub required : List ℕ → List Declared → Option (List ℕ) → Option GuidBytes
     → Result DecDoc Fault
-required root rows None guid = Err (missing_key 201 root (codes "PACKAGE_NAME"))
-required root rows (Some name) None = Err (missing_key 201 root (codes "PACKAGE_GUID"))
+required root rows None guid = Err (missing_key DEC_MISSING_KEY root (codes "PACKAGE_NAME"))
+required root rows (Some name) None = Err (missing_key DEC_MISSING_KEY root (codes "PACKAGE_GUID"))
 required root rows (Some name) (Some guid) =
     unless (repeats_fault rows) (with_required root name guid rows)
 

@@ -17,10 +17,11 @@ use Rattle.doc_types.specs.declared.pcd.PcdName.{PcdName}
 use Rattle.dec_docs.specs.declared.rows.Declared.TheVariants as row
 use Rattle.dec_docs.specs.declared.rows.Said.{Said}
 use Rattle.dec_docs.specs.declared.rows.Said.TheVariants.{Row}
+use Rattle.build_base.specs.FaultCodes.{BAD_NUMBER, BAD_TOKEN, DEC_BAD_PCD_LINE}
 
 -- a line that declares no PCD
 abbrev pub bad_line : Taken → Fault
-bad_line line = fault_of 203 line.at line.text
+bad_line line = fault_of DEC_BAD_PCD_LINE line.at line.text
 
 -- a macro that isn't defined, in the fields before the token
 abbrev pub words_fault : Taken → List ℕ → List ℕ → List ℕ → Option Fault
@@ -38,7 +39,7 @@ parts_fault line None default datum = Some (bad_line line)
 -- a token of at most 32 bits
 abbrev pub token_fault : Taken → List ℕ → Option ℕ → Option Fault
 token_fault line token (Some number) = if nat_lt number 4294967296 then None
-    else Some (fault_of 205 line.at token)
+    else Some (fault_of BAD_TOKEN line.at token)
 token_fault line token None = None
 
 abbrev pub token_of : Option ℕ → Option ℕ
@@ -52,7 +53,8 @@ other_faults line fields = first_fault (undefined_macro line.at) fields ∷ Some
 -- exactly four fields
 abbrev pub fields_faults : Taken → List (List ℕ) → List (Option Fault)
 fields_faults line (name ∷ default ∷ datum ∷ token ∷ []) =
-    wanted (number_of token) (fault_of 113 line.at token) ∷ words_fault line name default datum ∷
+    wanted (number_of token) (fault_of BAD_NUMBER line.at token)
+    ∷ words_fault line name default datum ∷
     parts_fault line (pcd_name_of name) default (datum_named datum)
     ∷ token_fault line token (number_of token) ∷ []
 fields_faults line fields = other_faults line fields

@@ -7,6 +7,7 @@ ghost use Rattle.doc_reading.specs.Gathering.{judged};
 ghost use Rattle.dec_docs.specs.GuidLines.{words_fault, pair_fault, named_guid, field_faults, field_row, guid_line_faults, guid_line_row};
 
 use crate::rows::{Declared, Said};
+use build_base::fault_codes::DEC_BAD_GUID;
 use build_base::{Guid, Refusal, Same, Taken, Text, WantOfMemory, refuse};
 use doc_reading::least_check::{least_of_two, least_refusal};
 use doc_reading::value_fields::{open_quote, undefined_macro};
@@ -36,9 +37,9 @@ fn check_pair(
     ensures { Checks result (pair_fault line.now name.now value.now guid.now) }
 {
     if !is_identifier(name) {
-        return Err(refuse(alloc, 202, &line.at, line.text.bytes()));
+        return Err(refuse(alloc, DEC_BAD_GUID, &line.at, line.text.bytes()));
     }
-    wanted(alloc, guid, 202, &line.at, value)
+    wanted(alloc, guid, DEC_BAD_GUID, &line.at, value)
 }
 
 fn named_guid(
@@ -82,7 +83,7 @@ fn guid_field(
         }
         None => Err(least_refusal(
             undefined_macro(alloc, &line.at, field),
-            refuse(alloc, 202, &line.at, line.text.bytes()),
+            refuse(alloc, DEC_BAD_GUID, &line.at, line.text.bytes()),
         )),
     }
 }

@@ -5,6 +5,7 @@ ghost use Rattle.doc_reading.specs.Gathering.{judged};
 ghost use Rattle.dec_docs.specs.KeyLines.{key_named, key_faults, key_row, pair_faults, pair_row, key_line_faults, key_line_row};
 
 use crate::rows::Said;
+use build_base::fault_codes::DEC_BAD_GUID;
 use build_base::{Guid, Refusal, Taken};
 use doc_reading::least_check::least_of_two;
 use doc_reading::segment_name::segment_name;
@@ -53,7 +54,7 @@ fn key_said(
             let guid = Guid::of_text(value);
             least_of_two(
                 undefined_macro(alloc, &line.at, value),
-                wanted(alloc, &guid, 202, &line.at, value),
+                wanted(alloc, &guid, DEC_BAD_GUID, &line.at, value),
             )?;
             Ok(guid.map(|guid| Said::Guid(guid)))
         }

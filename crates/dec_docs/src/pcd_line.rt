@@ -6,6 +6,7 @@ ghost use Rattle.doc_reading.specs.Gathering.{judged};
 ghost use Rattle.dec_docs.specs.PcdLines.{words_fault, parts_fault, token_fault, token_of, made_pcd, other_faults, fields_faults, fields_row, pcd_line_faults, pcd_line_row};
 
 use crate::rows::{Declared, Said};
+use build_base::fault_codes::{BAD_NUMBER, BAD_TOKEN, DEC_BAD_PCD_LINE};
 use build_base::{Refusal, Same, Taken, Text, WantOfMemory, refuse};
 use doc_reading::least_check::{least_of_four, least_refusal};
 use doc_reading::value_fields::{open_quote, undefined_macro, undefined_macros};
@@ -44,11 +45,11 @@ fn check_parts(
     match (pcd, datum) {
         (Some(_), Some(_)) => {
             if default.is_empty() {
-                return Err(refuse(alloc, 203, &line.at, line.text.bytes()));
+                return Err(refuse(alloc, DEC_BAD_PCD_LINE, &line.at, line.text.bytes()));
             }
             Ok(())
         }
-        _ => Err(refuse(alloc, 203, &line.at, line.text.bytes())),
+        _ => Err(refuse(alloc, DEC_BAD_PCD_LINE, &line.at, line.text.bytes())),
     }
 }
 
@@ -63,7 +64,7 @@ fn check_token(
     match number {
         Some(number) => {
             if number >= 0x1_0000_0000 {
-                return Err(refuse(alloc, 205, &line.at, token));
+                return Err(refuse(alloc, BAD_TOKEN, &line.at, token));
             }
             Ok(())
         }
@@ -128,7 +129,7 @@ fn four_fields(
     let pcd = pcd_name_of(alloc, name)?;
     let read = number(token);
     least_of_four(
-        wanted(alloc, &read, 113, &line.at, token),
+        wanted(alloc, &read, BAD_NUMBER, &line.at, token),
         check_words(alloc, line, name, default, datum),
         check_parts(alloc, line, &pcd, default, datum_named(datum)),
         check_token(alloc, line, token, read),
@@ -151,7 +152,7 @@ fn refuse_fields(alloc: Global, line: &Taken, fields: &[Text]) -> Refusal
 {
     least_refusal(
         undefined_macros(alloc, &line.at, fields),
-        refuse(alloc, 203, &line.at, line.text.bytes()),
+        refuse(alloc, DEC_BAD_PCD_LINE, &line.at, line.text.bytes()),
     )
 }
 

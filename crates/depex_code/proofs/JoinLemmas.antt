@@ -16,6 +16,7 @@ use Rattle.depex_code.specs.Compiled.{over, limit_fault, part_tree, no_leave, jo
 use Rattle.depex_code.specs.Sizes.{Reach, reach_of, join_reach, join_size, size_of}
 use Rattle.depex_code.specs.SizedJoins.{join_to_size, join_to_reach, around_reach, with_group_size, reach_fault, next_piece, next_size, parts_size, groups_size}
 use Rattle.depex_code.proofs.SizeLemmas.{join-sized, join-reached, prefix-reached}
+use Rattle.build_base.specs.FaultCodes.{TOO_DEEP}
 
 abbrev reached : Tree → Reach
 reached t = reach_of (nest t) (opcodes t)
@@ -64,7 +65,7 @@ over-low d c =
 
 reach-fault : (at : Place) (t : Tree) → reach_fault at (reached t) ≡ limit_fault at t
 unfolding limit_fault
-reach-fault at t = ap (option_map (fault_of 504 at)) (over-low (nest t) (opcodes t))
+reach-fault at t = ap (option_map (fault_of TOO_DEEP at)) (over-low (nest t) (opcodes t))
 
 next-fault : (front : Bool) (at : Place) (w o : Option Tree) (t : Tree)
     → reach_fault at (around_reach front (join_to_reach (option_map size_of w) (join_to_size (option_map size_of o) (size_of t))))

@@ -19,6 +19,7 @@ use Rattle.build_base.proofs.ResultLemmas.{as_err, ok_is, err_is_not}
 use Rattle.depex_code.proofs.SizeLemmas.{fits-form}
 use Rattle.depex_code.proofs.SimpleLemmas.{simple-post}
 use Rattle.depex_code.proofs.JoinLemmas.{groups-sized}
+use Rattle.build_base.specs.FaultCodes.{TOO_DEEP}
 
 pub record Within (t : Tree) : Type 0 where
   pub shallow : nest t ≤ 64
@@ -32,11 +33,11 @@ limit-none : (at : Place) (t : Tree) → limit_fault at t ≡ None → Within t
 unfolding limit_fault
 limit-none at t e = deep (nat_lt 64 (nest t)) (nat_lt 4096 (opcodes t)) refl refl where
   deep : (b d : Bool) → nat_lt 64 (nest t) ≡ b → nat_lt 4096 (opcodes t) ≡ d → Within t
-  deep true d h k = let f : Some (fault_of 504 at (codes "65")) ≡ None = sym (ap (λ z. option_map (fault_of 504 at) (cond z (Some (codes "65")) (cond (nat_lt 4096 (opcodes t)) (Some (codes "4097")) None))) h) ∙ e in absurd (cc)
+  deep true d h k = let f : Some (fault_of TOO_DEEP at (codes "65")) ≡ None = sym (ap (λ z. option_map (fault_of TOO_DEEP at) (cond z (Some (codes "65")) (cond (nat_lt 4096 (opcodes t)) (Some (codes "4097")) None))) h) ∙ e in absurd (cc)
   deep false true h k =
-      let f : Some (fault_of 504 at (codes "4097")) ≡ None =
-      sym (ap (λ z. option_map (fault_of 504 at) (cond z (Some (codes "65")) (cond (nat_lt 4096 (opcodes t)) (Some (codes "4097")) None))) h
-      ∙ ap (λ z. option_map (fault_of 504 at) (cond z (Some (codes "4097")) None)) k) ∙ e in absurd (cc)
+      let f : Some (fault_of TOO_DEEP at (codes "4097")) ≡ None =
+      sym (ap (λ z. option_map (fault_of TOO_DEEP at) (cond z (Some (codes "65")) (cond (nat_lt 4096 (opcodes t)) (Some (codes "4097")) None))) h
+      ∙ ap (λ z. option_map (fault_of TOO_DEEP at) (cond z (Some (codes "4097")) None)) k) ∙ e in absurd (cc)
   deep false false h k = record { shallow = ltb-false 64 (nest t) h; short = ltb-false 4096 (opcodes t) k }
 
 within-or : (at : Place) (u v t : Tree) (l : Option Fault) → limit_fault at u ≡ l → or_fault l (Ok v) ≡ Ok t → Within u × (v ≡ t)

@@ -21,6 +21,7 @@ use Rattle.depex_code.proofs.TermReads.{read-append, read-more, read-none}
 use Rattle.depex_code.proofs.SizeLemmas.{state_size, step-sized, right-sized, ended-sized}
 use Rattle.build_base.proofs.ResultLemmas.{refused_by}
 use Rattle.build_base.proofs.Steps.{head_drop, map-passed}
+use Rattle.build_base.specs.FaultCodes.{BAD_TERM}
 
 pub right-kept : (ws : List Waiting) (s : Stage) → is_right (state_of ws s) ≡ true
 right-kept ws stage.Wanting = refl
@@ -94,7 +95,7 @@ unfolding terms_tree
 tree-fault at guids edge terms f e = rw e refl
 
 tree-none : (at : Place) (guids : List NamedGuid) (edge : Bool) (terms : List (List ℕ)) → terms_fault at guids edge [] terms ≡ None
-    → terms_tree at guids edge terms ≡ value_or (fault_of 501 at (codes "end")) (expression (map (token_of guids) terms))
+    → terms_tree at guids edge terms ≡ value_or (fault_of BAD_TERM at (codes "end")) (expression (map (token_of guids) terms))
 unfolding terms_tree
 tree-none at guids edge terms e = rw e refl
 
@@ -123,12 +124,12 @@ follows-fault at guids edge terms i term s e f h is found =
     found
 
 pub follows-end : (at : Place) (guids : List NamedGuid) (edge : Bool) (terms : List (List ℕ)) (i : ℕ) (s : State Size) → Follows at guids edge terms i s → length terms ≤ i
-    → value_or (fault_of 501 at (codes "end")) (ended s) ≡ map_ok size_of (terms_tree at guids edge terms)
+    → value_or (fault_of BAD_TERM at (codes "end")) (ended s) ≡ map_ok size_of (terms_tree at guids edge terms)
 follows-end at guids edge terms i s f h =
     let none : terms_fault at guids edge [] terms ≡ None =
     sym f.rest ∙ ap (terms_fault at guids edge (map (token_of guids) (take i terms))) (drop_all i terms h) ∙ terms-done at guids edge (map (token_of guids) (take i terms)) in
     let state : s ≡ reached guids terms = f.state ∙ ap (reached guids) (take_all i terms h) in
-    let fault = fault_of 501 at (codes "end") in
+    let fault = fault_of BAD_TERM at (codes "end") in
     ap (λ z. value_or fault (ended z)) state
     ∙ ap (value_or fault) (ended-sized (read trees (wanting []) (map (token_of guids) terms)))
     ∙ or-sized fault (ended (read trees (wanting []) (map (token_of guids) terms)))

@@ -25,6 +25,7 @@ use Rattle.build_base.proofs.ChoiceLemmas.{pick}
 use Rattle.depex_code.proofs.TermFinish.{grammar}
 use Rattle.depex_code.proofs.LimitLemmas.{next-is}
 use Rattle.build_base.proofs.ResultLemmas.{ok_is, err_is_not}
+use Rattle.build_base.specs.FaultCodes.{BAD_TERM}
 
 -- a name's GUID has sixteen bytes
 abbrev Sixteen : Token → Type 0
@@ -136,10 +137,10 @@ terms-plain : (at : Place) (guids : List NamedGuid) (edge : Bool) (terms : List 
 unfolding terms_tree
 terms-plain at guids edge terms t a e = by_fault (terms_fault at guids edge [] terms) refl e where
   by_fault : (l : Option Fault) → terms_fault at guids edge [] terms ≡ l
-      → or_fault l (value_or (fault_of 501 at (codes "end")) (expression (map (token_of guids) terms))) ≡ Ok t → Plain t
+      → or_fault l (value_or (fault_of BAD_TERM at (codes "end")) (expression (map (token_of guids) terms))) ≡ Ok t → Plain t
   by_fault (Some f) h x = absurd (err_is_not f t x)
   by_fault None h x =
-      value-plain (fault_of 501 at (codes "end")) (map (token_of guids) terms) t (expression (map (token_of guids) terms)) (terms-clean at guids edge [] terms a h)
+      value-plain (fault_of BAD_TERM at (codes "end")) (map (token_of guids) terms) t (expression (map (token_of guids) terms)) (terms-clean at guids edge [] terms a h)
       (grammar.stands (map (token_of guids) terms)) x
 
 part-plain : (leave : Leave) (guids : List NamedGuid) (part : DepexPart) (t : Tree) → AreGuids guids → part_tree leave guids part ≡ Ok t → Plain t

@@ -20,6 +20,7 @@ use Rattle.depex_code.specs.declared.token.Prefix.TheVariants.{Sor}
 use Rattle.depex_code.specs.Tree.{Tree, both, sor, nest, opcodes, is_alone, simplified, bytes_of}
 use Rattle.depex_code.specs.Terms.{expression, is_begun}
 use Rattle.depex_code.specs.Words.{token_of}
+use Rattle.build_base.specs.FaultCodes.{BAD_PLACE, BAD_TERM, DEPEX_GUID_UNKNOWN, TOO_DEEP}
 
 -- a value, or the fault where there is none
 abbrev pub value_or : {T F : Type 0} → F → Option T → Result T F
@@ -36,14 +37,14 @@ map_ok f (Err e) = Err e
 -- 502: no line declares the name; 503: SOR is not at the front, or a BEFORE or AFTER may not stand
 -- here
 abbrev pub own_code : Bool → Token → Option ℕ
-own_code edge (token.Name None) = Some 502
-own_code edge (token.Edge e) = if edge then None else Some 503
-own_code edge (token.Prefix Sor) = Some 503
+own_code edge (token.Name None) = Some DEPEX_GUID_UNKNOWN
+own_code edge (token.Edge e) = if edge then None else Some BAD_PLACE
+own_code edge (token.Prefix Sor) = Some BAD_PLACE
 own_code edge k = None
 
 -- 501: no expression begins with the terms up to this one
 abbrev pub term_code : Bool → Bool → Token → Option ℕ
-term_code begun edge k = if begun then own_code edge k else Some 501
+term_code begun edge k = if begun then own_code edge k else Some BAD_TERM
 
 -- the first fault of the terms, each with those before it
 unfoldable pub terms_fault : Place → List NamedGuid → Bool → List Token → List (List ℕ)
@@ -59,7 +60,7 @@ terms_fault at guids edge before (term ∷ terms) =
 unfoldable pub terms_tree : Place → List NamedGuid → Bool → List (List ℕ) → Result Tree Fault
 terms_tree at guids edge terms =
     or_fault (terms_fault at guids edge [] terms)
-    (value_or (fault_of 501 at (codes "end")) (expression (map (token_of guids) terms)))
+    (value_or (fault_of BAD_TERM at (codes "end")) (expression (map (token_of guids) terms)))
 
 -- Parts.
 
@@ -118,7 +119,7 @@ over deep count = if nat_lt 64 deep then Some (codes "65") else if nat_lt 4096 c
     then Some (codes "4097") else None
 
 unfoldable pub limit_fault : Place → Tree → Option Fault
-limit_fault at t = option_map (fault_of 504 at) (over (nest t) (opcodes t))
+limit_fault at t = option_map (fault_of TOO_DEEP at) (over (nest t) (opcodes t))
 
 abbrev pub no_leave : Leave
 no_leave = record { sor = false; edge = false }

@@ -14,11 +14,10 @@ use crate::opcode::{DEEPEST, END, MOST, SOR};
 use crate::part::part_piece;
 use crate::piece::{Code, Piece};
 use crate::token::Joiner;
+use build_base::fault_codes::TOO_DEEP;
 use build_base::{Place, Refusal, Text, WantOfMemory, refuse};
 use doc_types::depex::{DepexGroup, DepexPart, NamedGuid};
 use std::alloc::Global;
-
-const TOO_DEEP: u16 = 504;
 
 fn join_to(alloc: Global, whole: Option<Piece>, piece: Piece) -> Result<Piece, WantOfMemory>
     ensures { IfOk result (λ p. piece_size p

@@ -7,6 +7,7 @@ ghost use Rattle.depex_code.specs.Sizes.{sizes, size_of};
 ghost use Rattle.depex_code.specs.Kept.{piece_size, state_of, TermRead};
 ghost use Rattle.build_base.specs.FaultText.{fault_of};
 ghost use Rattle.depex_code.specs.Compiled.{value_or, own_code, terms_tree, after_sor, is_edge_part, part_tree, map_ok};
+ghost use Rattle.build_base.specs.FaultCodes.{BAD_TERM};
 
 use crate::leave::Leave;
 use crate::piece::Piece;
@@ -14,22 +15,17 @@ use crate::terms::step;
 use crate::token::{Prefix, Token};
 use crate::waiting::{Stage, Waiting};
 use crate::words::{begins_with_sor, is_edge_part, token};
+use build_base::fault_codes::{BAD_PLACE, BAD_TERM, DEPEX_GUID_UNKNOWN};
 use build_base::{Place, Refusal, Text, WantOfMemory, refuse};
 use doc_types::depex::{DepexPart, NamedGuid};
 use std::alloc::Global;
-
-const BAD_TERM: u16 = 501;
-
-const GUID_UNKNOWN: u16 = 502;
-
-const BAD_PLACE: u16 = 503;
 
 // What is wrong with a term, whatever stands before it.
 fn own_code(edge: bool, token: Token) -> Option<u16>
     ensures { result ≡ own_code edge token }
 {
     match token {
-        Token::Name(None) => Some(GUID_UNKNOWN),
+        Token::Name(None) => Some(DEPEX_GUID_UNKNOWN),
         Token::Edge(_) if !edge => Some(BAD_PLACE),
         Token::Prefix(Prefix::Sor) => Some(BAD_PLACE),
         _ => None,
@@ -74,7 +70,8 @@ fn finish(waits: &Vec<Waiting>, stage: Stage) -> Option<Piece>
 
 fn whole(alloc: Global, at: &Place, waits: &Vec<Waiting>, stage: Stage) -> Result<Piece, Refusal>
     ensures { AnswersAs piece_size result
-        (value_or (fault_of 501 at.now (codes "end")) (ended (state_of waits.now.items stage))) }
+        (value_or (fault_of BAD_TERM at.now (codes "end"))
+        (ended (state_of waits.now.items stage))) }
 {
     match finish(waits, stage) {
         Some(piece) => Ok(piece),

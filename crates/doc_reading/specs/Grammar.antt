@@ -13,6 +13,7 @@ use Rattle.doc_reading.specs.declared.form.LineForm.{LineForm}
 use Rattle.doc_reading.specs.declared.form.LineForm.TheVariants.{Blank, Heads, OpenHead, BadHead, Body}
 use Rattle.doc_reading.specs.Forms.{form_of}
 use Rattle.doc_reading.specs.Gathering.{gathered, judged}
+use Rattle.build_base.specs.FaultCodes.{BAD_SECTION, OPEN_QUOTE}
 
 -- What a line came to: heads, with their line's place and the scopes that they enter, or the rows
 -- that it gives below the heads, one for each scope.
@@ -106,8 +107,8 @@ abbrev pub form_fault : {S R : Type 0} → Grammar S R → List (Read S R) → T
     → Option Fault
 form_fault g above line Blank = None
 form_fault g above line (Heads heads) = fault_in (heads_entered g line heads)
-form_fault g above line OpenHead = Some (fault_of 111 line.at (codes "\""))
-form_fault g above line BadHead = Some (fault_of 114 line.at line.text)
+form_fault g above line OpenHead = Some (fault_of OPEN_QUOTE line.at (codes "\""))
+form_fault g above line BadHead = Some (fault_of BAD_SECTION line.at line.text)
 form_fault g above line Body = fault_in (body_given g above line (scopes_above above))
 
 -- what is left open below the last line

@@ -13,14 +13,15 @@ use Rattle.macro_conditions.specs.declared.expression.Value.{Value}
 use Rattle.macro_conditions.specs.declared.expression.Value.TheVariants.{Number, Word}
 use Rattle.macro_conditions.specs.Expressions.{evaluation}
 use Rattle.macro_conditions.specs.Sources.{without_workspace}
+use Rattle.build_base.specs.FaultCodes.{BAD_EXPRESSION, BAD_PATH, OPEN_QUOTE, UNDEFINED_MACRO}
 
 -- `$(` that is left in a text: its macro isn't defined
 abbrev pub undefined_macro : Place → List ℕ → Option Fault
-undefined_macro at text = if holds_macro text then Some (fault_of 127 at text) else None
+undefined_macro at text = if holds_macro text then Some (fault_of UNDEFINED_MACRO at text) else None
 
 -- a double quote that isn't closed
 abbrev pub open_quote : Place → List ℕ → Option Fault
-open_quote at text = if ends_quoted text then Some (fault_of 111 at (codes "\"")) else None
+open_quote at text = if ends_quoted text then Some (fault_of OPEN_QUOTE at (codes "\"")) else None
 
 abbrev pub guid_found : ℕ → Place → List ℕ → Option Guid → Result Guid Fault
 guid_found code at text (Some guid) = Ok guid
@@ -38,8 +39,9 @@ text_value at text = unless (undefined_macro at text) text
 
 -- a text is no number, and a number needs every macro of its field
 abbrev pub number_found : Place → List ℕ → Result Value Fault → Result ℕ Fault
-number_found at text (Ok (Number n)) = if holds_macro text then Err (fault_of 127 at text) else Ok n
-number_found at text (Ok (Word word)) = Err (fault_of 124 at text)
+number_found at text (Ok (Number n)) = if holds_macro text
+    then Err (fault_of UNDEFINED_MACRO at text) else Ok n
+number_found at text (Ok (Word word)) = Err (fault_of BAD_EXPRESSION at text)
 number_found at text (Err fault) = Err fault
 
 -- a numeric field: an expression, in which a macro that isn't defined counts as 0 until the
@@ -49,7 +51,7 @@ number_value at text = number_found at text (evaluation at text [])
 
 abbrev pub path_found : Place → List ℕ → Option (List ℕ) → Result (List ℕ) Fault
 path_found at text (Some path) = Ok path
-path_found at text None = Err (fault_of 101 at text)
+path_found at text None = Err (fault_of BAD_PATH at text)
 
 -- a path field, without `$(WORKSPACE)/` at its front
 unfoldable pub path_value : Place → List ℕ → Result (List ℕ) Fault

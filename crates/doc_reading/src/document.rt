@@ -12,6 +12,7 @@ use crate::format::Format;
 use crate::gathered::Gathered;
 use crate::least_check::{lesser_check, with_check};
 use crate::reader::{Reader, read_lines};
+use build_base::fault_codes::{BAD_SECTION, OPEN_QUOTE};
 use build_base::{Refusal, Rows, Taken, refuse};
 use meta_lexer::head::Head;
 use std::alloc::Global;
@@ -145,8 +146,10 @@ impl<F: Format> Document<F::Scope, F> {
         match form {
             LineForm::Blank => self.check_end(line, last),
             LineForm::Heads(heads) => self.take_heads(line, heads.items(), last),
-            LineForm::OpenHead => { Err(refuse(self.alloc, 111, &line.at, b"\"".as_slice())) }
-            LineForm::BadHead => Err(refuse(self.alloc, 114, &line.at, line.text.bytes())),
+            LineForm::OpenHead => {
+                Err(refuse(self.alloc, OPEN_QUOTE, &line.at, b"\"".as_slice()))
+            }
+            LineForm::BadHead => Err(refuse(self.alloc, BAD_SECTION, &line.at, line.text.bytes())),
             LineForm::Body => self.take_body(line, last),
         }
     }

@@ -4,6 +4,7 @@ ghost use Rattle.std.specs.List.{list_any};
 ghost use Rattle.build_base.specs.Answer.{Answers};
 ghost use Rattle.doc_reading.specs.SegmentNames.{is_segment_name, segment_name};
 
+use build_base::fault_codes::BAD_PATH;
 use build_base::path::is_path;
 use build_base::{Path, PathRefusal, Place, Refusal, Text, WantOfMemory, refuse};
 use std::alloc::Global;
@@ -45,7 +46,7 @@ pub fn segment_name(alloc: Global, at: &Place, text: &[u8]) -> Result<SegmentNam
     ensures { Answers result (segment_name at.now text.now) }
 {
     if !is_segment_name(text) {
-        return Err(refuse(alloc, 101, at, text));
+        return Err(refuse(alloc, BAD_PATH, at, text));
     }
     Ok(SegmentName {
         text: Text::of(alloc, text)?,

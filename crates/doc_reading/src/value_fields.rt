@@ -6,6 +6,7 @@ ghost use Rattle.build_base.specs.Answer.{Answers, Checks, Finds};
 ghost use Rattle.doc_reading.specs.Least.{lesser};
 ghost use Rattle.doc_reading.specs.ValueFields.{undefined_macro, open_quote, guid_value, text_value, number_value, path_value};
 
+use build_base::fault_codes::{BAD_EXPRESSION, BAD_PATH, OPEN_QUOTE, UNDEFINED_MACRO};
 use build_base::path::path_field;
 use build_base::{Guid, Path, Place, Refusal, Rows, Text, refuse};
 use macro_conditions::known::without_workspace;
@@ -19,7 +20,7 @@ pub fn undefined_macro(alloc: Global, at: &Place, text: &[u8]) -> Result<(), Ref
     ensures { Checks result (undefined_macro at.now text.now) }
 {
     if holds_macro(text) {
-        return Err(refuse(alloc, 127, at, text));
+        return Err(refuse(alloc, UNDEFINED_MACRO, at, text));
     }
     Ok(())
 }
@@ -39,7 +40,7 @@ pub fn open_quote(alloc: Global, at: &Place, text: &[u8]) -> Result<(), Refusal>
     ensures { Checks result (open_quote at.now text.now) }
 {
     if ends_quoted(text) {
-        return Err(refuse(alloc, 111, at, b"\"".as_slice()));
+        return Err(refuse(alloc, OPEN_QUOTE, at, b"\"".as_slice()));
     }
     Ok(())
 }
@@ -75,11 +76,11 @@ pub fn number_value(alloc: Global, at: &Place, text: &[u8]) -> Result<u64, Refus
     match evaluate(alloc, at, &written, &none) {
         Ok(Value::Number(n)) => {
             if holds_macro(text) {
-                return Err(refuse(alloc, 127, at, text));
+                return Err(refuse(alloc, UNDEFINED_MACRO, at, text));
             }
             Ok(n)
         }
-        Ok(Value::Word(_)) => Err(refuse(alloc, 124, at, text)),
+        Ok(Value::Word(_)) => Err(refuse(alloc, BAD_EXPRESSION, at, text)),
         Err(refusal) => Err(refusal),
     }
 }
@@ -91,6 +92,6 @@ pub fn path_value(alloc: Global, at: &Place, text: &[u8]) -> Result<Path, Refusa
 {
     match path_field(alloc, without_workspace(text))? {
         Some(path) => Ok(path),
-        None => Err(refuse(alloc, 101, at, text)),
+        None => Err(refuse(alloc, BAD_PATH, at, text)),
     }
 }

@@ -6,6 +6,7 @@ use Rattle.build_base.specs.declared.fault.Fault.{Fault}
 use Rattle.build_base.specs.declared.fault.Place.{Place}
 use Rattle.doc_reading.specs.SegmentNames.{is_segment_name, IsSegmentName, segment_name}
 use Rattle.doc_reading.proofs.SegmentNameLemmas.{folder_is_path}
+use Rattle.build_base.specs.FaultCodes.{BAD_PATH}
 
 abbrev as_ok : List ℕ → Result (List ℕ) Fault
 as_ok text = Ok text
@@ -20,7 +21,7 @@ chosen false text name fault e = absurd cc
 -- a name that was read is one
 pub named_ok : (at : Place) (text name : List ℕ) → segment_name at text ≡ Ok name → IsSegmentName name
 named_ok at text name e =
-    let both = chosen (is_segment_name text) text name (fault_of 101 at text) e in
+    let both = chosen (is_segment_name text) text name (fault_of BAD_PATH at text) e in
     subst IsSegmentName both.1 both.0
 
 pub folder_fits : (name path : List ℕ) → IsSegmentName name → path ≡ codes "Build/" ++ name → IsPathField path

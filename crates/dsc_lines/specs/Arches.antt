@@ -10,14 +10,15 @@ use Rattle.doc_reading.specs.ValueFields.{undefined_macro}
 use Rattle.doc_types.specs.Arches.{arch_named}
 use Rattle.doc_types.specs.declared.arch.Arch.{Arch}
 use Rattle.doc_types.specs.declared.arch.Arch.TheVariants.{Common}
+use Rattle.build_base.specs.FaultCodes.{BAD_ARCH}
 
 abbrev pub is_common : Arch → Bool
 is_common Common = true
 is_common arch = false
 
 abbrev pub arch_found : Place → List ℕ → Option Arch → Result Arch Fault
-arch_found at word (Some arch) = if is_common arch then Err (fault_of 227 at word) else Ok arch
-arch_found at word None = Err (fault_of 227 at word)
+arch_found at word (Some arch) = if is_common arch then Err (fault_of BAD_ARCH at word) else Ok arch
+arch_found at word None = Err (fault_of BAD_ARCH at word)
 
 unfoldable pub arch_value : Place → List ℕ → Result Arch Fault
 arch_value at word = arch_found at word (arch_named word)

@@ -28,6 +28,7 @@ use Rattle.dsc_lines.specs.declared.rows.Tag.TheVariants.{Libraries, Defines, Pc
 use Rattle.dsc_lines.specs.Forms.{formless}
 use Rattle.dsc_lines.specs.LibraryLines.{library_faults, library_of}
 use Rattle.dsc_lines.specs.PcdLines.{pcd_faults, pcd_of}
+use Rattle.build_base.specs.FaultCodes.{BAD_COMPONENT, BAD_PATH, DSC_BAD_GUID}
 
 abbrev pub tags : List (List ℕ × Tag)
 tags =
@@ -62,13 +63,14 @@ inf_text text = if slice_index text (length text - 1) == 123
 
 -- a brace, a tag or a line out of place
 abbrev pub out_of_place : Taken → List (Option Fault)
-out_of_place line = of_read_line line (formless 224 line (field_texts line.text))
+out_of_place line = of_read_line line (formless BAD_COMPONENT line (field_texts line.text))
 
 -- a brace without a path is out of place
 abbrev pub inf_faults : Taken → List ℕ → List (Option Fault)
 inf_faults line inf =
     if length inf == 0 then out_of_place line
-    else of_read_line line (wanted (path_field (without_workspace inf)) (fault_of 101 line.at inf)
+    else of_read_line line
+    (wanted (path_field (without_workspace inf)) (fault_of BAD_PATH line.at inf)
     ∷ [])
 
 abbrev pub begun_faults : Taken → List (Option Fault)
@@ -90,7 +92,8 @@ is_file_guid key = same_word key (codes "FILE_GUID")
 abbrev pub define_faults : Taken → Option (List ℕ × List ℕ) → List (Option Fault)
 define_faults line (Some p) =
     if is_file_guid p.0 then of_read_line line
-    (undefined_macro line.at p.1 ∷ wanted (guid_of p.1) (fault_of 222 line.at p.1) ∷ []) else []
+    (undefined_macro line.at p.1 ∷ wanted (guid_of p.1) (fault_of DSC_BAD_GUID line.at p.1) ∷ [])
+    else []
 define_faults line None = []
 
 abbrev pub define_part : Arch → Option (List ℕ × List ℕ) → Option Part

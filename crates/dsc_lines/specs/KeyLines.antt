@@ -22,6 +22,7 @@ use Rattle.dsc_lines.specs.declared.rows.KeyValue.{KeyValue}
 use Rattle.dsc_lines.specs.declared.rows.KeyValue.TheVariants as value_of
 use Rattle.dsc_lines.specs.declared.rows.Said.{Said}
 use Rattle.dsc_lines.specs.declared.rows.Said.TheVariants.{Key}
+use Rattle.build_base.specs.FaultCodes.{BAD_PATH, DSC_BAD_GUID}
 
 abbrev pub keys : List (List ℕ × PlatformKey)
 keys =
@@ -40,14 +41,14 @@ row_with make (Err fault) = None
 
 abbrev pub guid_faults : Taken → List ℕ → List (Option Fault)
 guid_faults line value = undefined_macro line.at value
-    ∷ wanted (guid_of value) (fault_of 222 line.at value) ∷ []
+    ∷ wanted (guid_of value) (fault_of DSC_BAD_GUID line.at value) ∷ []
 
 abbrev pub guid_row : List ℕ → Option Said
 guid_row value = option_map (λ guid. Key (value_of.Guid guid)) (guid_of value)
 
 abbrev pub output_faults : Taken → List ℕ → List (Option Fault)
 output_faults line value = wanted (path_field (without_workspace value))
-    (fault_of 101 line.at value) ∷ []
+    (fault_of BAD_PATH line.at value) ∷ []
 
 abbrev pub output_row : List ℕ → Option Said
 output_row value = option_map (λ folder. Key (value_of.Output folder))

@@ -13,16 +13,18 @@ use Rattle.doc_types.specs.declared.arch.Arch.{Arch}
 use Rattle.doc_types.specs.declared.module_type.ModuleType.{ModuleType}
 use Rattle.doc_types.specs.declared.platform.LibraryLine.{LibraryLine}
 use Rattle.dsc_lines.specs.Forms.{formless}
+use Rattle.build_base.specs.FaultCodes.{BAD_LIBRARY_LINE, BAD_PATH}
 
 abbrev pub class_fault : Taken → List ℕ → Option Fault
-class_fault line class = if is_identifier class then None else Some (fault_of 223 line.at line.text)
+class_fault line class = if is_identifier class
+    then None else Some (fault_of BAD_LIBRARY_LINE line.at line.text)
 
 -- the faults of a line with these fields, one for each code
 abbrev pub fields_faults : Taken → List (List ℕ) → List (Option Fault)
 fields_faults line (class ∷ path ∷ []) =
     class_fault line class ∷ undefined_macro line.at class
-    ∷ wanted (path_field (without_workspace path)) (fault_of 101 line.at path) ∷ []
-fields_faults line fields = formless 223 line fields
+    ∷ wanted (path_field (without_workspace path)) (fault_of BAD_PATH line.at path) ∷ []
+fields_faults line fields = formless BAD_LIBRARY_LINE line fields
 
 abbrev pub made_library : Taken → Arch → Option ModuleType → List ℕ → Option (List ℕ)
     → Option LibraryLine

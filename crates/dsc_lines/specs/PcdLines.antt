@@ -21,6 +21,7 @@ use Rattle.doc_types.specs.declared.platform.Store.{Store}
 use Rattle.doc_types.specs.declared.platform.Store.TheVariants as store
 use Rattle.dsc_lines.specs.declared.section.StoreKind.{StoreKind}
 use Rattle.dsc_lines.specs.declared.section.StoreKind.TheVariants.{Plain, Hii, Vpd}
+use Rattle.build_base.specs.FaultCodes.{BAD_NUMBER, DSC_BAD_PCD_LINE}
 
 -- a plain number below 2^32
 abbrev pub small_in : Option ℕ → Option ℕ
@@ -64,7 +65,7 @@ number_field Hii fields = hii_number fields
 number_field Vpd fields = vpd_number fields
 
 abbrev pub number_fault : Taken → Option (List ℕ) → Option Fault
-number_fault line (Some text) = wanted (small_of text) (fault_of 113 line.at text)
+number_fault line (Some text) = wanted (small_of text) (fault_of BAD_NUMBER line.at text)
 number_fault line None = None
 
 abbrev pub is_written : List ℕ → Bool
@@ -108,8 +109,8 @@ is_form Vpd fields = is_vpd_form fields
 
 abbrev pub form_fault : Taken → StoreKind → Option PcdName → List (List ℕ) → Option Fault
 form_fault line kind (Some pcd) fields = if is_form kind fields then None
-    else Some (fault_of 225 line.at line.text)
-form_fault line kind None fields = Some (fault_of 225 line.at line.text)
+    else Some (fault_of DSC_BAD_PCD_LINE line.at line.text)
+form_fault line kind None fields = Some (fault_of DSC_BAD_PCD_LINE line.at line.text)
 
 -- the faults of a line with these fields, one for each code
 abbrev pub fields_faults : Taken → StoreKind → List (List ℕ) → List (Option Fault)

@@ -22,6 +22,7 @@ use Rattle.dsc_lines.specs.declared.section.Section.{Section}
 use Rattle.dsc_lines.specs.declared.section.Section.TheVariants.{Defines, SkuIds, Libraries, Components, Pcds}
 use Rattle.dsc_lines.specs.declared.section.Scope.{Scope}
 use Rattle.dsc_lines.specs.declared.section.Scope.TheVariants as scope
+use Rattle.build_base.specs.FaultCodes.{BAD_ARCH, BAD_SECTION, DSC_UNKNOWN_SECTION}
 
 -- a section that stands for None is read past
 abbrev pub sections : List (List ℕ × Option Section)
@@ -63,13 +64,13 @@ sku_word [] = codes "DEFAULT"
 -- a qualifier too many
 abbrev pub qualifiers_fault : Taken → ℕ → List (List ℕ) → Option Fault
 qualifiers_fault line most qualifiers = if nat_lt most (length qualifiers)
-    then Some (fault_of 114 line.at line.text) else None
+    then Some (fault_of BAD_SECTION line.at line.text) else None
 
 abbrev pub arch_fault : Taken → List (List ℕ) → Option Arch → Option Fault
-arch_fault line qualifiers arch = wanted arch (fault_of 227 line.at (first_text qualifiers))
+arch_fault line qualifiers arch = wanted arch (fault_of BAD_ARCH line.at (first_text qualifiers))
 
 abbrev pub type_fault : Taken → Option (Option ModuleType) → Option Fault
-type_fault line kind = wanted kind (fault_of 114 line.at line.text)
+type_fault line kind = wanted kind (fault_of BAD_SECTION line.at line.text)
 
 -- the faults of a section's qualifiers, one for each code
 abbrev pub section_faults : Taken → Section → List (List ℕ) → List (Option Fault)
@@ -109,7 +110,7 @@ abbrev pub named_faults : Taken → Option (Option Section) → List ℕ → Lis
     → List (Option Fault)
 named_faults line (Some (Some section)) name qualifiers = section_faults line section qualifiers
 named_faults line (Some None) name qualifiers = []
-named_faults line None name qualifiers = Some (fault_of 226 line.at name) ∷ []
+named_faults line None name qualifiers = Some (fault_of DSC_UNKNOWN_SECTION line.at name) ∷ []
 
 abbrev pub named_scope : Option (Option Section) → List (List ℕ) → Option Scope
 named_scope (Some (Some section)) qualifiers = section_scope section qualifiers

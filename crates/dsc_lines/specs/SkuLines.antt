@@ -15,6 +15,7 @@ use Rattle.doc_reading.specs.ValueFields.{undefined_macro, number_value}
 use Rattle.doc_reading.specs.Values.{of_read_line}
 use Rattle.dsc_lines.specs.declared.rows.SkuLine.{SkuLine}
 use Rattle.dsc_lines.specs.PcdLines.{is_there}
+use Rattle.build_base.specs.FaultCodes.{BAD_SKU_LINE}
 
 abbrev pub is_sku_byte : ℕ → Bool
 is_sku_byte byte = is_word_byte byte || byte == 45
@@ -64,7 +65,7 @@ is_sku_form number fields = false
 -- a line of another form, or with a name that stands above
 abbrev pub sku_fault : Taken → Option ℕ → List (List ℕ) → Bool → Option Fault
 sku_fault line number fields taken = if is_sku_form number fields && not taken then None
-    else Some (fault_of 231 line.at line.text)
+    else Some (fault_of BAD_SKU_LINE line.at line.text)
 
 abbrev pub faults_with : Taken → List (List ℕ) → Bool → Result ℕ Fault → List (Option Fault)
 faults_with line fields taken number =

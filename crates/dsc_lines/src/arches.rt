@@ -4,6 +4,7 @@ ghost use Rattle.build_base.specs.Answer.{Answers};
 ghost use Rattle.build_base.specs.First.{all_ok};
 ghost use Rattle.dsc_lines.specs.Arches.{is_common, arch_value, arches_value};
 
+use build_base::fault_codes::BAD_ARCH;
 use build_base::{Place, Refusal, Rows, Text, refuse};
 use doc_reading::value_fields::undefined_macros;
 use doc_types::arch::{Arch, arch_named};
@@ -26,7 +27,7 @@ fn arch_value(alloc: Global, at: &Place, word: &[u8]) -> Result<Arch, Refusal>
             return Ok(arch);
         }
     }
-    Err(refuse(alloc, 227, at, word))
+    Err(refuse(alloc, BAD_ARCH, at, word))
 }
 
 fn arches_of(alloc: Global, at: &Place, words: &[Text]) -> Result<Rows<Arch>, Refusal>

@@ -15,6 +15,7 @@ use crate::open_mark::Open;
 use crate::pcd_line::pcd_line;
 use crate::rows::{Begun, Part, Tag};
 use crate::section::StoreKind;
+use build_base::fault_codes::{BAD_COMPONENT, BAD_PATH, DSC_BAD_GUID};
 use build_base::path::path_field;
 use build_base::{Guid, Path, Refusal, Same, Taken, WantOfMemory};
 use doc_reading::least_check::{least_of_one, least_of_two};
@@ -118,7 +119,7 @@ fn misplaced(alloc: Global, line: &Taken) -> Result<Option<Part>, Refusal>
 {
     open_quote(alloc, &line.at, line.text.bytes())?;
     let fields = field_texts(alloc, line.text.bytes())?;
-    Err(refuse_form(alloc, 224, line, fields.items()))
+    Err(refuse_form(alloc, BAD_COMPONENT, line, fields.items()))
 }
 
 fn made_begun(
@@ -156,7 +157,7 @@ fn begun_part(
     }
     open_quote(alloc, &line.at, line.text.bytes())?;
     let inf = path_field(alloc, without_workspace(text))?;
-    least_of_one(wanted(alloc, &inf, 101, &line.at, text))?;
+    least_of_one(wanted(alloc, &inf, BAD_PATH, &line.at, text))?;
     let row = made_begun(alloc, line, arch, braced, inf)?;
     Ok(row)
 }
@@ -182,7 +183,7 @@ fn define_part(alloc: Global, line: &Taken, arch: Arch) -> Result<Option<Part>, 
     let guid = Guid::of_text(value);
     least_of_two(
         undefined_macro(alloc, &line.at, value),
-        wanted(alloc, &guid, 222, &line.at, value),
+        wanted(alloc, &guid, DSC_BAD_GUID, &line.at, value),
     )?;
     Ok(guid.map(|guid| Part::FileGuid(arch, guid)))
 }

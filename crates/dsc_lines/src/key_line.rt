@@ -8,6 +8,7 @@ use crate::arches::arches_value;
 use crate::output_folder::output_folder;
 use crate::platform_name::platform_name;
 use crate::rows::{KeyValue, Said};
+use build_base::fault_codes::{BAD_PATH, DSC_BAD_GUID};
 use build_base::{Guid, Refusal, Same, Taken};
 use doc_reading::least_check::{least_of_one, least_of_two};
 use doc_reading::value_fields::{open_quote, path_value, text_value, undefined_macro};
@@ -51,7 +52,7 @@ fn guid_said(alloc: Global, line: &Taken, value: &[u8]) -> Result<Option<Said>, 
     let guid = Guid::of_text(value);
     least_of_two(
         undefined_macro(alloc, &line.at, value),
-        wanted(alloc, &guid, 222, &line.at, value),
+        wanted(alloc, &guid, DSC_BAD_GUID, &line.at, value),
     )?;
     Ok(guid.map(|guid| Said::Key(KeyValue::Guid(guid))))
 }
@@ -60,7 +61,7 @@ fn output_said(alloc: Global, line: &Taken, value: &[u8]) -> Result<Option<Said>
     ensures { Answers result (judged (output_faults line.now value.now) (output_row value.now)) }
 {
     let folder = output_folder(alloc, without_workspace(value))?;
-    least_of_one(wanted(alloc, &folder, 101, &line.at, value))?;
+    least_of_one(wanted(alloc, &folder, BAD_PATH, &line.at, value))?;
     Ok(folder.map(|folder| Said::Key(KeyValue::Output(folder))))
 }
 

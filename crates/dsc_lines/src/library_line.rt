@@ -5,6 +5,7 @@ ghost use Rattle.doc_reading.specs.Gathering.{judged};
 ghost use Rattle.dsc_lines.specs.LibraryLines.{class_fault, made_library, fields_faults, fields_library, library_faults, library_of};
 
 use crate::form::refuse_form;
+use build_base::fault_codes::{BAD_LIBRARY_LINE, BAD_PATH};
 use build_base::path::path_field;
 use build_base::{Path, Refusal, Same, Taken, Text, WantOfMemory, refuse};
 use doc_reading::least_check::least_of_three;
@@ -22,7 +23,7 @@ fn check_class(alloc: Global, line: &Taken, class: &[u8]) -> Result<(), Refusal>
     ensures { Checks result (class_fault line.now class.now) }
 {
     if !is_identifier(class) {
-        return Err(refuse(alloc, 223, &line.at, line.text.bytes()));
+        return Err(refuse(alloc, BAD_LIBRARY_LINE, &line.at, line.text.bytes()));
     }
     Ok(())
 }
@@ -65,7 +66,7 @@ fn two_fields(
     least_of_three(
         check_class(alloc, line, class),
         undefined_macro(alloc, &line.at, class),
-        wanted(alloc, &instance, 101, &line.at, path),
+        wanted(alloc, &instance, BAD_PATH, &line.at, path),
     )?;
     let library = made_library(alloc, line, arch, kind, class, instance)?;
     Ok(library)
@@ -84,7 +85,7 @@ fn library_fields(
 {
     match fields {
         [class, path] => two_fields(alloc, line, arch, kind, class.bytes(), path.bytes()),
-        _ => Err(refuse_form(alloc, 223, line, fields)),
+        _ => Err(refuse_form(alloc, BAD_LIBRARY_LINE, line, fields)),
     }
 }
 

@@ -8,6 +8,7 @@ ghost use Rattle.dsc_lines.specs.PcdLines.{small_of, number_field, number_fault,
 use crate::pcd_form::{is_form, number_field, small_number};
 use crate::pcd_store::{datum_in, max_in, store_in, value_in};
 use crate::section::StoreKind;
+use build_base::fault_codes::{BAD_NUMBER, DSC_BAD_PCD_LINE};
 use build_base::{Refusal, Same, Taken, Text, WantOfMemory, refuse};
 use doc_reading::least_check::least_of_three;
 use doc_reading::value_fields::{open_quote, undefined_macros};
@@ -24,7 +25,7 @@ fn check_number(alloc: Global, line: &Taken, text: Option<&[u8]>) -> Result<(), 
     match text {
         Some(text) => {
             let number = small_number(text);
-            wanted(alloc, &number, 113, &line.at, text)
+            wanted(alloc, &number, BAD_NUMBER, &line.at, text)
         }
         None => Ok(()),
     }
@@ -44,9 +45,9 @@ fn check_form(
             if is_form(stored, fields) {
                 return Ok(());
             }
-            Err(refuse(alloc, 225, &line.at, line.text.bytes()))
+            Err(refuse(alloc, DSC_BAD_PCD_LINE, &line.at, line.text.bytes()))
         }
-        None => Err(refuse(alloc, 225, &line.at, line.text.bytes())),
+        None => Err(refuse(alloc, DSC_BAD_PCD_LINE, &line.at, line.text.bytes())),
     }
 }
 

@@ -4,6 +4,7 @@ ghost use Rattle.build_base.specs.Answer.{Answers, Checks};
 ghost use Rattle.doc_reading.specs.Gathering.{judged};
 ghost use Rattle.dsc_lines.specs.Sections.{section_named, arch_word, type_word, qualifiers_fault, arch_fault, type_fault, libraries_scope, components_scope, pcds_scope, sku_word, section_faults, section_scope, named_faults, named_scope, head_faults, scope_of};
 
+use build_base::fault_codes::{BAD_ARCH, BAD_SECTION, DSC_UNKNOWN_SECTION};
 use build_base::{Refusal, Taken, Text, WantOfMemory, refuse};
 use doc_reading::least_check::{least_of_one, least_of_three, least_of_two};
 use doc_reading::values::wanted;
@@ -140,7 +141,7 @@ fn check_qualifiers(
     ensures { Checks result (qualifiers_fault line.now most qualifiers.now) }
 {
     if qualifiers.len() > most {
-        return Err(refuse(alloc, 114, &line.at, line.text.bytes()));
+        return Err(refuse(alloc, BAD_SECTION, &line.at, line.text.bytes()));
     }
     Ok(())
 }
@@ -153,13 +154,13 @@ fn check_arch(
 ) -> Result<(), Refusal>
     ensures { Checks result (arch_fault line.now qualifiers.now arch) }
 {
-    wanted(alloc, &arch, 227, &line.at, first_text(qualifiers))
+    wanted(alloc, &arch, BAD_ARCH, &line.at, first_text(qualifiers))
 }
 
 fn check_type(alloc: Global, line: &Taken, kind: Option<Option<ModuleType>>) -> Result<(), Refusal>
     ensures { Checks result (type_fault line.now kind) }
 {
-    wanted(alloc, &kind, 114, &line.at, line.text.bytes())
+    wanted(alloc, &kind, BAD_SECTION, &line.at, line.text.bytes())
 }
 
 fn libraries_scope(arch: Option<Arch>, kind: Option<Option<ModuleType>>) -> Option<Scope>
@@ -286,7 +287,7 @@ fn enter_named(
     match section {
         Some(Some(section)) => enter_section(alloc, line, section, qualifiers),
         Some(None) => Ok(None),
-        None => Err(refuse(alloc, 226, &line.at, name)),
+        None => Err(refuse(alloc, DSC_UNKNOWN_SECTION, &line.at, name)),
     }
 }
 

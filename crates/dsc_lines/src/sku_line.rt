@@ -9,6 +9,7 @@ ghost use Rattle.dsc_lines.specs.SkuLines.{is_sku_byte, is_sku_name, is_default,
 
 use crate::rows::SkuLine;
 use crate::sku_names::place_of;
+use build_base::fault_codes::BAD_SKU_LINE;
 use build_base::{Refusal, Same, Taken, Text, WantOfMemory, refuse};
 use doc_reading::least_check::{least_of_two, with_check};
 use doc_reading::value_fields::{number_value, open_quote, undefined_macros};
@@ -106,7 +107,7 @@ fn check_form(
     if is_sku_form(number, fields) && !taken {
         return Ok(());
     }
-    Err(refuse(alloc, 231, &line.at, line.text.bytes()))
+    Err(refuse(alloc, BAD_SKU_LINE, &line.at, line.text.bytes()))
 }
 
 fn root_parent(name: &[u8]) -> &[u8]

@@ -2,6 +2,7 @@ pub mod BlockLemmas
 pub mod FarLemmas
 pub mod PlaceWalks
 pub mod RepeatLemmas
+pub mod RequiredLemmas
 pub mod ShapeOfLines
 pub mod SkuEndLemmas
 pub mod StatedLemmas

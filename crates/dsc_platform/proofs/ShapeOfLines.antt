@@ -28,6 +28,7 @@ use Rattle.dsc_platform.specs.SkuUses.{parent_uses, row_uses, uses_in, uses_of, 
 use Rattle.dsc_platform.specs.SkuWalks.{loops_fault}
 use Rattle.dsc_platform.specs.Stating.{sku_in, nothing, with_rows, names_of}
 use Rattle.dsc_platform.proofs.SkuEndLemmas.{ParentsKnown, none_of, true_false, all_end}
+use Rattle.build_base.specs.FaultCodes.{SKU_UNKNOWN}
 
 -- a name that is used stands among these
 abbrev UseKnown : List (List ℕ) → SkuUse → Type 0
@@ -51,7 +52,7 @@ uses_known names (use_ ∷ later) e =
     plain c = rw c refl
 
     own : standing_fault names use_ later ≡ None → use_.chosen ≡ false → is_known names use_.text ≡ true
-    own f c = known_where (is_known names use_.text) (fault_of 229 use_.at use_.text) (sym (plain c) ∙ f)
+    own f c = known_where (is_known names use_.text) (fault_of SKU_UNKNOWN use_.at use_.text) (sym (plain c) ∙ f)
 
 all_split : {X : Type 0} (P : X → Type 0) (xs ys : List X) → AllByRecursion P (xs ++ ys) → AllByRecursion P xs × AllByRecursion P ys
 all_split P [] ys h = (tt, h)

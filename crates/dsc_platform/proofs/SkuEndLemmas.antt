@@ -23,6 +23,7 @@ use Rattle.dsc_lines.proofs.PlaceLemmas.{bytes_same}
 use Rattle.dsc_platform.specs.FarPlaces.{walked}
 use Rattle.dsc_platform.proofs.PlaceWalks.{none_some, walked_none, walk_ends}
 use Rattle.dsc_platform.proofs.WalkLemmas.{comes_none}
+use Rattle.build_base.specs.FaultCodes.{SKU_LOOP}
 
 abbrev sku_in_line : SkuLine → Sku
 sku_in_line line = line.sku
@@ -75,7 +76,7 @@ checked parents [] from k line e h = absurd cc
 checked parents (first ∷ skus) from zero line e h =
     let both = none_of (loop_fault parents from first) (loops_from parents (from + 1) skus) e in
     let same : from + 0 ≡ from = omega arith in
-    ap (is_loop parents) same ∙ unlooped (is_loop parents from) (fault_of 230 first.at first.sku.name) both.0
+    ap (is_loop parents) same ∙ unlooped (is_loop parents from) (fault_of SKU_LOOP first.at first.sku.name) both.0
 checked parents (first ∷ skus) from (suc k) line e h =
     let both = none_of (loop_fault parents from first) (loops_from parents (from + 1) skus) e in
     let same : from + suc k ≡ (from + 1) + k = omega arith in

@@ -32,19 +32,20 @@ use Rattle.dsc_platform.specs.SkuUses.{uses_of, uses_fault}
 use Rattle.dsc_platform.specs.SkuWalks.{loops_fault}
 use Rattle.dsc_lines.specs.Standing.{open_below}
 use Rattle.dsc_platform.specs.Stating.{nothing, with_rows, names_of, names_in}
+use Rattle.build_base.specs.FaultCodes.{BAD_COMPONENT, DSC_MISSING_KEY, DSC_UNKNOWN_SECTION}
 
 -- an open brace, at a head or at the end
 abbrev pub open_fault : Taken → Open → Option Fault
 open_fault line Shut = None
-open_fault line Untagged = Some (fault_of 224 line.at (codes "{"))
-open_fault line (Tagged tag) = Some (fault_of 224 line.at (codes "{"))
+open_fault line Untagged = Some (fault_of BAD_COMPONENT line.at (codes "{"))
+open_fault line (Tagged tag) = Some (fault_of BAD_COMPONENT line.at (codes "{"))
 
 abbrev pub dsc_grammar : Grammar Scope Said
 dsc_grammar =
     record {
       head_faults = λ line head. head_faults line head;
       scope_of = λ head. scope_of head;
-      stray = 226;
+      stray = DSC_UNKNOWN_SECTION;
       faults = λ above line scope. line_faults (names_in (rows_of above))
           (open_below (rows_of above)) line scope;
       row_of = λ above line scope. line_row (open_below (rows_of above)) line scope;
@@ -89,11 +90,11 @@ whole_fault skus components uses =
 abbrev pub required : Lines → Stated → List Component → List SkuUse → Option (List ℕ)
     → Option GuidBytes → Option (List Arch) → Result PlatformDoc Fault
 required lines stated components uses None guid arches =
-    Err (missing_key 221 lines.root (codes "PLATFORM_NAME"))
+    Err (missing_key DSC_MISSING_KEY lines.root (codes "PLATFORM_NAME"))
 required lines stated components uses (Some name) None arches =
-    Err (missing_key 221 lines.root (codes "PLATFORM_GUID"))
+    Err (missing_key DSC_MISSING_KEY lines.root (codes "PLATFORM_GUID"))
 required lines stated components uses (Some name) (Some guid) None =
-    Err (missing_key 221 lines.root (codes "SUPPORTED_ARCHITECTURES"))
+    Err (missing_key DSC_MISSING_KEY lines.root (codes "SUPPORTED_ARCHITECTURES"))
 required lines stated components uses (Some name) (Some guid) (Some arches) =
     unless (whole_fault stated.skus components uses)
     (with_required lines stated.keys.options stated.skus stated.libraries stated.pcds components

@@ -11,6 +11,7 @@ use Rattle.doc_types.specs.declared.arch.Arch.{Arch}
 use Rattle.doc_types.specs.declared.arch.Arch.TheVariants.{Common, Ia32, X64, Arm, Aarch64, Riscv64, Loongarch64, Ebc}
 use Rattle.doc_types.specs.declared.platform.Component.{Component}
 use Rattle.dsc_lines.specs.SkuNames.{same_key}
+use Rattle.build_base.specs.FaultCodes.{DUPLICATE_COMPONENT}
 
 -- whether an architecture is for all, or the same
 unfoldable pub meets : Arch → Arch → Bool
@@ -31,7 +32,7 @@ repeats old component = bytes_eq old.inf component.inf && meets old.arch compone
 
 abbrev pub repeat_fault : List Component → Component → Option Fault
 repeat_fault above component = if list_any (λ old. repeats old component) above
-    then Some (fault_of 228 component.at component.inf) else None
+    then Some (fault_of DUPLICATE_COMPONENT component.at component.inf) else None
 
 -- the first that repeats one above it
 unfoldable pub repeats_fault : List Component → Option Fault

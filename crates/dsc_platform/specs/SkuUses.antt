@@ -18,6 +18,7 @@ use Rattle.dsc_lines.specs.declared.section.Scope.TheVariants as scope
 use Rattle.dsc_platform.specs.declared.sku_uses.SkuUse.{SkuUse}
 use Rattle.dsc_lines.specs.PcdLines.{is_there}
 use Rattle.dsc_lines.specs.SkuLines.{is_default, place_of}
+use Rattle.build_base.specs.FaultCodes.{SKU_UNKNOWN}
 
 -- a head of PCDs names a SKU
 abbrev pub head_uses : Place → Scope → List SkuUse
@@ -46,7 +47,7 @@ abbrev pub is_known : List (List ℕ) → List ℕ → Bool
 is_known names name = is_default name || is_there (place_of name names)
 
 abbrev pub unknown : Place → List (List ℕ) → List ℕ → Option Fault
-unknown at names name = if is_known names name then None else Some (fault_of 229 at name)
+unknown at names name = if is_known names name then None else Some (fault_of SKU_UNKNOWN at name)
 
 -- `ALL`, or names with `|` between them
 abbrev pub chosen_unknown : Place → List (List ℕ) → List ℕ → Option Fault

@@ -7,6 +7,7 @@ use Rattle.build_base.specs.declared.fault.Fault.{Fault}
 use Rattle.dsc_lines.specs.declared.rows.SkuLine.{SkuLine}
 use Rattle.dsc_lines.specs.SkuLines.{is_default, place_of}
 use Rattle.dsc_platform.specs.Stating.{names_of}
+use Rattle.build_base.specs.FaultCodes.{SKU_LOOP}
 
 -- where the parent of a SKU stands; DEFAULT has none
 abbrev pub parent_place : List (List ℕ) → SkuLine → Option ℕ
@@ -36,7 +37,7 @@ is_loop parents place = comes_by parents place (length parents) (next_of parents
 
 abbrev pub loop_fault : List (Option ℕ) → ℕ → SkuLine → Option Fault
 loop_fault parents place line = if is_loop parents place
-    then Some (fault_of 230 line.at line.sku.name) else None
+    then Some (fault_of SKU_LOOP line.at line.sku.name) else None
 
 abbrev pub loops_from : List (Option ℕ) → ℕ → List SkuLine → Option Fault
 loops_from parents place [] = None

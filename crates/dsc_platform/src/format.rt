@@ -11,6 +11,7 @@ ghost use Rattle.dsc_platform.specs.Platform.{open_fault};
 use crate::components::{begins, push_block};
 use crate::sku_uses::{SkuUse, push_heads, push_rows};
 use crate::stated::{Stated, keep_rows};
+use build_base::fault_codes::{BAD_COMPONENT, DSC_UNKNOWN_SECTION};
 use build_base::{Place, Refusal, Rows, Taken, WantOfMemory, refuse};
 use doc_reading::Format;
 use doc_types::platform::Component;
@@ -88,7 +89,12 @@ fn check_standing(alloc: Global, line: &Taken, standing: Open) -> Result<(), Ref
 {
     match standing {
         Open::Shut => Ok(()),
-        Open::Untagged | Open::Tagged(_) => Err(refuse(alloc, 224, &line.at, b"{".as_slice())),
+        Open::Untagged | Open::Tagged(_) => Err(refuse(
+            alloc,
+            BAD_COMPONENT,
+            &line.at,
+            b"{".as_slice(),
+        )),
     }
 }
 
@@ -132,7 +138,7 @@ impl Format for DscFormat {
     ghost holds = { Holds };
 
     fn stray(&self) -> u16 {
-        226
+        DSC_UNKNOWN_SECTION
     }
 
     fn enter(&self, line: &Taken, head: &Head) -> Result<Option<Scope>, Refusal> {

@@ -1,8 +1,10 @@
 //! Reading a platform's lines.
-ghost use Rattle.std.specs.Prelude.{◌≡◌, ◌++◌, OnOk, IfOk, codes, unwrap_or, map};
+ghost use Rattle.std.specs.Prelude.{◌≡◌, ◌++◌, Some, OnOk, IfOk, codes, unwrap_or, map};
 ghost use Rattle.std.specs.List.{list_any};
-ghost use Rattle.build_base.specs.Answer.{Answers, Checks};
+ghost use Rattle.build_base.specs.Answer.{Answers, Checks, Finds};
+ghost use Rattle.build_base.specs.FaultCodes.{DSC_MISSING_KEY};
 ghost use Rattle.build_base.specs.Path.{IsPathField};
+ghost use Rattle.doc_reading.specs.Missing.{missing_key};
 ghost use Rattle.dsc_platform.specs.Cutting.{built};
 ghost use Rattle.dsc_platform.specs.Shape.{HasShape};
 ghost use Rattle.dsc_lines.specs.SkuLines.{is_default};
@@ -17,6 +19,7 @@ use crate::repeats::check_repeats;
 use crate::sku_uses::{SkuUse, check_uses};
 use crate::sku_walks::check_loops;
 use crate::stated::{Keys, Options, Stated};
+use build_base::fault_codes::DSC_MISSING_KEY;
 use build_base::{Guid, Lines, Path, Permit, Place, Refusal, Rows, Same, Text, WantOfMemory};
 use doc_reading::missing::refuse_missing;
 use doc_reading::{Whole, read_whole};
@@ -189,6 +192,26 @@ fn end_blocks(format: DscFormat) -> Result<Ended, WantOfMemory>
     })
 }
 
+fn no_name(alloc: Global, root: &Path) -> Refusal
+    ensures { Finds result (Some (missing_key DSC_MISSING_KEY root.now (codes "PLATFORM_NAME"))) }
+{
+    refuse_missing(alloc, DSC_MISSING_KEY, root, b"PLATFORM_NAME".as_slice())
+}
+
+fn no_guid(alloc: Global, root: &Path) -> Refusal
+    ensures { Finds result (Some (missing_key DSC_MISSING_KEY root.now (codes "PLATFORM_GUID"))) }
+{
+    refuse_missing(alloc, DSC_MISSING_KEY, root, b"PLATFORM_GUID".as_slice())
+}
+
+fn no_arches(alloc: Global, root: &Path) -> Refusal
+    ensures { Finds result (Some (missing_key DSC_MISSING_KEY root.now
+        (codes "SUPPORTED_ARCHITECTURES"))) }
+{
+    let key = b"SUPPORTED_ARCHITECTURES".as_slice();
+    refuse_missing(alloc, DSC_MISSING_KEY, root, key)
+}
+
 // The document, where each required key is stated and nothing is at fault in the whole.
 #[tactic(auto, unfolding(crate::specs::Platform::document_of))]
 fn document(alloc: Global, lines: &Lines, ended: Ended) -> Result<NamedPlatform, Refusal>
@@ -214,18 +237,13 @@ fn document(alloc: Global, lines: &Lines, ended: Ended) -> Result<NamedPlatform,
         options,
     } = keys;
     let Some(name) = name else {
-        return Err(refuse_missing(alloc, 221, &lines.root, b"PLATFORM_NAME".as_slice()));
+        return Err(no_name(alloc, &lines.root));
     };
     let Some(guid) = guid else {
-        return Err(refuse_missing(alloc, 221, &lines.root, b"PLATFORM_GUID".as_slice()));
+        return Err(no_guid(alloc, &lines.root));
     };
     let Some(arches) = arches else {
-        return Err(refuse_missing(
-            alloc,
-            221,
-            &lines.root,
-            b"SUPPORTED_ARCHITECTURES".as_slice(),
-        ));
+        return Err(no_arches(alloc, &lines.root));
     };
     check_whole(
         alloc,

@@ -8,6 +8,7 @@ ghost use Rattle.doc_types.specs.declared.platform.Component.{Component as Part}
 ghost use Rattle.dsc_lines.specs.SkuNames.{same_key};
 ghost use Rattle.dsc_platform.specs.Repeats.{meets, repeats, repeat_fault, repeats_fault, Arched};
 
+use build_base::fault_codes::DUPLICATE_COMPONENT;
 use build_base::{Refusal, Rows, WantOfMemory, refuse};
 use doc_types::arch::Arch;
 use doc_types::platform::Component;
@@ -102,7 +103,12 @@ fn check_component(
 {
     let key = key_of(alloc, component)?;
     if is_repeated(table, &key, component) {
-        return Err(refuse(alloc, 228, &component.at, component.inf.bytes()));
+        return Err(refuse(
+            alloc,
+            DUPLICATE_COMPONENT,
+            &component.at,
+            component.inf.bytes(),
+        ));
     }
     add_component(alloc, table, key, component)?;
     Ok(())

@@ -8,6 +8,7 @@ ghost use Rattle.meta_lexer.specs.Faults.{first_fault};
 ghost use Rattle.dsc_lines.specs.SkuNames.{Placed};
 ghost use Rattle.dsc_platform.specs.SkuUses.{head_uses, parent_uses, row_uses, is_known, unknown, chosen_unknown, use_fault, uses_fault};
 
+use build_base::fault_codes::SKU_UNKNOWN;
 use build_base::{Place, Refusal, Rows, Same, Text, WantOfMemory, refuse};
 use dsc_lines::rows::{KeyValue, Said};
 use dsc_lines::section::Scope;
@@ -138,7 +139,7 @@ fn check_name(
     if known {
         return Ok(());
     }
-    Err(refuse(alloc, 229, at, name))
+    Err(refuse(alloc, SKU_UNKNOWN, at, name))
 }
 
 fn check_names(

@@ -8,6 +8,7 @@ ghost use Rattle.dsc_platform.specs.Stating.{names_of};
 
 use crate::far_places::marks_of;
 use crate::parent_places::{next_of, parents_among};
+use build_base::fault_codes::SKU_LOOP;
 use build_base::{Refusal, refuse};
 use dsc_lines::rows::SkuLine;
 use indexmap::IndexMap;
@@ -44,7 +45,7 @@ fn check_loop(
     ensures { Checks result (loop_fault parents.now place line.now) }
 {
     if is_loop(parents, place) {
-        return Err(refuse(alloc, 230, &line.at, line.sku.name.bytes()));
+        return Err(refuse(alloc, SKU_LOOP, &line.at, line.sku.name.bytes()));
     }
     Ok(())
 }

@@ -34,6 +34,7 @@ use Rattle.edk_build.specs.declared.script.ScriptLine.{ScriptLine}
 use Rattle.edk_build.specs.declared.stand.Stand.{Stand}
 use Rattle.edk_build.specs.declared.status.Status.{Status}
 use Rattle.edk_build.specs.declared.status.Status.TheVariants as answer
+use Rattle.build_base.specs.FaultCodes.{FILE_TOO_LONG, FROM_ABSENT, SCRIPT_ABSENT}
 
 -- before the first line
 abbrev pub start : Stand
@@ -108,13 +109,13 @@ AreDone held (line ∷ lines) s a outputs next b =
     × (outputs ≡ front ++ back)
 
 abbrev pub too_long : List ℕ → Fault
-too_long path = fault_of 102 (record { path = path; line = 0 }) path
+too_long path = fault_of FILE_TOO_LONG (record { path = path; line = 0 }) path
 
 abbrev pub script_absent : List ℕ → Fault
-script_absent at = fault_of 131 (record { path = at; line = 0 }) at
+script_absent at = fault_of SCRIPT_ABSENT (record { path = at; line = 0 }) at
 
 abbrev pub from_absent : List ℕ → ℕ → List ℕ → Fault
-from_absent at number from = fault_of 132 (record { path = at; line = number }) from
+from_absent at number from = fault_of FROM_ABSENT (record { path = at; line = number }) from
 
 abbrev pub from_fault : List ℕ → ℕ → List ℕ → Got → Option Fault
 from_fault at number from (File bytes) = None

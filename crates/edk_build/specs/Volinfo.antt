@@ -14,12 +14,13 @@ use Rattle.volume_reader.specs.Listing.{listing, whole_file}
 use Rattle.edk_build.specs.History.{IsTold, IsUnread}
 use Rattle.edk_build.specs.declared.status.Status.{Status}
 use Rattle.edk_build.specs.declared.status.Status.TheVariants as answer
+use Rattle.build_base.specs.FaultCodes.{FILE_ABSENT, FILE_TOO_LONG}
 
 -- the listing of what is got of a file, or the fault that it is absent or too long
 abbrev pub listing_got : List ℕ → Got → Result (List ℕ) Fault
 listing_got at (File bytes) = listing at bytes
-listing_got at Absent = Err (fault_of 103 (whole_file at) at)
-listing_got at TooLong = Err (fault_of 102 (whole_file at) at)
+listing_got at Absent = Err (fault_of FILE_ABSENT (whole_file at) at)
+listing_got at TooLong = Err (fault_of FILE_TOO_LONG (whole_file at) at)
 
 abbrev pub listing_outputs : List ℕ → List Output
 listing_outputs lines = text ToOut lines ∷ []

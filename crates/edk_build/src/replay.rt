@@ -19,6 +19,7 @@ use crate::stand::{Stand, label_of};
 use crate::status::Status;
 use crate::usage::tell_usage;
 use build_base::fault::fault_text;
+use build_base::fault_codes::{FILE_TOO_LONG, FROM_ABSENT, SCRIPT_ABSENT};
 use build_base::{
     Book, FILE_LIMIT, Fault, Gate, Got, Path, Place, Same, Sink, Target, Text, Tree, TreeFailed,
     WantOfMemory,
@@ -140,8 +141,8 @@ fn put<T: Tree, S: Sink>(
 {
     match tree.read(from, FILE_LIMIT) {
         Ok(Got::File(bytes)) => Ok(put_bytes(alloc, path, bytes, stand)?),
-        Ok(Got::Absent) => Err(tell_fault(alloc, 132, script, number, from, sink)),
-        Ok(Got::TooLong) => Err(tell_fault(alloc, 102, from, 0, from, sink)),
+        Ok(Got::Absent) => Err(tell_fault(alloc, FROM_ABSENT, script, number, from, sink)),
+        Ok(Got::TooLong) => Err(tell_fault(alloc, FILE_TOO_LONG, from, 0, from, sink)),
         Err(TreeFailed::Failed) => Err(Status::ReadFault),
         Err(TreeFailed::WantOfMemory) => Err(Status::WantOfMemory),
     }
@@ -323,8 +324,8 @@ pub fn replay<H: Threads + Sync, T: Tree, S: Sink, G: Gate>(
         Ok(Got::File(bytes)) => {
             replay_text(rt, alloc, script, bytes.bytes(), tree, sink, gate, book)
         }
-        Ok(Got::Absent) => tell_fault(alloc, 131, script, 0, script, sink),
-        Ok(Got::TooLong) => tell_fault(alloc, 102, script, 0, script, sink),
+        Ok(Got::Absent) => tell_fault(alloc, SCRIPT_ABSENT, script, 0, script, sink),
+        Ok(Got::TooLong) => tell_fault(alloc, FILE_TOO_LONG, script, 0, script, sink),
         Err(TreeFailed::Failed) => Status::ReadFault,
         Err(TreeFailed::WantOfMemory) => Status::WantOfMemory,
     }

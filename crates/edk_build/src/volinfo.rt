@@ -11,6 +11,7 @@ ghost use Rattle.edk_build.specs.Volinfo.{listing_got, IsListed, IsVolinfo};
 use crate::made::write_text;
 use crate::status::Status;
 use build_base::fault::fault_text;
+use build_base::fault_codes::{FILE_ABSENT, FILE_TOO_LONG};
 use build_base::file_limit::FILE_LIMIT;
 use build_base::{
     Fault, Got, Path, Place, Refusal, Same, Sink, Target, Text, Tree, TreeFailed, refuse,
@@ -35,8 +36,8 @@ fn listing_got(alloc: Global, path: &Path, got: &Got) -> Result<Text, Refusal>
 {
     match got {
         Got::File(bytes) => list_text(alloc, path, bytes.bytes()),
-        Got::Absent => Err(refused(alloc, 103, path)),
-        Got::TooLong => Err(refused(alloc, 102, path)),
+        Got::Absent => Err(refused(alloc, FILE_ABSENT, path)),
+        Got::TooLong => Err(refused(alloc, FILE_TOO_LONG, path)),
     }
 }
 

@@ -6,6 +6,7 @@ ghost use Rattle.step_engine.specs.declared.talk.Outcome.TheVariants.{Good, Bad}
 
 use build_base::book::Permit;
 use build_base::fault::{Fault, Place};
+use build_base::fault_codes::FILE_ABSENT;
 use build_base::path::Path;
 use build_base::rows::Rows;
 use build_base::same::Same;
@@ -83,7 +84,7 @@ fn absent(alloc: Global, key: u32) -> Result<Outcome<Text>, WantOfMemory>
     };
     let detail = Text::of(alloc, b"")?;
     let fault = Fault {
-        code: 103,
+        code: FILE_ABSENT,
         place,
         detail,
     };

@@ -8,6 +8,7 @@ use Rattle.build_base.specs.Pieces.{Piece, image_of}
 use Rattle.build_base.specs.Runs.{free_byte}
 use Rattle.doc_types.specs.declared.flash.Region.{Region}
 use Rattle.doc_types.specs.declared.flash.DevicePlan.{DevicePlan}
+use Rattle.build_base.specs.FaultCodes.{DATA_TOO_LONG, REGION_ORDER, REGION_OUTSIDE}
 
 -- the bytes of a region: its content, and the erase byte up to its size
 abbrev pub region_piece : ℕ → Region → List ℕ → Piece
@@ -38,12 +39,16 @@ compared_at code place first sign second =
 unfoldable pub region_fault : ℕ → ℕ → Region → ℕ → Option Fault
 region_fault size at region wanted =
     first_holding (
-    (nat_lt region.offset at, compared_at 711 region.at region.offset (codes " < ") at)
+    (nat_lt region.offset at, compared_at REGION_ORDER region.at region.offset (codes " < ") at)
     ∷ (
       nat_lt size (region.offset + region.size),
-      compared_at 712 region.at (region.offset + region.size) (codes " > ") size,
+      compared_at REGION_OUTSIDE region.at (region.offset + region.size) (codes " > ") size,
     )
-    ∷ (nat_lt region.size wanted, compared_at 713 region.at wanted (codes " > ") region.size)
+    ∷ (
+      nat_lt region.size wanted,
+      compared_at DATA_TOO_LONG region.at wanted (codes " > ")
+          region.size,
+    )
     ∷ [])
 
 -- the first fault of regions, each of which is to start at the end of the one above or later

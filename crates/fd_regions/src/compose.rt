@@ -6,6 +6,7 @@ ghost use Rattle.build_base.specs.Runs.{runs_bytes, kept_bytes, are_blank, free_
 ghost use Rattle.fd_regions.specs.Device.{device_of, device_fault, device_image, compared, region_fault};
 
 use crate::contents::Contents;
+use build_base::fault_codes::{DATA_TOO_LONG, REGION_ORDER, REGION_OUTSIDE};
 use build_base::{Fault, Permit, Place, Refusal, Rows, Run, RunWriter, Same, Text, WantOfMemory};
 use doc_types::flash::{DevicePlan, Region};
 use itoa::Buffer;
@@ -66,15 +67,22 @@ fn check_region(
 {
     if region.offset < at {
         let start = region.offset as u128;
-        return bad(alloc, 711, &region.at, start, b" < ", at as u128);
+        return bad(alloc, REGION_ORDER, &region.at, start, b" < ", at as u128);
     }
     let end = region.offset as u128 + region.size as u128;
     if end > size as u128 {
-        return bad(alloc, 712, &region.at, end, b" > ", size as u128);
+        return bad(alloc, REGION_OUTSIDE, &region.at, end, b" > ", size as u128);
     }
     let given = region.size as u128;
     if wanted > region.size {
-        return bad(alloc, 713, &region.at, wanted as u128, b" > ", given);
+        return bad(
+            alloc,
+            DATA_TOO_LONG,
+            &region.at,
+            wanted as u128,
+            b" > ",
+            given,
+        );
     }
     Ok(())
 }

@@ -14,6 +14,7 @@ use Rattle.fdf_lines.specs.Counts.{count_of, saturated, one_scope, scopes_in, he
 use Rattle.fdf_lines.specs.Grammar.{many_fault, heads_fault}
 use Rattle.fdf_lines.specs.Reads.{read_as, reads_as}
 use Rattle.fdf_lines.proofs.CountLemmas.{saturated_twice, saturated_once, above_limit, count_push, statements_more}
+use Rattle.build_base.specs.FaultCodes.{TOO_MANY}
 
 pub reads_more : (old new : List LineRead) (one : LineRead) (above : List (Read Scope Row)) → reads_as old ≡ above → new ≡ old ++ one ∷ []
     → reads_as new ≡ above ++ read_as one ∷ []
@@ -22,7 +23,7 @@ reads_more old new one above h n = ap reads_as n ∙ map-append read_as old (one
 -- heads above and in this line
 pub many_counted : (line : Taken) (a b above n : ℕ) → above ≡ saturated a → n ≡ saturated (above + saturated b) → many_fault line n ≡ many_fault line (a + b)
 many_counted line a b above n h e =
-    ap (λ t. if t then Some (fault_of 263 line.at (codes "65536")) else None)
+    ap (λ t. if t then Some (fault_of TOO_MANY line.at (codes "65536")) else None)
     (ap (nat_lt 65535) (e ∙ ap (λ m. saturated (m + saturated b)) h ∙ saturated_twice a b) ∙ above_limit (a + b))
 
 pub heads_same : (line : Taken) (marks other : Marks) (d v r a b c : ℕ) → marks ≡ other → many_fault line d ≡ many_fault line a → many_fault line v ≡ many_fault line b

@@ -38,6 +38,7 @@ use Rattle.fdf_lines.specs.Sections.{is_image_name, section_named, rule_scope, p
 use Rattle.fdf_lines.specs.Standing.{marks_below}
 use Rattle.fdf_lines.proofs.CountLemmas.{or_none, any_end, count_push, statements_begun, statements_more}
 use Rattle.fdf_lines.proofs.StatementLemmas.{full_gives}
+use Rattle.build_base.specs.FaultCodes.{TOO_MANY}
 
 -- heads
 
@@ -141,7 +142,7 @@ few_if true fault n e f = absurd cc
 few_if false fault n e f = grind (arith, nat_tests)
 
 few_heads : (line : Taken) (n : ℕ) → many_fault line n ≡ None → n ≤ 65535
-few_heads line n f = few_if (nat_lt 65535 n) (fault_of 263 line.at _) n refl f
+few_heads line n f = few_if (nat_lt 65535 n) (fault_of TOO_MANY line.at _) n refl f
 
 heads_more : (section : FlashSection) (above : List (Read Scope Row)) (at : Place) (scopes : List Scope) (here : ℕ) → count_of (one_scope section) scopes ≤ here
     → heads_above section above + here ≤ 65535 → heads_above section (above ++ entered at scopes ∷ []) ≤ 65535

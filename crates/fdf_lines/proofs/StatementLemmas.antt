@@ -60,6 +60,7 @@ use Rattle.fdf_volumes.specs.VolumeKeys as volume_key
 use Rattle.fdf_volumes.specs.VolumeLines as volume
 use Rattle.fdf_words.specs.Words.{is_close, word_of, after_word, after_equals, volume_alignment}
 use Rattle.fdf_lines.proofs.CountLemmas.{or_none, or_join}
+use Rattle.build_base.specs.FaultCodes.{BAD_INF_LINE, FDF_BAD_FILE, OPEN_QUOTE, TOO_MANY}
 
 -- whether a row is a statement
 abbrev states : Option Row → Bool
@@ -358,14 +359,14 @@ last_of_three a b fault = some_lesser a (lesser b (Some fault)) (some_lesser b (
 -- a statement too many has a fault
 
 abbrev many : Taken → Fault
-many line = fault_of 263 line.at (codes "65536")
+many line = fault_of TOO_MANY line.at (codes "65536")
 
 full_apriori : (line : Taken) → IsSome (least_of (file.apriori_faults line true))
 unfolding file.apriori_faults
-full_apriori line = last_of_three (undefined_macro line.at line.text) (wanted (file.apriori_named (after_word line.text)) (bad_line 246 line)) (many line)
+full_apriori line = last_of_three (undefined_macro line.at line.text) (wanted (file.apriori_named (after_word line.text)) (bad_line FDF_BAD_FILE line)) (many line)
 
 full_parts : (line : Taken) (p : Option (InfOptions × List ℕ)) → IsSome (least_of (inf.inf_parts_faults line true p))
-full_parts line None = last_of_three (undefined_macro line.at line.text) (Some (bad_line 248 line)) (many line)
+full_parts line None = last_of_three (undefined_macro line.at line.text) (Some (bad_line BAD_INF_LINE line)) (many line)
 full_parts line (Some p) =
     let path = inf.inf_path_fault line p.1 in
     let template = inf.template_fault line p.0.template in
@@ -386,9 +387,9 @@ shut_gives : (line : Taken) (s : Option Statement) → gives (judged (volume.shu
 shut_gives line (Some statement.Apriori) = of_fault (file.apriori_faults line true) (file.apriori_row line) (full_apriori line)
 shut_gives line (Some statement.Inf) = of_fault (inf.inf_faults line true) (option_map row.Inf (inf.inf_of line)) (full_inf line)
 shut_gives line (Some statement.File) = of_fault (file.file_faults line true) (file.file_row line) (full_file line)
-shut_gives line (Some statement.Section) = of_row (file.no_form_faults 246 line) None refl
-shut_gives line (Some statement.Close) = of_row (file.no_form_faults 246 line) None refl
-shut_gives line (Some statement.BadClose) = of_row (file.no_form_faults 246 line) None refl
+shut_gives line (Some statement.Section) = of_row (file.no_form_faults FDF_BAD_FILE line) None refl
+shut_gives line (Some statement.Close) = of_row (file.no_form_faults FDF_BAD_FILE line) None refl
+shut_gives line (Some statement.BadClose) = of_row (file.no_form_faults FDF_BAD_FILE line) None refl
 shut_gives line None = of_row (volume.plain_faults line (key_pair line.text)) (volume.plain_row line (key_pair line.text)) (key_states line (key_pair line.text))
 
 volume_in : (line : Taken) (braces : Open) (s : Option Statement) → gives (judged (volume.faults_in line braces true s) (volume.row_in line braces s)) ≡ false
@@ -407,7 +408,7 @@ read_if true fault faults r e = refl
 read_if false fault faults r e = e
 
 of_read : (line : Taken) (faults : List (Option Fault)) (r : Option Row) → gives (judged faults r) ≡ false → gives (judged (of_read_line line faults) r) ≡ false
-of_read line faults r e = read_if (ends_quoted line.text) (fault_of 111 line.at (codes "\"")) faults r e
+of_read line faults r e = read_if (ends_quoted line.text) (fault_of OPEN_QUOTE line.at (codes "\"")) faults r e
 
 scope_gives : (line : Taken) (marks : Marks) (s : Scope) → gives (judged (scope_faults line marks true s) (scope_row line marks s)) ≡ false
 scope_gives line marks scope.Settings = refl

@@ -25,6 +25,7 @@ use Rattle.fdf_lines.specs.Standing.{marks_below, volume_below}
 use Rattle.fdf_volumes.specs.VolumeLines.{volume_faults, volume_row}
 use Rattle.fdf_words.specs.Words.{last_byte, word_of}
 use Rattle.meta_lexer.specs.Words.{same_word}
+use Rattle.build_base.specs.FaultCodes.{BAD_KEY, BAD_RULE, FDF_BAD_FILE, TOO_MANY}
 
 -- the rank of a value that a line gives to a PCD
 abbrev pub rank_of : Scope → ℕ
@@ -60,18 +61,20 @@ abbrev pub is_full : ℕ → Bool
 is_full n = nat_le 65535 n
 
 abbrev pub many_fault : Taken → ℕ → Option Fault
-many_fault line n = if nat_lt 65535 n then Some (fault_of 263 line.at (codes "65536")) else None
+many_fault line n = if nat_lt 65535 n then Some (fault_of TOO_MANY line.at (codes "65536"))
+    else None
 
 -- braces that are open, at heads or at the end
 abbrev pub open_fault : Taken → Open → Option Fault
 open_fault line Shut = None
-open_fault line InApriori = Some (fault_of 246 line.at (codes "{"))
-open_fault line (InFile filled) = Some (fault_of 246 line.at (codes "{"))
-open_fault line InRule = Some (fault_of 247 line.at (codes "{"))
+open_fault line InApriori = Some (fault_of FDF_BAD_FILE line.at (codes "{"))
+open_fault line (InFile filled) = Some (fault_of FDF_BAD_FILE line.at (codes "{"))
+open_fault line InRule = Some (fault_of BAD_RULE line.at (codes "{"))
 
 -- a rule without a file
 abbrev pub unfiled_fault : Taken → Bool → Option Fault
-unfiled_fault line unfiled = if unfiled then Some (fault_of 247 line.at (codes "FILE")) else None
+unfiled_fault line unfiled = if unfiled then Some (fault_of BAD_RULE line.at (codes "FILE"))
+    else None
 
 -- a statement of a volume that opens braces
 unfoldable pub opens : List ℕ → Bool
@@ -87,7 +90,7 @@ are_shut InRule = false
 -- braces that the last line opens, also where it has a fault of its own
 abbrev pub begun_fault : Taken → Marks → Bool → Option Fault
 begun_fault line marks volume = if volume && (are_shut marks.braces && opens line.text)
-    then Some (fault_of 246 line.at (codes "{")) else None
+    then Some (fault_of FDF_BAD_FILE line.at (codes "{")) else None
 
 abbrev pub left_fault : Taken → Marks → Bool → Option Fault
 left_fault line marks volume =
@@ -105,7 +108,7 @@ flash_grammar =
     record {
       head_faults = λ line head. meaning_faults line head (head_meaning head);
       scope_of = λ head. meaning_scope (head_meaning head);
-      stray = 241;
+      stray = BAD_KEY;
       faults = λ above line scope. line_faults line (marks_below above)
           (is_full (statements_here above)) scope;
       row_of = λ above line scope. line_row line (marks_below above) scope;

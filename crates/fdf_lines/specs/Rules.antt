@@ -30,6 +30,7 @@ use Rattle.fdf_volumes.specs.InfLines.{quoted_front}
 use Rattle.fdf_words.specs.Numbers.{bad_line}
 use Rattle.fdf_volumes.specs.Statements.{file_parts, head_with}
 use Rattle.fdf_words.specs.Words.{is_close, word_of, after_word, after_equals, alignment_of}
+use Rattle.build_base.specs.FaultCodes.{BAD_RULE, COMPRESSED_REFUSED, UNDEFINED_MACRO}
 
 -- the names that are filled in when the rule is used
 abbrev pub rule_names : List (List ℕ)
@@ -49,16 +50,16 @@ holds_other [] = false
 holds_other (x ∷ xs) = is_other (x ∷ xs) || holds_other xs
 
 abbrev pub other_macro : Taken → List ℕ → Option Fault
-other_macro line text = if holds_other text then Some (bad_line 127 line) else None
+other_macro line text = if holds_other text then Some (bad_line UNDEFINED_MACRO line) else None
 
 -- such a macro before a path, or in it behind `$(WORKSPACE)/`
 abbrev pub other_around : Taken → List ℕ → Option Fault
 other_around line path =
     if holds_other (take (length line.text - length path) line.text)
-    || holds_other (without_workspace path) then Some (bad_line 127 line) else None
+    || holds_other (without_workspace path) then Some (bad_line UNDEFINED_MACRO line) else None
 
 abbrev pub no_rule_faults : Taken → List (Option Fault)
-no_rule_faults line = other_macro line line.text ∷ Some (bad_line 247 line) ∷ []
+no_rule_faults line = other_macro line line.text ∷ Some (bad_line BAD_RULE line) ∷ []
 
 -- the options of a section
 abbrev pub rule_options : List (List ℕ × RuleOption)
@@ -226,7 +227,7 @@ abbrev pub kind_faults : Taken → List ℕ → List ℕ → Option RuleKind →
 kind_faults line first text (Some (kind_.Plain kind)) = plain_faults line first text
 kind_faults line first text (Some (kind_.Worded kind)) = worded_faults line first text
 kind_faults line first text (Some kind_.Compressed) =
-    other_macro line line.text ∷ Some (fault_of 252 line.at first) ∷ []
+    other_macro line line.text ∷ Some (fault_of COMPRESSED_REFUSED line.at first) ∷ []
 kind_faults line first text None = no_rule_faults line
 
 abbrev pub kind_row : Taken → List ℕ → Option RuleKind → Option Row

@@ -18,6 +18,7 @@ use Rattle.fdf_lines.specs.declared.section.FlashSection.{FlashSection}
 use Rattle.fdf_lines.specs.declared.section.FlashSection.TheVariants.{Defines, Device, Volume, Rule}
 use Rattle.fdf_lines.specs.declared.section.HeadMeaning.{HeadMeaning}
 use Rattle.fdf_lines.specs.declared.section.HeadMeaning.TheVariants.{Enters, Passed, Misqualified, BadRule, Unknown}
+use Rattle.build_base.specs.FaultCodes.{BAD_KEY, BAD_RULE, BAD_SECTION}
 
 -- the sections that there are, without regard to case; those with None are read past
 abbrev pub sections : List (List ℕ × Option FlashSection)
@@ -88,9 +89,9 @@ unfoldable pub head_meaning : Head → HeadMeaning
 head_meaning head = parts_meaning head.parts
 
 abbrev pub meaning_faults : Taken → Head → HeadMeaning → List (Option Fault)
-meaning_faults line head Misqualified = Some (fault_of 114 line.at line.text) ∷ []
-meaning_faults line head BadRule = Some (fault_of 247 line.at line.text) ∷ []
-meaning_faults line head Unknown = Some (fault_of 241 line.at (first_text head.parts)) ∷ []
+meaning_faults line head Misqualified = Some (fault_of BAD_SECTION line.at line.text) ∷ []
+meaning_faults line head BadRule = Some (fault_of BAD_RULE line.at line.text) ∷ []
+meaning_faults line head Unknown = Some (fault_of BAD_KEY line.at (first_text head.parts)) ∷ []
 meaning_faults line head (Enters scope) = []
 meaning_faults line head Passed = []
 

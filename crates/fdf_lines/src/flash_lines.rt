@@ -12,6 +12,7 @@ use crate::counts::{heads_of, scopes_of, statements_of};
 use crate::rule_line::rule_line;
 use crate::section::{FlashSection, enter};
 use crate::standing::{has_volume, marks_after, marks_begun};
+use build_base::fault_codes::{BAD_KEY, BAD_RULE, FDF_BAD_FILE, TOO_MANY};
 use build_base::{Lines, Place, Refusal, Rows, Same, Taken, WantOfMemory, refuse};
 use doc_reading::least_check::{least_of_five, least_of_three};
 use doc_reading::value_fields::open_quote;
@@ -108,7 +109,7 @@ fn check_many(alloc: Global, line: &Taken, heads: u64) -> Result<(), Refusal>
     ensures { Checks result (many_fault line.now heads) }
 {
     if heads > LIMIT {
-        return Err(refuse(alloc, 263, &line.at, b"65536".as_slice()));
+        return Err(refuse(alloc, TOO_MANY, &line.at, b"65536".as_slice()));
     }
     Ok(())
 }
@@ -118,9 +119,9 @@ fn check_braces(alloc: Global, line: &Taken, braces: Open) -> Result<(), Refusal
 {
     match braces {
         Open::Shut => Ok(()),
-        Open::InApriori => Err(refuse(alloc, 246, &line.at, b"{".as_slice())),
-        Open::InFile(_) => Err(refuse(alloc, 246, &line.at, b"{".as_slice())),
-        Open::InRule => Err(refuse(alloc, 247, &line.at, b"{".as_slice())),
+        Open::InApriori => Err(refuse(alloc, FDF_BAD_FILE, &line.at, b"{".as_slice())),
+        Open::InFile(_) => Err(refuse(alloc, FDF_BAD_FILE, &line.at, b"{".as_slice())),
+        Open::InRule => Err(refuse(alloc, BAD_RULE, &line.at, b"{".as_slice())),
     }
 }
 
@@ -128,7 +129,7 @@ fn check_filed(alloc: Global, line: &Taken, unfiled: bool) -> Result<(), Refusal
     ensures { Checks result (unfiled_fault line.now unfiled) }
 {
     if unfiled {
-        return Err(refuse(alloc, 247, &line.at, b"FILE".as_slice()));
+        return Err(refuse(alloc, BAD_RULE, &line.at, b"FILE".as_slice()));
     }
     Ok(())
 }
@@ -161,7 +162,7 @@ fn check_begun(alloc: Global, line: &Taken, marks: Marks, volume: bool) -> Resul
     ensures { Checks result (begun_fault line.now marks volume) }
 {
     if volume && are_shut(marks.braces) && opens(line.text.bytes()) {
-        return Err(refuse(alloc, 246, &line.at, b"{".as_slice()));
+        return Err(refuse(alloc, FDF_BAD_FILE, &line.at, b"{".as_slice()));
     }
     Ok(())
 }
@@ -234,7 +235,7 @@ impl Format for FlashLines {
     ghost holds = { Holds };
 
     fn stray(&self) -> u16 {
-        241
+        BAD_KEY
     }
 
     fn enter(&self, line: &Taken, head: &Head) -> Result<Option<Scope>, Refusal> {

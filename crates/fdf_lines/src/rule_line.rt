@@ -10,8 +10,10 @@ ghost use Rattle.doc_reading.specs.Least.{least_of};
 ghost use Rattle.fdf_volumes.specs.Statements.{file_parts};
 ghost use Rattle.fdf_words.specs.Words.{word_of, after_word};
 ghost use Rattle.fdf_lines.specs.Rules.{begins_name, is_other, holds_other, rule_parts, other_macro, other_around, no_rule_faults, rule_kind, number_or_zero, made_plan, is_extension, path_faults, path_row, text_faults, text_row, quoted_faults, quoted_row, stated_words, is_string, plain_faults, plain_row, worded_faults, worded_row, kind_faults, kind_row, inner_faults, inner_row, named_faults, named_row, is_file, outer_faults, outer_row, rule_faults, rule_row};
+ghost use Rattle.build_base.specs.FaultCodes.{COMPRESSED_REFUSED};
 
 use crate::rule_options::{RuleOptions, rule_parts};
+use build_base::fault_codes::{BAD_RULE, COMPRESSED_REFUSED, UNDEFINED_MACRO};
 use build_base::{Refusal, Same, Taken, Text, WantOfMemory, refuse};
 use doc_reading::least_check::least_refusal;
 use doc_types::standard::{
@@ -99,7 +101,7 @@ fn check_macros(alloc: Global, line: &Taken, text: &[u8]) -> Result<(), Refusal>
     ensures { Checks result (other_macro line.now text.now) }
 {
     if holds_other(text) {
-        return Err(bad_line(alloc, 127, line));
+        return Err(bad_line(alloc, UNDEFINED_MACRO, line));
     }
     Ok(())
 }
@@ -110,10 +112,10 @@ fn check_around(alloc: Global, line: &Taken, path: &[u8]) -> Result<(), Refusal>
     let text = line.text.bytes();
     let end = text.len().saturating_sub(path.len());
     if holds_other(&text[..end]) {
-        return Err(bad_line(alloc, 127, line));
+        return Err(bad_line(alloc, UNDEFINED_MACRO, line));
     }
     if holds_other(without_workspace(path)) {
-        return Err(bad_line(alloc, 127, line));
+        return Err(bad_line(alloc, UNDEFINED_MACRO, line));
     }
     Ok(())
 }
@@ -123,7 +125,7 @@ fn no_rule(alloc: Global, line: &Taken) -> Refusal
 {
     least_refusal(
         check_macros(alloc, line, line.text.bytes()),
-        bad_line(alloc, 247, line),
+        bad_line(alloc, BAD_RULE, line),
     )
 }
 
@@ -299,12 +301,13 @@ fn worded_line(
 
 fn compressed(alloc: Global, line: &Taken, word: &[u8]) -> Refusal
     ensures { Finds result
-        (least_of (other_macro line.now line.now.text ∷ Some (fault_of 252 line.now.at word.now)
+        (least_of (other_macro line.now line.now.text
+        ∷ Some (fault_of COMPRESSED_REFUSED line.now.at word.now)
         ∷ [])) }
 {
     least_refusal(
         check_macros(alloc, line, line.text.bytes()),
-        refuse(alloc, 252, &line.at, word),
+        refuse(alloc, COMPRESSED_REFUSED, &line.at, word),
     )
 }
 

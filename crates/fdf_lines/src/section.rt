@@ -5,6 +5,7 @@ ghost use Rattle.build_base.specs.Answer.{Answers};
 ghost use Rattle.doc_reading.specs.Gathering.{judged};
 ghost use Rattle.fdf_lines.specs.Sections.{section_named, is_name_byte, is_image_name, plain_meaning, device_meaning, volume_meaning, rule_scope, rule_meaning, meaning_of, head_meaning, meaning_faults, meaning_scope};
 
+use build_base::fault_codes::{BAD_KEY, BAD_RULE, BAD_SECTION};
 use build_base::{Refusal, Taken, Text, WantOfMemory, refuse};
 use doc_types::arch::{Arch, arch_named};
 use doc_types::module_type::{ModuleType, module_type_named};
@@ -234,9 +235,14 @@ fn enter_as(
     match meaning {
         HeadMeaning::Enters(scope) => Ok(Some(scope)),
         HeadMeaning::Passed => Ok(None),
-        HeadMeaning::Misqualified => Err(refuse(alloc, 114, &line.at, line.text.bytes())),
-        HeadMeaning::BadRule => Err(refuse(alloc, 247, &line.at, line.text.bytes())),
-        HeadMeaning::Unknown => Err(refuse(alloc, 241, &line.at, first_text(head.parts.items()))),
+        HeadMeaning::Misqualified => Err(refuse(alloc, BAD_SECTION, &line.at, line.text.bytes())),
+        HeadMeaning::BadRule => Err(refuse(alloc, BAD_RULE, &line.at, line.text.bytes())),
+        HeadMeaning::Unknown => Err(refuse(
+            alloc,
+            BAD_KEY,
+            &line.at,
+            first_text(head.parts.items()),
+        )),
     }
 }
 

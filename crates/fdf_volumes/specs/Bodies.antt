@@ -27,6 +27,7 @@ use Rattle.fdf_words.specs.declared.rows.SectionBody as body_type
 use Rattle.fdf_words.specs.declared.rows.SectionBody.TheVariants as body
 use Rattle.fdf_volumes.specs.Statements.{no_form_faults, macro_before}
 use Rattle.fdf_words.specs.Words.{word_of, after_word, after_equals, stated_align}
+use Rattle.build_base.specs.FaultCodes.{BAD_PATH, COMPRESSED_REFUSED, FDF_BAD_FILE, FDF_BAD_GUID}
 
 -- what stands behind a section's kind; the compressed and the GUIDed ones are refused
 abbrev pub section_words : List (List ℕ × SectionWord)
@@ -62,7 +63,7 @@ made_section line kind align guid filled =
 -- `= path`
 abbrev pub path_faults : Taken → List ℕ → List (Option Fault)
 path_faults line value = macro_before line value
-    ∷ wanted (path_field (without_workspace value)) (fault_of 101 line.at value) ∷ []
+    ∷ wanted (path_field (without_workspace value)) (fault_of BAD_PATH line.at value) ∷ []
 
 abbrev pub path_row : Taken → ℕ → Align → Option (List ℕ) → Option Row
 path_row line kind align (Some path) = Some (made_section line kind align None (body.Tree path))
@@ -83,7 +84,8 @@ words_row line kind align value None =
 abbrev pub guid_faults : Taken → List ℕ → List ℕ → List (Option Fault)
 guid_faults line word value =
     macro_before line value ∷ wanted (path_field (without_workspace value))
-    (fault_of 101 line.at value) ∷ wanted (guid_of word) (fault_of 262 line.at word) ∷ []
+    (fault_of BAD_PATH line.at value) ∷ wanted (guid_of word) (fault_of FDF_BAD_GUID line.at word)
+    ∷ []
 
 abbrev pub guid_row : Taken → Align → Option Guid → Option (List ℕ) → Option Row
 guid_row line align (Some guid) (Some path) =
@@ -103,8 +105,8 @@ abbrev pub value_faults : Taken → SectionWord → List ℕ → List (Option Fa
 value_faults line (Plain kind) value = path_faults line value
 value_faults line (Worded kind) value = words_faults line value (words_in_quotes value)
 value_faults line Nested value = undefined_macro line.at line.text ∷ []
-value_faults line Named value = no_form_faults 246 line
-value_faults line Refused value = no_form_faults 246 line
+value_faults line Named value = no_form_faults FDF_BAD_FILE line
+value_faults line Refused value = no_form_faults FDF_BAD_FILE line
 
 abbrev pub value_row : Taken → Align → SectionWord → List ℕ → Option Row
 value_row line align (Plain kind) value =
@@ -117,7 +119,7 @@ value_row line align Refused value = None
 
 abbrev pub equals_faults : Taken → SectionWord → Option (List ℕ) → List (Option Fault)
 equals_faults line word (Some value) = value_faults line word value
-equals_faults line word None = no_form_faults 246 line
+equals_faults line word None = no_form_faults FDF_BAD_FILE line
 
 abbrev pub equals_row : Taken → Align → SectionWord → Option (List ℕ) → Option Row
 equals_row line align word (Some value) = value_row line align word value
@@ -125,7 +127,7 @@ equals_row line align word None = None
 
 abbrev pub named_faults : Taken → List ℕ → Option (List ℕ) → List (Option Fault)
 named_faults line word (Some value) = guid_faults line word value
-named_faults line word None = no_form_faults 246 line
+named_faults line word None = no_form_faults FDF_BAD_FILE line
 
 abbrev pub named_row : Taken → Align → List ℕ → Option (List ℕ) → Option Row
 named_row line align word (Some value) =
@@ -138,12 +140,13 @@ named_value text = if_word (word_of text) (some_text (after_equals (after_word t
 
 abbrev pub kind_faults : Taken → List ℕ → Option SectionWord → List (Option Fault)
 kind_faults line text (Some Refused) =
-    undefined_macro line.at line.text ∷ Some (fault_of 252 line.at (word_of text)) ∷ []
+    undefined_macro line.at line.text ∷ Some (fault_of COMPRESSED_REFUSED line.at (word_of text))
+    ∷ []
 kind_faults line text (Some Named) =
     named_faults line (word_of (after_word text)) (named_value (after_word text))
 kind_faults line text (Some word) =
     equals_faults line word (some_text (after_equals (after_word text)))
-kind_faults line text None = no_form_faults 246 line
+kind_faults line text None = no_form_faults FDF_BAD_FILE line
 
 abbrev pub kind_row : Taken → Align → List ℕ → Option SectionWord → Option Row
 kind_row line align text (Some Refused) = None
@@ -155,7 +158,7 @@ kind_row line align text None = None
 
 abbrev pub aligned_faults : Taken → Option (Align × List ℕ) → List (Option Fault)
 aligned_faults line (Some p) = kind_faults line p.1 (section_word (word_of p.1))
-aligned_faults line None = no_form_faults 246 line
+aligned_faults line None = no_form_faults FDF_BAD_FILE line
 
 abbrev pub aligned_row : Taken → Option (Align × List ℕ) → Option Row
 aligned_row line (Some p) = kind_row line p.0 p.1 (section_word (word_of p.1))
@@ -171,7 +174,7 @@ section_row line = aligned_row line (maybe_align (after_word line.text))
 -- the path of a whole body
 abbrev pub whole_faults : Taken → List (Option Fault)
 whole_faults line = wanted (path_field (without_workspace line.text))
-    (fault_of 101 line.at line.text) ∷ []
+    (fault_of BAD_PATH line.at line.text) ∷ []
 
 abbrev pub whole_row : Option (List ℕ) → Option Row
 whole_row (Some path) = Some (row.Whole path)

@@ -23,6 +23,7 @@ use Rattle.fdf_volumes.specs.declared.inf_line.InfOptions.{InfOptions}
 use Rattle.fdf_words.specs.Numbers.{bad_line}
 use Rattle.fdf_volumes.specs.Statements.{macro_before, full_fault}
 use Rattle.fdf_words.specs.Words.{begins_with, word_of, after_word, after_equals}
+use Rattle.build_base.specs.FaultCodes.{BAD_INF_LINE, BAD_PATH}
 
 abbrev pub inf_options : List (List ℕ × InfOption)
 inf_options = (codes "RuleOverride", RuleOverride) ∷ (codes "USE", Use) ∷ (codes "VERSION", Version)
@@ -85,11 +86,12 @@ inf_parts text = and_inf (and_inf (and_inf (and_inf (next_inf no_inf_options tex
 
 abbrev pub inf_path_fault : Taken → List ℕ → Option Fault
 inf_path_fault line path =
-    if length path == 0 then Some (bad_line 248 line)
-    else wanted (path_field (without_workspace path)) (fault_of 101 line.at path)
+    if length path == 0 then Some (bad_line BAD_INF_LINE line)
+    else wanted (path_field (without_workspace path)) (fault_of BAD_PATH line.at path)
 
 abbrev pub template_fault : Taken → Option (List ℕ) → Option Fault
-template_fault line (Some name) = if is_identifier name then None else Some (bad_line 248 line)
+template_fault line (Some name) = if is_identifier name
+    then None else Some (bad_line BAD_INF_LINE line)
 template_fault line None = None
 
 -- an architecture that isn't all of them
@@ -98,7 +100,7 @@ one_arch (Some Common) = None
 one_arch arch = arch
 
 abbrev pub use_fault : Taken → Option (List ℕ) → Option Fault
-use_fault line (Some word) = wanted (one_arch (arch_named word)) (bad_line 248 line)
+use_fault line (Some word) = wanted (one_arch (arch_named word)) (bad_line BAD_INF_LINE line)
 use_fault line None = None
 
 abbrev pub used_arch : Option (List ℕ) → Option Arch
@@ -109,7 +111,8 @@ abbrev pub inf_parts_faults : Taken → Bool → Option (InfOptions × List ℕ)
 inf_parts_faults line full (Some p) =
     macro_before line p.1 ∷ inf_path_fault line p.1 ∷ template_fault line p.0.template
     ∷ use_fault line p.0.arch ∷ full_fault line full ∷ []
-inf_parts_faults line full None = undefined_macro line.at line.text ∷ Some (bad_line 248 line)
+inf_parts_faults line full None = undefined_macro line.at line.text
+    ∷ Some (bad_line BAD_INF_LINE line)
     ∷ full_fault line full ∷ []
 
 abbrev pub made_inf : Taken → InfOptions → Option (List ℕ) → Option InfLine

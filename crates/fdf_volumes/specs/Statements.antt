@@ -20,6 +20,7 @@ use Rattle.fdf_words.specs.declared.rows.Row.TheVariants as row
 use Rattle.fdf_words.specs.declared.words.Options.{Options}
 use Rattle.fdf_words.specs.Numbers.{bad_line}
 use Rattle.fdf_words.specs.Words.{word_of, after_word, after_equals, before_brace, options_of}
+use Rattle.build_base.specs.FaultCodes.{FDF_BAD_FILE, FDF_BAD_GUID, TOO_MANY, UNDEFINED_MACRO}
 
 -- a line that is of no form, unless a macro is left in it
 abbrev pub no_form_faults : ℕ → Taken → List (Option Fault)
@@ -28,11 +29,11 @@ no_form_faults code line = undefined_macro line.at line.text ∷ Some (bad_line 
 -- a macro that is left before a field at the line's end
 abbrev pub macro_before : Taken → List ℕ → Option Fault
 macro_before line field = if holds_macro (take (length line.text - length field) line.text)
-    then Some (bad_line 127 line) else None
+    then Some (bad_line UNDEFINED_MACRO line) else None
 
 -- a volume has at most 65,535 statements
 abbrev pub full_fault : Taken → Bool → Option Fault
-full_fault line full = if full then Some (fault_of 263 line.at (codes "65536")) else None
+full_fault line full = if full then Some (fault_of TOO_MANY line.at (codes "65536")) else None
 
 abbrev pub file_types : List (List ℕ × ℕ)
 file_types =
@@ -67,12 +68,12 @@ file_parts text = front_parts (file_type (word_of text)) (file_front text)
 
 -- a word that is a GUID
 abbrev pub guid_fault : Taken → List ℕ → Option Guid → Option Fault
-guid_fault line word guid = if length word == 0 then Some (bad_line 246 line)
-    else wanted guid (fault_of 262 line.at word)
+guid_fault line word guid = if length word == 0 then Some (bad_line FDF_BAD_FILE line)
+    else wanted guid (fault_of FDF_BAD_GUID line.at word)
 
 abbrev pub parts_fault : Taken → Option (ℕ × List ℕ × Options) → Option Fault
 parts_fault line (Some p) = guid_fault line p.1 (guid_of p.1)
-parts_fault line None = Some (bad_line 246 line)
+parts_fault line None = Some (bad_line FDF_BAD_FILE line)
 
 abbrev pub head_with : Taken → ℕ → Option Guid → Options → FileHead
 head_with line kind guid options =
@@ -112,7 +113,7 @@ member_name text = alone (file_type (word_of text)) (after_equals (after_word te
 
 abbrev pub member_fault : Taken → Option (List ℕ) → Option Fault
 member_fault line (Some word) = guid_fault line word (guid_of word)
-member_fault line None = Some (bad_line 246 line)
+member_fault line None = Some (bad_line FDF_BAD_FILE line)
 
 abbrev pub named_member : Option Guid → Option Row
 named_member (Some guid) = Some (row.Member (member.File guid))
@@ -143,7 +144,7 @@ made_apriori line None = None
 unfoldable pub apriori_faults : Taken → Bool → List (Option Fault)
 apriori_faults line full =
     undefined_macro line.at line.text ∷ wanted (apriori_named (after_word line.text))
-    (bad_line 246 line) ∷ full_fault line full ∷ []
+    (bad_line FDF_BAD_FILE line) ∷ full_fault line full ∷ []
 
 unfoldable pub apriori_row : Taken → Option Row
 apriori_row line = made_apriori line (apriori_named (after_word line.text))

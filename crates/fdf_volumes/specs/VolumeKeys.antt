@@ -23,6 +23,7 @@ use Rattle.fdf_words.specs.declared.rows.VolumeKey.TheVariants as key
 use Rattle.fdf_words.specs.declared.rows.VolumeSetting.TheVariants as setting
 use Rattle.fdf_words.specs.Numbers.{bad_value, number_faults, number_of_field}
 use Rattle.fdf_words.specs.Words.{volume_alignment}
+use Rattle.build_base.specs.FaultCodes.{BAD_KEY, FDF_BAD_GUID}
 
 abbrev pub truths : List (List ℕ × Bool)
 truths = (codes "TRUE", true) ∷ (codes "FALSE", false) ∷ []
@@ -69,7 +70,7 @@ truth_faults line value = undefined_macro line.at value
 
 abbrev pub name_faults : Taken → List ℕ → List (Option Fault)
 name_faults line value = undefined_macro line.at value
-    ∷ wanted (guid_of value) (fault_of 262 line.at value) ∷ []
+    ∷ wanted (guid_of value) (fault_of FDF_BAD_GUID line.at value) ∷ []
 
 abbrev pub name_row : Option Guid → Option Row
 name_row (Some guid) = Some (Setting (setting.NameGuid guid))
@@ -82,7 +83,7 @@ file_system None = None
 -- a GUID, and a file system that there is
 abbrev pub system_fault : Taken → List ℕ → Option Guid → Option Fault
 system_fault line value (Some guid) = wanted (is_ffs3 guid) (bad_value line value)
-system_fault line value None = Some (fault_of 262 line.at value)
+system_fault line value None = Some (fault_of FDF_BAD_GUID line.at value)
 
 abbrev pub system_faults : Taken → List ℕ → List (Option Fault)
 system_faults line value = undefined_macro line.at value ∷ system_fault line value (guid_of value)
@@ -106,7 +107,8 @@ word_faults line name value (Some word.NameGuid) = name_faults line value
 word_faults line name value (Some word.FileSystem) = system_faults line value
 word_faults line name value (Some word.ForceRebase) = truth_faults line value
 word_faults line name value (Some (word.Attribute bits)) = truth_faults line value
-word_faults line name value None = undefined_macro line.at value ∷ Some (fault_of 241 line.at name)
+word_faults line name value None = undefined_macro line.at value
+    ∷ Some (fault_of BAD_KEY line.at name)
     ∷ []
 
 abbrev pub word_row : Taken → List ℕ → Option VolumeWord → Option Row

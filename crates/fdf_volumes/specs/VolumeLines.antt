@@ -26,6 +26,7 @@ use Rattle.fdf_words.specs.Keys.{key_pair, volume_word}
 use Rattle.fdf_volumes.specs.Statements.{no_form_faults, file_faults, file_row, member_faults, member_row, apriori_faults, apriori_row}
 use Rattle.fdf_volumes.specs.VolumeKeys.{word_faults, word_row}
 use Rattle.fdf_words.specs.Words.{begins_with, is_close, word_of}
+use Rattle.build_base.specs.FaultCodes.{BAD_KEY, FDF_BAD_FILE, STATEMENT_REFUSED}
 
 abbrev pub statements : List (List ℕ × Statement)
 statements = (codes "APRIORI", Apriori) ∷ (codes "INF", Inf) ∷ (codes "FILE", File)
@@ -42,9 +43,9 @@ statement_of text = if is_close text then Some Close else if begins_with 125 tex
 -- a key without `=`, or a word that begins no statement
 abbrev pub unkeyed_faults : Taken → Option VolumeWord → List (Option Fault)
 unkeyed_faults line (Some word) = undefined_macro line.at line.text
-    ∷ Some (fault_of 241 line.at (word_of line.text)) ∷ []
+    ∷ Some (fault_of BAD_KEY line.at (word_of line.text)) ∷ []
 unkeyed_faults line None = undefined_macro line.at line.text
-    ∷ Some (fault_of 243 line.at (word_of line.text)) ∷ []
+    ∷ Some (fault_of STATEMENT_REFUSED line.at (word_of line.text)) ∷ []
 
 abbrev pub plain_faults : Taken → Option (List ℕ × List ℕ) → List (Option Fault)
 plain_faults line (Some p) = word_faults line p.0 p.1 (volume_word p.0)
@@ -59,9 +60,9 @@ abbrev pub shut_faults : Taken → Bool → Option Statement → List (Option Fa
 shut_faults line full (Some Apriori) = apriori_faults line full
 shut_faults line full (Some Inf) = inf_faults line full
 shut_faults line full (Some File) = file_faults line full
-shut_faults line full (Some Section) = no_form_faults 246 line
-shut_faults line full (Some Close) = no_form_faults 246 line
-shut_faults line full (Some BadClose) = no_form_faults 246 line
+shut_faults line full (Some Section) = no_form_faults FDF_BAD_FILE line
+shut_faults line full (Some Close) = no_form_faults FDF_BAD_FILE line
+shut_faults line full (Some BadClose) = no_form_faults FDF_BAD_FILE line
 shut_faults line full None = plain_faults line (key_pair line.text)
 
 abbrev pub shut_row : Taken → Option Statement → Option Row
@@ -78,10 +79,10 @@ abbrev pub apriori_faults_in : Taken → Option Statement → List (Option Fault
 apriori_faults_in line (Some Inf) = inf_faults line false
 apriori_faults_in line (Some File) = member_faults line
 apriori_faults_in line (Some Close) = []
-apriori_faults_in line (Some Apriori) = no_form_faults 246 line
-apriori_faults_in line (Some Section) = no_form_faults 246 line
-apriori_faults_in line (Some BadClose) = no_form_faults 246 line
-apriori_faults_in line None = no_form_faults 246 line
+apriori_faults_in line (Some Apriori) = no_form_faults FDF_BAD_FILE line
+apriori_faults_in line (Some Section) = no_form_faults FDF_BAD_FILE line
+apriori_faults_in line (Some BadClose) = no_form_faults FDF_BAD_FILE line
+apriori_faults_in line None = no_form_faults FDF_BAD_FILE line
 
 abbrev pub made_member : InfLine → Row
 made_member inf = row.Member (member.Inf inf)
@@ -99,18 +100,18 @@ apriori_row_in line None = None
 abbrev pub section_faults_in : Taken → Body → List (Option Fault)
 section_faults_in line body.Nothing = section_faults line
 section_faults_in line body.Sections = section_faults line
-section_faults_in line body.Whole = no_form_faults 246 line
+section_faults_in line body.Whole = no_form_faults FDF_BAD_FILE line
 
 abbrev pub whole_faults_in : Taken → Body → List (Option Fault)
 whole_faults_in line body.Nothing = whole_faults line
-whole_faults_in line body.Sections = no_form_faults 246 line
-whole_faults_in line body.Whole = no_form_faults 246 line
+whole_faults_in line body.Sections = no_form_faults FDF_BAD_FILE line
+whole_faults_in line body.Whole = no_form_faults FDF_BAD_FILE line
 
 -- in the braces of a file
 abbrev pub file_faults_in : Taken → Body → Option Statement → List (Option Fault)
 file_faults_in line filled (Some Section) = section_faults_in line filled
 file_faults_in line filled (Some Close) = []
-file_faults_in line filled (Some BadClose) = no_form_faults 246 line
+file_faults_in line filled (Some BadClose) = no_form_faults FDF_BAD_FILE line
 file_faults_in line filled (Some Apriori) = whole_faults_in line filled
 file_faults_in line filled (Some Inf) = whole_faults_in line filled
 file_faults_in line filled (Some File) = whole_faults_in line filled

@@ -13,8 +13,10 @@ ghost use Rattle.doc_reading.specs.ValueFields.{undefined_macro};
 ghost use Rattle.fdf_words.specs.Words.{word_of, after_word, after_equals};
 ghost use Rattle.fdf_volumes.specs.declared.body.SectionWord.TheVariants.{Nested};
 ghost use Rattle.fdf_volumes.specs.Bodies.{section_word, maybe_align, words_in_quotes, made_section, path_faults, path_row, words_faults, words_row, guid_faults, guid_row, some_text, value_faults, value_row, equals_faults, equals_row, named_faults, named_row, named_value, kind_faults, kind_row, aligned_faults, aligned_row, section_faults, section_row, whole_faults, whole_row};
+ghost use Rattle.build_base.specs.FaultCodes.{COMPRESSED_REFUSED};
 
 use crate::statement::macro_before;
+use build_base::fault_codes::{BAD_PATH, COMPRESSED_REFUSED, FDF_BAD_FILE, FDF_BAD_GUID};
 use build_base::path::path_field;
 use build_base::{Guid, Path, Refusal, Same, Taken, Text, WantOfMemory, refuse};
 use doc_reading::least_check::{least_of_three, least_of_two, least_refusal};
@@ -159,7 +161,7 @@ fn path_section(
     let path = path_field(alloc, without_workspace(value))?;
     least_of_two(
         macro_before(alloc, line, value),
-        wanted(alloc, &path, 101, &line.at, value),
+        wanted(alloc, &path, BAD_PATH, &line.at, value),
     )?;
     let row = path_row(alloc, line, kind, align, path)?;
     Ok(row)
@@ -260,8 +262,8 @@ fn guid_section(
     let path = path_field(alloc, without_workspace(value))?;
     least_of_three(
         macro_before(alloc, line, value),
-        wanted(alloc, &path, 101, &line.at, value),
-        wanted(alloc, &guid, 262, &line.at, word),
+        wanted(alloc, &path, BAD_PATH, &line.at, value),
+        wanted(alloc, &guid, FDF_BAD_GUID, &line.at, word),
     )?;
     let row = guid_row(alloc, line, align, guid, path)?;
     Ok(row)
@@ -299,8 +301,8 @@ fn value_section(
         SectionWord::Plain(kind) => path_section(alloc, line, kind, align, value),
         SectionWord::Worded(kind) => words_section(alloc, line, kind, align, value),
         SectionWord::Nested => nested_section(alloc, line, align, value),
-        SectionWord::Named => Err(no_form(alloc, 246, line)),
-        SectionWord::Refused => Err(no_form(alloc, 246, line)),
+        SectionWord::Named => Err(no_form(alloc, FDF_BAD_FILE, line)),
+        SectionWord::Refused => Err(no_form(alloc, FDF_BAD_FILE, line)),
     }
 }
 
@@ -317,7 +319,7 @@ fn equals_section(
 {
     match value {
         Some(value) => value_section(alloc, line, align, word, value),
-        None => Err(no_form(alloc, 246, line)),
+        None => Err(no_form(alloc, FDF_BAD_FILE, line)),
     }
 }
 
@@ -334,7 +336,7 @@ fn named_section(
     let (word, _) = first_word(text);
     match named_value(text) {
         Some(value) => guid_section(alloc, line, align, word, value),
-        None => Err(no_form(alloc, 246, line)),
+        None => Err(no_form(alloc, FDF_BAD_FILE, line)),
     }
 }
 
@@ -342,11 +344,11 @@ fn named_section(
 pub fn refuse_kind(alloc: Global, line: &Taken, word: &[u8]) -> Refusal
     ensures { Finds result
         (least_of (undefined_macro line.now.at line.now.text
-        ∷ Some (fault_of 252 line.now.at word.now) ∷ [])) }
+        ∷ Some (fault_of COMPRESSED_REFUSED line.now.at word.now) ∷ [])) }
 {
     least_refusal(
         undefined_macro(alloc, &line.at, line.text.bytes()),
-        refuse(alloc, 252, &line.at, word),
+        refuse(alloc, COMPRESSED_REFUSED, &line.at, word),
     )
 }
 
@@ -385,7 +387,7 @@ fn kind_section(
             SectionWord::Nested,
             some_text(after_equals(rest)),
         ),
-        None => Err(no_form(alloc, 246, line)),
+        None => Err(no_form(alloc, FDF_BAD_FILE, line)),
     }
 }
 
@@ -397,7 +399,7 @@ pub fn section_line(alloc: Global, line: &Taken) -> Result<Option<Row>, Refusal>
     let (_, rest) = first_word(line.text.bytes());
     match maybe_align(rest) {
         Some((align, text)) => kind_section(alloc, line, align, text),
-        None => Err(no_form(alloc, 246, line)),
+        None => Err(no_form(alloc, FDF_BAD_FILE, line)),
     }
 }
 
@@ -417,6 +419,6 @@ pub fn whole_line(alloc: Global, line: &Taken) -> Result<Option<Row>, Refusal>
         (whole_row (path_field (without_workspace line.now.text)))) }
 {
     let path = path_field(alloc, without_workspace(line.text.bytes()))?;
-    wanted(alloc, &path, 101, &line.at, line.text.bytes())?;
+    wanted(alloc, &path, BAD_PATH, &line.at, line.text.bytes())?;
     Ok(whole_row(path))
 }

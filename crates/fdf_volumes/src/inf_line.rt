@@ -9,6 +9,7 @@ ghost use Rattle.std.specs.Prelude.{Some};
 ghost use Rattle.fdf_volumes.specs.InfLines.{inf_option, up_to_quote, quoted_front, with_rule, with_use, with_version, with_ui, with_inf, next_inf, inf_parts, inf_path_fault, template_fault, one_arch, use_fault, used_arch, inf_parts_faults, made_inf, inf_parts_line, inf_faults, inf_of};
 
 use crate::statement::{check_full, macro_before, no_statement};
+use build_base::fault_codes::{BAD_INF_LINE, BAD_PATH};
 use build_base::path::path_field;
 use build_base::{Path, Refusal, Same, Taken, Text, WantOfMemory};
 use doc_reading::least_check::least_of_five;
@@ -239,9 +240,9 @@ fn check_path(alloc: Global, line: &Taken, text: &[u8], path: &Option<Path>) -> 
     ensures { Checks result (inf_path_fault line.now text.now) }
 {
     if text.is_empty() {
-        return Err(bad_line(alloc, 248, line));
+        return Err(bad_line(alloc, BAD_INF_LINE, line));
     }
-    wanted(alloc, path, 101, &line.at, text)
+    wanted(alloc, path, BAD_PATH, &line.at, text)
 }
 
 fn check_template(alloc: Global, line: &Taken, template: &Option<Text>) -> Result<(), Refusal>
@@ -252,7 +253,7 @@ fn check_template(alloc: Global, line: &Taken, template: &Option<Text>) -> Resul
             if is_identifier(name.bytes()) {
                 return Ok(());
             }
-            Err(bad_line(alloc, 248, line))
+            Err(bad_line(alloc, BAD_INF_LINE, line))
         }
         None => Ok(()),
     }
@@ -273,7 +274,7 @@ fn check_use(alloc: Global, line: &Taken, word: &Option<Text>) -> Result<(), Ref
     match word {
         Some(word) => {
             let arch = one_arch(arch_named(word.bytes()));
-            wanted(alloc, &arch, 248, &line.at, line.text.bytes())
+            wanted(alloc, &arch, BAD_INF_LINE, &line.at, line.text.bytes())
         }
         None => Ok(()),
     }
@@ -356,6 +357,6 @@ pub fn inf_line(alloc: Global, line: &Taken, full: bool) -> Result<Option<InfLin
     let (_, rest) = first_word(line.text.bytes());
     match inf_parts(alloc, rest)? {
         Some((options, path)) => parted_inf(alloc, line, full, options, path),
-        None => Err(no_statement(alloc, 248, line, full)),
+        None => Err(no_statement(alloc, BAD_INF_LINE, line, full)),
     }
 }

@@ -10,6 +10,7 @@ ghost use Rattle.doc_reading.specs.Least.{least_of};
 ghost use Rattle.doc_reading.specs.ValueFields.{undefined_macro};
 ghost use Rattle.meta_lexer.specs.Lookup.{lookup};
 
+use build_base::fault_codes::{FDF_BAD_FILE, FDF_BAD_GUID, TOO_MANY, UNDEFINED_MACRO};
 use build_base::{Guid, Refusal, Same, Taken, WantOfMemory, refuse};
 use doc_reading::least_check::{
     least_of_one, least_of_three, least_of_two, least_refusal, with_check,
@@ -53,7 +54,7 @@ pub fn macro_before(alloc: Global, line: &Taken, field: &[u8]) -> Result<(), Ref
     let text = line.text.bytes();
     let end = text.len().saturating_sub(field.len());
     if holds_macro(&text[..end]) {
-        return Err(bad_line(alloc, 127, line));
+        return Err(bad_line(alloc, UNDEFINED_MACRO, line));
     }
     Ok(())
 }
@@ -63,7 +64,7 @@ pub fn check_full(alloc: Global, line: &Taken, full: bool) -> Result<(), Refusal
     ensures { Checks result (full_fault line.now full) }
 {
     if full {
-        return Err(refuse(alloc, 263, &line.at, b"65536".as_slice()));
+        return Err(refuse(alloc, TOO_MANY, &line.at, b"65536".as_slice()));
     }
     Ok(())
 }
@@ -106,9 +107,9 @@ fn check_guid(alloc: Global, line: &Taken, word: &[u8], guid: &Option<Guid>) -> 
     ensures { Checks result (guid_fault line.now word.now guid.now) }
 {
     if word.is_empty() {
-        return Err(bad_line(alloc, 246, line));
+        return Err(bad_line(alloc, FDF_BAD_FILE, line));
     }
-    wanted(alloc, guid, 262, &line.at, word)
+    wanted(alloc, guid, FDF_BAD_GUID, &line.at, word)
 }
 
 /// The first line of a file.
@@ -201,7 +202,7 @@ pub fn file_line(alloc: Global, line: &Taken, full: bool) -> Result<Option<Row>,
         Some((file_type, name, options)) => {
             parted_file(alloc, line, full, file_type, name, options)
         }
-        None => Err(no_statement(alloc, 246, line, full)),
+        None => Err(no_statement(alloc, FDF_BAD_FILE, line, full)),
     }
 }
 
@@ -253,7 +254,7 @@ pub fn member_line(alloc: Global, line: &Taken) -> Result<Option<Row>, Refusal>
     let (_, rest) = first_word(line.text.bytes());
     match member_name(rest) {
         Some(word) => named_line(alloc, line, word),
-        None => Err(no_form(alloc, 246, line)),
+        None => Err(no_form(alloc, FDF_BAD_FILE, line)),
     }
 }
 
@@ -292,7 +293,7 @@ pub fn apriori_line(alloc: Global, line: &Taken, full: bool) -> Result<Option<Ro
     let pei = apriori_named(rest);
     least_of_three(
         undefined_macro(alloc, &line.at, line.text.bytes()),
-        wanted(alloc, &pei, 246, &line.at, line.text.bytes()),
+        wanted(alloc, &pei, FDF_BAD_FILE, &line.at, line.text.bytes()),
         check_full(alloc, line, full),
     )?;
     let row = made_apriori(alloc, line, pei)?;

@@ -8,6 +8,7 @@ ghost use Rattle.fdf_words.specs.Words.{volume_alignment};
 ghost use Rattle.fdf_words.specs.Numbers.{number_faults, number_of_field};
 ghost use Rattle.fdf_volumes.specs.VolumeKeys.{truth_named, is_ffs3, volume_form, made_number, alignment_faults, alignment_row, numbers_faults, numbers_row, truth_faults, name_faults, name_row, file_system, system_fault, system_faults, system_row, force_row, attribute_row, word_faults, word_row};
 
+use build_base::fault_codes::{BAD_KEY, FDF_BAD_GUID};
 use build_base::{Guid, Refusal, Taken, refuse};
 use doc_reading::least_check::least_of_two;
 use doc_reading::value_fields::undefined_macro;
@@ -83,7 +84,7 @@ fn alignment_line(alloc: Global, line: &Taken, value: &[u8]) -> Result<Option<Ro
     let bytes = volume_alignment(value);
     least_of_two(
         undefined_macro(alloc, &line.at, value),
-        wanted(alloc, &bytes, 241, &line.at, value),
+        wanted(alloc, &bytes, BAD_KEY, &line.at, value),
     )?;
     Ok(alignment_row(bytes))
 }
@@ -139,7 +140,7 @@ fn name_line(alloc: Global, line: &Taken, value: &[u8]) -> Result<Option<Row>, R
     let guid = Guid::of_text(value);
     least_of_two(
         undefined_macro(alloc, &line.at, value),
-        wanted(alloc, &guid, 262, &line.at, value),
+        wanted(alloc, &guid, FDF_BAD_GUID, &line.at, value),
     )?;
     Ok(name_row(guid))
 }
@@ -164,9 +165,9 @@ fn check_system(
     match guid {
         Some(guid) => {
             let known = is_ffs3(guid);
-            wanted(alloc, &known, 241, &line.at, value)
+            wanted(alloc, &known, BAD_KEY, &line.at, value)
         }
-        None => Err(refuse(alloc, 262, &line.at, value)),
+        None => Err(refuse(alloc, FDF_BAD_GUID, &line.at, value)),
     }
 }
 
@@ -197,7 +198,7 @@ fn truth_line(alloc: Global, line: &Taken, value: &[u8]) -> Result<Option<bool>,
     let on = truth_named(value);
     least_of_two(
         undefined_macro(alloc, &line.at, value),
-        wanted(alloc, &on, 241, &line.at, value),
+        wanted(alloc, &on, BAD_KEY, &line.at, value),
     )?;
     Ok(on)
 }

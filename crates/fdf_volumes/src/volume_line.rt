@@ -12,11 +12,13 @@ ghost use Rattle.fdf_words.specs.Words.{word_of};
 ghost use Rattle.fdf_volumes.specs.InfLines.{inf_faults, inf_of};
 ghost use Rattle.fdf_words.specs.declared.rows.Row.TheVariants as variant;
 ghost use Rattle.fdf_volumes.specs.VolumeLines.{statement_named, statement_of, unkeyed_faults, plain_faults, plain_row, shut_faults, shut_row, apriori_faults_in, made_member, apriori_row_in, section_faults_in, whole_faults_in, file_faults_in, whole_row_in, file_row_in, volume_faults, volume_row};
+ghost use Rattle.build_base.specs.FaultCodes.{STATEMENT_REFUSED};
 
 use crate::body::{section_line, whole_line};
 use crate::inf_line::inf_line;
 use crate::statement::{apriori_line, file_line, member_line};
 use crate::volume_key::key_line;
+use build_base::fault_codes::{FDF_BAD_FILE, STATEMENT_REFUSED};
 use build_base::{Refusal, Taken, refuse};
 use doc_reading::least_check::least_refusal;
 use doc_reading::value_fields::undefined_macro;
@@ -71,11 +73,11 @@ fn statement_of(text: &[u8]) -> Option<Statement>
 fn no_statement(alloc: Global, line: &Taken, word: &[u8]) -> Refusal
     ensures { Finds result
         (least_of (undefined_macro line.now.at line.now.text
-        ∷ Some (fault_of 243 line.now.at word.now) ∷ [])) }
+        ∷ Some (fault_of STATEMENT_REFUSED line.now.at word.now) ∷ [])) }
 {
     least_refusal(
         undefined_macro(alloc, &line.at, line.text.bytes()),
-        refuse(alloc, 243, &line.at, word),
+        refuse(alloc, STATEMENT_REFUSED, &line.at, word),
     )
 }
 
@@ -136,9 +138,9 @@ fn shut_line(
         Some(Statement::Apriori) => apriori_line(alloc, line, full),
         Some(Statement::Inf) => inf_statement(alloc, line, full),
         Some(Statement::File) => file_line(alloc, line, full),
-        Some(Statement::Section) => Err(no_form(alloc, 246, line)),
-        Some(Statement::Close) => Err(no_form(alloc, 246, line)),
-        Some(Statement::BadClose) => Err(no_form(alloc, 246, line)),
+        Some(Statement::Section) => Err(no_form(alloc, FDF_BAD_FILE, line)),
+        Some(Statement::Close) => Err(no_form(alloc, FDF_BAD_FILE, line)),
+        Some(Statement::BadClose) => Err(no_form(alloc, FDF_BAD_FILE, line)),
         None => plain_line(alloc, line),
     }
 }
@@ -155,10 +157,10 @@ fn apriori_line_in(
         Some(Statement::Inf) => inf_member(alloc, line),
         Some(Statement::File) => member_line(alloc, line),
         Some(Statement::Close) => Ok(Some(Row::Closes)),
-        Some(Statement::Apriori) => Err(no_form(alloc, 246, line)),
-        Some(Statement::Section) => Err(no_form(alloc, 246, line)),
-        Some(Statement::BadClose) => Err(no_form(alloc, 246, line)),
-        None => Err(no_form(alloc, 246, line)),
+        Some(Statement::Apriori) => Err(no_form(alloc, FDF_BAD_FILE, line)),
+        Some(Statement::Section) => Err(no_form(alloc, FDF_BAD_FILE, line)),
+        Some(Statement::BadClose) => Err(no_form(alloc, FDF_BAD_FILE, line)),
+        None => Err(no_form(alloc, FDF_BAD_FILE, line)),
     }
 }
 
@@ -168,7 +170,7 @@ fn section_in(alloc: Global, line: &Taken, body: Body) -> Result<Option<Row>, Re
     match body {
         Body::Nothing => section_line(alloc, line),
         Body::Sections => section_line(alloc, line),
-        Body::Whole => Err(no_form(alloc, 246, line)),
+        Body::Whole => Err(no_form(alloc, FDF_BAD_FILE, line)),
     }
 }
 
@@ -177,8 +179,8 @@ fn whole_in(alloc: Global, line: &Taken, body: Body) -> Result<Option<Row>, Refu
 {
     match body {
         Body::Nothing => whole_line(alloc, line),
-        Body::Sections => Err(no_form(alloc, 246, line)),
-        Body::Whole => Err(no_form(alloc, 246, line)),
+        Body::Sections => Err(no_form(alloc, FDF_BAD_FILE, line)),
+        Body::Whole => Err(no_form(alloc, FDF_BAD_FILE, line)),
     }
 }
 
@@ -194,7 +196,7 @@ fn file_line_in(
     match statement {
         Some(Statement::Section) => section_in(alloc, line, body),
         Some(Statement::Close) => Ok(Some(Row::Closes)),
-        Some(Statement::BadClose) => Err(no_form(alloc, 246, line)),
+        Some(Statement::BadClose) => Err(no_form(alloc, FDF_BAD_FILE, line)),
         Some(Statement::Apriori) => whole_in(alloc, line, body),
         Some(Statement::Inf) => whole_in(alloc, line, body),
         Some(Statement::File) => whole_in(alloc, line, body),

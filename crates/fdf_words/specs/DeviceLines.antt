@@ -30,6 +30,7 @@ use Rattle.fdf_words.specs.DataBytes.{data_of}
 use Rattle.fdf_words.specs.Keys.{device_word, key_pair}
 use Rattle.fdf_words.specs.Numbers.{bad_line, number_faults, number_of_field}
 use Rattle.fdf_words.specs.Words.{word_of}
+use Rattle.build_base.specs.FaultCodes.{BAD_KEY, BAD_PATH, BAD_REGION}
 
 abbrev pub number_form : DeviceKey → NumberForm
 number_form key.BaseAddress = form.Address
@@ -55,14 +56,14 @@ made_number line key None = None
 -- PCDs stand behind their region's line, and only once
 abbrev pub pcds_fault : Taken → Waiting → Option Fault
 pcds_fault line Started = None
-pcds_fault line Named = Some (bad_line 244 line)
-pcds_fault line NoRegion = Some (bad_line 244 line)
+pcds_fault line Named = Some (bad_line BAD_REGION line)
+pcds_fault line NoRegion = Some (bad_line BAD_REGION line)
 
 -- what fills a region stands behind them, and only once
 abbrev pub content_fault : Taken → Waiting → Option Fault
 content_fault line Started = None
 content_fault line Named = None
-content_fault line NoRegion = Some (bad_line 244 line)
+content_fault line NoRegion = Some (bad_line BAD_REGION line)
 
 abbrev pub made_content : Taken → content_type.Content → Option Row
 made_content line filled = Some (row.Content (record { at = line.at; content = filled }))
@@ -74,7 +75,7 @@ held_faults line waiting value = undefined_macro line.at value ∷ content_fault
 -- `FILE = path`
 abbrev pub tree_faults : Taken → Waiting → List ℕ → List (Option Fault)
 tree_faults line waiting value =
-    wanted (path_field (without_workspace value)) (fault_of 101 line.at value)
+    wanted (path_field (without_workspace value)) (fault_of BAD_PATH line.at value)
     ∷ content_fault line waiting ∷ []
 
 abbrev pub tree_row : Taken → Option (List ℕ) → Option Row
@@ -84,7 +85,7 @@ tree_row line None = None
 -- `DATA = { bytes }`
 abbrev pub bytes_faults : Taken → Waiting → List ℕ → List (Option Fault)
 bytes_faults line waiting value = undefined_macro line.at value
-    ∷ wanted (data_of value) (bad_line 244 line) ∷ content_fault line waiting ∷ []
+    ∷ wanted (data_of value) (bad_line BAD_REGION line) ∷ content_fault line waiting ∷ []
 
 abbrev pub bytes_row : Taken → Option (List ℕ) → Option Row
 bytes_row line (Some bytes) = made_content line (content.Bytes bytes)
@@ -98,7 +99,7 @@ keyed_faults line marks key value (Some word.Volume) = held_faults line marks.wa
 keyed_faults line marks key value (Some word.Tree) = tree_faults line marks.waiting value
 keyed_faults line marks key value (Some word.Bytes) = bytes_faults line marks.waiting value
 keyed_faults line marks key value None =
-    undefined_macro line.at value ∷ Some (fault_of 241 line.at key) ∷ []
+    undefined_macro line.at value ∷ Some (fault_of BAD_KEY line.at key) ∷ []
 
 abbrev pub keyed_row : Taken → List ℕ → Option DeviceWord → Option Row
 keyed_row line value (Some (word.Number known)) =
@@ -109,7 +110,7 @@ keyed_row line value (Some word.Bytes) = bytes_row line (data_of value)
 keyed_row line value None = None
 
 abbrev pub no_form_faults : Taken → List (Option Fault)
-no_form_faults line = undefined_macro line.at line.text ∷ Some (bad_line 244 line) ∷ []
+no_form_faults line = undefined_macro line.at line.text ∷ Some (bad_line BAD_REGION line) ∷ []
 
 -- `PCD`
 abbrev pub one_faults : Taken → Waiting → Option PcdName → List (Option Fault)
@@ -139,7 +140,8 @@ pair_row line a b (Some first) (Some second) =
 pair_row line a b first second = extent_row line (number_value line.at a) (number_value line.at b)
 
 abbrev pub other_faults : Taken → List (List ℕ) → List (Option Fault)
-other_faults line fields = first_fault (undefined_macro line.at) fields ∷ Some (bad_line 244 line)
+other_faults line fields = first_fault (undefined_macro line.at) fields
+    ∷ Some (bad_line BAD_REGION line)
     ∷ []
 
 abbrev pub fields_faults : Taken → Waiting → List (List ℕ) → List (Option Fault)
@@ -156,7 +158,7 @@ fields_row line fields = None
 -- a number's key without `=` is a fault of the key
 abbrev pub unkeyed_faults : Taken → Waiting → Option DeviceWord → List (Option Fault)
 unkeyed_faults line waiting (Some (word.Number known)) =
-    undefined_macro line.at line.text ∷ Some (fault_of 241 line.at (word_of line.text)) ∷ []
+    undefined_macro line.at line.text ∷ Some (fault_of BAD_KEY line.at (word_of line.text)) ∷ []
 unkeyed_faults line waiting _ = fields_faults line waiting (field_texts line.text)
 
 abbrev pub unkeyed_row : Taken → Option DeviceWord → Option Row

@@ -14,6 +14,7 @@ use Rattle.doc_types.specs.declared.pcd.PcdName.{PcdName}
 use Rattle.fdf_words.specs.declared.number.NumberForm.{NumberForm}
 use Rattle.fdf_words.specs.declared.number.NumberForm.TheVariants.{Plain, Polarity, Address, Size}
 use Rattle.fdf_words.specs.declared.number.Numbered.{Numbered}
+use Rattle.build_base.specs.FaultCodes.{BAD_KEY, SIZE_TOO_LARGE}
 
 -- a fault whose detail is the whole line
 abbrev pub bad_line : ℕ → Taken → Fault
@@ -21,7 +22,7 @@ bad_line code line = fault_of code line.at line.text
 
 -- a value that a key doesn't take
 abbrev pub bad_value : Taken → List ℕ → Fault
-bad_value line value = fault_of 241 line.at value
+bad_value line value = fault_of BAD_KEY line.at value
 
 -- macros that aren't defined, behind the first field
 abbrev pub later_macros : Taken → List (List ℕ) → Option Fault
@@ -45,7 +46,7 @@ abbrev pub limit_fault : Taken → NumberForm → List ℕ → ℕ → Option Fa
 limit_fault line Polarity value number = if nat_le number 1 then None
     else Some (bad_value line value)
 limit_fault line Size value number = if nat_le number size_limit then None
-    else Some (fault_of 249 line.at (decimal number))
+    else Some (fault_of SIZE_TOO_LARGE line.at (decimal number))
 limit_fault line Plain value number = None
 limit_fault line Address value number = None
 
@@ -55,7 +56,7 @@ limit_found line form value (Err fault) = None
 
 -- a key that may not stand here
 abbrev pub order_fault : Taken → List ℕ → Bool → Option Fault
-order_fault line key misplaced = if misplaced then Some (fault_of 241 line.at key) else None
+order_fault line key misplaced = if misplaced then Some (fault_of BAD_KEY line.at key) else None
 
 abbrev pub fields_faults : Taken → NumberForm → List ℕ → List ℕ → Bool → List (List ℕ)
     → List (Option Fault)

@@ -10,12 +10,14 @@ use Rattle.doc_types.specs.declared.pcd.PcdName.{PcdName}
 use Rattle.fdf_words.specs.declared.rows.Row.{Row}
 use Rattle.fdf_words.specs.declared.rows.Row.TheVariants.{Set}
 use Rattle.fdf_words.specs.Words.{after_word}
+use Rattle.build_base.specs.FaultCodes.{BAD_KEY}
 
 -- a PCD and a value that isn't empty; of another line the text before `=` is told
 abbrev pub parts_fault : Taken → List ℕ → Option PcdName → List ℕ → Option Fault
-parts_fault line name (Some pcd) value = if length value == 0 then Some (fault_of 241 line.at name)
+parts_fault line name (Some pcd) value = if length value == 0
+    then Some (fault_of BAD_KEY line.at name)
     else None
-parts_fault line name None value = Some (fault_of 241 line.at name)
+parts_fault line name None value = Some (fault_of BAD_KEY line.at name)
 
 abbrev pub parts_faults : Taken → List ℕ → List ℕ → List (Option Fault)
 parts_faults line name value = undefined_macro line.at name ∷ undefined_macro line.at value
@@ -28,7 +30,8 @@ made_set line rank None value = None
 
 abbrev pub halves_faults : Taken → List ℕ → Option (List ℕ × List ℕ) → List (Option Fault)
 halves_faults line text (Some p) = parts_faults line p.0 p.1
-halves_faults line text None = undefined_macro line.at text ∷ Some (fault_of 241 line.at text) ∷ []
+halves_faults line text None = undefined_macro line.at text ∷ Some (fault_of BAD_KEY line.at text)
+    ∷ []
 
 abbrev pub halves_row : Taken → ℕ → Option (List ℕ × List ℕ) → Option Row
 halves_row line rank (Some p) = made_set line rank (pcd_name_of p.0) p.1

@@ -21,6 +21,7 @@ use crate::marks::{Marks, Waiting};
 use crate::number::{NumberForm, Numbered, bad_line, no_form, no_key, number_field};
 use crate::rows::{Content, DeviceKey, DeviceNumber, RegionContent, RegionPcds, RegionStart, Row};
 use crate::words::first_word;
+use build_base::fault_codes::{BAD_PATH, BAD_REGION};
 use build_base::path::path_field;
 use build_base::{Path, Refusal, Same, Taken, Text, WantOfMemory};
 use doc_reading::least_check::{least_of_three, least_of_two, least_refusal, lesser_refusal};
@@ -101,7 +102,7 @@ fn check_pcds(alloc: Global, line: &Taken, waiting: Waiting) -> Result<(), Refus
 {
     match waiting {
         Waiting::Started => Ok(()),
-        Waiting::Named | Waiting::NoRegion => Err(bad_line(alloc, 244, line)),
+        Waiting::Named | Waiting::NoRegion => Err(bad_line(alloc, BAD_REGION, line)),
     }
 }
 
@@ -110,7 +111,7 @@ fn check_content(alloc: Global, line: &Taken, waiting: Waiting) -> Result<(), Re
 {
     match waiting {
         Waiting::Started | Waiting::Named => Ok(()),
-        Waiting::NoRegion => Err(bad_line(alloc, 244, line)),
+        Waiting::NoRegion => Err(bad_line(alloc, BAD_REGION, line)),
     }
 }
 
@@ -162,7 +163,7 @@ fn tree_line(
 {
     let path = path_field(alloc, without_workspace(value))?;
     least_of_two(
-        wanted(alloc, &path, 101, &line.at, value),
+        wanted(alloc, &path, BAD_PATH, &line.at, value),
         check_content(alloc, line, waiting),
     )?;
     let row = tree_row(alloc, line, path)?;
@@ -191,7 +192,7 @@ fn bytes_line(
     let bytes = data_of(alloc, value)?;
     least_of_three(
         undefined_macro(alloc, &line.at, value),
-        wanted(alloc, &bytes, 244, &line.at, line.text.bytes()),
+        wanted(alloc, &bytes, BAD_REGION, &line.at, line.text.bytes()),
         check_content(alloc, line, waiting),
     )?;
     let row = bytes_row(alloc, line, bytes)?;
@@ -250,7 +251,7 @@ fn one_field(
             let row = pcds_line(alloc, line, pcd, None)?;
             Ok(Some(row))
         }
-        None => Err(no_form(alloc, 244, line)),
+        None => Err(no_form(alloc, BAD_REGION, line)),
     }
 }
 
@@ -306,7 +307,7 @@ fn no_fields(alloc: Global, line: &Taken, fields: &[Text]) -> Refusal
 {
     least_refusal(
         undefined_macros(alloc, &line.at, fields),
-        bad_line(alloc, 244, line),
+        bad_line(alloc, BAD_REGION, line),
     )
 }
 

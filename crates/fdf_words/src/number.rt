@@ -6,7 +6,9 @@ ghost use Rattle.doc_reading.specs.Gathering.{judged};
 ghost use Rattle.doc_reading.specs.ValueFields.{undefined_macro};
 ghost use Rattle.build_base.specs.FaultText.{fault_of};
 ghost use Rattle.fdf_words.specs.Numbers.{bad_line, bad_value, later_macros, named_pcd, form_fault, limit_fault, order_fault, fields_faults, fields_number, number_faults, number_of_field};
+ghost use Rattle.build_base.specs.FaultCodes.{BAD_KEY};
 
+use build_base::fault_codes::{BAD_KEY, SIZE_TOO_LARGE};
 use build_base::{Refusal, Taken, Text, WantOfMemory, refuse};
 use doc_reading::least_check::{least_of_four, least_of_three, least_refusal, with_check};
 use doc_reading::value_fields::{number_value, undefined_macro, undefined_macros};
@@ -55,12 +57,13 @@ pub fn no_form(alloc: Global, code: u16, line: &Taken) -> Refusal
 /// The refusal of a key, unless a macro is left in the text.
 pub fn no_key(alloc: Global, line: &Taken, key: &[u8], text: &[u8]) -> Refusal
     ensures { Finds result
-        (least_of (undefined_macro line.now.at text.now ∷ Some (fault_of 241 line.now.at key.now)
+        (least_of (undefined_macro line.now.at text.now
+        ∷ Some (fault_of BAD_KEY line.now.at key.now)
         ∷ [])) }
 {
     least_refusal(
         undefined_macro(alloc, &line.at, text),
-        refuse(alloc, 241, &line.at, key),
+        refuse(alloc, BAD_KEY, &line.at, key),
     )
 }
 
@@ -99,7 +102,7 @@ fn check_form(
     match (fields, pcd) {
         ([_], _) => Ok(()),
         ([_, _], Some(_)) => Ok(()),
-        _ => Err(refuse(alloc, 241, &line.at, value)),
+        _ => Err(refuse(alloc, BAD_KEY, &line.at, value)),
     }
 }
 
@@ -117,14 +120,19 @@ fn check_limit(
             if number <= 1 {
                 return Ok(());
             }
-            Err(refuse(alloc, 241, &line.at, value))
+            Err(refuse(alloc, BAD_KEY, &line.at, value))
         }
         NumberForm::Size => {
             if number <= SIZE_LIMIT {
                 return Ok(());
             }
             let mut digits = Buffer::new();
-            Err(refuse(alloc, 249, &line.at, digits.format(number).as_bytes()))
+            Err(refuse(
+                alloc,
+                SIZE_TOO_LARGE,
+                &line.at,
+                digits.format(number).as_bytes(),
+            ))
         }
         NumberForm::Plain | NumberForm::Address => Ok(()),
     }
@@ -134,7 +142,7 @@ fn check_order(alloc: Global, line: &Taken, key: &[u8], misplaced: bool) -> Resu
     ensures { Checks result (order_fault line.now key.now misplaced) }
 {
     if misplaced {
-        return Err(refuse(alloc, 241, &line.at, key));
+        return Err(refuse(alloc, BAD_KEY, &line.at, key));
     }
     Ok(())
 }

@@ -8,6 +8,7 @@ ghost use Rattle.fdf_words.specs.SetLines.{parts_fault, parts_faults, made_set, 
 use crate::number::no_key;
 use crate::rows::Row;
 use crate::words::first_word;
+use build_base::fault_codes::BAD_KEY;
 use build_base::{Refusal, Same, Taken, Text, WantOfMemory, refuse};
 use doc_reading::least_check::least_of_three;
 use doc_reading::value_fields::undefined_macro;
@@ -27,11 +28,11 @@ fn check_parts(
     match pcd {
         Some(_) => {
             if value.is_empty() {
-                return Err(refuse(alloc, 241, &line.at, name));
+                return Err(refuse(alloc, BAD_KEY, &line.at, name));
             }
             Ok(())
         }
-        None => Err(refuse(alloc, 241, &line.at, name)),
+        None => Err(refuse(alloc, BAD_KEY, &line.at, name)),
     }
 }
 

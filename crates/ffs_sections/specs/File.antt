@@ -14,6 +14,7 @@ use Rattle.ffs_sections.specs.Sums.{zero_byte, summed}
 use Rattle.ffs_sections.specs.Alignment.{is_align, alignments, IsAlignment, step_of, step_bits}
 use Rattle.ffs_sections.specs.Sections.{with_parts, sized}
 use Rattle.ffs_sections.specs.Standard.{FFS_ATTRIB_LARGE_FILE, FFS_ATTRIB_FIXED, FFS_ATTRIB_CHECKSUM, FFS_FIXED_CHECKSUM, FILE_STATE, FILE_LIMIT, FFS3_LIMIT}
+use Rattle.build_base.specs.FaultCodes.{ALIGNMENT_REFUSED, IMAGE_FILE_TOO_LONG}
 
 -- the greatest alignment of a file and its sections
 abbrev pub greatest : ℕ → List Part → ℕ
@@ -98,12 +99,12 @@ image_of plan body =
 abbrev pub file_sized : ImagePlan → List ℕ → Result FileImage Fault
 file_sized plan body =
     let size = file_size plan.ffs3 (length body) in
-    if nat_lt (file_limit plan.ffs3) size then Err (sized 612 plan.at size)
+    if nat_lt (file_limit plan.ffs3) size then Err (sized IMAGE_FILE_TOO_LONG plan.at size)
     else Ok (image_of plan body)
 
 unfoldable pub file_of : ImagePlan → Result FileImage Fault
 file_of plan = if is_align plan.align then and_then (body_of plan plan.body) (file_sized plan)
-    else Err (sized 613 plan.at plan.align)
+    else Err (sized ALIGNMENT_REFUSED plan.at plan.align)
 
 -- the length of the header that a file begins with: where byte 19 has the attribute of large files
 -- it is 32

@@ -12,6 +12,7 @@ use Rattle.doc_types.specs.declared.image.Body.TheVariants.{Whole, Sections}
 use Rattle.ffs_sections.specs.Alignment.{is_align, pad_of}
 use Rattle.doc_types.specs.Standard.{EFI_SECTION_FREEFORM_SUBTYPE_GUID, EFI_SECTION_RAW}
 use Rattle.ffs_sections.specs.Standard.{EXTENDED_SIZE, SECTION_LIMIT, FFS3_LIMIT}
+use Rattle.build_base.specs.FaultCodes.{ALIGNMENT_REFUSED, SECTION_TOO_LONG}
 
 abbrev pub guid_bytes : Option Guid → List ℕ
 guid_bytes None = []
@@ -77,9 +78,9 @@ unfoldable pub part_fault : Bool → Place → ℕ → Part → Option Fault
 part_fault ffs3 place at part =
     let size = section_size ffs3 part.guid (length part.bytes) in
     first_holding (
-    (not (is_align part.align), sized 613 place part.align)
-    ∷ (is_none (part_pad ffs3 at part), sized 613 place part.align)
-    ∷ (nat_lt (section_limit ffs3) size, sized 611 place size)
+    (not (is_align part.align), sized ALIGNMENT_REFUSED place part.align)
+    ∷ (is_none (part_pad ffs3 at part), sized ALIGNMENT_REFUSED place part.align)
+    ∷ (nat_lt (section_limit ffs3) size, sized SECTION_TOO_LONG place size)
     ∷ [])
 
 -- a body with these sections more, or the first fault of one

@@ -15,6 +15,7 @@ use crate::standard::{
     FFS_ATTRIB_CHECKSUM, FFS_ATTRIB_FIXED, FFS_FIXED_CHECKSUM, FFS3_LIMIT, FILE_LIMIT,
 };
 use crate::sums::body_sum;
+use build_base::fault_codes::{ALIGNMENT_REFUSED, IMAGE_FILE_TOO_LONG};
 use build_base::{Permit, Refusal, Same, Text, WantOfMemory};
 use doc_types::image::{Body, FileImage, ImagePlan, Part};
 use std::alloc::Global;
@@ -148,7 +149,7 @@ fn image(alloc: Global, plan: &ImagePlan, body: &[u8]) -> Result<FileImage, Refu
     let count = body.len() as u64;
     let size = head_len(is_large_file(plan.ffs3, count)) + count;
     if size > file_limit(plan.ffs3) {
-        return Err(Refusal::Bad(sized(alloc, 612, &plan.at, size)?));
+        return Err(Refusal::Bad(sized(alloc, IMAGE_FILE_TOO_LONG, &plan.at, size)?));
     }
     let step = step_of(body_align(plan.align, &plan.body));
     Ok(FileImage {
@@ -182,7 +183,7 @@ pub fn file_of(alloc: Global, permit: Permit, plan: &ImagePlan) -> Result<FileIm
 {
     let _spent = permit;
     if !is_align(plan.align) {
-        return Err(Refusal::Bad(sized(alloc, 613, &plan.at, plan.align as u64)?));
+        return Err(Refusal::Bad(sized(alloc, ALIGNMENT_REFUSED, &plan.at, plan.align as u64)?));
     }
     match &plan.body {
         Body::Whole(bytes) => image(alloc, plan, bytes.bytes()),

@@ -9,6 +9,7 @@ use crate::alignment::{is_align, pad};
 use crate::faults::sized;
 use crate::standard::{FFS3_LIMIT, SECTION_LIMIT};
 use build_base::bytes::fill;
+use build_base::fault_codes::{ALIGNMENT_REFUSED, SECTION_TOO_LONG};
 use build_base::{Guid, Place, Refusal, WantOfMemory};
 use doc_types::image::{Body, Part};
 use doc_types::standard::{EFI_SECTION_FREEFORM_SUBTYPE_GUID, EFI_SECTION_RAW};
@@ -73,17 +74,22 @@ fn check_part(
     ensures short { OnOk result (length part.now.bytes < 2 ^ 29) }
 {
     if !is_align(part.align) {
-        return Err(Refusal::Bad(sized(alloc, 613, place, part.align as u64)?));
+        return Err(Refusal::Bad(sized(alloc, ALIGNMENT_REFUSED, place, part.align as u64)?));
     }
     let count = part.bytes.bytes().len() as u64;
     let head = content_at(ffs3, &part.guid, count);
     let size = match pad((at + 3) / 4 * 4 + head, part.align, part.shift) {
         Some(size) => size,
-        None => return Err(Refusal::Bad(sized(alloc, 613, place, part.align as u64)?)),
+        None => return Err(Refusal::Bad(sized(
+            alloc,
+            ALIGNMENT_REFUSED,
+            place,
+            part.align as u64,
+        )?)),
     };
     let len = head + count;
     if len > section_limit(ffs3) {
-        return Err(Refusal::Bad(sized(alloc, 611, place, len)?));
+        return Err(Refusal::Bad(sized(alloc, SECTION_TOO_LONG, place, len)?));
     }
     Ok(size)
 }

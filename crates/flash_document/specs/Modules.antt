@@ -9,6 +9,7 @@ use Rattle.doc_types.specs.declared.arch.Arch.TheVariants.{Common}
 use Rattle.doc_types.specs.declared.platform.Component.{Component}
 use Rattle.doc_types.specs.declared.volume.InfLine.{InfLine}
 use Rattle.flash_document.specs.Rules.{same_arch}
+use Rattle.build_base.specs.FaultCodes.{ARCH_AMBIGUOUS, NOT_ACOMPONENT}
 
 -- a component is this module, and is for this architecture or for all
 abbrev pub is_component : List ℕ → Arch → Component → Bool
@@ -29,7 +30,7 @@ abbrev pub other_arch : Arch → List Arch → Bool
 other_arch arch arches = list_any (λ a. not (same_arch a arch)) arches
 
 abbrev pub no_component : InfLine → Fault
-no_component line = fault_of 259 line.at line.inf
+no_component line = fault_of NOT_ACOMPONENT line.at line.inf
 
 abbrev pub is_among : Arch → List Arch → Bool
 is_among arch arches = list_any (λ a. same_arch a arch) arches
@@ -37,7 +38,8 @@ is_among arch arches = list_any (λ a. same_arch a arch) arches
 -- the only one
 abbrev pub only_arch : InfLine → List Arch → Result Arch Fault
 only_arch line [] = Err (no_component line)
-only_arch line (arch ∷ arches) = if other_arch arch arches then Err (fault_of 254 line.at line.inf)
+only_arch line (arch ∷ arches) = if other_arch arch arches
+    then Err (fault_of ARCH_AMBIGUOUS line.at line.inf)
     else Ok arch
 
 -- that of USE, where it has the component

@@ -12,6 +12,7 @@ use Rattle.doc_types.specs.declared.module_type.ModuleType.{ModuleType}
 use Rattle.doc_types.specs.declared.module_type.ModuleType.TheVariants as kind
 use Rattle.doc_types.specs.declared.volume.InfLine.{InfLine}
 use Rattle.doc_types.specs.declared.volume.RuleDoc.{RuleDoc}
+use Rattle.build_base.specs.FaultCodes.{RULE_ABSENT}
 
 abbrev pub arch_text : Arch → List ℕ
 arch_text arch.Common = codes "COMMON"
@@ -63,7 +64,7 @@ rule_name wanted module_type template =
 
 abbrev pub placed : Place → List ℕ → Option ℕ → Result ℕ Fault
 placed at name (Some place) = Ok place
-placed at name None = Err (fault_of 253 at name)
+placed at name None = Err (fault_of RULE_ABSENT at name)
 
 -- the number of the rule for a module that a line names
 abbrev pub rule_of : List RuleDoc → InfLine → Arch → ModuleType → Result ℕ Fault

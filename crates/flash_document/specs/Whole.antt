@@ -30,6 +30,7 @@ use Rattle.flash_document.specs.declared.held.HeldSizes.{HeldSizes}
 use Rattle.flash_document.specs.Devices.{capped}
 use Rattle.flash_document.specs.Names.{folded, place_of}
 use Rattle.flash_document.specs.Numbering.{first_loop}
+use Rattle.build_base.specs.FaultCodes.{BLOCKS_DIFFER, FDF_MISSING_KEY, FDF_REPEATED_NAME, SIZE_TOO_LARGE, VOLUME_LOOP, VOLUME_TWO_SIZES, VOLUME_UNKNOWN}
 
 abbrev pub volume_in : Stated → List StatedVolume
 volume_in (Volume volume) = volume ∷ []
@@ -118,8 +119,8 @@ unequal first second = decimal first ++ codes " != " ++ decimal second
 
 -- a device has a base address and a size
 abbrev pub unstated : Place → Option ℕ → Option ℕ → Option Fault
-unstated at None size = Some (fault_of 242 at (codes "BaseAddress"))
-unstated at (Some base) None = Some (fault_of 242 at (codes "Size"))
+unstated at None size = Some (fault_of FDF_MISSING_KEY at (codes "BaseAddress"))
+unstated at (Some base) None = Some (fault_of FDF_MISSING_KEY at (codes "Size"))
 unstated at (Some base) (Some size) = None
 
 abbrev pub part_unstated : Stated → Option Fault
@@ -129,7 +130,7 @@ part_unstated stated = None
 -- a volume has at most 0x10000000 bytes
 abbrev pub size_fault : Place → Option ℕ → Option Fault
 size_fault at (Some size) = if nat_le size size_limit then None
-    else Some (fault_of 249 at (decimal size))
+    else Some (fault_of SIZE_TOO_LARGE at (decimal size))
 size_fault at None = None
 
 abbrev pub part_too_large : List HeldRegion → Stated → Option Fault
@@ -162,7 +163,7 @@ nests_of parts = map (nest_in (names_of parts)) (volumes_of parts)
 
 abbrev pub loop_at : Option StatedVolume → Option Fault
 loop_at None = None
-loop_at (Some volume) = Some (fault_of 250 volume.at volume.name)
+loop_at (Some volume) = Some (fault_of VOLUME_LOOP volume.at volume.name)
 
 abbrev pub loop_named : List StatedVolume → Option ℕ → Option Fault
 loop_named volumes None = None
@@ -173,7 +174,8 @@ abbrev pub loop_fault : List Stated → Option Fault
 loop_fault parts = loop_named (volumes_of parts) (first_loop (nests_of parts))
 
 abbrev pub unknown : List (List ℕ) → Place → List ℕ → Option Fault
-unknown names at name = if is_some (place_of names name) then None else Some (fault_of 251 at name)
+unknown names at name = if is_some (place_of names name)
+    then None else Some (fault_of VOLUME_UNKNOWN at name)
 
 abbrev pub content_unknown : List (List ℕ) → Place → Content → Option Fault
 content_unknown names at (content.Volume name) = unknown names at name
@@ -196,7 +198,7 @@ line_unknown names (Body rows) = first_fault (row_unknown names) rows
 -- the blocks of a device are its size
 abbrev pub device_blocks : Place → ℕ → Option ℕ → Option Fault
 device_blocks at blocks (Some size) = if blocks == size then None
-    else Some (fault_of 255 at (unequal blocks size))
+    else Some (fault_of BLOCKS_DIFFER at (unequal blocks size))
 device_blocks at blocks None = None
 
 -- another size than the first
@@ -207,13 +209,13 @@ unlike code at size None = None
 -- a region's size is a whole number of blocks
 abbrev pub whole_blocks : Place → ℕ → Option ℕ → Option Fault
 whole_blocks at block (Some size) = if size % block == 0 then None
-    else Some (fault_of 255 at (unequal size (size - size % block)))
+    else Some (fault_of BLOCKS_DIFFER at (unequal size (size - size % block)))
 whole_blocks at block None = None
 
 -- a volume's own size is that of each of its regions; without an own size its first region's counts
 abbrev pub blocks_with : Place → Option HeldSizes → ℕ → Option ℕ → Option Fault
 blocks_with at held block (Some blocks) =
-    unlike 255 at (capped (block * blocks)) (other_than (capped (block * blocks)) held)
+    unlike BLOCKS_DIFFER at (capped (block * blocks)) (other_than (capped (block * blocks)) held)
 blocks_with at held block None = whole_blocks at block (first_size held)
 
 abbrev pub volume_blocks : StatedVolume → Option HeldSizes → Option Fault
@@ -226,7 +228,7 @@ part_blocks regions stated = None
 
 abbrev pub two_sizes : Place → Option HeldSizes → Option Fault
 two_sizes at None = None
-two_sizes at (Some held) = unlike 256 at held.first held.other
+two_sizes at (Some held) = unlike VOLUME_TWO_SIZES at held.first held.other
 
 -- the regions that hold a volume have one size
 abbrev pub part_sizes : List HeldRegion → Stated → Option Fault
@@ -242,9 +244,9 @@ part_key (Rule rule) = Some (82 ∷ rule.name)
 
 abbrev pub named_twice : Stated → Option Fault
 named_twice Settings = None
-named_twice (Device device) = Some (fault_of 261 device.at device.name)
-named_twice (Volume volume) = Some (fault_of 261 volume.at volume.name)
-named_twice (Rule rule) = Some (fault_of 261 rule.rule.at rule.name)
+named_twice (Device device) = Some (fault_of FDF_REPEATED_NAME device.at device.name)
+named_twice (Volume volume) = Some (fault_of FDF_REPEATED_NAME volume.at volume.name)
+named_twice (Rule rule) = Some (fault_of FDF_REPEATED_NAME rule.rule.at rule.name)
 
 abbrev pub twin_with : (List (List ℕ) → Option Fault) → List (List ℕ) → Option Fault
     → Option (List ℕ) → Option Fault

@@ -12,6 +12,10 @@ ghost use Rattle.flash_document.specs.Whole.{other_than, first_size, block_of, s
 use crate::held::{HeldSizes, held_in};
 use crate::names::{add_name, place_in};
 use crate::stated::{Stated, StatedVolume};
+use build_base::fault_codes::{
+    BLOCKS_DIFFER, FDF_MISSING_KEY, FDF_REPEATED_NAME, SIZE_TOO_LARGE, VOLUME_TWO_SIZES,
+    VOLUME_UNKNOWN,
+};
 use build_base::{Place, Refusal, Rows, Text, WantOfMemory, refuse};
 use doc_types::volume_head::SIZE_LIMIT;
 use fdf_words::rows::{Content, LineRead, Row, SectionBody};
@@ -89,8 +93,8 @@ fn unstated(alloc: Global, at: &Place, base: Option<u64>, size: Option<u64>) -> 
 {
     match (base, size) {
         (Some(_), Some(_)) => Ok(()),
-        (None, _) => Err(refuse(alloc, 242, at, b"BaseAddress".as_slice())),
-        (Some(_), None) => Err(refuse(alloc, 242, at, b"Size".as_slice())),
+        (None, _) => Err(refuse(alloc, FDF_MISSING_KEY, at, b"BaseAddress".as_slice())),
+        (Some(_), None) => Err(refuse(alloc, FDF_MISSING_KEY, at, b"Size".as_slice())),
     }
 }
 
@@ -119,7 +123,7 @@ fn size_fault(alloc: Global, at: &Place, size: Option<u64>) -> Result<(), Refusa
     match size {
         Some(size) if size > SIZE_LIMIT => {
             let mut digits = Buffer::new();
-            Err(refuse(alloc, 249, at, digits.format(size).as_bytes()))
+            Err(refuse(alloc, SIZE_TOO_LARGE, at, digits.format(size).as_bytes()))
         }
         _ => Ok(()),
     }
@@ -168,7 +172,7 @@ fn unknown(
 {
     match place_in(alloc, table, name.bytes())? {
         Some(_) => Ok(()),
-        None => Err(refuse(alloc, 251, at, name.bytes())),
+        None => Err(refuse(alloc, VOLUME_UNKNOWN, at, name.bytes())),
     }
 }
 
@@ -240,7 +244,7 @@ fn device_blocks(alloc: Global, at: &Place, blocks: u64, size: Option<u64>) -> R
     ensures { Checks result (device_blocks at.now blocks size) }
 {
     match size {
-        Some(size) if blocks != size => Err(refuse_unequal(alloc, 255, at, blocks, size)),
+        Some(size) if blocks != size => Err(refuse_unequal(alloc, BLOCKS_DIFFER, at, blocks, size)),
         _ => Ok(()),
     }
 }
@@ -277,7 +281,7 @@ fn whole_blocks(alloc: Global, at: &Place, block: u64, size: Option<u64>) -> Res
     if past == 0 {
         return Ok(());
     }
-    Err(refuse_unequal(alloc, 255, at, size, size.saturating_sub(past)))
+    Err(refuse_unequal(alloc, BLOCKS_DIFFER, at, size, size.saturating_sub(past)))
 }
 
 fn volume_blocks(
@@ -292,7 +296,7 @@ fn volume_blocks(
         Some(blocks) => {
             let own = block.saturating_mul(blocks);
             let other = other_than(own, held);
-            unlike(alloc, 255, &volume.at, own, other)
+            unlike(alloc, BLOCKS_DIFFER, &volume.at, own, other)
         }
         None => whole_blocks(alloc, &volume.at, block, first_size(held)),
     }
@@ -337,7 +341,7 @@ fn two_sizes(alloc: Global, at: &Place, held: Option<HeldSizes>) -> Result<(), R
     ensures { Checks result (two_sizes at.now held) }
 {
     match held {
-        Some(held) => unlike(alloc, 256, at, held.first, held.other),
+        Some(held) => unlike(alloc, VOLUME_TWO_SIZES, at, held.first, held.other),
         None => Ok(()),
     }
 }
@@ -399,9 +403,24 @@ fn named_twice(alloc: Global, part: &Stated) -> Result<(), Refusal>
 {
     match part {
         Stated::Settings => Ok(()),
-        Stated::Device(device) => Err(refuse(alloc, 261, &device.at, device.name.bytes())),
-        Stated::Volume(volume) => Err(refuse(alloc, 261, &volume.at, volume.name.bytes())),
-        Stated::Rule(rule) => Err(refuse(alloc, 261, &rule.rule.at, rule.name.bytes())),
+        Stated::Device(device) => Err(refuse(
+            alloc,
+            FDF_REPEATED_NAME,
+            &device.at,
+            device.name.bytes(),
+        )),
+        Stated::Volume(volume) => Err(refuse(
+            alloc,
+            FDF_REPEATED_NAME,
+            &volume.at,
+            volume.name.bytes(),
+        )),
+        Stated::Rule(rule) => Err(refuse(
+            alloc,
+            FDF_REPEATED_NAME,
+            &rule.rule.at,
+            rule.name.bytes(),
+        )),
     }
 }
 

@@ -6,6 +6,7 @@ ghost use Rattle.flash_document.specs.Rules.{same_arch};
 ghost use Rattle.flash_document.specs.Modules.{is_component, has_component, having_one, having, other_arch, no_component, is_among, only_arch, arch_among, inf_arch};
 
 use crate::rules::same_arch;
+use build_base::fault_codes::{ARCH_AMBIGUOUS, NOT_ACOMPONENT};
 use build_base::{Path, Refusal, Rows, WantOfMemory, refuse};
 use doc_types::arch::Arch;
 use doc_types::platform::{Component, PlatformDoc};
@@ -98,7 +99,7 @@ fn is_among(arch: Arch, arches: &[Arch]) -> bool
 fn no_component(alloc: Global, line: &InfLine) -> Refusal
     ensures { Finds result (Some (no_component line.now)) }
 {
-    refuse(alloc, 259, &line.at, line.inf.bytes())
+    refuse(alloc, NOT_ACOMPONENT, &line.at, line.inf.bytes())
 }
 
 fn only_arch(alloc: Global, line: &InfLine, arches: &[Arch]) -> Result<Arch, Refusal>
@@ -108,7 +109,7 @@ fn only_arch(alloc: Global, line: &InfLine, arches: &[Arch]) -> Result<Arch, Ref
         [] => Err(no_component(alloc, line)),
         [arch, rest @ ..] => {
             if other_arch(*arch, rest) {
-                return Err(refuse(alloc, 254, &line.at, line.inf.bytes()));
+                return Err(refuse(alloc, ARCH_AMBIGUOUS, &line.at, line.inf.bytes()));
             }
             Ok(*arch)
         }

@@ -4,6 +4,7 @@ ghost use Rattle.std.specs.List.{position};
 ghost use Rattle.build_base.specs.Answer.{Answers};
 ghost use Rattle.flash_document.specs.Rules.{arch_text, type_text, same_arch, is_for, rule_place, rule_name, rule_of};
 
+use build_base::fault_codes::RULE_ABSENT;
 use build_base::{Refusal, Text, WantOfMemory, refuse};
 use doc_types::arch::Arch;
 use doc_types::flash::FlashDoc;
@@ -132,7 +133,7 @@ pub fn rule_of(
         },
         None => {
             let name = rule_name(alloc, arch, module_type, template)?;
-            Err(refuse(alloc, 253, &line.at, name.bytes()))
+            Err(refuse(alloc, RULE_ABSENT, &line.at, name.bytes()))
         }
     }
 }

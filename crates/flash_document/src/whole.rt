@@ -24,6 +24,7 @@ use crate::plan::{device_plans, rules_of};
 use crate::sets::all_sets;
 use crate::stated::{Stated, StatedVolume};
 use crate::volumes::{names_of, nests_of, ordered_names, volume_at, volume_plans, volumes_of};
+use build_base::fault_codes::VOLUME_LOOP;
 use build_base::{Path, Place, Refusal, Rows, Same, Text, WantOfMemory, refuse};
 use doc_types::flash::{DevicePlan, FlashDoc};
 use doc_types::volume::VolumePlan;
@@ -70,7 +71,7 @@ fn loop_at(alloc: Global, volumes: &[&StatedVolume], place: usize) -> Result<(),
     ensures { Checks result (loop_in volumes.now (Some place)) }
 {
     match volume_at(volumes, place) {
-        Some(volume) => Err(refuse(alloc, 250, &volume.at, volume.name.bytes())),
+        Some(volume) => Err(refuse(alloc, VOLUME_LOOP, &volume.at, volume.name.bytes())),
         None => Ok(()),
     }
 }

@@ -14,6 +14,7 @@ use Rattle.ffs_sections.specs.Sections.{sized}
 use Rattle.ffs_sections.specs.Standard.{FILE_LIMIT}
 use Rattle.fv_compose.specs.Pads.{pad_bytes}
 use Rattle.fv_compose.specs.Place.{start_of, up}
+use Rattle.build_base.specs.FaultCodes.{PAD_TOO_LONG}
 
 -- EFI_FFS_VOLUME_TOP_FILE_GUID, 1BA0062E-C779-4582-8566-336AE8F78F09
 abbrev pub top_name : List ℕ
@@ -74,7 +75,7 @@ top_pieces erase at (Some file) size = placed_pieces erase at (top_start file si
 unfoldable pub pad_fault : Bool → ℕ → ℕ → FileImage → Option Fault
 pad_fault ffs3 at start file =
     first_holding
-    ((not ffs3 && nat_lt FILE_LIMIT (start - up 8 at), sized 704 file.at (start - up 8 at))
+    ((not ffs3 && nat_lt FILE_LIMIT (start - up 8 at), sized PAD_TOO_LONG file.at (start - up 8 at))
     ∷ [])
 
 -- the first such pad between files one after another

@@ -13,6 +13,7 @@ use Rattle.fv_compose.specs.Place.{up}
 use Rattle.fv_compose.specs.Header.{start_pieces, first_end}
 use Rattle.fv_compose.specs.Files.{top_files, top_of, plain_files, files_pieces, end_of, top_start, top_pieces, pads_fault, top_pad_fault}
 use Rattle.doc_types.specs.Volumes.{size_limit}
+use Rattle.build_base.specs.FaultCodes.{TOP_FILE_TWICE, TOP_FILE_UNALIGNED, VOLUME_FULL}
 pub use Rattle.doc_types.specs.Volumes.{SizeFits, HasShape}
 
 -- the end of the files but the top file
@@ -56,7 +57,7 @@ abbrev pub full_fault : VolumeHead → Bool → ℕ → Fault
 full_fault plan top taken =
     let given = given_size plan.block_size plan.size in
     record {
-      code = 701;
+      code = VOLUME_FULL;
       place = plan.at;
       detail =
           decimal (needed_of top taken given) ++ codes " > " ++ decimal given;
@@ -69,7 +70,7 @@ named code place plan = record { code = code; place = place; detail = plan.name 
 -- a top file after another
 abbrev pub later_fault : VolumeHead → List FileImage → Option Fault
 later_fault plan [] = None
-later_fault plan (file ∷ files) = Some (named 702 file.at plan)
+later_fault plan (file ∷ files) = Some (named TOP_FILE_TWICE file.at plan)
 
 abbrev pub twice_fault : VolumeHead → List FileImage → Option Fault
 twice_fault plan files = later_fault plan (drop 1 (top_files files))
@@ -80,7 +81,7 @@ start_fault plan start file =
     first_holding
     ((
       not (start % 8 == 0 && (start + head_at file.bytes) % file.align == 0),
-      named 703 file.at plan,
+      named TOP_FILE_UNALIGNED file.at plan,
     ) ∷ [])
 
 abbrev pub top_fault : VolumeHead → Option FileImage → ℕ → Option Fault

@@ -13,6 +13,7 @@ ghost use Rattle.fv_compose.specs.Volume.{taken_by, holds};
 use crate::layout::next_end;
 use crate::pad::put_pad;
 use crate::place::up;
+use build_base::fault_codes::PAD_TOO_LONG;
 use build_base::{Refusal, RunWriter, Same, Text, WantOfMemory};
 use doc_types::image::FileImage;
 use ffs_sections::faults::sized;
@@ -66,7 +67,7 @@ fn check_pad(
 {
     let pad = (start - up(8, at)) as u64;
     if is_long(ffs3, pad) {
-        return Err(Refusal::Bad(sized(alloc, 704, &file.at, pad)?));
+        return Err(Refusal::Bad(sized(alloc, PAD_TOO_LONG, &file.at, pad)?));
     }
     Ok(())
 }

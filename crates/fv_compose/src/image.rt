@@ -12,6 +12,7 @@ use crate::files::{check_pads, check_top_pad, is_top, put_files, put_top, taken_
 use crate::header::{first_end, start_bytes};
 use crate::layout::{Layout, lay_out};
 use crate::length::{full, length_for};
+use build_base::fault_codes::{TOP_FILE_TWICE, TOP_FILE_UNALIGNED};
 use build_base::{Fault, Permit, Place, Refusal, Rows, Run, RunWriter, Same, Text, WantOfMemory};
 use doc_types::image::FileImage;
 use doc_types::volume_head::{SIZE_LIMIT, VolumeHead};
@@ -82,7 +83,7 @@ pub(crate) fn check_tops(
     for file in files {
         let top = is_top(file);
         if found && top {
-            return Err(Refusal::Bad(named(alloc, 702, &file.at, plan)?));
+            return Err(Refusal::Bad(named(alloc, TOP_FILE_TWICE, &file.at, plan)?));
         }
         found = found || top;
     }
@@ -103,7 +104,7 @@ fn check_start(
     if start % 8 == 0 && (start + head_at(file.bytes.bytes()) as u64) % file.align as u64 == 0 {
         return Ok(());
     }
-    Err(Refusal::Bad(named(alloc, 703, &file.at, plan)?))
+    Err(Refusal::Bad(named(alloc, TOP_FILE_UNALIGNED, &file.at, plan)?))
 }
 
 // A top file that can't end at the volume's last byte.

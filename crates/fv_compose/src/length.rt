@@ -5,6 +5,7 @@ ghost use Rattle.fv_compose.specs.Place.{up};
 ghost use Rattle.fv_compose.specs.Volume.{holds, Fits, blocks_for, length_for, given_size, needed_of, full_fault, SizeFits, IsLength};
 
 use crate::place::{LEAST_PAD, up};
+use build_base::fault_codes::VOLUME_FULL;
 use build_base::{Fault, Same, Text, WantOfMemory};
 use doc_types::volume_head::{SIZE_LIMIT, VolumeHead};
 use itoa::Buffer;
@@ -111,7 +112,7 @@ pub(crate) fn full(
     out.extend_from_slice(b" > ")?;
     out.extend_from_slice(digits.format(given).as_bytes())?;
     Ok(Fault {
-        code: 701,
+        code: VOLUME_FULL,
         place: plan.at.copy(alloc)?,
         detail: Text::from_vec(out),
     })

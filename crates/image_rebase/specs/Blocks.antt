@@ -9,6 +9,7 @@ use Rattle.ffs_sections.specs.Sections.{sized}
 use Rattle.image_rebase.specs.Standard.{IMAGE_SIZEOF_BASE_RELOCATION}
 use Rattle.image_rebase.specs.declared.module.Module.{Module}
 use Rattle.image_rebase.specs.declared.blocks.Block.{Block}
+use Rattle.build_base.specs.FaultCodes.{RELOC_BLOCK}
 
 -- whether the directory doesn't lie within the content
 unfoldable pub lies_past : Module → ℕ → Bool
@@ -44,7 +45,7 @@ unfoldable pub blocks_from : ℕ → Place → ℕ → List ℕ → Result (List
 blocks_from zero place at left = Ok []
 blocks_from (suc n) place at left =
     if is_end left then Ok []
-    else if is_wrong_size (block_size left) (length left) then Err (sized 731 place at)
+    else if is_wrong_size (block_size left) (length left) then Err (sized RELOC_BLOCK place at)
     else with_front (block_at at left ∷ [])
     (blocks_from n place (at + block_size left) (drop (block_size left) left))
 

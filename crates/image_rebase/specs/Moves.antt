@@ -17,6 +17,7 @@ use Rattle.image_rebase.specs.Blocks.{lies_past, directory_in, blocks_of, entrie
 use Rattle.image_rebase.specs.Module.{module_in}
 use Rattle.image_rebase.specs.declared.module.Module.{Module}
 use Rattle.image_rebase.specs.declared.blocks.Block.{Block}
+use Rattle.build_base.specs.FaultCodes.{BASE_RANGE, NOT_IN_PLACE, RELOC_BLOCK, RELOC_OUTSIDE, RELOC_TYPE}
 
 -- Section headers: VirtualAddress at 0x0C, SizeOfRawData at 0x10, PointerToRawData at 0x14.
 
@@ -32,7 +33,7 @@ is_misplaced m content number =
 
 -- the first such section, by its number
 abbrev pub misplaced : Place → Module → List ℕ → Option Fault
-misplaced place m content = option_map (λ number. sized 734 place number)
+misplaced place m content = option_map (λ number. sized NOT_IN_PLACE place number)
     (find (is_misplaced m content) (range_with_len 0 m.sections))
 
 -- The new ImageBase of a module whose content lies at this address: that of relative address 0.
@@ -48,7 +49,7 @@ out_of_range m address = nat_lt address m.skip || nat_lt (base_limit m.wide) (ne
 
 -- the fault has the volume's base
 abbrev pub range_fault : Place → ℕ → Fault
-range_fault place base = record { code = 735; place = place; detail = hex base }
+range_fault place base = record { code = BASE_RANGE; place = place; detail = hex base }
 
 -- An entry has a type in its upper four bits and the offset in its block's page in the lower
 -- twelve.
@@ -70,7 +71,8 @@ is_type kind = kind == IMAGE_REL_BASED_ABSOLUTE || kind == IMAGE_REL_BASED_HIGHL
 
 unfoldable pub type_fault : Place → ℕ → Option Fault
 type_fault place entry =
-    first_holding ((not (is_type (entry_type entry)), sized 732 place (entry_type entry)) ∷ [])
+    first_holding ((not (is_type (entry_type entry)), sized RELOC_TYPE place (entry_type entry))
+    ∷ [])
 
 -- the first entry of another type
 abbrev pub types_fault : Place → List ℕ → Option Fault
@@ -90,7 +92,12 @@ word_end skip address width = address + width - skip
 
 abbrev pub outside_fault : Place → ℕ → ℕ → Fault
 outside_fault place end count =
-    record { code = 733; place = place; detail = decimal end ++ codes " > " ++ decimal count }
+    record {
+      code = RELOC_OUTSIDE;
+      place = place;
+      detail = decimal end ++ codes " > " ++ decimal
+          count;
+    }
 
 -- the word with a difference more, modulo its size
 abbrev pub sum_at : ℕ → ℕ → ℕ → List ℕ → ℕ
@@ -146,7 +153,7 @@ moved_by_blocks place m new content blocks =
 -- the blocks of the module's directory
 unfoldable pub module_blocks : Place → Module → List ℕ → Result (List Block) Fault
 module_blocks place m content =
-    if lies_past m (length content) then Err (sized 731 place 0)
+    if lies_past m (length content) then Err (sized RELOC_BLOCK place 0)
     else blocks_of place (directory_in m content)
 
 -- The sizes of all blocks come before the first entry.

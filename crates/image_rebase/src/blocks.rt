@@ -7,6 +7,7 @@ ghost use Rattle.image_rebase.specs.Moves.{module_blocks};
 use crate::bytes::{front, rest, u32_at};
 use crate::module::Module;
 use crate::standard::IMAGE_SIZEOF_BASE_RELOCATION;
+use build_base::fault_codes::RELOC_BLOCK;
 use build_base::{Place, Refusal, Rows};
 use ffs_sections::faults::sized;
 use std::alloc::Global;
@@ -99,7 +100,7 @@ fn blocks_of(alloc: Global, place: &Place, directory: &[u8]) -> Result<Rows<Bloc
     while !is_end(left) {
         let size = block_size(left);
         if is_wrong_size(size, left.len() as u64) {
-            return Err(Refusal::Bad(sized(alloc, 731, place, at)?));
+            return Err(Refusal::Bad(sized(alloc, RELOC_BLOCK, place, at)?));
         }
         blocks.push(block_at(at, left))?;
         at += size as u64;
@@ -119,7 +120,7 @@ pub fn module_blocks(
     ensures { Answers result (module_blocks place.now image.now content.now) }
 {
     if lies_past(image, content.len() as u64) {
-        return Err(Refusal::Bad(sized(alloc, 731, place, 0)?));
+        return Err(Refusal::Bad(sized(alloc, RELOC_BLOCK, place, 0)?));
     }
     blocks_of(alloc, place, directory_in(image, content))
 }

@@ -9,6 +9,7 @@ ghost use Rattle.image_rebase.specs.Moves.{width_of, is_type, type_fault, types_
 use crate::blocks::{Block, entry_bytes};
 use crate::bytes::{put, u32_at, u64_at};
 use crate::standard::{IMAGE_REL_BASED_ABSOLUTE, IMAGE_REL_BASED_DIR64, IMAGE_REL_BASED_HIGHLOW};
+use build_base::fault_codes::{RELOC_OUTSIDE, RELOC_TYPE};
 use build_base::{Fault, Place, Refusal, Same, Text, WantOfMemory};
 use ffs_sections::faults::sized;
 use itoa::Buffer;
@@ -46,7 +47,7 @@ fn check_type(alloc: Global, place: &Place, entry: u16) -> Result<(), Refusal>
 {
     let kind = entry / 0x1000;
     if !is_type(kind) {
-        return Err(Refusal::Bad(sized(alloc, 732, place, kind as u64)?));
+        return Err(Refusal::Bad(sized(alloc, RELOC_TYPE, place, kind as u64)?));
     }
     Ok(())
 }
@@ -120,7 +121,7 @@ fn outside_fault(alloc: Global, place: &Place, end: u64, count: u64) -> Result<F
     out.extend_from_slice(b" > ")?;
     out.extend_from_slice(digits.format(count).as_bytes())?;
     Ok(Fault {
-        code: 733,
+        code: RELOC_OUTSIDE,
         place: place.copy(alloc)?,
         detail: Text::from_vec(out),
     })

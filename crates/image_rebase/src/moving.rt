@@ -9,6 +9,7 @@ use crate::bytes::{copied, put, u32_at};
 use crate::entries::{check_blocks, move_blocks};
 use crate::module::{Module, module_in};
 use crate::standard::IMAGE_SIZEOF_SECTION_HEADER;
+use build_base::fault_codes::{BASE_RANGE, NOT_IN_PLACE};
 use build_base::{Fault, Place, Refusal, Same, Text, WantOfMemory};
 use ffs_sections::faults::sized;
 use std::alloc::Global;
@@ -47,7 +48,7 @@ fn check_sections(
     ensures { Checks result (misplaced place.now image.now content.now) }
 {
     match misplaced_section(image, content) {
-        Some(number) => Err(Refusal::Bad(sized(alloc, 734, place, number as u64)?)),
+        Some(number) => Err(Refusal::Bad(sized(alloc, NOT_IN_PLACE, place, number as u64)?)),
         None => Ok(()),
     }
 }
@@ -77,7 +78,7 @@ fn range_fault(alloc: Global, place: &Place, base: u64) -> Result<Fault, WantOfM
     let mut detail = Vec::new(alloc);
     put_hex(alloc, &mut detail, base)?;
     Ok(Fault {
-        code: 735,
+        code: BASE_RANGE,
         place: place.copy(alloc)?,
         detail: Text::from_vec(detail),
     })

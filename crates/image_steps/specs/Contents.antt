@@ -14,22 +14,23 @@ use Rattle.build_stages.specs.Stages.{misfit}
 use Rattle.build_stages.specs.Writing.{file_at, part_at}
 use Rattle.step_pack.specs.declared.out.Out.{Out}
 use Rattle.step_pack.specs.declared.out.Out.TheVariants as out
+use Rattle.build_base.specs.FaultCodes.{FILE_ABSENT, FILE_TOO_LONG, SECTION_ABSENT}
 
 abbrev pub whole_file : List ℕ → Place
 whole_file path = record { path = path; line = 0 }
 
 -- the fault of a file that isn't there: where it is the whole body, and where it is a section's
 abbrev pub file_absent : List ℕ → Fault
-file_absent path = fault_of 103 (whole_file path) path
+file_absent path = fault_of FILE_ABSENT (whole_file path) path
 
 abbrev pub section_absent : Place → List ℕ → Fault
-section_absent at path = fault_of 258 at path
+section_absent at path = fault_of SECTION_ABSENT at path
 
 -- the bytes of a file that must be there
 abbrev pub required : Fault → List ℕ → Answer Out → Result (List ℕ) Fault
 required absent path (answer.Bytes bytes) = Ok bytes
 required absent path answer.Absent = Err absent
-required absent path answer.TooLong = Err (fault_of 102 (whole_file path) path)
+required absent path answer.TooLong = Err (fault_of FILE_TOO_LONG (whole_file path) path)
 required absent path (answer.Field text) = Err misfit
 required absent path (answer.Part outcome) = Err misfit
 

@@ -24,6 +24,7 @@ use Rattle.build_stages.specs.Stages.{misfit}
 use Rattle.step_pack.specs.declared.out.Out.{Out}
 use Rattle.image_steps.specs.Contents.{whole_file, section_absent, file_content, volume_content, words_bytes}
 use Rattle.image_steps.specs.declared.parts.Shaped.{Shaped}
+use Rattle.build_base.specs.FaultCodes.{ALIGNMENTS_DIFFER, HEADER_TOO_LONG, NOT_PE, SUBSYSTEM_TOO_LARGE, TOO_MANY_SECTIONS, TRUNCATED}
 
 -- `FileAlignment != SectionAlignment`
 abbrev pub alignments_text : Result ℕ PeFault → Result ℕ PeFault → List ℕ
@@ -31,12 +32,12 @@ alignments_text (Ok file) (Ok section) = decimal file ++ codes " != " ++ decimal
 alignments_text _ _ = []
 
 abbrev pub pe_code : PeFault → ℕ
-pe_code pe.NotPe = 601
-pe_code pe.Truncated = 602
-pe_code pe.AlignmentsDiffer = 603
-pe_code pe.TooManySections = 604
-pe_code pe.HeaderTooLong = 605
-pe_code pe.SubsystemTooLarge = 606
+pe_code pe.NotPe = NOT_PE
+pe_code pe.Truncated = TRUNCATED
+pe_code pe.AlignmentsDiffer = ALIGNMENTS_DIFFER
+pe_code pe.TooManySections = TOO_MANY_SECTIONS
+pe_code pe.HeaderTooLong = HEADER_TOO_LONG
+pe_code pe.SubsystemTooLarge = SUBSYSTEM_TOO_LARGE
 
 -- the alignments where they differ, else the length of the file
 abbrev pub pe_detail : List ℕ → PeFault → List ℕ

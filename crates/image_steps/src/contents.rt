@@ -6,6 +6,7 @@ ghost use Rattle.build_base.specs.FaultText.{fault_of};
 ghost use Rattle.build_stages.specs.Gives.{GivesIn};
 ghost use Rattle.image_steps.specs.Contents.{whole_file, file_content, file_absent, section_absent, volume_content, volume_given, vpd_content, vpd_given, wide_text, words_bytes};
 
+use build_base::fault_codes::{FILE_ABSENT, FILE_TOO_LONG, SECTION_ABSENT};
 use build_base::{Image, Path, Place, Refusal, Same, Text, WantOfMemory, refuse};
 use build_stages::{Given, Stop};
 use doc_types::standard::EFI_SECTION_VERSION;
@@ -45,8 +46,8 @@ pub fn whole_content<'a>(
 {
     match given.file(place)? {
         Answer::Bytes(bytes) => Ok(bytes.value()),
-        Answer::Absent => Err(Stop::from(refuse_file(alloc, 103, path, path.bytes()))),
-        Answer::TooLong => Err(Stop::from(refuse_file(alloc, 102, path, path.bytes()))),
+        Answer::Absent => Err(Stop::from(refuse_file(alloc, FILE_ABSENT, path, path.bytes()))),
+        Answer::TooLong => Err(Stop::from(refuse_file(alloc, FILE_TOO_LONG, path, path.bytes()))),
         Answer::Field(_) | Answer::Part(_) => Err(Stop::Misfit),
     }
 }
@@ -64,8 +65,8 @@ pub fn section_content<'a>(
 {
     match given.file(place)? {
         Answer::Bytes(bytes) => Ok(bytes.value()),
-        Answer::Absent => Err(Stop::from(refuse(alloc, 258, at, path.bytes()))),
-        Answer::TooLong => Err(Stop::from(refuse_file(alloc, 102, path, path.bytes()))),
+        Answer::Absent => Err(Stop::from(refuse(alloc, SECTION_ABSENT, at, path.bytes()))),
+        Answer::TooLong => Err(Stop::from(refuse_file(alloc, FILE_TOO_LONG, path, path.bytes()))),
         Answer::Field(_) | Answer::Part(_) => Err(Stop::Misfit),
     }
 }

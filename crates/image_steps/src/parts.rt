@@ -10,6 +10,9 @@ ghost use Rattle.te_images.specs.Te.{te_of};
 ghost use Rattle.image_steps.specs.Parts.{alignments_text, pe_code, pe_detail, pe_fault, as_is, stripped, te_shaped, file_shaped, content_at, files_of, volumes_of, volume_align, unset_align, section_align, some_guid, without_guid, header_guid, part_with, part_at, parts_from, source_checked, files_checked, file_count};
 
 use crate::contents::{image_text, refuse_file, section_content, volume_content, words_bytes};
+use build_base::fault_codes::{
+    ALIGNMENTS_DIFFER, HEADER_TOO_LONG, NOT_PE, SUBSYSTEM_TOO_LARGE, TOO_MANY_SECTIONS, TRUNCATED,
+};
 use build_base::{Guid, Image, Path, Refusal, Rows, Text, WantOfMemory};
 use build_stages::{Given, Stop};
 use doc_types::flash::FlashDoc;
@@ -81,12 +84,12 @@ fn pe_code(fault: PeFault) -> u16
     ensures { result ≡ pe_code fault }
 {
     match fault {
-        PeFault::NotPe => 601,
-        PeFault::Truncated => 602,
-        PeFault::AlignmentsDiffer => 603,
-        PeFault::TooManySections => 604,
-        PeFault::HeaderTooLong => 605,
-        PeFault::SubsystemTooLarge => 606,
+        PeFault::NotPe => NOT_PE,
+        PeFault::Truncated => TRUNCATED,
+        PeFault::AlignmentsDiffer => ALIGNMENTS_DIFFER,
+        PeFault::TooManySections => TOO_MANY_SECTIONS,
+        PeFault::HeaderTooLong => HEADER_TOO_LONG,
+        PeFault::SubsystemTooLarge => SUBSYSTEM_TOO_LARGE,
     }
 }
 

@@ -24,6 +24,7 @@ use Rattle.inf_docs.specs.Keys.{value_faults, value_row}
 use Rattle.inf_docs.specs.Names.{path_of, first_field, package_faults, package_row}
 use Rattle.inf_docs.specs.Pcds.{is_pcd_form, pcd_fault, pcd_faults, pcd_used}
 use Rattle.inf_docs.specs.Rows.{faults_in, row_in, line_faults, line_row, Lists}
+use Rattle.build_base.specs.FaultCodes.{BAD_TYPE, INF_BAD_GUID}
 
 mapped : {A B : Type 0} (f : A → B) (o : Option A) → IsSome o → IsSome (option_map f o)
 mapped f (Some x) h = refl
@@ -72,8 +73,8 @@ class_given line fields e = form_given line fields (least_rest (first_fault (und
 pub value_given : (line : Taken) (k : ModuleKey) (value : List ℕ) → least_of (value_faults line k value) ≡ None → IsSome (value_row line k value)
 unfolding value_faults value_row
 value_given line key.BaseName value e = refl
-value_given line key.FileGuid value e = mapped _ (guid_of value) (wanted_given (guid_of value) (fault_of 212 line.at value) (least_first _ [] (least_rest (undefined_macro line.at value) (wanted (guid_of value) (fault_of 212 line.at value) ∷ []) e)))
-value_given line key.Kind value e = mapped _ (module_type_named value) (wanted_given (module_type_named value) (fault_of 213 line.at value) (least_first _ [] (least_rest (undefined_macro line.at value) (wanted (module_type_named value) (fault_of 213 line.at value) ∷ []) e)))
+value_given line key.FileGuid value e = mapped _ (guid_of value) (wanted_given (guid_of value) (fault_of INF_BAD_GUID line.at value) (least_first _ [] (least_rest (undefined_macro line.at value) (wanted (guid_of value) (fault_of INF_BAD_GUID line.at value) ∷ []) e)))
+value_given line key.Kind value e = mapped _ (module_type_named value) (wanted_given (module_type_named value) (fault_of BAD_TYPE line.at value) (least_first _ [] (least_rest (undefined_macro line.at value) (wanted (module_type_named value) (fault_of BAD_TYPE line.at value) ∷ []) e)))
 value_given line key.Version value e = refl
 value_given line key.EntryPoint value e = refl
 value_given line key.Constructor value e = refl

@@ -14,13 +14,14 @@ use Rattle.doc_types.specs.declared.module_type.ModuleType.{ModuleType}
 use Rattle.meta_lexer.specs.Faults.{first_fault}
 use Rattle.meta_lexer.specs.Parts.{words_of}
 use Rattle.meta_lexer.specs.Words.{is_identifier}
+use Rattle.build_base.specs.FaultCodes.{BAD_CLASS_LINE, BAD_TYPE}
 
 abbrev pub bad_class : Taken → Fault
-bad_class line = fault_of 214 line.at line.text
+bad_class line = fault_of BAD_CLASS_LINE line.at line.text
 
 -- a word that is no type of modules
 abbrev pub type_fault : Place → List ℕ → Option Fault
-type_fault at word = wanted (module_type_named word) (fault_of 213 at word)
+type_fault at word = wanted (module_type_named word) (fault_of BAD_TYPE at word)
 
 abbrev pub class_name_fault : Taken → List ℕ → Option Fault
 class_name_fault line name = if is_identifier name then None else Some (bad_class line)

@@ -18,6 +18,7 @@ use Rattle.inf_docs.specs.declared.row.Row.{Row}
 use Rattle.inf_docs.specs.declared.row.Row.TheVariants as row
 use Rattle.inf_docs.specs.Classes.{class_faults, class_served}
 use Rattle.inf_docs.specs.Names.{name_faults, named}
+use Rattle.build_base.specs.FaultCodes.{BAD_TYPE, INF_BAD_GUID}
 
 -- the keys that are read; of the first four the last line holds, the others may repeat
 abbrev pub keys : List (List ℕ × ModuleKey)
@@ -33,13 +34,14 @@ key_named word = lookup keys word
 -- a GUID in registry form
 abbrev pub guid_faults : Taken → List ℕ → List (Option Fault)
 guid_faults line value =
-    undefined_macro line.at value ∷ wanted (guid_of value) (fault_of 212 line.at value) ∷ []
+    undefined_macro line.at value ∷ wanted (guid_of value) (fault_of INF_BAD_GUID line.at value)
+    ∷ []
 
 -- a type of modules
 abbrev pub type_faults : Taken → List ℕ → List (Option Fault)
 type_faults line value =
     undefined_macro line.at value ∷
-    wanted (module_type_named value) (fault_of 213 line.at value) ∷ []
+    wanted (module_type_named value) (fault_of BAD_TYPE line.at value) ∷ []
 
 -- the faults of a key's value
 unfoldable pub value_faults : Taken → ModuleKey → List ℕ → List (Option Fault)

@@ -21,14 +21,15 @@ use Rattle.inf_docs.specs.declared.tables.ModuleTables.{ModuleTables}
 use Rattle.inf_docs.specs.Depex.{all_parts}
 use Rattle.inf_docs.specs.Rows.{line_faults, line_row}
 use Rattle.inf_docs.specs.Sections.{head_meaning}
+use Rattle.build_base.specs.FaultCodes.{INF_MISSING_KEY, INF_UNKNOWN_SECTION}
 
 -- nothing is ever open
 abbrev pub inf_grammar : Grammar Scope Row
 inf_grammar =
     record {
-      head_faults = λ line head. meaning_faults 218 line head (head_meaning head);
+      head_faults = λ line head. meaning_faults INF_UNKNOWN_SECTION line head (head_meaning head);
       scope_of = λ head. meaning_scope (head_meaning head);
-      stray = 218;
+      stray = INF_UNKNOWN_SECTION;
       faults = λ above line scope. line_faults line scope;
       row_of = λ above line scope. line_row line scope;
       at_heads = λ above line heads. None;
@@ -145,10 +146,12 @@ with_required root tables parts name guid kind =
 
 abbrev pub required : List ℕ → ModuleTables → List DepexPart → Option (List ℕ) → Option GuidBytes
     → Option ModuleType → Result InfDoc Fault
-required root tables parts None guid kind = Err (missing_key 211 root (codes "BASE_NAME"))
-required root tables parts (Some name) None kind = Err (missing_key 211 root (codes "FILE_GUID"))
+required root tables parts None guid kind =
+    Err (missing_key INF_MISSING_KEY root (codes "BASE_NAME"))
+required root tables parts (Some name) None kind =
+    Err (missing_key INF_MISSING_KEY root (codes "FILE_GUID"))
 required root tables parts (Some name) (Some guid) None =
-    Err (missing_key 211 root (codes "MODULE_TYPE"))
+    Err (missing_key INF_MISSING_KEY root (codes "MODULE_TYPE"))
 required root tables parts (Some name) (Some guid) (Some kind) =
     Ok (with_required root tables parts name guid kind)
 

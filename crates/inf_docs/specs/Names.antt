@@ -16,10 +16,11 @@ use Rattle.meta_lexer.specs.Parts.{first_text, field_texts}
 use Rattle.meta_lexer.specs.Words.{is_identifier}
 use Rattle.inf_docs.specs.declared.row.Row.{Row}
 use Rattle.inf_docs.specs.declared.row.Row.TheVariants.{Package}
+use Rattle.build_base.specs.FaultCodes.{BAD_NAME, BAD_PATH}
 
 -- an identifier
 abbrev pub name_fault : Place → List ℕ → Option Fault
-name_fault at text = if is_identifier text then None else Some (fault_of 217 at text)
+name_fault at text = if is_identifier text then None else Some (fault_of BAD_NAME at text)
 
 abbrev pub name_faults : Place → List ℕ → List (Option Fault)
 name_faults at text = undefined_macro at text ∷ name_fault at text ∷ []
@@ -45,7 +46,7 @@ path_of field = path_field (without_workspace field)
 unfoldable pub package_faults : Taken → List (Option Fault)
 package_faults line =
     of_read_line line
-    (wanted (path_of (first_field line)) (fault_of 101 line.at (first_field line)) ∷ [])
+    (wanted (path_of (first_field line)) (fault_of BAD_PATH line.at (first_field line)) ∷ [])
 
 unfoldable pub package_row : Taken → Arch → Option Row
 package_row line arch =

@@ -14,6 +14,7 @@ use Rattle.doc_types.specs.declared.pcd.Asked.{Asked}
 use Rattle.doc_types.specs.declared.pcd.PcdName.{PcdName}
 use Rattle.meta_lexer.specs.Faults.{first_fault}
 use Rattle.meta_lexer.specs.Parts.{first_text, field_texts}
+use Rattle.build_base.specs.FaultCodes.{BAD_PCD_NAME}
 
 -- one field, or two of which the second isn't empty
 abbrev pub is_pcd_form : List (List ℕ) → Bool
@@ -24,8 +25,9 @@ is_pcd_form fields = false
 abbrev pub pcd_fault : Taken → List (List ℕ) → Option Fault
 pcd_fault line fields =
     if is_pcd_form fields
-    then wanted (pcd_name_of (first_text fields)) (fault_of 215 line.at (first_text fields))
-    else Some (fault_of 215 line.at (first_text fields))
+    then wanted (pcd_name_of (first_text fields))
+    (fault_of BAD_PCD_NAME line.at (first_text fields))
+    else Some (fault_of BAD_PCD_NAME line.at (first_text fields))
 
 abbrev pub asked_faults : Taken → List (List ℕ) → List (Option Fault)
 asked_faults line fields = first_fault (undefined_macro line.at) fields ∷ pcd_fault line fields ∷ []

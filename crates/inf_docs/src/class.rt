@@ -8,6 +8,7 @@ ghost use Rattle.doc_types.specs.ModuleTypes.{module_type_named};
 ghost use Rattle.inf_docs.specs.Classes.{bad_class, type_fault, class_name_fault, served_fault, class_form, class_faults, type_given, types_named, class_served};
 ghost use Rattle.std.specs.Prelude.{Some};
 
+use build_base::fault_codes::{BAD_CLASS_LINE, BAD_TYPE};
 use build_base::{Place, Refusal, Rows, Taken, Text, WantOfMemory, refuse};
 use doc_reading::least_check::{least_of_one, least_of_two, lesser_check};
 use doc_reading::value_fields::undefined_macros;
@@ -21,13 +22,13 @@ use std::alloc::Global;
 fn bad_class(alloc: Global, line: &Taken) -> Result<(), Refusal>
     ensures { Checks result (Some (bad_class line.now)) }
 {
-    Err(refuse(alloc, 214, &line.at, line.text.bytes()))
+    Err(refuse(alloc, BAD_CLASS_LINE, &line.at, line.text.bytes()))
 }
 
 fn check_type(alloc: Global, at: &Place, word: &[u8]) -> Result<(), Refusal>
     ensures { Checks result (type_fault at.now word.now) }
 {
-    wanted(alloc, &module_type_named(word), 213, at, word)
+    wanted(alloc, &module_type_named(word), BAD_TYPE, at, word)
 }
 
 fn check_types(alloc: Global, at: &Place, words: &[Text]) -> Result<(), Refusal>

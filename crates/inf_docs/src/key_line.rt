@@ -9,6 +9,7 @@ use crate::class::{check_class, class_served};
 use crate::key::{ModuleKey, key_named};
 use crate::names::{check_name, named};
 use crate::row::Row;
+use build_base::fault_codes::{BAD_TYPE, INF_BAD_GUID};
 use build_base::{Guid, Refusal, Taken, Text, WantOfMemory};
 use doc_reading::least_check::{least_of_one, least_of_two};
 use doc_reading::value_fields::{open_quote, undefined_macro};
@@ -24,7 +25,7 @@ fn check_guid(alloc: Global, line: &Taken, value: &[u8]) -> Result<(), Refusal>
 {
     least_of_two(
         undefined_macro(alloc, &line.at, value),
-        wanted(alloc, &Guid::of_text(value), 212, &line.at, value),
+        wanted(alloc, &Guid::of_text(value), INF_BAD_GUID, &line.at, value),
     )
 }
 
@@ -33,7 +34,7 @@ fn check_type(alloc: Global, line: &Taken, value: &[u8]) -> Result<(), Refusal>
 {
     least_of_two(
         undefined_macro(alloc, &line.at, value),
-        wanted(alloc, &module_type_named(value), 213, &line.at, value),
+        wanted(alloc, &module_type_named(value), BAD_TYPE, &line.at, value),
     )
 }
 

@@ -15,6 +15,7 @@ use crate::pcd_line::pcd_line;
 use crate::row::Row;
 use crate::section::{Scope, SectionKind, head_meaning};
 use crate::tables::ModuleTables;
+use build_base::fault_codes::INF_UNKNOWN_SECTION;
 use build_base::{Place, Refusal, Rows, Taken, WantOfMemory};
 use doc_reading::Format;
 use doc_reading::meaning::enter_as;
@@ -87,11 +88,17 @@ impl Format for ModuleFormat {
     ghost holds = { Holds };
 
     fn stray(&self) -> u16 {
-        218
+        INF_UNKNOWN_SECTION
     }
 
     fn enter(&self, line: &Taken, head: &Head) -> Result<Option<Scope>, Refusal> {
-        enter_as(self.alloc, 218, line, head, head_meaning(head))
+        enter_as(
+            self.alloc,
+            INF_UNKNOWN_SECTION,
+            line,
+            head,
+            head_meaning(head),
+        )
     }
 
     fn below(&self, line: &Taken, scope: &Scope) -> Result<Option<Row>, Refusal> {

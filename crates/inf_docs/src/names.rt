@@ -6,6 +6,7 @@ ghost use Rattle.doc_reading.specs.Least.{least_of};
 ghost use Rattle.inf_docs.specs.Names.{name_fault, name_faults, named, name_line_faults, name_line, package_faults, package_row};
 
 use crate::row::Row;
+use build_base::fault_codes::{BAD_NAME, BAD_PATH};
 use build_base::path::path_field;
 use build_base::{Place, Refusal, Same, Taken, Text, WantOfMemory, refuse};
 use doc_reading::least_check::{least_of_one, least_of_two};
@@ -22,7 +23,7 @@ fn check_identifier(alloc: Global, at: &Place, text: &[u8]) -> Result<(), Refusa
     ensures { Checks result (name_fault at.now text.now) }
 {
     if !is_identifier(text) {
-        return Err(refuse(alloc, 217, at, text));
+        return Err(refuse(alloc, BAD_NAME, at, text));
     }
     Ok(())
 }
@@ -70,7 +71,7 @@ pub fn package_line(alloc: Global, line: &Taken, arch: Arch) -> Result<Option<Ro
     let fields = field_texts(alloc, line.text.bytes())?;
     let field = first_text(fields.items());
     let path = path_field(alloc, without_workspace(field))?;
-    least_of_one(wanted(alloc, &path, 101, &line.at, field))?;
+    least_of_one(wanted(alloc, &path, BAD_PATH, &line.at, field))?;
     match path {
         Some(path) => {
             let named = named(alloc, &line.at, arch, path.bytes())?;

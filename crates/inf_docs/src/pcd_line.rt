@@ -8,6 +8,7 @@ ghost use Rattle.inf_docs.specs.Pcds.{is_pcd_form, pcd_fault, asked_faults, pcd_
 ghost use Rattle.doc_reading.specs.Values.{wanted};
 ghost use Rattle.build_base.specs.FaultText.{fault_of};
 
+use build_base::fault_codes::BAD_PCD_NAME;
 use build_base::{Refusal, Same, Taken, Text, WantOfMemory, refuse};
 use doc_reading::least_check::least_of_two;
 use doc_reading::value_fields::{open_quote, undefined_macros};
@@ -39,9 +40,9 @@ fn check_pcd(
 {
     let name = first_text(fields);
     if !is_pcd_form(fields) {
-        return Err(refuse(alloc, 215, &line.at, name));
+        return Err(refuse(alloc, BAD_PCD_NAME, &line.at, name));
     }
-    wanted(alloc, pcd, 215, &line.at, name)
+    wanted(alloc, pcd, BAD_PCD_NAME, &line.at, name)
 }
 
 fn default_of(alloc: Global, fields: &[Text]) -> Result<Option<Text>, WantOfMemory>

@@ -7,6 +7,7 @@ ghost use Rattle.inf_docs.specs.Modules.{with_required, document_of, module_of};
 use crate::depex::push_parts;
 use crate::module::ModuleFormat;
 use crate::tables::ModuleTables;
+use build_base::fault_codes::INF_MISSING_KEY;
 use build_base::{Lines, Path, Permit, Place, Refusal, Rows, Same, Text, WantOfMemory};
 use doc_reading::missing::refuse_missing;
 use doc_reading::{Whole, read_whole};
@@ -48,13 +49,13 @@ fn document(
         pcds,
     } = tables;
     let Some(base_name) = base_name else {
-        return Err(refuse_missing(alloc, 211, root, b"BASE_NAME".as_slice()));
+        return Err(refuse_missing(alloc, INF_MISSING_KEY, root, b"BASE_NAME".as_slice()));
     };
     let Some(file_guid) = file_guid else {
-        return Err(refuse_missing(alloc, 211, root, b"FILE_GUID".as_slice()));
+        return Err(refuse_missing(alloc, INF_MISSING_KEY, root, b"FILE_GUID".as_slice()));
     };
     let Some(module_type) = kind else {
-        return Err(refuse_missing(alloc, 211, root, b"MODULE_TYPE".as_slice()));
+        return Err(refuse_missing(alloc, INF_MISSING_KEY, root, b"MODULE_TYPE".as_slice()));
     };
     Ok(InfDoc {
         at: Place {

@@ -16,6 +16,7 @@ use Rattle.library_choice.specs.Choices.{classes_fault, choice_of, made}
 use Rattle.library_choice.specs.Closure.{same_path, instance_of, next, nulls, instances, are_few, is_unknown, wanted_by}
 use Rattle.library_choice.specs.Lines.{Setting}
 use Rattle.library_choice.specs.Search.{Finds}
+use Rattle.build_base.specs.FaultCodes.{TOO_MANY_INSTANCES}
 
 abbrev pub FindsFor : Setting → InfDoc → Option (List (List ℕ)) → Type 0
 FindsFor s inf found = Finds same_path (next s) (filter_map (instance_of s) inf.classes) (nulls s) found
@@ -45,13 +46,13 @@ wanted_none s inf f = ap (λ b. cond b (filter (is_unknown s.infs) (instances s 
 pub made_some : (user : Module) (s : Setting) (inf : InfDoc) (found : List (List ℕ)) → FindsFor s inf (Some found) → made user s inf ≡ or_fault (classes_fault s inf found) (choice_of s found)
 unfolding made
 made_some user s inf found f =
-    ap (λ (b : Bool). cond {A = Result Choice Fault} b (or_fault (classes_fault s inf (instances s inf)) (choice_of s (instances s inf))) (Err (fault_of 305 (record { path = user.inf; line = 0 }) (codes "1025")))) (few-is s inf found f)
+    ap (λ (b : Bool). cond {A = Result Choice Fault} b (or_fault (classes_fault s inf (instances s inf)) (choice_of s (instances s inf))) (Err (fault_of TOO_MANY_INSTANCES (record { path = user.inf; line = 0 }) (codes "1025")))) (few-is s inf found f)
     ∙ ap (λ (l : List (List ℕ)). or_fault (classes_fault s inf l) (choice_of s l)) (sym (found-is s inf found f))
 
-pub made_none : (user : Module) (s : Setting) (inf : InfDoc) → FindsFor s inf None → made user s inf ≡ Err (fault_of 305 (record { path = user.inf; line = 0 }) (codes "1025"))
+pub made_none : (user : Module) (s : Setting) (inf : InfDoc) → FindsFor s inf None → made user s inf ≡ Err (fault_of TOO_MANY_INSTANCES (record { path = user.inf; line = 0 }) (codes "1025"))
 unfolding made
 made_none user s inf f =
-    ap (λ (b : Bool). cond {A = Result Choice Fault} b (or_fault (classes_fault s inf (instances s inf)) (choice_of s (instances s inf))) (Err (fault_of 305 (record { path = user.inf; line = 0 }) (codes "1025")))) (many-is s inf f)
+    ap (λ (b : Bool). cond {A = Result Choice Fault} b (or_fault (classes_fault s inf (instances s inf)) (choice_of s (instances s inf))) (Err (fault_of TOO_MANY_INSTANCES (record { path = user.inf; line = 0 }) (codes "1025")))) (many-is s inf f)
 
 -- a refusal of a fault is that of an outcome which has it
 pub refused_is : {T : Type 0} (e : Refusal) (fault : Fault) (r : Result T Fault) → r ≡ Err fault → Faulty e (Some fault) → Refused e r

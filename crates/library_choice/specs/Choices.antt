@@ -24,6 +24,7 @@ use Rattle.library_choice.specs.Closure.{known, classes_of, next, instances, are
 use Rattle.library_choice.specs.Found.{is_in, ends}
 use Rattle.library_choice.specs.Lines.{covers, same_type, chosen_line, Setting}
 use Rattle.library_choice.specs.Order.{call_order}
+use Rattle.build_base.specs.FaultCodes.{CLASS_NOT_SERVED, CLASS_UNRESOLVED, CONSTRUCTOR_LOOP, TOO_MANY_INSTANCES, TYPE_NOT_SERVED}
 
 -- modules of these types may use a library of every type
 abbrev pub is_free : ModuleType → Bool
@@ -45,14 +46,15 @@ unfoldable pub served_fault : User → LibraryLine → List ℕ → List Served 
 served_fault user line class serves =
     if list_any (names class) serves
     then (if list_any (λ served. names class served && takes user served) serves then None
-    else Some (fault_of 302 line.at class)) else Some (fault_of 303 line.at class)
+    else Some (fault_of TYPE_NOT_SERVED line.at class))
+    else Some (fault_of CLASS_NOT_SERVED line.at class)
 
 abbrev pub instance_fault : User → LibraryLine → List ℕ → Option InfDoc → Option Fault
 instance_fault user line class None = None
 instance_fault user line class (Some inf) = served_fault user line class inf.serves
 
 abbrev pub line_fault : Setting → Named → Option LibraryLine → Option Fault
-line_fault s class None = Some (fault_of 301 class.at class.name)
+line_fault s class None = Some (fault_of CLASS_UNRESOLVED class.at class.name)
 line_fault s class (Some line) = instance_fault s.user line class.name (known s.infs line.instance)
 
 unfoldable pub class_fault : Setting → Named → Option Fault
@@ -116,7 +118,7 @@ is_looped rows all x = list_any (λ y. before rows x y && before rows y x) all
 
 abbrev pub caller_fault : Option Caller → Option Fault
 caller_fault None = None
-caller_fault (Some caller) = Some (fault_of 304 caller.at caller.inf)
+caller_fault (Some caller) = Some (fault_of CONSTRUCTOR_LOOP caller.at caller.inf)
 
 abbrev pub looped : List Caller → Option ℕ → Option Fault
 looped cs None = None
@@ -162,7 +164,7 @@ unfoldable pub made : Module → Setting → InfDoc → Result Choice Fault
 made user s inf =
     if are_few s inf then or_fault (classes_fault s inf (instances s inf))
     (choice_of s (instances s inf))
-    else Err (fault_of 305 (record { path = user.inf; line = 0 }) (codes "1025"))
+    else Err (fault_of TOO_MANY_INSTANCES (record { path = user.inf; line = 0 }) (codes "1025"))
 
 abbrev pub empty_choice : Choice
 empty_choice = record { library = true; instances = []; constructors = []; destructors = [] }

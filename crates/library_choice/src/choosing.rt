@@ -10,6 +10,7 @@ ghost use Rattle.library_choice.specs.Closure.{same_path, is_known, instance_of,
 ghost use Rattle.library_choice.specs.Laws.{IsLawful, AreLawful};
 ghost use Rattle.library_choice.specs.Reaching.{IsWhole};
 ghost use Rattle.library_choice.specs.Search.{Finds};
+ghost use Rattle.build_base.specs.FaultCodes.{TOO_MANY_INSTANCES};
 
 use crate::caller::Caller;
 use crate::callers::callers;
@@ -19,6 +20,7 @@ use crate::reach::reach;
 use crate::serving::check_all;
 use crate::tables::Tables;
 use crate::wanted::{known, setting_of};
+use build_base::fault_codes::{CONSTRUCTOR_LOOP, TOO_MANY_INSTANCES};
 use build_base::{Path, Permit, Place, Refusal, Rows, Same, WantOfMemory, refuse};
 use doc_types::choice::{Call, Choice, Module};
 use doc_types::module::InfDoc;
@@ -123,7 +125,7 @@ fn check_caller(alloc: Global, caller: Option<&Caller>) -> Result<(), Refusal>
 {
     match caller {
         None => Ok(()),
-        Some(caller) => Err(refuse(alloc, 304, &caller.at, caller.inf.bytes())),
+        Some(caller) => Err(refuse(alloc, CONSTRUCTOR_LOOP, &caller.at, caller.inf.bytes())),
     }
 }
 
@@ -195,10 +197,15 @@ fn lawful_choice(
 // More than 1,024 instances.
 fn too_many(alloc: Global, inf: &Path) -> Refusal
     ensures { Faulty result
-        (Some (fault_of 305 (record { path = inf.now; line = 0 }) (codes "1025"))) }
+        (Some (fault_of TOO_MANY_INSTANCES (record { path = inf.now; line = 0 }) (codes "1025"))) }
 {
     match inf.copy(alloc) {
-        Ok(path) => refuse(alloc, 305, &Place { path, line: 0 }, b"1025".as_slice()),
+        Ok(path) => refuse(
+            alloc,
+            TOO_MANY_INSTANCES,
+            &Place { path, line: 0 },
+            b"1025".as_slice(),
+        ),
         Err(_) => Refusal::WantOfMemory,
     }
 }

@@ -11,6 +11,7 @@ ghost use Rattle.meta_lexer.specs.Faults.{first_fault};
 use crate::lines::{covers, same_type};
 use crate::tables::Tables;
 use crate::user::User;
+use build_base::fault_codes::{CLASS_NOT_SERVED, CLASS_UNRESOLVED, TYPE_NOT_SERVED};
 use build_base::{Path, Refusal, refuse};
 use doc_types::module::{InfDoc, Named, Served};
 use doc_types::module_type::ModuleType;
@@ -68,10 +69,10 @@ fn check_served(
     ensures { Checks result (served_fault user line.now class.now serves.now) }
 {
     if !any_names(class, serves) {
-        return Err(refuse(alloc, 303, &line.at, class));
+        return Err(refuse(alloc, CLASS_NOT_SERVED, &line.at, class));
     }
     if !any_takes(user, class, serves) {
-        return Err(refuse(alloc, 302, &line.at, class));
+        return Err(refuse(alloc, TYPE_NOT_SERVED, &line.at, class));
     }
     Ok(())
 }
@@ -100,7 +101,7 @@ fn check_line(
     ensures { Checks result (line_fault tables.now class.now (option_copied line.entry)) }
 {
     match line {
-        None => Err(refuse(alloc, 301, &class.at, class.name.bytes())),
+        None => Err(refuse(alloc, CLASS_UNRESOLVED, &class.at, class.name.bytes())),
         Some(line) => {
             let inf = tables.known(alloc, &line.instance)?;
             check_instance(alloc, tables.user(), line, class.name.bytes(), inf)

@@ -18,6 +18,7 @@ use Rattle.macro_conditions.specs.LineMeaning.{Acts, ◌>>=◌, taken, skipped, 
 use Rattle.macro_conditions.specs.Expansion.{Env, acted, tested, fault_at, include_field, line_at, lines_read, is_open}
 use Rattle.macro_conditions.specs.Counting.{Counted, Halt, fault, wants, counting, saying, more_asked, asked, counted_acts, counted_inside, counted_outside, counted_opened, counted_found, counted_at, counted, counted_root, most}
 use Rattle.macro_conditions.proofs.CountGrowth.{Include, Enter}
+use Rattle.build_base.specs.FaultCodes.{INCLUDE_LOOP, INCLUDE_TOO_DEEP}
 
 module _ (price : ℕ) where
   abbrev mutual
@@ -268,11 +269,11 @@ within_at m enter known h l field u (Some path) =
 within : (longest : ℕ) (known : Source) → ShortFiles longest known → (fixed : List Macro) (n : ℕ) (l : Line) (c : Counted) → Within c.used (most longest n) (counted known fixed n l c)
 unfolding counted most
 within longest known short fixed zero l c =
-    within_at 0 (λ path v p bytes. Err (fault (fault_at 122 l path))) known (λ path v p bytes e. tt) l (include_field fixed l c.env) c.used (path_field (without_workspace (include_field fixed l c.env)))
+    within_at 0 (λ path v p bytes. Err (fault (fault_at INCLUDE_TOO_DEEP l path))) known (λ path v p bytes e. tt) l (include_field fixed l c.env) c.used (path_field (without_workspace (include_field fixed l c.env)))
 within longest known short fixed (suc n) l c =
     let file : List Line → Counted → Result Counted Halt = λ ls x. file_of (counted_acts fixed (counted known fixed n)) ls x in
-    within_at (longest * most longest n) (λ path v p bytes. cond (is_open p c.env) (Err (fault (fault_at 123 l path))) (counted_opened file p bytes v c.env)) known
-    (λ path v p bytes e. either (is_open p c.env) v (longest * most longest n) (Err (fault (fault_at 123 l path))) (counted_opened file p bytes v c.env) tt
+    within_at (longest * most longest n) (λ path v p bytes. cond (is_open p c.env) (Err (fault (fault_at INCLUDE_LOOP l path))) (counted_opened file p bytes v c.env)) known
+    (λ path v p bytes e. either (is_open p c.env) v (longest * most longest n) (Err (fault (fault_at INCLUDE_LOOP l path))) (counted_opened file p bytes v c.env) tt
     (within_lines longest (most longest n) file (file_within fixed (counted known fixed n) (most longest n) (within longest known short fixed n)) p v c.env (lines_read p bytes) (λ ls is. short p p bytes ls e is)))
     l (include_field fixed l c.env) c.used (path_field (without_workspace (include_field fixed l c.env)))
 

@@ -14,6 +14,7 @@ use Rattle.macro_conditions.specs.Expansion.{Env, acted, tested, fault_at, inclu
 use Rattle.macro_conditions.specs.Counting.{Counted, Halt, fault, wants, counting, saying, more_asked, asked, counted_acts, counted_inside, counted_outside, counted_opened, counted_found, counted_at, counted, counted_root}
 use Rattle.macro_conditions.proofs.TreeKeeps.{IsKept, file_kept}
 use Rattle.macro_conditions.proofs.TreeRelated.{IsRelated, file_related}
+use Rattle.build_base.specs.FaultCodes.{INCLUDE_LOOP, INCLUDE_TOO_DEEP}
 
 abbrev pub Include : Type 0
 Include = Line → Counted → Result Counted Halt
@@ -80,11 +81,11 @@ grows_at enter h known l field u (Some path) =
 grows : (known : Source) (fixed : List Macro) (n : ℕ) (l : Line) (c : Counted) → Grows c.used (counted known fixed n l c)
 unfolding counted
 grows known fixed zero l c =
-    grows_at (λ path v p bytes. Err (fault (fault_at 122 l path))) (λ path v p bytes. tt) known l (include_field fixed l c.env) c.used (path_field (without_workspace (include_field fixed l c.env)))
+    grows_at (λ path v p bytes. Err (fault (fault_at INCLUDE_TOO_DEEP l path))) (λ path v p bytes. tt) known l (include_field fixed l c.env) c.used (path_field (without_workspace (include_field fixed l c.env)))
 grows known fixed (suc n) l c =
     let file : List Line → Counted → Result Counted Halt = λ ls x. file_of (counted_acts fixed (counted known fixed n)) ls x in
-    grows_at (λ path v p bytes. cond (is_open p c.env) (Err (fault (fault_at 123 l path))) (counted_opened file p bytes v c.env))
-    (λ path v p bytes. grows_either v (is_open p c.env) (Err (fault (fault_at 123 l path))) (counted_opened file p bytes v c.env) tt
+    grows_at (λ path v p bytes. cond (is_open p c.env) (Err (fault (fault_at INCLUDE_LOOP l path))) (counted_opened file p bytes v c.env))
+    (λ path v p bytes. grows_either v (is_open p c.env) (Err (fault (fault_at INCLUDE_LOOP l path))) (counted_opened file p bytes v c.env) tt
     (grows_opened file (λ ls x. file_kept (kept fixed (counted known fixed n) (grows known fixed n)) ls x) p bytes v c.env))
     known l (include_field fixed l c.env) c.used (path_field (without_workspace (include_field fixed l c.env)))
 
@@ -216,17 +217,17 @@ module _ (more : Source) (enter other : Enter) (goes : (path : List ℕ) (v : �
 goes_on : (a more : Source) → MoreAnswers a more → (fixed : List Macro) (n : ℕ) (l : Line) (c : Counted) → GoesOn more (counted a fixed n l c) Past (counted more fixed n l c)
 unfolding counted
 goes_on a more s fixed zero l c =
-    let enter : Enter = λ path v p bytes. Err (fault (fault_at 122 l path)) in
+    let enter : Enter = λ path v p bytes. Err (fault (fault_at INCLUDE_TOO_DEEP l path)) in
     goes_at more enter enter (λ path v p bytes. refl) (λ path v p bytes. tt) a s l (include_field fixed l c.env) c.used (path_field (without_workspace (include_field fixed l c.env)))
 goes_on a more s fixed (suc n) l c =
     let file : List Line → Counted → Result Counted Halt = λ ls x. file_of (counted_acts fixed (counted a fixed n)) ls x in
     let next : List Line → Counted → Result Counted Halt = λ ls x. file_of (counted_acts fixed (counted more fixed n)) ls x in
-    let enter : Enter = λ path v p bytes. cond (is_open p c.env) (Err (fault (fault_at 123 l path))) (counted_opened file p bytes v c.env) in
-    let other : Enter = λ path v p bytes. cond (is_open p c.env) (Err (fault (fault_at 123 l path))) (counted_opened next p bytes v c.env) in
+    let enter : Enter = λ path v p bytes. cond (is_open p c.env) (Err (fault (fault_at INCLUDE_LOOP l path))) (counted_opened file p bytes v c.env) in
+    let other : Enter = λ path v p bytes. cond (is_open p c.env) (Err (fault (fault_at INCLUDE_LOOP l path))) (counted_opened next p bytes v c.env) in
     goes_at more enter other
-    (λ path v p bytes. goes_either more (is_open p c.env) (Err (fault (fault_at 123 l path))) (counted_opened file p bytes v c.env) (Err (fault (fault_at 123 l path))) (counted_opened next p bytes v c.env) refl
+    (λ path v p bytes. goes_either more (is_open p c.env) (Err (fault (fault_at INCLUDE_LOOP l path))) (counted_opened file p bytes v c.env) (Err (fault (fault_at INCLUDE_LOOP l path))) (counted_opened next p bytes v c.env) refl
     (goes_opened more file next (λ ls x. file_related (goes_related more fixed (counted a fixed n) (counted more fixed n) (goes_on a more s fixed n) (grows more fixed n)) ls x x refl) p bytes v c.env))
-    (λ path v p bytes. grows_either v (is_open p c.env) (Err (fault (fault_at 123 l path))) (counted_opened next p bytes v c.env) tt
+    (λ path v p bytes. grows_either v (is_open p c.env) (Err (fault (fault_at INCLUDE_LOOP l path))) (counted_opened next p bytes v c.env) tt
     (grows_opened next (λ ls x. file_kept (kept fixed (counted more fixed n) (grows more fixed n)) ls x) p bytes v c.env))
     a s l (include_field fixed l c.env) c.used (path_field (without_workspace (include_field fixed l c.env)))
 

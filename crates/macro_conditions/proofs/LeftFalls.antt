@@ -28,6 +28,7 @@ use Rattle.macro_conditions.proofs.CountGrowth.{GoesOn, Past, root_goes}
 use Rattle.macro_conditions.proofs.CountGrowth as growth
 use Rattle.macro_conditions.proofs.CountBound.{Within, ShortFiles, root_within}
 use Rattle.macro_conditions.proofs.MoreAnswersLaw as plainly
+use Rattle.build_base.specs.FaultCodes.{INCLUDE_LOOP, INCLUDE_TOO_DEEP}
 
 -- a counted result, without its counts
 abbrev Erases : Result Counted Halt → Result Env Stop → Type 0
@@ -100,12 +101,12 @@ erases_at enter plain h known l field u (Some path) =
 erases : (known : Source) (fixed : List Macro) (n : ℕ) (l : Line) (c : Counted) → Erases (counted known fixed n l c) (included known fixed n l c.env)
 unfolding counted included
 erases known fixed zero l c =
-    erases_at (λ path v p bytes. Err (fault (fault_at 122 l path))) (λ path p bytes. Err (bad (fault_at 122 l path))) (λ path v p bytes. refl) known l (include_field fixed l c.env) c.used (path_field (without_workspace (include_field fixed l c.env)))
+    erases_at (λ path v p bytes. Err (fault (fault_at INCLUDE_TOO_DEEP l path))) (λ path p bytes. Err (bad (fault_at INCLUDE_TOO_DEEP l path))) (λ path v p bytes. refl) known l (include_field fixed l c.env) c.used (path_field (without_workspace (include_field fixed l c.env)))
 erases known fixed (suc n) l c =
     let file : List Line → Counted → Result Counted Halt = λ ls x. file_of (counted_acts fixed (counted known fixed n)) ls x in
     let plain : List Line → Env → Result Env Stop = λ ls x. file_of (acts fixed (included known fixed n)) ls x in
-    erases_at (λ path v p bytes. cond (is_open p c.env) (Err (fault (fault_at 123 l path))) (counted_opened file p bytes v c.env)) (λ path p bytes. cond (is_open p c.env) (Err (bad (fault_at 123 l path))) (opened plain p bytes c.env))
-    (λ path v p bytes. erases_either (is_open p c.env) (Err (fault (fault_at 123 l path))) (counted_opened file p bytes v c.env) (Err (bad (fault_at 123 l path))) (opened plain p bytes c.env) refl
+    erases_at (λ path v p bytes. cond (is_open p c.env) (Err (fault (fault_at INCLUDE_LOOP l path))) (counted_opened file p bytes v c.env)) (λ path p bytes. cond (is_open p c.env) (Err (bad (fault_at INCLUDE_LOOP l path))) (opened plain p bytes c.env))
+    (λ path v p bytes. erases_either (is_open p c.env) (Err (fault (fault_at INCLUDE_LOOP l path))) (counted_opened file p bytes v c.env) (Err (bad (fault_at INCLUDE_LOOP l path))) (opened plain p bytes c.env) refl
     (erases_opened file plain (λ ls x. file_related (related fixed (counted known fixed n) (included known fixed n) (erases known fixed n)) ls x x.env refl) p bytes v c.env))
     known l (include_field fixed l c.env) c.used (path_field (without_workspace (include_field fixed l c.env)))
 

@@ -17,6 +17,7 @@ use Rattle.macro_conditions.specs.Worlds.{MoreAnswers, Stays, told, AgreesWith, 
 use Rattle.macro_conditions.specs.LineMeaning.{◌>>=◌, file_of}
 use Rattle.macro_conditions.specs.Expansion.{Env, Stop, bad, need, settled, acts, acted, tested, fault_at, include_field, line_at, lines_read, inside, outside, opened, found_at, at_path, is_open, included, begun, document, rooted, expansion}
 use Rattle.macro_conditions.proofs.TreeRelated.{IsRelated, file_related}
+use Rattle.build_base.specs.FaultCodes.{INCLUDE_LOOP, INCLUDE_TOO_DEEP}
 
 abbrev pub Include : Type 0
 Include = Line → Env → Result Env Stop
@@ -89,12 +90,12 @@ at_stays enter other a b h m l field (Some path) =
 included_stays : (a b : Source) → MoreAnswers a b → (fixed : List Macro) (n : ℕ) (l : Line) (e : Env) → Stays b (included a fixed n l e) (included b fixed n l e)
 unfolding included
 included_stays a b m fixed zero l e =
-    at_stays (λ path p bytes. Err (bad (fault_at 122 l path))) (λ path p bytes. Err (bad (fault_at 122 l path))) a b (λ path p bytes. refl) m l (include_field fixed l e) (path_field (without_workspace (include_field fixed l e)))
+    at_stays (λ path p bytes. Err (bad (fault_at INCLUDE_TOO_DEEP l path))) (λ path p bytes. Err (bad (fault_at INCLUDE_TOO_DEEP l path))) a b (λ path p bytes. refl) m l (include_field fixed l e) (path_field (without_workspace (include_field fixed l e)))
 included_stays a b m fixed (suc n) l e =
     let file : List Line → Env → Result Env Stop = λ ls x. file_of (acts fixed (included a fixed n)) ls x in
     let other : List Line → Env → Result Env Stop = λ ls x. file_of (acts fixed (included b fixed n)) ls x in
-    at_stays (λ path p bytes. cond (is_open p e) (Err (bad (fault_at 123 l path))) (opened file p bytes e)) (λ path p bytes. cond (is_open p e) (Err (bad (fault_at 123 l path))) (opened other p bytes e)) a b
-    (λ path p bytes. stays_either b (is_open p e) (Err (bad (fault_at 123 l path))) (opened file p bytes e) (Err (bad (fault_at 123 l path))) (opened other p bytes e) refl
+    at_stays (λ path p bytes. cond (is_open p e) (Err (bad (fault_at INCLUDE_LOOP l path))) (opened file p bytes e)) (λ path p bytes. cond (is_open p e) (Err (bad (fault_at INCLUDE_LOOP l path))) (opened other p bytes e)) a b
+    (λ path p bytes. stays_either b (is_open p e) (Err (bad (fault_at INCLUDE_LOOP l path))) (opened file p bytes e) (Err (bad (fault_at INCLUDE_LOOP l path))) (opened other p bytes e) refl
     (opened_stays b file other (λ ls x. file_related (related b fixed (included a fixed n) (included b fixed n) (included_stays a b m fixed n)) ls x x refl) p bytes e))
     m l (include_field fixed l e) (path_field (without_workspace (include_field fixed l e)))
 

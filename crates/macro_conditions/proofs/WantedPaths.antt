@@ -12,6 +12,7 @@ use Rattle.macro_conditions.specs.Sources.{Source, places, Located, wanted, miss
 use Rattle.macro_conditions.specs.LineMeaning.{◌>>=◌, file_of}
 use Rattle.macro_conditions.specs.Expansion.{Env, Stop, bad, need, settled, acts, acted, tested, fault_at, include_field, line_at, lines_read, inside, outside, opened, found_at, at_path, is_open, included, begun, document, rooted, expansion}
 use Rattle.macro_conditions.proofs.TreeKeeps.{IsKept, file_kept}
+use Rattle.build_base.specs.FaultCodes.{INCLUDE_LOOP, INCLUDE_TOO_DEEP}
 
 -- what is wanted is unknown
 abbrev Wants : {A : Type 0} → Source → Result A Stop → Type 0
@@ -76,11 +77,11 @@ wants_path known enter h l field (Some path) = wants_found known (enter path) (h
 wants_included : (known : Source) (fixed : List Macro) (n : ℕ) (l : Line) (e : Env) → Wants known (included known fixed n l e)
 unfolding included
 wants_included known fixed zero l e =
-    wants_path known (λ path p bytes. Err (bad (fault_at 122 l path))) (λ path p bytes. tt) l (include_field fixed l e) (path_field (without_workspace (include_field fixed l e)))
+    wants_path known (λ path p bytes. Err (bad (fault_at INCLUDE_TOO_DEEP l path))) (λ path p bytes. tt) l (include_field fixed l e) (path_field (without_workspace (include_field fixed l e)))
 wants_included known fixed (suc n) l e =
     let file : List Line → Env → Result Env Stop = λ ls x. file_of (acts fixed (included known fixed n)) ls x in
-    wants_path known (λ path p bytes. cond (is_open p e) (Err (bad (fault_at 123 l path))) (opened file p bytes e))
-    (λ path p bytes. wants_either known (is_open p e) (Err (bad (fault_at 123 l path))) (opened file p bytes e) tt
+    wants_path known (λ path p bytes. cond (is_open p e) (Err (bad (fault_at INCLUDE_LOOP l path))) (opened file p bytes e))
+    (λ path p bytes. wants_either known (is_open p e) (Err (bad (fault_at INCLUDE_LOOP l path))) (opened file p bytes e) tt
     (wants_opened known file (λ ls x. file_kept (kept known fixed (included known fixed n) (wants_included known fixed n)) ls x) p bytes e))
     l (include_field fixed l e) (path_field (without_workspace (include_field fixed l e)))
 

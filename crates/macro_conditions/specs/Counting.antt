@@ -14,6 +14,7 @@ use Rattle.macro_conditions.specs.Directives.{is_include}
 use Rattle.macro_conditions.specs.Sources.{Source, answer, places, Located, wanted, missing, over_limit, there, located, without_workspace}
 use Rattle.macro_conditions.specs.LineMeaning.{Acts, ◌>>=◌, file_of}
 use Rattle.macro_conditions.specs.Expansion.{Env, acted, tested, include_field, unbalanced, fault_at, long_fault, place_of, line_at, lines_read, inside, outside, is_open, begun}
+use Rattle.build_base.specs.FaultCodes.{BAD_PATH, FILE_ABSENT, INCLUDE_ABSENT, INCLUDE_LOOP, INCLUDE_TOO_DEEP}
 
 -- the answers used so far
 pub record Counted : Type 0 where
@@ -67,13 +68,13 @@ counted_opened file path bytes u e = saying (lines_read path bytes)
 abbrev pub counted_found : (List ℕ → List ℕ → Result Counted Halt) → Line → List ℕ → ℕ → Located
     → Result Counted Halt
 counted_found enter line path u (wanted p) = Err (wants p u)
-counted_found enter line path u missing = Err (fault (fault_at 121 line path))
+counted_found enter line path u missing = Err (fault (fault_at INCLUDE_ABSENT line path))
 counted_found enter line path u (over_limit p) = Err (fault (long_fault p))
 counted_found enter line path u (there p bytes) = enter p bytes
 
 abbrev pub counted_at : (List ℕ → ℕ → List ℕ → List ℕ → Result Counted Halt) → Source → Line
     → List ℕ → ℕ → Option (List ℕ) → Result Counted Halt
-counted_at enter known line field u None = Err (fault (fault_at 101 line field))
+counted_at enter known line field u None = Err (fault (fault_at BAD_PATH line field))
 counted_at enter known line field u (Some path) =
     let v = u + asked known (places line.at.path path) in
     counted_found (enter path v) line path v (located known (places line.at.path path))
@@ -85,17 +86,19 @@ counted_by enter known line field u =
 
 unfoldable pub counted : Source → List Macro → ℕ → Line → Counted → Result Counted Halt
 counted known fixed zero line c =
-    counted_by (λ path v p bytes. Err (fault (fault_at 122 line path))) known line
+    counted_by (λ path v p bytes. Err (fault (fault_at INCLUDE_TOO_DEEP line path))) known line
     (include_field fixed line c.env) c.used
 counted known fixed (suc n) line c =
-    counted_by (λ path v p bytes. if is_open p c.env then Err (fault (fault_at 123 line path))
+    counted_by (λ path v p bytes. if is_open p c.env
+    then Err (fault (fault_at INCLUDE_LOOP line path))
     else counted_opened
     (λ lines x. file_of (counted_acts fixed (counted known fixed n)) lines x) p bytes v c.env)
     known line (include_field fixed line c.env) c.used
 
 abbrev pub counted_root : Source → List Macro → List ℕ → Env → Option Got → Result Counted Halt
 counted_root known fixed root e None = Err (wants root 0)
-counted_root known fixed root e (Some Absent) = Err (fault (fault_of 103 (place_of root 0) root))
+counted_root known fixed root e (Some Absent) = Err (fault (fault_of FILE_ABSENT (place_of root 0)
+    root))
 counted_root known fixed root e (Some TooLong) = Err (fault (long_fault root))
 counted_root known fixed root e (Some (File bytes)) =
     counted_opened (λ lines x. file_of (counted_acts fixed (counted known fixed 31)) lines x) root

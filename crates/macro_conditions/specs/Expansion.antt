@@ -21,6 +21,7 @@ use Rattle.macro_conditions.specs.Expressions.{value_of_text, detail_of}
 use Rattle.macro_conditions.specs.Directives.{is_directive, directive_word, directive_rest, is_include, is_definition, definition_of, macro_named}
 use Rattle.macro_conditions.specs.Sources.{Source, places, Located, wanted, missing, over_limit, there, located, without_workspace}
 use Rattle.macro_conditions.specs.LineMeaning.{Acts, ◌>>=◌, file_of}
+use Rattle.build_base.specs.FaultCodes.{BAD_BYTE, BAD_DIRECTIVE, BAD_EXPRESSION, BAD_PATH, FILE_ABSENT, FILE_TOO_LONG, INCLUDE_ABSENT, INCLUDE_LOOP, INCLUDE_TOO_DEEP, TOO_MANY_MACROS, UNBALANCED}
 
 -- a fault, or a path whose answer is wanted
 pub data Stop : Type 0 where
@@ -66,12 +67,12 @@ fault_at code line detail = fault_of code line.at detail
 -- whether the number of a condition isn't 0
 abbrev pub holds : Line → Result Value ℕ → Result Bool Fault
 holds line (Ok (Number n)) = Ok (not (n == 0))
-holds line (Ok (Word w)) = Err (fault_at 124 line (directive_rest line.text))
+holds line (Ok (Word w)) = Err (fault_at BAD_EXPRESSION line (directive_rest line.text))
 holds line (Err code) = Err (fault_at code line (detail_of code (directive_rest line.text)))
 
 -- whether a macro is defined
 abbrev pub names : Line → List Macro → Option (List ℕ) → Result Bool Fault
-names line ms None = Err (fault_at 129 line line.text)
+names line ms None = Err (fault_at BAD_DIRECTIVE line line.text)
 names line ms (Some name) = Ok (is_there (value_of name ms))
 
 abbrev pub negated : Result Bool Fault → Result Bool Fault
@@ -85,7 +86,7 @@ module _ (fixed : List Macro) where
 
   abbrev pub with_macro : Line → Env → List ℕ → List ℕ → Result Env Fault
   with_macro line e name value =
-      if is_full name e.macros then Err (fault_at 128 line name)
+      if is_full name e.macros then Err (fault_at TOO_MANY_MACROS line name)
       else Ok
       (record {
         rows = e.rows;
@@ -94,7 +95,7 @@ module _ (fixed : List Macro) where
       })
 
   abbrev pub defined : Line → Env → Option (List ℕ × List ℕ) → Result Env Fault
-  defined line e None = Err (fault_at 129 line line.text)
+  defined line e None = Err (fault_at BAD_DIRECTIVE line line.text)
   defined line e (Some pair) = with_macro line e pair.0 pair.1
 
   abbrev pub written : Line → Env → Env
@@ -110,7 +111,7 @@ module _ (fixed : List Macro) where
   -- its macros replaced
   unfoldable pub acted : Line → Env → Result Env Fault
   acted line e =
-      if is_directive line.text then Err (fault_at 129 line line.text)
+      if is_directive line.text then Err (fault_at BAD_DIRECTIVE line line.text)
       else if is_definition line.text then defined line e (definition_of line.text)
       else Ok (written line e)
 
@@ -137,7 +138,7 @@ hex_digit n = if nat_lt n 10 then 48 + n else 55 + n
 -- the detail of a fault of a file's lines: the bad byte in hexadecimal, or how long the line is
 unfoldable pub spot_detail : List ℕ → ℕ → ℕ → ℕ → List ℕ
 spot_detail bytes code start end =
-    if code == 110 then hex_digit (slice_index bytes start / 16)
+    if code == BAD_BYTE then hex_digit (slice_index bytes start / 16)
     ∷ hex_digit (slice_index bytes start % 16) ∷ []
     else decimal (end - start)
 
@@ -149,7 +150,7 @@ abbrev pub line_at : List ℕ → TextLine → Line
 line_at path line = record { at = place_of path line.number; text = line.text }
 
 abbrev pub unbalanced : Line → Fault
-unbalanced line = fault_at 120 line (directive_word line.text)
+unbalanced line = fault_at UNBALANCED line (directive_word line.text)
 
 -- an include is what the parameter says; all other lines act by themselves
 abbrev pub acts : List Macro → (Line → Env → Result Env Stop) → Acts Env Stop
@@ -181,7 +182,7 @@ opened file path bytes e = settled (lines_read path bytes)
     >>= (λ lines. file (map (line_at path) lines) (inside path e) >>= (λ x. Ok (outside e x)))
 
 abbrev pub long_fault : List ℕ → Fault
-long_fault path = fault_of 102 (place_of path 0) path
+long_fault path = fault_of FILE_TOO_LONG (place_of path 0) path
 
 abbrev pub too_long : List ℕ → Stop
 too_long path = bad (long_fault path)
@@ -190,13 +191,13 @@ too_long path = bad (long_fault path)
 abbrev pub found_at : (List ℕ → List ℕ → Result Env Stop) → Line → List ℕ → Located
     → Result Env Stop
 found_at enter line path (wanted p) = Err (need p)
-found_at enter line path missing = Err (bad (fault_at 121 line path))
+found_at enter line path missing = Err (bad (fault_at INCLUDE_ABSENT line path))
 found_at enter line path (over_limit p) = Err (too_long p)
 found_at enter line path (there p bytes) = enter p bytes
 
 abbrev pub at_path : (List ℕ → List ℕ → List ℕ → Result Env Stop) → Source → Line → List ℕ
     → Option (List ℕ) → Result Env Stop
-at_path enter known line field None = Err (bad (fault_at 101 line field))
+at_path enter known line field None = Err (bad (fault_at BAD_PATH line field))
 at_path enter known line field (Some path) =
     found_at (enter path) line path (located known (places line.at.path path))
 
@@ -212,9 +213,9 @@ is_open path e = list_any (same_text path) e.open_files
 -- of its lines
 abbrev pub entered_by : Option (List Line → Env → Result Env Stop) → Line → List ℕ → List ℕ → List ℕ
     → Env → Result Env Stop
-entered_by None line path p bytes e = Err (bad (fault_at 122 line path))
+entered_by None line path p bytes e = Err (bad (fault_at INCLUDE_TOO_DEEP line path))
 entered_by (Some file) line path p bytes e =
-    if is_open p e then Err (bad (fault_at 123 line path)) else opened file p bytes e
+    if is_open p e then Err (bad (fault_at INCLUDE_LOOP line path)) else opened file p bytes e
 
 -- what an include comes to, where so many files more may be open
 unfoldable pub included : Source → List Macro → ℕ → Line → Env → Result Env Stop
@@ -243,7 +244,7 @@ document root e = Ok (record { root = root; rows = e.rows; macros = e.macros })
 
 abbrev pub rooted : Source → List Macro → List ℕ → Env → Option Got → Result Env Stop
 rooted known fixed root e None = Err (need root)
-rooted known fixed root e (Some Absent) = Err (bad (fault_of 103 (place_of root 0) root))
+rooted known fixed root e (Some Absent) = Err (bad (fault_of FILE_ABSENT (place_of root 0) root))
 rooted known fixed root e (Some TooLong) = Err (too_long root)
 rooted known fixed root e (Some (File bytes)) =
     opened (λ lines x. file_of (acts fixed (included known fixed 31)) lines x) root bytes e

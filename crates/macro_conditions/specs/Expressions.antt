@@ -26,10 +26,11 @@ use Rattle.macro_conditions.specs.Macros.{replaced}
 use Rattle.macro_conditions.specs.Values.{Outcome, word, number, faulty, ill}
 use Rattle.macro_conditions.specs.ExpressionTree.{Symbol, value, binary, prefix, open_mark, close_mark, unknown, HasValue, IsNoExpression}
 use Rattle.macro_conditions.specs.ExpressionMachine.{wanting, run}
+use Rattle.build_base.specs.FaultCodes.{BAD_EXPRESSION, OPEN_QUOTE, VALUE_RANGE}
 
 -- a numeral past 64 bits is out of range
 abbrev pub numeral : Option ℕ → Outcome
-numeral None = faulty 125
+numeral None = faulty VALUE_RANGE
 numeral (Some n) = number n
 
 -- the words with a meaning of their own
@@ -112,8 +113,8 @@ symbols_of text = map (symbol_at text) (tokens_after 0 0 text)
 
 -- a value, or the code of a fault
 abbrev pub answered : Option Outcome → Result Value ℕ
-answered None = Err 124
-answered (Some ill) = Err 124
+answered None = Err BAD_EXPRESSION
+answered (Some ill) = Err BAD_EXPRESSION
 answered (Some (faulty code)) = Err code
 answered (Some (number n)) = Ok (Number n)
 answered (Some (word w)) = Ok (Word w)
@@ -128,7 +129,7 @@ value_of_text text = value_of_tokens text (tokens_of text)
 
 -- the detail of a fault: the open quote, or the expression as written
 abbrev pub detail_of : ℕ → List ℕ → List ℕ
-detail_of code text = if code == 111 then codes "\"" else text
+detail_of code text = if code == OPEN_QUOTE then codes "\"" else text
 
 abbrev pub faulted : Place → List ℕ → Result Value ℕ → Result Value Fault
 faulted at text (Ok v) = Ok v
@@ -144,8 +145,8 @@ abbrev pub IsValueOf : List ℕ → Result Value ℕ → Type 0
 IsValueOf text (Ok (Number n)) = (ends_quoted text ≡ false) × HasValue (symbols_of text) (number n)
 IsValueOf text (Ok (Word w)) = (ends_quoted text ≡ false) × HasValue (symbols_of text) (word w)
 IsValueOf text (Err code) =
-    ((code ≡ 111) × (ends_quoted text ≡ true))
-    ⊎ ((code ≡ 124) × (ends_quoted text ≡ false) × IsNoExpression (symbols_of text))
+    ((code ≡ OPEN_QUOTE) × (ends_quoted text ≡ true))
+    ⊎ ((code ≡ BAD_EXPRESSION) × (ends_quoted text ≡ false) × IsNoExpression (symbols_of text))
     ⊎ ((ends_quoted text ≡ false) × HasValue (symbols_of text) (faulty code))
 
 abbrev pub IsMeaningOf : List ℕ → Result Value Refusal → Type 0

@@ -7,6 +7,7 @@ use Rattle.macro_conditions.specs.declared.operator.PrefixOperator.{PrefixOperat
 use Rattle.macro_conditions.specs.declared.operator.PrefixOperator.TheVariants as prefix
 use Rattle.macro_conditions.specs.declared.operand.Operand.{Operand}
 use Rattle.macro_conditions.specs.declared.operand.Operand.TheVariants as operand
+use Rattle.build_base.specs.FaultCodes.{VALUE_RANGE, ZERO_DIVISOR}
 
 -- A text, a number, the fault 125 or 126 that comes first in the expression, or nothing, where a
 -- text stands in the place of a number.
@@ -21,7 +22,7 @@ truth true = number 1
 truth false = number 0
 
 abbrev pub fitting : ℕ → Outcome
-fitting n = if nat_lt n (2 ^ 64) then number n else faulty 125
+fitting n = if nat_lt n (2 ^ 64) then number n else faulty VALUE_RANGE
 
 -- the operators on two numbers
 abbrev pub on_numbers : BinaryOperator → ℕ → ℕ → Outcome
@@ -39,10 +40,10 @@ on_numbers binary.Ge a b = truth (nat_le b a)
 on_numbers binary.Shl a b = fitting (a * 2 ^ b)
 on_numbers binary.Shr a b = number (a / 2 ^ b)
 on_numbers binary.Add a b = fitting (a + b)
-on_numbers binary.Sub a b = if nat_lt a b then faulty 125 else number (a - b)
+on_numbers binary.Sub a b = if nat_lt a b then faulty VALUE_RANGE else number (a - b)
 on_numbers binary.Mul a b = fitting (a * b)
-on_numbers binary.Div a b = if b == 0 then faulty 126 else number (a / b)
-on_numbers binary.Rem a b = if b == 0 then faulty 126 else number (a % b)
+on_numbers binary.Div a b = if b == 0 then faulty ZERO_DIVISOR else number (a / b)
+on_numbers binary.Rem a b = if b == 0 then faulty ZERO_DIVISOR else number (a % b)
 
 -- ten levels, the weakest first
 abbrev pub level : BinaryOperator → ℕ

@@ -9,6 +9,7 @@ ghost use Rattle.macro_conditions.specs.Work.{source_view, mode_view, frames_of,
 use crate::directive::directive_word;
 use crate::work::{Frame, Mode, SourceLine, Stopped, Work, bad, test};
 use build_base::Macro;
+use build_base::fault_codes::UNBALANCED;
 use std::alloc::Global;
 
 // Whether lines are taken here.
@@ -80,7 +81,7 @@ fn turned(
 fn stray(alloc: Global, line: SourceLine<'_>) -> Stopped
     ensures { Halts result (Some (bad (unbalanced (source_view line.entry)))) }
 {
-    bad(alloc, 120, line, directive_word(line.text))
+    bad(alloc, UNBALANCED, line, directive_word(line.text))
 }
 
 fn push<'a>(frames: &mut Vec<Frame<'a>>, frame: Frame<'a>) -> Result<(), Stopped>

@@ -18,6 +18,9 @@ use crate::directive::{Kind, directive_rest, is_include, kind_of};
 use crate::known::{Known, Located, answer, locate, without_workspace};
 use crate::macros::{Undefined, replace};
 use crate::work::{Frame, SourceLine, Stopped, Work, act, bad, bad_at, table_of};
+use build_base::fault_codes::{
+    BAD_BYTE, BAD_PATH, FILE_ABSENT, FILE_TOO_LONG, INCLUDE_ABSENT, INCLUDE_LOOP, INCLUDE_TOO_DEEP,
+};
 use build_base::path::path_field;
 use build_base::{Got, Lines, Macro, Path, Place, Refusal, Rows, Same, Taken, Text, WantOfMemory};
 use itoa::Buffer;
@@ -59,7 +62,7 @@ fn spot_detail(
 ) -> Result<Vec<u8>, WantOfMemory>
     ensures { IfOk result (λ v. v.items ≡ spot_detail bytes.now code start end) }
 {
-    if code == 110 {
+    if code == BAD_BYTE {
         let byte = byte_at(bytes, start);
         return Ok(Vec::from_slice(alloc, &[hex_digit(byte / 16), hex_digit(byte % 16)])?);
     }
@@ -112,7 +115,7 @@ fn lines_read<'a>(alloc: Global, path: &Path, bytes: &'a [u8]) -> Result<Vec<Lin
 fn too_long(alloc: Global, path: &Path) -> Stopped
     ensures { Halts result (Some (too_long path.now)) }
 {
-    bad_file(alloc, 102, path, 0, path.bytes())
+    bad_file(alloc, FILE_TOO_LONG, path, 0, path.bytes())
 }
 
 fn is_open(path: &Path, work: &Work) -> bool
@@ -265,11 +268,11 @@ fn include(
         directive_rest(line.text),
     )?;
     let Some(path) = path_field(alloc, without_workspace(field.as_slice()))? else {
-        return Err(bad(alloc, 101, line, field.as_slice()));
+        return Err(bad(alloc, BAD_PATH, line, field.as_slice()));
     };
     match locate(alloc, given.known, line.path, &path)? {
         Located::Wanted(place) => Err(Stopped::Need(place)),
-        Located::Missing => Err(bad(alloc, 121, line, path.bytes())),
+        Located::Missing => Err(bad(alloc, INCLUDE_ABSENT, line, path.bytes())),
         Located::OverLimit(place) => Err(too_long(alloc, &place)),
         Located::There(place, bytes) => {
             open_included(alloc, given, work, levels, line, &path, &place, bytes)
@@ -296,10 +299,10 @@ fn open_included(
     ensures open_files { OnOk result (work.new.open_files.items ≡ work.old.open_files.items) }
 {
     if levels == 0 {
-        return Err(bad(alloc, 122, line, path.bytes()));
+        return Err(bad(alloc, INCLUDE_TOO_DEEP, line, path.bytes()));
     }
     if is_open(place, work) {
-        return Err(bad(alloc, 123, line, path.bytes()));
+        return Err(bad(alloc, INCLUDE_LOOP, line, path.bytes()));
     }
     open_file(alloc, given, work, levels - 1, place, bytes)
 }
@@ -312,7 +315,7 @@ fn read_root(alloc: Global, given: Given<'_>, work: &mut Work, root: &Path) -> R
 {
     match answer(given.known, root) {
         None => Err(Stopped::Need(root.copy(alloc)?)),
-        Some(Got::Absent) => Err(bad_file(alloc, 103, root, 0, root.bytes())),
+        Some(Got::Absent) => Err(bad_file(alloc, FILE_ABSENT, root, 0, root.bytes())),
         Some(Got::TooLong) => Err(too_long(alloc, root)),
         Some(Got::File(text)) => {
             open_file(alloc, given, work, OPEN_FILES - 1, root, text.bytes())

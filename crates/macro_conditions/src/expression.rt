@@ -17,6 +17,7 @@ use crate::machine::run;
 use crate::macros::{Scope, Undefined, replace};
 use crate::operand::{Operand, Term};
 use crate::operator::{BinaryOperator, Keyword, PrefixOperator};
+use build_base::fault_codes::{BAD_EXPRESSION, OPEN_QUOTE, VALUE_RANGE};
 use build_base::{Macro, Place, Refusal, Rows, Text, WantOfMemory, refuse};
 use meta_lexer::head::{bytes_at, unquoted};
 use meta_lexer::{LexRefusal, Span, Token, TokenKind, lookup, number, tokens};
@@ -33,7 +34,7 @@ fn numeral<'a>(read: Option<u64>) -> Operand<'a>
     ensures { view result ≡ numeral read }
 {
     match read {
-        None => Operand::Faulty(125),
+        None => Operand::Faulty(VALUE_RANGE),
         Some(n) => Operand::Number(n),
     }
 }
@@ -182,7 +183,7 @@ fn answer(alloc: Global, found: Option<Operand<'_>>) -> Result<Result<Value, u16
     ensures { IfOk result (λ r. r ≡ answered (option_map view found.entry)) }
 {
     match found {
-        None | Some(Operand::Ill) => Ok(Err(124)),
+        None | Some(Operand::Ill) => Ok(Err(BAD_EXPRESSION)),
         Some(Operand::Faulty(code)) => Ok(Err(code)),
         Some(Operand::Number(n)) => Ok(Ok(Value::Number(n))),
         Some(Operand::Word(word)) => Ok(Ok(Value::Word(Text::of(alloc, word)?))),
@@ -207,7 +208,11 @@ pub fn value_of_text(alloc: Global, text: &[u8]) -> Result<Result<Value, u16>, W
 pub(crate) fn detail(code: u16, text: &[u8]) -> &[u8]
     ensures { result.now ≡ detail_of code text.now }
 {
-    if code == 111 { b"\"".as_slice() } else { text }
+    if code == OPEN_QUOTE {
+        b"\"".as_slice()
+    } else {
+        text
+    }
 }
 
 /// What an expression comes to in a scope: its value, or the code of its fault.

@@ -2,8 +2,10 @@
 
 ghost use Rattle.std.specs.Prelude.{◌≡◌, ◌*◌, ◌/◌, ◌^◌, MatchOption};
 ghost use Rattle.macro_conditions.specs.Values.{view, number, faulty, apply, apply_prefix, kinds_fit, joined, on_numbers, on_texts};
+ghost use Rattle.build_base.specs.FaultCodes.{VALUE_RANGE};
 
 use crate::operator::{BinaryOperator, PrefixOperator};
+use build_base::fault_codes::{VALUE_RANGE, ZERO_DIVISOR};
 
 /// A text, a number, the code of the fault that comes first, or that a text stands in the place of
 /// a number.
@@ -55,21 +57,21 @@ fn on_numbers<'a>(op: BinaryOperator, a: u64, b: u64) -> Operand<'a>
         BinaryOperator::Mul => fitting(a.checked_mul(b)),
         BinaryOperator::Div => match a.checked_div(b) {
             Some(n) => Operand::Number(n),
-            None => Operand::Faulty(126),
+            None => Operand::Faulty(ZERO_DIVISOR),
         },
         BinaryOperator::Rem => match a.checked_rem(b) {
             Some(n) => Operand::Number(n),
-            None => Operand::Faulty(126),
+            None => Operand::Faulty(ZERO_DIVISOR),
         },
     }
 }
 
 fn fitting<'a>(n: Option<u64>) -> Operand<'a>
-    ensures { MatchOption n (view result ≡ faulty 125) (λ x. view result ≡ number x) }
+    ensures { MatchOption n (view result ≡ faulty VALUE_RANGE) (λ x. view result ≡ number x) }
 {
     match n {
         Some(n) => Operand::Number(n),
-        None => Operand::Faulty(125),
+        None => Operand::Faulty(VALUE_RANGE),
     }
 }
 
@@ -90,10 +92,10 @@ fn shifted_left<'a>(a: u64, b: u64) -> Operand<'a>
         return Operand::Number(0);
     }
     if b >= 64 {
-        return Operand::Faulty(125);
+        return Operand::Faulty(VALUE_RANGE);
     }
     if a > u64::MAX >> b {
-        return Operand::Faulty(125);
+        return Operand::Faulty(VALUE_RANGE);
     }
     Operand::Number(a << b)
 }

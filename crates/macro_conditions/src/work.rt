@@ -11,6 +11,7 @@ use crate::directive::{
 };
 use crate::expression::{Value, detail, value_in};
 use crate::macros::{Scope, Undefined, replace, value_from};
+use build_base::fault_codes::{BAD_DIRECTIVE, BAD_EXPRESSION, TOO_MANY_MACROS};
 use build_base::{
     Fault, Macro, Path, Place, Refusal, Rows, Same, Taken, Text, WantOfMemory, refuse,
 };
@@ -161,7 +162,7 @@ fn holds(alloc: Global, line: SourceLine<'_>, value: Result<Value, u16>) -> Resu
     let text = directive_rest(line.text);
     match value {
         Ok(Value::Number(n)) => Ok(n != 0),
-        Ok(Value::Word(_)) => Err(bad(alloc, 124, line, text)),
+        Ok(Value::Word(_)) => Err(bad(alloc, BAD_EXPRESSION, line, text)),
         Err(code) => Err(bad(alloc, code, line, detail(code, text))),
     }
 }
@@ -173,7 +174,7 @@ fn names(alloc: Global, line: SourceLine<'_>, scope: Scope<'_>) -> Result<bool, 
 {
     match macro_named(directive_rest(line.text)) {
         Some(name) => Ok(scope.value_of(name).is_some()),
-        None => Err(bad(alloc, 129, line, line.text)),
+        None => Err(bad(alloc, BAD_DIRECTIVE, line, line.text)),
     }
 }
 
@@ -232,10 +233,10 @@ fn define(
     ensures open_files { OnOk result (work.new.open_files.items ≡ work.old.open_files.items) }
 {
     let Some((name, value)) = definition_of(line.text) else {
-        return Err(bad(alloc, 129, line, line.text));
+        return Err(bad(alloc, BAD_DIRECTIVE, line, line.text));
     };
     if is_full(name, work.macros.as_slice()) {
-        return Err(bad(alloc, 128, line, name));
+        return Err(bad(alloc, TOO_MANY_MACROS, line, name));
     }
     let value = replace(alloc, Undefined::Kept, work.scope(fixed), value)?;
     put_macro(alloc, &mut work.macros, name, Text::from_vec(value))?;
@@ -273,7 +274,7 @@ pub(crate) fn act(
     ensures open_files { OnOk result (work.new.open_files.items ≡ work.old.open_files.items) }
 {
     if is_directive(line.text) {
-        return Err(bad(alloc, 129, line, line.text));
+        return Err(bad(alloc, BAD_DIRECTIVE, line, line.text));
     }
     if is_definition(line.text) {
         return define(alloc, fixed, work, line);

@@ -4,6 +4,7 @@ use Rattle.std.specs.List.{onto_first, suffix_len}
 use Rattle.meta_lexer.specs.Faults.{Spot}
 use Rattle.meta_lexer.specs.declared.field.Span.{Span}
 use Rattle.meta_lexer.specs.declared.field.Open as open_type
+use Rattle.build_base.specs.FaultCodes.{OPEN_QUOTE}
 
 -- what is open after a text: a quote, and how many parentheses and braces
 pub record Open : Type 0 where
@@ -68,7 +69,7 @@ ends_quoted text = fold (λ quoted b. if b == 34 then not quoted else quoted) fa
 abbrev pub open_quote : List ℕ → Spot
 open_quote text =
     record {
-      code = 111;
+      code = OPEN_QUOTE;
       line = 1;
       start = length text - suffix_len (λ b. not (b == 34)) text - 1;
       end = length text;

@@ -6,6 +6,7 @@ use Rattle.meta_lexer.specs.Lines.{without_blanks}
 use Rattle.meta_lexer.specs.Fields.{parts_of, bytes_at, ends_quoted}
 use Rattle.meta_lexer.specs.declared.field.Span.{Span}
 use Rattle.meta_lexer.specs.declared.head.Head.{Head}
+use Rattle.build_base.specs.FaultCodes.{BAD_SECTION}
 
 -- what stands between two marks at the ends of a text
 abbrev pub inner : List ℕ → List ℕ
@@ -38,7 +39,7 @@ abbrev pub are_heads : List ℕ → Bool
 are_heads text = not (ends_quoted text) && list_all is_head (heads_of text)
 
 abbrev pub bad_head : List ℕ → Spot
-bad_head text = record { code = 114; line = 1; start = 0; end = length text }
+bad_head text = record { code = BAD_SECTION; line = 1; start = 0; end = length text }
 
 -- whether a line is a section's head, also a wrong one
 abbrev pub begins_section : List ℕ → Bool

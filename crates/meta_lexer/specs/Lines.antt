@@ -3,6 +3,7 @@ use Rattle.std.specs.Prelude.{ℕ, ◌+◌, ◌-◌, Bool, false, ◌&&◌, ◌|
 use Rattle.std.specs.List.{slice_split, prefix_len, suffix_len, position_or_len}
 use Rattle.meta_lexer.specs.Faults.{Spot, each_or_first}
 use Rattle.meta_lexer.specs.declared.line.Line.{Line}
+use Rattle.build_base.specs.FaultCodes.{BAD_BYTE, LINE_TOO_LONG}
 
 abbrev pub is_feed : ℕ → Bool
 is_feed b = b == 10
@@ -60,9 +61,15 @@ piece_fault p =
     let bad = position_or_len (λ b. not (is_plain b)) (before_comment text) in
     if nat_lt bad (length (before_comment text))
     then Some
-    (record { code = 110; line = p.number; start = p.start + bad; end = p.start + bad + 1 })
+    (record { code = BAD_BYTE; line = p.number; start = p.start + bad; end = p.start + bad + 1 })
     else if nat_lt 8192 (length text)
-    then Some (record { code = 112; line = p.number; start = p.start; end = p.start + length text })
+    then Some (record {
+      code = LINE_TOO_LONG;
+      line = p.number;
+      start = p.start;
+      end = p.start +
+          length text;
+    })
     else None
 
 -- a line without where it lies

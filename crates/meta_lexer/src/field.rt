@@ -6,6 +6,7 @@ ghost use Rattle.meta_lexer.specs.Fields.{fields_of, parts_of, open_view, after,
 
 use crate::refusal::LexRefusal;
 use build_base::WantOfMemory;
+use build_base::fault_codes::OPEN_QUOTE;
 use std::alloc::Global;
 
 /// A part of a text, from `start` up to and without `end`.
@@ -120,7 +121,7 @@ pub fn fields(alloc: Global, text: &[u8]) -> Result<Vec<Span>, LexRefusal>
 {
     if ends_quoted(text) {
         return Err(LexRefusal::Bad {
-            code: 111,
+            code: OPEN_QUOTE,
             line: 1,
             start: last_quote(text) as u64,
             end: text.len() as u64,

@@ -9,6 +9,7 @@ ghost use Rattle.meta_lexer.specs.Heads.{inner, stands_between, unquoted, part_a
 use crate::field::{Span, cut, ends_quoted};
 use crate::line::trim;
 use crate::refusal::LexRefusal;
+use build_base::fault_codes::BAD_SECTION;
 use build_base::{Rows, Text, WantOfMemory};
 use std::alloc::Global;
 
@@ -117,7 +118,7 @@ pub fn section_head(alloc: Global, text: &[u8]) -> Result<Option<Rows<Head>>, Le
         }
     }
     Err(LexRefusal::Bad {
-        code: 114,
+        code: BAD_SECTION,
         line: 1,
         start: 0,
         end: text.len() as u64,

@@ -7,6 +7,7 @@ ghost use Rattle.build_base.specs.First.{unless};
 ghost use Rattle.meta_lexer.specs.Lines.{piece_of, is_feed, lines_of, line_view, piece_line, piece_fault, pieces_from, comment_from, without_blanks, without_return};
 
 use crate::refusal::LexRefusal;
+use build_base::fault_codes::{BAD_BYTE, LINE_TOO_LONG};
 use std::alloc::Global;
 
 /// A line of a text, without its comment and outer blanks.
@@ -153,7 +154,7 @@ pub fn line_of(number: u64, start: u64, piece: &[u8]) -> Result<Line<'_>, LexRef
     if bad < code.len() {
         let at = start + bad as u64;
         return Err(LexRefusal::Bad {
-            code: 110,
+            code: BAD_BYTE,
             line: number,
             start: at,
             end: at + 1,
@@ -161,7 +162,7 @@ pub fn line_of(number: u64, start: u64, piece: &[u8]) -> Result<Line<'_>, LexRef
     }
     if text.len() > LONGEST {
         return Err(LexRefusal::Bad {
-            code: 112,
+            code: LINE_TOO_LONG,
             line: number,
             start,
             end: start + text.len() as u64,

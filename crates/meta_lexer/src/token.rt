@@ -12,6 +12,7 @@ use crate::line::is_blank;
 use crate::numbers::digit;
 use crate::refusal::LexRefusal;
 use build_base::WantOfMemory;
+use build_base::fault_codes::OPEN_QUOTE;
 use std::alloc::Global;
 
 /// What a token is. A numeral may be past 64 bits; a mark is one byte, or two as `==` and `<<`.
@@ -196,7 +197,7 @@ pub fn tokens(alloc: Global, text: &[u8]) -> Result<Vec<Token>, LexRefusal>
 {
     if ends_quoted(text) {
         return Err(LexRefusal::Bad {
-            code: 111,
+            code: OPEN_QUOTE,
             line: 1,
             start: last_quote(text) as u64,
             end: text.len() as u64,

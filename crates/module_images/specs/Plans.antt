@@ -26,6 +26,7 @@ use Rattle.flash_document.specs.Modules.{inf_arch}
 use Rattle.flash_document.specs.Rules.{rule_of}
 use Rattle.module_images.specs.declared.plans.ModulePlan.{ModulePlan}
 use Rattle.module_images.specs.Names.{module_folder, module_guid, rule_names, filled, own_depex}
+use Rattle.build_base.specs.FaultCodes.{BAD_PATH, RULE_LINE_REFUSED}
 
 abbrev pub rule_found : Option RuleDoc → Result RuleDoc Fault
 rule_found (Some rule) = Ok rule
@@ -43,7 +44,7 @@ refused_source at (source.Tree path) = None
 refused_source at (source.Template text) = None
 refused_source at (source.Volume n) = None
 refused_source at (source.Words text) = None
-refused_source at (source.Refused text) = Some (fault_of 257 at text)
+refused_source at (source.Refused text) = Some (fault_of RULE_LINE_REFUSED at text)
 
 abbrev pub refused_section : SectionPlan → Option Fault
 refused_section section = refused_source section.at section.source
@@ -57,7 +58,7 @@ stated_text line kind text =
 
 abbrev pub path_filled : Place → List ℕ → Option (List ℕ) → Result SectionSource Fault
 path_filled at text (Some path) = Ok (source.Tree path)
-path_filled at text None = Err (fault_of 101 at text)
+path_filled at text None = Err (fault_of BAD_PATH at text)
 
 -- a path in which the names are filled in has to be one
 abbrev pub template_filled : Place → List ℕ → Result SectionSource Fault

@@ -26,6 +26,7 @@ use Rattle.image_steps.specs.Files.{file_align}
 use Rattle.image_steps.specs.Parts.{as_is, file_shaped, header_guid, pe_fault}
 use Rattle.module_images.specs.Asks.{is_path_of, files_of, file_count, takes_depex}
 use Rattle.module_images.specs.Required.{requiring}
+use Rattle.build_base.specs.FaultCodes.{FILE_TOO_LONG}
 
 -- What is absent.
 
@@ -38,7 +39,7 @@ abbrev pub absent_fault : List SectionPlan → List ℕ → Option Fault
 absent_fault sections path = absent_at path (requiring sections path)
 
 abbrev pub too_long : List ℕ → Fault
-too_long path = fault_of 102 (whole_file path) path
+too_long path = fault_of FILE_TOO_LONG (whole_file path) path
 
 abbrev pub got_checked : List SectionPlan → List ℕ → Answer Out → Result (Unit {0}) Fault
 got_checked sections path (answer.Bytes bytes) = Ok tt

@@ -8,6 +8,7 @@ ghost use Rattle.meta_lexer.specs.Faults.{first_fault};
 ghost use Rattle.module_images.specs.Plans.{rule_found, rule_for, refused_source, refused_section, stated_text, template_filled, source_filled, with_source, section_filled, sections_filled, file_by, plan_with, plan_named, plan_by, module_of, module_plan};
 
 use crate::names::{filled, module_folder, module_guid, own_depex, rule_names};
+use build_base::fault_codes::{BAD_PATH, RULE_LINE_REFUSED};
 use build_base::path::path_field;
 use build_base::{Guid, Macro, Place, Refusal, Rows, Same, Text, WantOfMemory, refuse};
 use build_stages::Stop;
@@ -61,7 +62,7 @@ fn refused_source(alloc: Global, at: &Place, source: &SectionSource) -> Result<(
     ensures { Checks result (refused_source at.now source.now) }
 {
     match source {
-        SectionSource::Refused(text) => Err(refuse(alloc, 257, at, text.bytes())),
+        SectionSource::Refused(text) => Err(refuse(alloc, RULE_LINE_REFUSED, at, text.bytes())),
         SectionSource::Tree(_)
         | SectionSource::Template(_)
         | SectionSource::Volume(_)
@@ -105,7 +106,7 @@ fn template_filled(alloc: Global, at: &Place, text: &Text) -> Result<SectionSour
 {
     match path_field(alloc, text.bytes())? {
         Some(path) => Ok(SectionSource::Tree(path)),
-        None => Err(refuse(alloc, 101, at, text.bytes())),
+        None => Err(refuse(alloc, BAD_PATH, at, text.bytes())),
     }
 }
 

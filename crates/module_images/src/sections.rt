@@ -10,6 +10,7 @@ ghost use Rattle.module_images.specs.Sections.{absent_fault, got_checked, source
 
 use crate::asks::{file_count, files_of, is_path_of, takes_depex};
 use crate::required::requiring;
+use build_base::fault_codes::{FILE_TOO_LONG, SECTION_ABSENT};
 use build_base::{Path, Refusal, Rows, Text, WantOfMemory, refuse};
 use build_stages::{Given, Stop};
 use doc_types::image::Part;
@@ -35,7 +36,7 @@ fn none_requires(
     ensures { Checks result (absent_fault sections.now path.now) }
 {
     match requiring(alloc, places, sections, path)? {
-        Some(section) => Err(refuse(alloc, 258, &section.at, path)),
+        Some(section) => Err(refuse(alloc, SECTION_ABSENT, &section.at, path)),
         None => Ok(()),
     }
 }
@@ -58,7 +59,7 @@ fn got_checked(
             none_requires(alloc, places, sections, path.bytes())?;
             Ok(())
         }
-        Answer::TooLong => Err(Stop::from(refuse_file(alloc, 102, path, path.bytes()))),
+        Answer::TooLong => Err(Stop::from(refuse_file(alloc, FILE_TOO_LONG, path, path.bytes()))),
         Answer::Field(_) | Answer::Part(_) => Err(Stop::Misfit),
     }
 }
@@ -234,7 +235,7 @@ fn absent_part(alloc: Global, section: &SectionPlan, path: &Path) -> Result<Opti
     ensures guid { IfOk result MayHaveGuid }
 {
     if !section.optional {
-        return Err(refuse(alloc, 258, &section.at, path.bytes()));
+        return Err(refuse(alloc, SECTION_ABSENT, &section.at, path.bytes()));
     }
     Ok(None)
 }
@@ -256,7 +257,7 @@ fn got_part(
             Ok(Some(part))
         }
         Answer::Absent => Ok(absent_part(alloc, section, path)?),
-        Answer::TooLong => Err(Stop::from(refuse_file(alloc, 102, path, path.bytes()))),
+        Answer::TooLong => Err(Stop::from(refuse_file(alloc, FILE_TOO_LONG, path, path.bytes()))),
         Answer::Field(_) | Answer::Part(_) => Err(Stop::Misfit),
     }
 }

@@ -18,6 +18,7 @@ use Rattle.pcd_resolve.specs.Names.{serves, is_common}
 use Rattle.pcd_resolve.specs.Platform.{is_all, sku_unknown}
 use Rattle.build_stages.specs.Stages.{misfit}
 use Rattle.module_steps.specs.declared.settings.Setting.{Setting}
+use Rattle.build_base.specs.FaultCodes.{ARCH_UNSUPPORTED}
 
 -- the texts that line feeds join
 unfoldable pub listed : List ℕ → List (List ℕ)
@@ -75,7 +76,7 @@ is_supported supported (Some arch) = has_arch supported arch
 unfoldable pub arch_unsupported : PlatformDoc → List ℕ → Option Fault
 arch_unsupported platform text =
     if is_supported platform.arches (arch_named text) then None
-    else Some (fault_of 232 platform.at text)
+    else Some (fault_of ARCH_UNSUPPORTED platform.at text)
 
 -- SkuUnknown: the words choose a SKU that the platform doesn't have
 abbrev pub skus_fault : PlatformDoc → List (List ℕ) → Option Fault

@@ -10,6 +10,7 @@ ghost use Rattle.build_stages.specs.Known.{shown};
 ghost use Rattle.module_steps.specs.Settings.{listed, one_arch, arch_in, arches_in, same_arch, has_arch, put_arch, each_once, built_arches, module_of, module_where, modules_for, modules_of, is_supported, arch_unsupported, skus_fault, named_skus, set_named, set_by, set_of, commands_of, arches_built, built_modules, words_checked, setting_by, setting_of};
 
 use crate::parts::each_text;
+use build_base::fault_codes::ARCH_UNSUPPORTED;
 use build_base::{Place, Refusal, Rows, Same, Text, WantOfMemory, refuse};
 use build_stages::Stop;
 use doc_types::arch::{Arch, arch_named};
@@ -187,7 +188,7 @@ fn arch_unsupported(alloc: Global, platform: &PlatformDoc, text: &Text) -> Resul
     if is_supported(platform.arches.items(), arch_named(text.bytes())) {
         return Ok(());
     }
-    Err(refuse(alloc, 232, &platform.at, text.bytes()))
+    Err(refuse(alloc, ARCH_UNSUPPORTED, &platform.at, text.bytes()))
 }
 
 fn arches_supported(alloc: Global, platform: &PlatformDoc, texts: &[Text]) -> Result<(), Refusal>

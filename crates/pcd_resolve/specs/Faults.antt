@@ -15,6 +15,7 @@ use Rattle.doc_types.specs.declared.pcd.Kind.{Kind}
 use Rattle.pcd_resolve.specs.Names.{dotted, same_kind, same_datum, is_dynamic}
 use Rattle.pcd_resolve.specs.Listing.{Use, Stated, applies}
 use Rattle.pcd_resolve.specs.Kinds.{asked_kind, has_kind, Claim, claims, kind_of, declaration}
+use Rattle.build_base.specs.FaultCodes.{DATUM_CONFLICT, DYNAMIC_IN_COMPONENT, KIND_ASKED, KIND_CONFLICT, NOT_DECLARED, SKU_ON_FIXED}
 
 abbrev pub nothing : {T : Type 0} → List T → Bool
 nothing [] = true
@@ -22,7 +23,8 @@ nothing (x ∷ xs) = false
 
 -- NotDeclared: no package of the INF declares the PCD for the architecture
 unfoldable pub not_declared : Use → Option Fault
-not_declared used = if nothing used.own then Some (fault_of 411 used.line.at (dotted used.line.pcd))
+not_declared used = if nothing used.own
+    then Some (fault_of NOT_DECLARED used.line.at (dotted used.line.pcd))
     else None
 
 -- how a type is written
@@ -50,7 +52,7 @@ abbrev pub datum_fault : Kind → List Use → Stated → Option Datum → Optio
 datum_fault kind uses stated None = None
 datum_fault kind uses stated (Some datum) =
     if list_any (is_against kind datum stated) uses
-    then Some (fault_of 414 stated.line.at (datum_text datum)) else None
+    then Some (fault_of DATUM_CONFLICT stated.line.at (datum_text datum)) else None
 
 -- DatumConflict: the type that a line of the platform states isn't that of a package of a module to
 -- which it applies
@@ -64,18 +66,18 @@ is_inside (Some home) = true
 -- DynamicInComponent: a line of a dynamic kind in a component
 unfoldable pub dynamic_in_component : Stated → Option Fault
 dynamic_in_component stated = if is_inside stated.home && is_dynamic stated.line.kind
-    then Some (fault_of 415 stated.line.at (dotted stated.line.pcd)) else None
+    then Some (fault_of DYNAMIC_IN_COMPONENT stated.line.at (dotted stated.line.pcd)) else None
 
 -- SkuOnFixed: a SKU other than DEFAULT for another kind
 unfoldable pub sku_on_fixed : Stated → Option Fault
 sku_on_fixed stated =
     if not (is_dynamic stated.line.kind) && not (bytes_eq stated.line.sku (codes "DEFAULT"))
-    then Some (fault_of 416 stated.line.at (dotted stated.line.pcd)) else None
+    then Some (fault_of SKU_ON_FIXED stated.line.at (dotted stated.line.pcd)) else None
 
 -- KindConflict: a line says another kind than the first one
 unfoldable pub kind_conflict : List ℕ → Kind → Claim → Option Fault
 kind_conflict pcd kind claim = if same_kind claim.kind kind then None
-    else Some (fault_of 412 claim.at pcd)
+    else Some (fault_of KIND_CONFLICT claim.at pcd)
 
 abbrev pub asks_other : Kind → Option Kind → Bool
 asks_other kind None = false
@@ -85,7 +87,7 @@ asks_other kind (Some asked) = not (same_kind asked kind)
 unfoldable pub kind_asked : Kind → Use → Option Fault
 kind_asked kind used =
     if asks_other kind (asked_kind used.line.asked) || not (has_kind used.own kind)
-    then Some (fault_of 413 used.line.at (dotted used.line.pcd)) else None
+    then Some (fault_of KIND_ASKED used.line.at (dotted used.line.pcd)) else None
 
 -- the faults that suppose a kind, each at its first line
 unfoldable pub kind_faults : List ℕ → List Use → List Stated → Kind → Option Fault

@@ -33,6 +33,7 @@ use Rattle.pcd_resolve.specs.Kinds.{of_kind, head_of}
 use Rattle.pcd_resolve.specs.Faults.{checked_kind}
 use Rattle.pcd_resolve.specs.Assignments.{Assignment, by_declaration, by_line, by_set, sets_of, value_from}
 use Rattle.pcd_resolve.specs.Rows.{row_of, names_of, all_rows, joined}
+use Rattle.build_base.specs.FaultCodes.{BAD_VALUE, SKU_UNKNOWN}
 
 -- the SKUs that are wanted: those of the words, else those of SKUID_IDENTIFIER
 abbrev pub wanted : List (List ℕ) → List ℕ → List (List ℕ)
@@ -54,7 +55,7 @@ chosen ask = filter (is_chosen (wanted ask.skus ask.platform.sku_choice)) ask.pl
 
 abbrev pub sku_unknown : PlatformDoc → List ℕ → Option Fault
 sku_unknown platform name = if list_any (λ sku. bytes_eq sku.name name) platform.skus then None
-    else Some (fault_of 229 platform.at name)
+    else Some (fault_of SKU_UNKNOWN platform.at name)
 
 -- SkuUnknown: the words choose a SKU that the platform doesn't have
 unfoldable pub words_fault : PlatformAsk → Option Fault
@@ -88,7 +89,7 @@ bad_rest datum (max ∷ value ∷ more) = not (is_void datum) || too_great (numb
 abbrev pub rest_fault : Place → Datum → List (List ℕ) → Option Fault
 rest_fault at datum [] = None
 rest_fault at datum (field ∷ more) = if bad_rest datum (field ∷ more)
-    then Some (fault_of 401 at field) else None
+    then Some (fault_of BAD_VALUE at field) else None
 
 abbrev pub store_fault : Place → Datum → Store → Option Fault
 store_fault at datum (Vpd offset rest) = rest_fault at datum rest

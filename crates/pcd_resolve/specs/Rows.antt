@@ -21,6 +21,7 @@ use Rattle.pcd_resolve.specs.Listing.{Use, Stated, uses_of_module, uses_of, stat
 use Rattle.pcd_resolve.specs.Kinds.{declaration}
 use Rattle.pcd_resolve.specs.Faults.{checked_kind}
 use Rattle.pcd_resolve.specs.Assignments.{Assignment, assignments, sets_of, value_from, max_from}
+use Rattle.build_base.specs.FaultCodes.{DOES_NOT_FIT}
 
 -- the maximum of a VOID* where one is stated, else its length
 abbrev pub stated_max : Option Assignment → Option ℕ
@@ -30,7 +31,7 @@ stated_max (Some a) = a.max
 abbrev pub void_max : Assignment → List ℕ → List ℕ → Option ℕ → Result ℕ Fault
 void_max taken text bytes None = Ok (length bytes)
 void_max taken text bytes (Some max) = if nat_lt max (length bytes)
-    then Err (fault_of 402 taken.at text) else Ok max
+    then Err (fault_of DOES_NOT_FIT taken.at text) else Ok max
 
 -- that of another type is its width
 unfoldable pub maximum : Datum → Assignment → List ℕ → List ℕ → Option ℕ → Result ℕ Fault

@@ -18,6 +18,7 @@ use crate::listing::StatedLine;
 use crate::names::is_void;
 use crate::resolve::append;
 use crate::rows::row_of;
+use build_base::fault_codes::BAD_VALUE;
 use build_base::{Place, Refusal, Rows, Same, Text, WantOfMemory, refuse};
 use doc_types::package::DecPcd;
 use doc_types::pcd::{Datum, Kind, PcdSet};
@@ -66,7 +67,7 @@ fn rest_fault(alloc: Global, at: &Place, datum: Datum, rest: &[Text]) -> Result<
         [] => Ok(()),
         [field, ..] => {
             if bad_rest(datum, rest) {
-                return Err(refuse(alloc, 401, at, field.bytes()));
+                return Err(refuse(alloc, BAD_VALUE, at, field.bytes()));
             }
             Ok(())
         }

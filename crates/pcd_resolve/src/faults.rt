@@ -12,6 +12,9 @@ ghost use Rattle.pcd_resolve.specs.Views.{use_view, stated_view};
 use crate::kinds::{asked_kind, declaration, has_kind, kind_given, kind_of};
 use crate::listing::{StatedLine, UseLine, applies};
 use crate::names::{dotted, is_dynamic, same_datum, same_kind};
+use build_base::fault_codes::{
+    DATUM_CONFLICT, DYNAMIC_IN_COMPONENT, KIND_ASKED, KIND_CONFLICT, NOT_DECLARED, SKU_ON_FIXED,
+};
 use build_base::{Place, Refusal, refuse};
 use doc_types::package::DecPcd;
 use doc_types::pcd::{Datum, Kind, PcdName};
@@ -22,7 +25,7 @@ fn not_declared(alloc: Global, used: &UseLine<'_>) -> Result<(), Refusal>
     ensures { Checks result (not_declared (use_view used.now)) }
 {
     if used.own.is_empty() {
-        return Err(refuse_named(alloc, 411, &used.line.at, &used.line.pcd));
+        return Err(refuse_named(alloc, NOT_DECLARED, &used.line.at, &used.line.pcd));
     }
     Ok(())
 }
@@ -148,7 +151,7 @@ fn datum_conflict(
         return Ok(());
     };
     if is_at_odds(kind, datum, agreed, stated, uses) {
-        return Err(refuse(alloc, 414, &stated.line.at, datum_text(datum)));
+        return Err(refuse(alloc, DATUM_CONFLICT, &stated.line.at, datum_text(datum)));
     }
     Ok(())
 }
@@ -178,7 +181,12 @@ fn dynamic_in_component(alloc: Global, stated: &StatedLine<'_>) -> Result<(), Re
         None => Ok(()),
         Some(_) => {
             if is_dynamic(stated.line.kind) {
-                return Err(refuse_named(alloc, 415, &stated.line.at, &stated.line.pcd));
+                return Err(refuse_named(
+                    alloc,
+                    DYNAMIC_IN_COMPONENT,
+                    &stated.line.at,
+                    &stated.line.pcd,
+                ));
             }
             Ok(())
         }
@@ -213,7 +221,7 @@ fn sku_on_fixed(alloc: Global, stated: &StatedLine<'_>) -> Result<(), Refusal>
     if stated.line.sku.bytes() == b"DEFAULT".as_slice() {
         return Ok(());
     }
-    Err(refuse_named(alloc, 416, &stated.line.at, &stated.line.pcd))
+    Err(refuse_named(alloc, SKU_ON_FIXED, &stated.line.at, &stated.line.pcd))
 }
 
 fn no_sku_on_fixed(alloc: Global, lines: &[StatedLine<'_>]) -> Result<(), Refusal>
@@ -238,7 +246,7 @@ fn kind_conflict(
     if same_kind(said, kind) {
         return Ok(());
     }
-    Err(refuse(alloc, 412, at, pcd))
+    Err(refuse(alloc, KIND_CONFLICT, at, pcd))
 }
 
 fn lines_agree(
@@ -313,12 +321,12 @@ fn kind_asked(alloc: Global, kind: Kind, used: &UseLine<'_>) -> Result<(), Refus
     ensures { Checks result (kind_asked kind (use_view used.now)) }
 {
     if asks_other(kind, asked_kind(used.line.asked)) {
-        return Err(refuse_named(alloc, 413, &used.line.at, &used.line.pcd));
+        return Err(refuse_named(alloc, KIND_ASKED, &used.line.at, &used.line.pcd));
     }
     if has_kind(used.own.as_slice(), kind) {
         return Ok(());
     }
-    Err(refuse_named(alloc, 413, &used.line.at, &used.line.pcd))
+    Err(refuse_named(alloc, KIND_ASKED, &used.line.at, &used.line.pcd))
 }
 
 fn kinds_asked(alloc: Global, kind: Kind, uses: &[UseLine<'_>]) -> Result<(), Refusal>

@@ -12,6 +12,7 @@ use crate::faults::checked_kind;
 use crate::kinds::declaration;
 use crate::listing::{StatedLine, UseLine};
 use crate::names::{is_dynamic, is_void};
+use build_base::fault_codes::DOES_NOT_FIT;
 use build_base::{Refusal, Rows, Same, Text, WantOfMemory, refuse};
 use doc_types::choice::Module;
 use doc_types::package::DecPcd;
@@ -48,7 +49,7 @@ fn maximum(
         None => Ok(bytes.len() as u32),
         Some(max) => {
             if (max as usize) < bytes.len() {
-                return Err(refuse(alloc, 402, taken.at, text));
+                return Err(refuse(alloc, DOES_NOT_FIT, taken.at, text));
             }
             Ok(max)
         }

@@ -6,6 +6,7 @@ ghost use Rattle.build_base.specs.Answer.{Checks};
 ghost use Rattle.meta_lexer.specs.Faults.{first_fault};
 ghost use Rattle.pcd_resolve.specs.Platform.{is_all, is_chosen, sku_unknown, wanted};
 
+use build_base::fault_codes::SKU_UNKNOWN;
 use build_base::{Refusal, Text, WantOfMemory, refuse};
 use doc_types::platform::{PlatformDoc, Sku};
 use meta_lexer::words::same_word;
@@ -79,7 +80,7 @@ fn sku_unknown(alloc: Global, platform: &PlatformDoc, name: &Text) -> Result<(),
     if is_sku(platform.skus.items(), name.bytes()) {
         return Ok(());
     }
-    Err(refuse(alloc, 229, &platform.at, name.bytes()))
+    Err(refuse(alloc, SKU_UNKNOWN, &platform.at, name.bytes()))
 }
 
 /// Refuses the first name that isn't one of a SKU.

@@ -25,6 +25,7 @@ use Rattle.volume_reader.specs.Written.{Made, IsMade, body_sections, made_sectio
 use Rattle.volume_reader.proofs.FieldLemmas.{size_end}
 use Rattle.volume_reader.proofs.RowLemmas.{Fits, row_by, row_of}
 use Rattle.volume_reader.proofs.WalkLemmas.{IsRow}
+use Rattle.build_base.specs.FaultCodes.{ALIGNMENT_REFUSED, IMAGE_FILE_TOO_LONG}
 
 pub same_state : (a b : ℕ) → (a == 0) ≡ (b == 0) → state_of a ≡ state_of b
 same_state a b e = ap (λ t. if t then 7 else 255 - 7) e
@@ -93,11 +94,11 @@ pub record Built (plan : ImagePlan) (file : FileImage) : Type 0 where
   pub whole : file ≡ image_of plan body
 
 sized_from : (plan : ImagePlan) (file : FileImage) (body : List ℕ) (b : Bool) → body_of plan plan.body ≡ Ok body → nat_lt (file_limit plan.ffs3) (file_size plan.ffs3 (length body)) ≡ b
-    → (if b then Err (sized 612 plan.at (file_size plan.ffs3 (length body))) else Ok (image_of plan body)) ≡ Ok file → Built plan file
+    → (if b then Err (sized IMAGE_FILE_TOO_LONG plan.at (file_size plan.ffs3 (length body))) else Ok (image_of plan body)) ≡ Ok file → Built plan file
 sized_from plan file body true p t e = absurd cc
 sized_from plan file body false p t e = record { body = body; parts = p; room = grind (arith, nat_tests); whole = let s : image_of plan body ≡ file = cc in sym s }
 
-built_from : (plan : ImagePlan) (file : FileImage) (b : Bool) (r : Result (List ℕ) Fault) → body_of plan plan.body ≡ r → (if b then and_then r (file_sized plan) else Err (sized 613 plan.at plan.align)) ≡ Ok file → Built plan file
+built_from : (plan : ImagePlan) (file : FileImage) (b : Bool) (r : Result (List ℕ) Fault) → body_of plan plan.body ≡ r → (if b then and_then r (file_sized plan) else Err (sized ALIGNMENT_REFUSED plan.at plan.align)) ≡ Ok file → Built plan file
 built_from plan file true (Ok body) p e = sized_from plan file body (nat_lt (file_limit plan.ffs3) (file_size plan.ffs3 (length body))) p refl e
 built_from plan file true (Err f) p e = absurd cc
 built_from plan file false r p e = absurd cc

@@ -14,6 +14,7 @@ use Rattle.volume_reader.specs.declared.listing.FoundVolume.{FoundVolume}
 use Rattle.volume_reader.specs.Head.{is_head, fv_length, volume_from}
 use Rattle.volume_reader.specs.Volume.{volume_list}
 use Rattle.volume_reader.specs.Lines.{hex, volume_line, pad_line, file_line, section_line, free_line}
+use Rattle.build_base.specs.FaultCodes.{NO_VOLUME, VOLUME_BAD_FILE}
 
 -- the content of a section without a GUID, in the bytes of its volume: its header has 4 bytes, and
 -- 8 where its size doesn't fit there
@@ -90,12 +91,12 @@ whole_file path = record { path = path; line = 0 }
 
 abbrev pub listing_of : List ℕ → List ℕ → Result (List FoundVolume) ℕ → Result (List ℕ) Fault
 listing_of path bytes (Ok volumes) = Ok (flat_map (found_text bytes) volumes)
-listing_of path bytes (Err place) = Err (fault_of 742 (whole_file path) (hex place))
+listing_of path bytes (Err place) = Err (fault_of VOLUME_BAD_FILE (whole_file path) (hex place))
 
 -- The listing of the image that stands in a file, or the fault of a file without a volume, or with
 -- a wrong file in one. Each volume has some bytes, so they are at most as many as the image's.
 unfoldable pub listing : List ℕ → List ℕ → Result (List ℕ) Fault
 listing path bytes =
     if is_none (volume_from bytes 0)
-    then Err (fault_of 741 (whole_file path) (decimal (length bytes)))
+    then Err (fault_of NO_VOLUME (whole_file path) (decimal (length bytes)))
     else listing_of path bytes (volumes_from (length bytes + 1) bytes 0)

@@ -7,6 +7,7 @@ ghost use Rattle.volume_reader.specs.Head.{is_head};
 ghost use Rattle.volume_reader.specs.Volume.{Reads};
 ghost use Rattle.volume_reader.specs.Lines.{hex};
 ghost use Rattle.volume_reader.specs.Listing.{found_at, volumes_from, found_text, whole_file, listing};
+ghost use Rattle.build_base.specs.FaultCodes.{NO_VOLUME, VOLUME_BAD_FILE};
 
 use crate::find::find_volume;
 use crate::lines::put_hex;
@@ -14,6 +15,7 @@ use crate::listed::{ReadRefusal, VolumeList};
 use crate::nested::put_volume;
 use crate::slices::rest;
 use crate::volume::read_volume;
+use build_base::fault_codes::{NO_VOLUME, VOLUME_BAD_FILE};
 use build_base::refusal::refuse;
 use build_base::{Path, Place, Refusal, Rows, Same, Text, WantOfMemory};
 use itoa::Buffer;
@@ -104,18 +106,19 @@ fn place_of(alloc: Global, path: &Path) -> Result<Place, WantOfMemory>
 }
 
 fn no_volume(alloc: Global, at: &Place, length: u64) -> Refusal
-    ensures { Finds result (Some (fault_of 741 at.now (decimal length))) }
+    ensures { Finds result (Some (fault_of NO_VOLUME at.now (decimal length))) }
 {
     let mut digits = Buffer::new();
-    refuse(alloc, 741, at, digits.format(length).as_bytes())
+    refuse(alloc, NO_VOLUME, at, digits.format(length).as_bytes())
 }
 
 fn bad_file(alloc: Global, at: &Place, place: u64) -> Result<Refusal, WantOfMemory>
-    ensures { IfOk result (λ refusal. Finds refusal (Some (fault_of 742 at.now (hex place)))) }
+    ensures { IfOk result (λ refusal. Finds refusal (Some (fault_of VOLUME_BAD_FILE at.now (hex
+        place)))) }
 {
     let mut detail = Vec::new(alloc);
     put_hex(alloc, &mut detail, place)?;
-    Ok(refuse(alloc, 742, at, detail.as_slice()))
+    Ok(refuse(alloc, VOLUME_BAD_FILE, at, detail.as_slice()))
 }
 
 /// The listing of the image that is the file of this path: its volumes in order, each with its

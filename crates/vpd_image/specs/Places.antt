@@ -12,6 +12,7 @@ use Rattle.doc_types.specs.declared.platform.Store.TheVariants.{Vpd}
 use Rattle.doc_types.specs.declared.values.PcdRow.{PcdRow}
 use Rattle.pcd_values.specs.Parsing.{width}
 use Rattle.vpd_image.specs.Entries.{Entry}
+use Rattle.build_base.specs.FaultCodes.{VPD_OVERLAP, VPD_TOO_LONG}
 
 -- where every entry ends at the latest
 abbrev pub end_limit : ℕ
@@ -119,7 +120,7 @@ placed entries = placed_from (written entries) [] entries
 -- `start < end` of what two have in common
 unfoldable pub overlap_of : Placed → Placed → Fault
 overlap_of placed other =
-    fault_of 721 placed.entry.line.at
+    fault_of VPD_OVERLAP placed.entry.line.at
     (decimal (max placed.offset other.offset) ++ codes " < "
     ++ decimal (min (end_of placed) (end_of other)))
 
@@ -135,7 +136,7 @@ overlap_fault above (placed ∷ more) =
 
 unfoldable pub end_fault : Placed → Option Fault
 end_fault placed = if nat_lt end_limit (end_of placed)
-    then Some (fault_of 722 placed.entry.line.at (decimal (end_of placed))) else None
+    then Some (fault_of VPD_TOO_LONG placed.entry.line.at (decimal (end_of placed))) else None
 
 -- the first that ends too late
 unfoldable pub long_fault : List Placed → Option Fault

@@ -7,10 +7,12 @@ ghost use Rattle.build_base.specs.First.{unless};
 ghost use Rattle.vpd_image.specs.Places.{Placed, size_of, align_of, end_of, shares, share, placed_if, written, least_place, placed_before, placed_next, placed_from, overlap_of, overlap_with, overlap_fault, end_fault, long_fault};
 ghost use Rattle.vpd_image.specs.Rooms.{IsRoom, Holds};
 ghost use Rattle.vpd_image.specs.Tables.{entry_view, placed_view};
+ghost use Rattle.build_base.specs.FaultCodes.{VPD_OVERLAP, VPD_TOO_LONG};
 
 use crate::lines::EntryLine;
 use crate::room::Room;
 use crate::sizes::{offset_in, size_of};
+use build_base::fault_codes::{VPD_OVERLAP, VPD_TOO_LONG};
 use build_base::{Fault, Place, Refusal, Same, Text, WantOfMemory, refuse};
 use itoa::Buffer;
 use std::alloc::Global;
@@ -104,10 +106,10 @@ fn compared(alloc: Global, first: u64, second: u64) -> Result<Text, WantOfMemory
 
 fn refuse_compared(alloc: Global, at: &Place, first: u64, second: u64) -> Refusal
     ensures { Finds result
-        (Some (fault_of 721 at.now (decimal first ++ codes " < " ++ decimal second))) }
+        (Some (fault_of VPD_OVERLAP at.now (decimal first ++ codes " < " ++ decimal second))) }
 {
     match compared(alloc, first, second) {
-        Ok(detail) => refuse(alloc, 721, at, detail.bytes()),
+        Ok(detail) => refuse(alloc, VPD_OVERLAP, at, detail.bytes()),
         Err(_) => Refusal::WantOfMemory,
     }
 }
@@ -181,10 +183,10 @@ pub fn take_all_written(
 
 /// An entry at a place ends too late.
 pub fn refuse_end(alloc: Global, at: &Place, end: u64) -> Refusal
-    ensures { Finds result (Some (fault_of 722 at.now (decimal end))) }
+    ensures { Finds result (Some (fault_of VPD_TOO_LONG at.now (decimal end))) }
 {
     let mut digits = Buffer::new();
-    refuse(alloc, 722, at, digits.format(end).as_bytes())
+    refuse(alloc, VPD_TOO_LONG, at, digits.format(end).as_bytes())
 }
 
 /// Whether an entry ends too late.
