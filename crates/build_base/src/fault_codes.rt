@@ -130,7 +130,7 @@ pub const RULE_LINE_REFUSED: u16 = 257;
 
 pub const SECTION_ABSENT: u16 = 258;
 
-pub const NOT_ACOMPONENT: u16 = 259;
+pub const NOT_A_COMPONENT: u16 = 259;
 
 pub const IMAGE_UNKNOWN: u16 = 260;
 

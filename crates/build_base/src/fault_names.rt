@@ -68,7 +68,7 @@ const NAMES: [(u16, &str); 111] = [
     (codes::VOLUME_TWO_SIZES, "VolumeTwoSizes"),
     (codes::RULE_LINE_REFUSED, "RuleLineRefused"),
     (codes::SECTION_ABSENT, "SectionAbsent"),
-    (codes::NOT_ACOMPONENT, "NotAComponent"),
+    (codes::NOT_A_COMPONENT, "NotAComponent"),
     (codes::IMAGE_UNKNOWN, "ImageUnknown"),
     (codes::FDF_REPEATED_NAME, "RepeatedName"),
     (codes::FDF_BAD_GUID, "BadGuid"),

@@ -9,7 +9,7 @@ use Rattle.doc_types.specs.declared.arch.Arch.TheVariants.{Common}
 use Rattle.doc_types.specs.declared.platform.Component.{Component}
 use Rattle.doc_types.specs.declared.volume.InfLine.{InfLine}
 use Rattle.flash_document.specs.Rules.{same_arch}
-use Rattle.build_base.specs.FaultCodes.{ARCH_AMBIGUOUS, NOT_ACOMPONENT}
+use Rattle.build_base.specs.FaultCodes.{ARCH_AMBIGUOUS, NOT_A_COMPONENT}
 
 -- a component is this module, and is for this architecture or for all
 abbrev pub is_component : List ℕ → Arch → Component → Bool
@@ -30,7 +30,7 @@ abbrev pub other_arch : Arch → List Arch → Bool
 other_arch arch arches = list_any (λ a. not (same_arch a arch)) arches
 
 abbrev pub no_component : InfLine → Fault
-no_component line = fault_of NOT_ACOMPONENT line.at line.inf
+no_component line = fault_of NOT_A_COMPONENT line.at line.inf
 
 abbrev pub is_among : Arch → List Arch → Bool
 is_among arch arches = list_any (λ a. same_arch a arch) arches

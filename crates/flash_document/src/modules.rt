@@ -6,7 +6,7 @@ ghost use Rattle.flash_document.specs.Rules.{same_arch};
 ghost use Rattle.flash_document.specs.Modules.{is_component, has_component, having_one, having, other_arch, no_component, is_among, only_arch, arch_among, inf_arch};
 
 use crate::rules::same_arch;
-use build_base::fault_codes::{ARCH_AMBIGUOUS, NOT_ACOMPONENT};
+use build_base::fault_codes::{ARCH_AMBIGUOUS, NOT_A_COMPONENT};
 use build_base::{Path, Refusal, Rows, WantOfMemory, refuse};
 use doc_types::arch::Arch;
 use doc_types::platform::{Component, PlatformDoc};
@@ -99,7 +99,7 @@ fn is_among(arch: Arch, arches: &[Arch]) -> bool
 fn no_component(alloc: Global, line: &InfLine) -> Refusal
     ensures { Finds result (Some (no_component line.now)) }
 {
-    refuse(alloc, NOT_ACOMPONENT, &line.at, line.inf.bytes())
+    refuse(alloc, NOT_A_COMPONENT, &line.at, line.inf.bytes())
 }
 
 fn only_arch(alloc: Global, line: &InfLine, arches: &[Arch]) -> Result<Arch, Refusal>
