@@ -1,5 +1,5 @@
 -- Noted numbers of answers to parts, and answers that are the same since their numbers are.
-use Rattle.std.proofs.Common.{◌≡◌, ◌∙◌, ◌-◌, ◌<◌, ◌≤◌, ℕ, length, take, drop, take_all, get_or, List, [], ◌∷◌, Option, Some, None, Contains, inl, inr, refl, sym, ap, subst, arith, option_map}
+use Rattle.std.proofs.Common.{◌≡◌, ◌∙◌, ◌-◌, ◌<◌, ℕ, length, take, drop, take_all, get_or, List, [], ◌∷◌, Option, Some, None, Contains, inl, inr, refl, sym, ap, subst, arith, option_map}
 use Rattle.step_engine.proofs.Caches.{Contains-cons, Contains-cons_cases}
 use Rattle.step_engine.specs.Agreeing.{HasPair, Agree}
 use Rattle.step_engine.specs.declared.talk.Answer.{Answer}

@@ -1,6 +1,8 @@
 pub mod PoolLemmas
 pub mod NumberLemmas
 pub mod OnceLemmas
+pub mod PlaceLemmas
+pub mod PoolTextLemmas
 pub mod UseLemmas
 pub mod GivenLemmas
 pub mod OrderLemmas

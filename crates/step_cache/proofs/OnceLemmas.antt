@@ -52,7 +52,7 @@ get_push (p ∷ pool) text (suc n) x e = (elim (get_push pool text n x e) as (λ
   | inr r ↦ inr (omega (arith, r.0), r.1)
 ])
 
-get_middle : (before : List (List ℕ)) (text : List ℕ) (after : List (List ℕ)) → slice_get (before ++ text ∷ after) (length before) ≡ Some text
+pub get_middle : (before : List (List ℕ)) (text : List ℕ) (after : List (List ℕ)) → slice_get (before ++ text ∷ after) (length before) ≡ Some text
 get_middle [] text after = refl
 get_middle (b ∷ before) text after = get_middle before text after
 

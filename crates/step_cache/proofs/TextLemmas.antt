@@ -1,29 +1,42 @@
 -- The text of a cache, its head and its body.
-use Rattle.std.proofs.Common.{◌≡◌, ◌∙◌, ◌++◌, ◌<◌, ◌≤◌, ◌+◌, ◌^◌, ℕ, zero, suc, List, [], ◌∷◌, true, false, true≢false, drop, take, length, length-append, append_assoc, codes, sym, ap, refl, arith, subst, nat_lt, nat_le, slice_index_or, take_at, drop_at, Option, Some, None, MatchOption}
+use Rattle.std.proofs.Common.{ap₂, ◌&&◌, Bool, ◌≡◌, ◌∙◌, ◌++◌, ◌<◌, ◌≤◌, ◌+◌, ◌^◌, ℕ, zero, suc, List, [], ◌∷◌, true, false, true≢false, drop, take, length, length-append, append_assoc, codes, sym, ap, refl, arith, subst, nat_lt, nat_le, slice_index_or, take_at, drop_at, Option, Some, None, MatchOption}
 use Rattle.std.specs.Int.{bytes_low_first}
 use Rattle.std.proofs.lemmas.Bool.{leb-true}
-use Rattle.std.proofs.lemmas.List.{take-append-drop}
+use Rattle.std.proofs.lemmas.List.{take-append-drop, drop-append-le}
 use Rattle.packed_values.specs.Form.{IsSpelling}
-use Rattle.packed_values.specs.Parts.{and_right}
-use Rattle.packed_values.specs.Plain.{number_form, number_unique}
+use Rattle.packed_values.specs.Parts.{and_right, pair_form, rows_form}
+use Rattle.packed_values.specs.Plain.{number_form, number_unique, text_form}
 use Rattle.packed_values.proofs.WholeLemmas.{spelled_once}
 use Rattle.step_engine.specs.declared.talk.Entry.{Entry}
 use Rattle.step_pack.specs.declared.key.Key.{Key}
 use Rattle.step_pack.specs.declared.out.Out.{Out}
 use Rattle.step_cache.specs.CacheText.{pooled, body_of, head_of, is_edition, newest, edition_in, cache_text, IsTextOf, IsNoTextOf, IsNoText}
 use Rattle.step_cache.specs.Checking.{IsCacheOf}
-use Rattle.step_cache.specs.Numbered.{pooled_form}
+use Rattle.step_cache.specs.Numbered.{numbered_form, pooled_form, pooled_with}
+use Rattle.step_cache.specs.declared.numbered.Numbered.{Numbered}
 use Rattle.step_cache.specs.declared.numbered.Pooled.{Pooled}
 
 pub length_head : (e n : ℕ) → length (head_of e n) ≡ 20
 unfolding number_form
 length_head e n = refl
 
--- what is written behind room for a head
-pub text_from : (front body items text : List ℕ) → length front ≡ 20 → items ≡ front ++ body
-    → text ≡ head_of newest (length (drop 20 items)) ++ drop 20 items → text ≡ head_of newest (length body) ++ body
-text_from front body items text long is whole =
-    whole ∙ ap (λ (b : List ℕ). head_of newest (length b) ++ b) (ap (drop 20) is ∙ drop_at front body 20 long)
+-- what is written behind a pool and room for a head
+module _ (before items : List ℕ) (pool : List (List ℕ)) (entries : List Numbered) (behind : drop 20 before ≡ (rows_form text_form).spelling pool)
+    (is : items ≡ before ++ (rows_form numbered_form).spelling entries) where
+  body_behind : 28 ≤ length before → drop 20 items ≡ pooled_form.spelling (pooled_with pool entries)
+  unfolding pooled_form pair_form
+  body_behind room =
+      ap (drop 20) is ∙ drop-append-le 20 before ((rows_form numbered_form).spelling entries) (omega (arith, room))
+      ∙ ap (λ (b : List ℕ). b ++ (rows_form numbered_form).spelling entries) behind
+
+  pub text_behind : (text : List ℕ) → 28 ≤ length before → text ≡ head_of newest (length (drop 20 items)) ++ drop 20 items
+      → text ≡ head_of newest (length (pooled_form.spelling (pooled_with pool entries))) ++ pooled_form.spelling (pooled_with pool entries)
+  text_behind text room whole = whole ∙ ap (λ (b : List ℕ). head_of newest (length b) ++ b) (body_behind room)
+
+pub both_values : (pool : List (List ℕ)) (entries : List Numbered) → (rows_form text_form).is_value pool ≡ true → (rows_form numbered_form).is_value entries ≡ true
+    → pooled_form.is_value (pooled_with pool entries) ≡ true
+unfolding pooled_form pair_form
+both_values pool entries p e = ap₂ (λ (a b : Bool). a && b) p e
 
 body_at : (e : ℕ) (es : List (Entry Key Out)) (bytes : List ℕ) → IsTextOf e es bytes → drop 20 bytes ≡ body_of es
 unfolding cache_text

@@ -21,7 +21,8 @@ pub record Places (part : Key) (n : ℕ) (old new : Table) : Type 0 where
 
 -- the number of an ask of a part is noted
 abbrev pub IsNoted : Table → Asked → Type 0
-IsNoted known asked = (part : Key) → asked.ask ≡ ask.Part part → number_at known part ≡ Some asked.number
+IsNoted known asked = (part : Key) → asked.ask ≡ ask.Part part →
+    number_at known part ≡ Some asked.number
 
 -- the numbers of all of these asks are noted, and what was noted stays
 pub record Notes (Has : Asked → Type 0) (old new : Table) : Type 0 where
@@ -49,4 +50,5 @@ HasAskIn = HasIn HasAskBy
 
 -- all answers of the entries to one part have one number
 abbrev pub AreOne : List Numbered → Type 0
-AreOne entries = (part : Key) (a b : Asked) → HasAskIn entries a → HasAskIn entries b → a.ask ≡ ask.Part part → b.ask ≡ ask.Part part → a.number ≡ b.number
+AreOne entries = (part : Key) (a b : Asked) → HasAskIn entries a → HasAskIn entries b →
+    a.ask ≡ ask.Part part → b.ask ≡ ask.Part part → a.number ≡ b.number

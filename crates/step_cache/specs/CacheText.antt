@@ -1,6 +1,7 @@
--- The text of a cache: `EDKSTEPS`, the edition in four bytes, the length of the whole text in eight, the pool of the packed answers and
--- results, and the entries in ascending order of their keys' packed forms, with numbers of the pool in place of answers and results. The
--- rule is this project's own.
+-- The text of a cache: `EDKSTEPS`, the edition in four bytes, the length of the whole text in
+-- eight, the pool of the packed answers and results, and the entries in ascending order of their
+-- keys' packed forms, with numbers of the pool in place of answers and results. The rule is this
+-- project's own.
 use Rattle.std.specs.Prelude.{◌≡◌, ◌++◌, ◌+◌, ◌^◌, ◌&&◌, ℕ, Bool, true, List, [], ◌∷◌, length, map, slice_index_or, codes, nat_lt, nat_le}
 use Rattle.std.specs.List.{list_all, flat_map}
 use Rattle.packed_values.specs.Plain.{number_form}
@@ -29,7 +30,8 @@ abbrev pub batch_texts : Batch Key Out → List (List ℕ)
 batch_texts batch = flat_map pair_texts batch.pairs
 
 abbrev pub entry_texts : Entry Key Out → List (List ℕ)
-entry_texts entry = flat_map batch_texts entry.talk.batches ++ outcome_form.spelling entry.result ∷ []
+entry_texts entry = flat_map batch_texts entry.talk.batches
+    ++ outcome_form.spelling entry.result ∷ []
 
 abbrev pub cache_texts : List (Entry Key Out) → List (List ℕ)
 cache_texts entries = flat_map entry_texts entries
@@ -69,7 +71,8 @@ is_edition edition = nat_le oldest edition && nat_le edition newest
 
 -- what stands before a body of so many bytes
 abbrev pub head_of : ℕ → ℕ → List ℕ
-head_of edition count = codes "EDKSTEPS" ++ (number_form 4).spelling edition ++ (number_form 8).spelling (20 + count)
+head_of edition count = codes "EDKSTEPS" ++ (number_form 4).spelling edition
+    ++ (number_form 8).spelling (20 + count)
 
 -- the edition that a head states, if one that is read
 abbrev pub edition_in : List ℕ → ℕ
@@ -86,7 +89,8 @@ abbrev pub batch_is_value : Batch Key Out → Bool
 batch_is_value batch = list_all pair_is_value batch.pairs
 
 abbrev pub entry_is_value : Entry Key Out → Bool
-entry_is_value entry = list_all batch_is_value entry.talk.batches && outcome_form.is_value entry.result
+entry_is_value entry = list_all batch_is_value entry.talk.batches
+    && outcome_form.is_value entry.result
 
 -- the bytes are the text of a cache of these entries, of an edition
 pub record IsTextOf (edition : ℕ) (entries : List (Entry Key Out)) (bytes : List ℕ) : Type 0 where

@@ -17,10 +17,12 @@ use Rattle.step_cache.specs.declared.numbered.Numbered.{Numbered}
 
 -- the value that a text is the spelling of, where it is of one
 abbrev pub IsDecoded : {A : Type 0} → Form A → List ℕ → Option A → Type 0
-IsDecoded {A} form text given = MatchOption given ((x : A) → IsSpelling form x text → ⊥) (λ x. IsSpelling form x text)
+IsDecoded {A} form text given =
+    MatchOption given ((x : A) → IsSpelling form x text → ⊥) (λ x. IsSpelling form x text)
 
 -- what each text of a pool stands for as an answer, and as a result
-pub record AreDecoded (pool : List (List ℕ)) (as_answers : List (Option (Answer Out))) (as_results : List (Option (Outcome Out))) : Type 0 where
+pub record AreDecoded (pool : List (List ℕ)) (as_answers : List (Option (Answer Out)))
+    (as_results : List (Option (Outcome Out))) : Type 0 where
   pub answers : AllZip (IsDecoded answer_form) pool as_answers
   pub results : AllZip (IsDecoded outcome_form) pool as_results
 
@@ -57,10 +59,15 @@ batch_of pairs = record { pairs = pairs }
 abbrev pub batch_at : List (Option (Answer Out)) → List Asked → Option (Batch Key Out)
 batch_at answers asked = option_map batch_of (all_some (pair_at answers) asked)
 
-abbrev pub entry_with : Key → Option (List (Batch Key Out)) → Option (Outcome Out) → Option (Entry Key Out)
+abbrev pub entry_with : Key → Option (List (Batch Key Out)) → Option (Outcome Out) →
+    Option (Entry Key Out)
 entry_with key None given = None
 entry_with key (Some batches) None = None
-entry_with key (Some batches) (Some given) = Some (record { key = key; talk = record { batches = batches }; result = given })
+entry_with key (Some batches) (Some given) =
+    Some (record { key = key; talk = record { batches = batches }; result = given })
 
-abbrev pub entry_at : List (Option (Answer Out)) → List (Option (Outcome Out)) → Numbered → Option (Entry Key Out)
-entry_at answers results number = entry_with number.key (all_some (batch_at answers) number.batches) (value_at results number.result)
+abbrev pub entry_at : List (Option (Answer Out)) → List (Option (Outcome Out)) → Numbered →
+    Option (Entry Key Out)
+entry_at answers results number =
+    entry_with number.key
+    (all_some (batch_at answers) number.batches) (value_at results number.result)

@@ -30,11 +30,14 @@ pub record IsNumbered (pool : List (List ℕ)) (p : Pair Key Out) (n : ℕ) : Ty
 
 -- each answer of the entries to a part that is noted has the number
 abbrev pub AreNoted : List (Entry Key Out) → List (List ℕ) → List (Key × ℕ) → Type 0
-AreNoted entries pool known = (n : ℕ) (p : Pair Key Out) → HasPair entries p → IsKnown known p.ask n → IsNumbered pool p n
+AreNoted entries pool known = (n : ℕ) (p : Pair Key Out) → HasPair entries p →
+    IsKnown known p.ask n → IsNumbered pool p n
 
 -- the number of a pair of the entries may be noted
-abbrev pub Notes : List (Entry Key Out) → Pair Key Out → ℕ → List (Key × ℕ) → List (Key × ℕ) → Type 0
-Notes entries p n old new = (pool : List (List ℕ)) → HasPair entries p → IsNumbered pool p n → AreNoted entries pool old → AreNoted entries pool new
+abbrev pub Notes : List (Entry Key Out) → Pair Key Out → ℕ → List (Key × ℕ) → List (Key × ℕ) →
+    Type 0
+Notes entries p n old new = (pool : List (List ℕ)) → HasPair entries p → IsNumbered pool p n →
+    AreNoted entries pool old → AreNoted entries pool new
 
 -- each pair of a batch, of batches, and of entries stands in the entries
 abbrev pub AreAmong : List (Entry Key Out) → List (Pair Key Out) → Type 0

@@ -1,5 +1,6 @@
 pub mod Numbered
 pub mod Pools
+pub mod Places
 pub mod CacheText
 pub mod Decoding
 pub mod Checking

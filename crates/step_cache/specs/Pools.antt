@@ -1,4 +1,5 @@
--- A pool of texts, each once, in the order in which they are first used. The rule is this project's own.
+-- A pool of texts, each once, in the order in which they are first used. The rule is this project's
+-- own.
 use Rattle.std.specs.Prelude.{ℕ, Bool, List, [], ◌∷◌, ◌++◌, nat_eq, fold, if◌then◌else◌}
 use Rattle.std.specs.List.{list_any, position_or_len}
 use Rattle.std.specs.Cmp.Lexicographic.{pointwise}

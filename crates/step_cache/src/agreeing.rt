@@ -93,14 +93,16 @@ fn are_one(alloc: Global, entries: &[Numbered]) -> Result<bool, WantOfMemory>
     Ok(yes)
 }
 
-/// The cache of the entries, whose answers to one part are known to be the same where they have one number.
+/// The cache of the entries, whose answers to one part are known to be the same where they have one
+/// number.
 pub(crate) fn agreeing(
     alloc: Global,
     decoded: &Decoded,
     parts: &Pooled,
     cache: Cache<Key, Out>,
 ) -> Result<Cache<Key, Out>, WantOfMemory>
-    requires { all_some (entry_at decoded.now.answers decoded.now.outcomes) parts.now.entries ≡ Some cache }
+    requires { all_some (entry_at decoded.now.answers decoded.now.outcomes)
+        parts.now.entries ≡ Some cache }
     ensures { IfOk result (λ c. c ≡ cache) }
 {
     let agrees = are_one(alloc, parts.entries.items())?;

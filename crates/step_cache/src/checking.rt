@@ -3,7 +3,7 @@ ghost use Rattle.std.specs.Prelude.{◌≡◌, [], IfOk};
 ghost use Rattle.step_cache.specs.Checking.{each_new, used, asks_use, batches_use, entry_uses, entries_use, are_used, is_below, ascend};
 
 use crate::numbered::{Asked, Numbered, Pooled};
-use crate::pool::Pool;
+use crate::seen::Seen;
 use build_base::{Rows, Same, Text, WantOfMemory};
 use std::alloc::Global;
 use step_engine::Entry;
@@ -14,7 +14,7 @@ use step_pack::{Key, Out};
 fn each_new(alloc: Global, pool: &[Text]) -> Result<bool, WantOfMemory>
     ensures { IfOk result (λ yes. yes ≡ each_new [] pool.now) }
 {
-    let mut seen = Pool::new(alloc);
+    let mut seen = Seen::new(alloc);
     let mut left = pool;
     while let [text, rest @ ..] = left {
         if !seen.add(text.copy(alloc)?)? {

@@ -161,7 +161,8 @@ fn entries_at(
     decoded: &Decoded,
     numbers: &[Numbered],
 ) -> Result<Option<Rows<Entry<Key, Out>>>, WantOfMemory>
-    ensures { IfOk result (λ r. r ≡ all_some (entry_at decoded.now.answers decoded.now.outcomes) numbers.now) }
+    ensures { IfOk result (λ r. r ≡ all_some (entry_at decoded.now.answers decoded.now.outcomes)
+        numbers.now) }
 {
     let mut entries = Rows::new(alloc);
     let mut left = numbers;
@@ -182,7 +183,8 @@ pub(crate) fn entries_in(
     decoded: &Decoded,
     parts: &Pooled,
 ) -> Result<Option<Rows<Entry<Key, Out>>>, WantOfMemory>
-    ensures { IfOk result (λ r. r ≡ all_some (entry_at decoded.now.answers decoded.now.outcomes) parts.now.entries) }
+    ensures { IfOk result (λ r. r ≡ all_some (entry_at decoded.now.answers decoded.now.outcomes)
+        parts.now.entries) }
 {
     entries_at(alloc, decoded, parts.entries.items())
 }

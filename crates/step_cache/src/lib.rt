@@ -4,12 +4,13 @@
 mod agreeing;
 mod checking;
 mod decoding;
-mod keys;
 mod known;
 pub mod laws;
 pub mod numbered;
+mod places;
 mod pool;
 mod reading;
+mod seen;
 mod text;
 mod writing;
 

@@ -1,89 +1,266 @@
-//! A pool of texts, each once.
-ghost use Rattle.std.specs.Prelude.{◌≡◌, [], IfOk, OnOk, not};
-ghost use Rattle.indexmap.specs.IndexSet.{insert_key};
-ghost use Rattle.std.specs.List.{list_any, position_or_len};
-ghost use Rattle.step_cache.specs.Checking.{Adds};
-ghost use Rattle.step_cache.specs.Pools.{with_text, number_in, text_is};
+//! A pool of texts, each once, as it is written.
+ghost use Rattle.std.specs.Prelude.{◌≡◌, ◌++◌, ◌≤◌, ◌+◌, [], ◌∷◌, true, false, List, ℕ, length, take, drop, IfOk, OnOk, MatchOption};
+ghost use Rattle.std.specs.Int.{bytes_low_first};
+ghost use Rattle.packed_values.specs.Plain.{text_form};
+ghost use Rattle.packed_values.specs.Parts.{rows_form};
+ghost use Rattle.step_cache.specs.Places.{digest, texts_at, IsPlaced, IsPool, IsTextAt};
+ghost use Rattle.step_cache.specs.Pools.{has_text, with_text, number_in};
 
-use crate::keys::TextKey;
-use build_base::{Rows, Text, WantOfMemory};
-use indexmap::IndexSet;
+use crate::places::{Span, digest, find, note};
+use crate::text::HEAD;
+use build_base::{Rows, WantOfMemory};
+use indexmap::IndexMap;
+use packed_values::Packed;
 use std::alloc::Global;
 use std::marker::Model;
 
-/// Texts, each once, in the order in which they were put; a text is looked up in a table.
+// How many bytes stand before the texts: a head, and their count.
+const ROOM: usize = HEAD + 8;
+
+/// Texts, each once, in the order in which they were put. They stand behind one another as they do
+/// in the text of a cache, and are looked up there.
 #[derive(Drop)]
 pub(crate) struct Pool {
-    texts: IndexSet<TextKey>,
+    bytes: Vec<u8>,
+    spans: Vec<Span>,
+    table: IndexMap<u64, Rows<usize>>,
 }
 
 impl Model for Pool {
     ghost use Rattle.std.specs.Prelude.{List, ℕ};
+    ghost use Rattle.step_cache.specs.Places.{texts_at, IsPool};
 
     ghost Value = { List (List ℕ) };
 
-    ghost view = { λ p. p.texts.keys };
+    ghost view = { λ p. texts_at p.bytes.items p.spans.items };
+
+    ghost invariant = { λ p. IsPool p.bytes.items p.spans.items p.table };
 }
 
-// Whether a key was put, since it wasn't there.
-#[tactic(auto, unfolding(crate::specs::Pools::text_is))]
-fn add_key(texts: &mut IndexSet<TextKey>, text: Text) -> Result<bool, WantOfMemory>
-    ensures keys { OnOk result (texts.new.keys ≡ insert_key text_is texts.old.keys text) }
-    ensures added { IfOk result (λ added. added ≡ not (list_any (text_is text) texts.old.keys)) }
+// Writes a number over the eight bytes behind a start.
+fn set_number(bytes: &mut [u8], start: usize, number: u64)
+    requires { start + 8 ≤ length bytes.old }
+    ensures { bytes.new ≡ take start bytes.old ++ bytes_low_first 0 8 number
+        ++ drop (start + 8) bytes.old }
 {
-    match texts.insert(TextKey { text }) {
-        Ok(added) => Ok(added),
-        Err(_) => Err(WantOfMemory),
+    bytes[start..start + 8].copy_from_slice(number.to_le_bytes().as_slice());
+}
+
+fn put_number(bytes: &mut Vec<u8>, start: usize, number: u64)
+    requires { start + 8 ≤ length bytes.old.items }
+    ensures { bytes.new.items ≡ take start bytes.old.items ++ bytes_low_first 0 8 number
+        ++ drop (start + 8) bytes.old.items }
+{
+    set_number(bytes.as_mut_slice(), start, number);
+}
+
+// What stands behind a start.
+fn behind(bytes: &[u8], start: usize) -> &[u8]
+    requires { start ≤ length bytes.now }
+    ensures { result.now ≡ drop start bytes.now }
+{
+    &bytes[start..]
+}
+
+fn before(bytes: &[u8], start: usize) -> &[u8]
+    requires { start ≤ length bytes.now }
+    ensures { result.now ≡ take start bytes.now }
+{
+    &bytes[..start]
+}
+
+// The number of the text with this digest that stands behind a start and room for its length, where
+// it stands before too.
+#[tactic(auto, using(crate::proofs::PoolTextLemmas::told_by))]
+fn find_last(
+    bytes: &[u8],
+    start: usize,
+    spans: &[Span],
+    table: &IndexMap<u64, Rows<usize>>,
+    at: u64,
+) -> Option<usize>
+    requires room { start + 8 ≤ length bytes.now }
+    requires digest { at ≡ digest (drop (start + 8) bytes.now) }
+    requires placed { IsPlaced (texts_at (take start bytes.now) spans.now) table.now }
+    ensures { MatchOption result
+        (has_text (texts_at (take start bytes.now) spans.now) (drop (start + 8) bytes.now) ≡ false)
+        (IsTextAt (texts_at (take start bytes.now) spans.now) (drop (start + 8) bytes.now)) }
+{
+    find(
+        before(bytes, start),
+        spans,
+        table,
+        behind(bytes, start + 8),
+        at,
+    )
+}
+
+// Gives the pool room for a head and a count, where it has none yet.
+fn make_room(
+    bytes: &mut Vec<u8>,
+    spans: &[Span],
+    table: &IndexMap<u64, Rows<usize>>,
+) -> Result<(), WantOfMemory>
+    requires { IsPool bytes.old.items spans.now table.now }
+    ensures pool { OnOk result (IsPool bytes.new.items spans.now table.now) }
+    ensures texts { OnOk result (texts_at bytes.new.items spans.now
+        ≡ texts_at bytes.old.items spans.now) }
+    ensures room { OnOk result (28 ≤ length bytes.new.items) }
+{
+    if bytes.len() < ROOM {
+        bytes.clear();
+        bytes.extend_from_slice([0; ROOM].as_slice())?;
+    }
+    Ok(())
+}
+
+// Adds the text with this digest that stands behind a start and room for its length, and isn't there
+// yet.
+#[tactic(auto, using(crate::proofs::PoolTextLemmas::length_texts))]
+fn add(
+    alloc: Global,
+    start: usize,
+    bytes: &mut Vec<u8>,
+    spans: &mut Vec<Span>,
+    table: &mut IndexMap<u64, Rows<usize>>,
+    at: u64,
+) -> Result<usize, WantOfMemory>
+    requires front { 28 ≤ start }
+    requires room { start + 8 ≤ length bytes.old.items }
+    requires digest { at ≡ digest (drop (start + 8) bytes.old.items) }
+    requires pool { IsPool (take start bytes.old.items) spans.old.items table.old }
+    requires none { has_text (texts_at (take start bytes.old.items) spans.old.items)
+        (drop (start + 8) bytes.old.items) ≡ false }
+    ensures pool { OnOk result (IsPool bytes.new.items spans.new.items table.new) }
+    ensures texts { OnOk result (texts_at bytes.new.items spans.new.items
+        ≡ texts_at (take start bytes.old.items) spans.old.items
+        ++ drop (start + 8) bytes.old.items ∷ []) }
+    ensures number { IfOk result (λ n. n ≡ length spans.old.items) }
+{
+    let number = spans.len();
+    let span = Span {
+        start: start + 8,
+        count: bytes.len() - (start + 8),
+    };
+    note(alloc, table, at, number)?;
+    put_number(bytes, start, span.count as u64);
+    if spans.push(span).is_err() {
+        return Err(WantOfMemory);
+    }
+    Ok(number)
+}
+
+// Puts the text that stands behind a start and room for its length, unless it is there.
+fn close(
+    alloc: Global,
+    start: usize,
+    bytes: &mut Vec<u8>,
+    spans: &mut Vec<Span>,
+    table: &mut IndexMap<u64, Rows<usize>>,
+) -> Result<usize, WantOfMemory>
+    requires front { 28 ≤ start }
+    requires room { start + 8 ≤ length bytes.old.items }
+    requires pool { IsPool (take start bytes.old.items) spans.old.items table.old }
+    ensures pool { OnOk result (IsPool bytes.new.items spans.new.items table.new) }
+    ensures texts { OnOk result (texts_at bytes.new.items spans.new.items
+        ≡ with_text (texts_at (take start bytes.old.items) spans.old.items)
+        (drop (start + 8) bytes.old.items)) }
+    ensures number { IfOk result (λ n. n ≡ number_in (texts_at bytes.new.items spans.new.items)
+        (drop (start + 8) bytes.old.items)) }
+{
+    let at = digest(behind(bytes.as_slice(), start + 8));
+    match find_last(bytes.as_slice(), start, spans.as_slice(), table, at) {
+        Some(number) => {
+            bytes.truncate(start);
+            Ok(number)
+        }
+        None => {
+            let number = add(alloc, start, bytes, spans, table, at)?;
+            Ok(number)
+        }
     }
 }
 
-// The place of a key, which is put where it isn't there.
-#[tactic(auto, unfolding(crate::specs::Pools::text_is))]
-fn put_key(texts: &mut IndexSet<TextKey>, text: Text) -> Result<usize, WantOfMemory>
-    ensures keys { OnOk result (texts.new.keys ≡ insert_key text_is texts.old.keys text) }
-    ensures place { IfOk result (λ place. place ≡ position_or_len (text_is text) texts.old.keys) }
+// Puts the spelling of a value, unless it is there.
+fn put_value<P: Packed>(
+    alloc: Global,
+    value: &P::Value,
+    bytes: &mut Vec<u8>,
+    spans: &mut Vec<Span>,
+    table: &mut IndexMap<u64, Rows<usize>>,
+) -> Result<usize, WantOfMemory>
+    requires pool { IsPool bytes.old.items spans.old.items table.old }
+    ensures pool { OnOk result (IsPool bytes.new.items spans.new.items table.new) }
+    ensures texts { OnOk result (texts_at bytes.new.items spans.new.items
+        ≡ with_text (texts_at bytes.old.items spans.old.items) (P.form.spelling value.now)) }
+    ensures number { IfOk result (λ n. n ≡ number_in (texts_at bytes.new.items spans.new.items)
+        (P.form.spelling value.now)) }
+    ensures value { OnOk result (P.form.is_value value.now ≡ true) }
 {
-    match texts.insert_full(TextKey { text }) {
-        Ok((place, _)) => Ok(place),
-        Err(_) => Err(WantOfMemory),
-    }
+    make_room(bytes, spans.as_slice(), table)?;
+    let start = bytes.len();
+    u64::put(&0, bytes)?;
+    P::put(value, bytes)?;
+    let number = close(alloc, start, bytes, spans, table)?;
+    Ok(number)
 }
 
 impl Pool {
     /// No texts.
+    #[tactic(auto, using(crate::proofs::PoolTextLemmas::no_texts))]
     pub(crate) fn new(alloc: Global) -> Pool
         ensures { result ≡ [] }
     {
         Pool {
-            texts: IndexSet::new(alloc),
+            bytes: Vec::new(alloc),
+            spans: Vec::new(alloc),
+            table: IndexMap::new(alloc),
         }
     }
 
-    /// The number of a text, which is put where it isn't there.
-    pub(crate) fn number(&mut self, text: Text) -> Result<u64, WantOfMemory>
-        ensures pool { OnOk result (self.new ≡ with_text self.old text) }
-        ensures number { IfOk result (λ n. n ≡ number_in self.new text) }
+    /// The number of the packed form of a value, which is put where it isn't there. Where memory is
+    /// wanting, the pool is left empty.
+    #[tactic(auto, using(crate::proofs::PoolTextLemmas::no_texts))]
+    pub(crate) fn put<P: Packed>(
+        &mut self,
+        alloc: Global,
+        value: &P::Value,
+    ) -> Result<u64, WantOfMemory>
+        ensures pool { OnOk result (self.new ≡ with_text self.old (P.form.spelling value.now)) }
+        ensures number { IfOk result (λ n. n ≡ number_in self.new (P.form.spelling value.now)) }
+        ensures value { OnOk result (P.form.is_value value.now ≡ true) }
     {
-        let place = put_key(&mut self.texts, text)?;
-        Ok(place as u64)
-    }
-
-    /// Whether the text was put, since it wasn't there.
-    pub(crate) fn add(&mut self, text: Text) -> Result<bool, WantOfMemory>
-        ensures { IfOk result (Adds self.old text self.new) }
-    {
-        let added = add_key(&mut self.texts, text)?;
-        Ok(added)
-    }
-
-    /// The texts, in order.
-    pub(crate) fn into_rows(self, alloc: Global) -> Result<Rows<Text>, WantOfMemory>
-        ensures { IfOk result (λ rows. rows ≡ self) }
-    {
-        let mut rows = Rows::new(alloc);
-        for key in self.texts {
-            rows.push(key.text)?;
+        match put_value::<P>(
+            alloc,
+            value,
+            &mut self.bytes,
+            &mut self.spans,
+            &mut self.table,
+        ) {
+            Ok(number) => Ok(number as u64),
+            Err(_) => {
+                self.bytes.clear();
+                self.spans.clear();
+                self.table.clear();
+                Err(WantOfMemory)
+            }
         }
-        Ok(rows)
+    }
+
+    /// The spelling of the texts, behind room for a head.
+    pub(crate) fn into_bytes(self) -> Result<Vec<u8>, WantOfMemory>
+        ensures room { IfOk result (λ bytes. 28 ≤ length bytes.items) }
+        ensures texts { IfOk result (λ bytes. drop 20 bytes.items
+            ≡ (rows_form text_form).spelling self) }
+        ensures value { OnOk result ((rows_form text_form).is_value self ≡ true) }
+    {
+        let Pool {
+            mut bytes,
+            spans,
+            table,
+        } = self;
+        make_room(&mut bytes, spans.as_slice(), &table)?;
+        put_number(&mut bytes, HEAD, spans.len() as u64);
+        Ok(bytes)
     }
 }

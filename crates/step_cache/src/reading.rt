@@ -37,7 +37,8 @@ fn ascending_cache(
     alloc: Global,
     entries: &[Entry<Key, Out>],
 ) -> Result<Option<Cache<Key, Out>>, WantOfMemory>
-    ensures { IfOk result (λ r. MatchOption r (ascend entries.now ≡ false) (λ cache. (cache ≡ entries.now) × (ascend entries.now ≡ true))) }
+    ensures { IfOk result (λ r. MatchOption r (ascend entries.now ≡ false)
+        (λ cache. (cache ≡ entries.now) × (ascend entries.now ≡ true))) }
 {
     if ascend(entries) {
         let cache = cache_from(alloc, entries)?;
@@ -49,7 +50,8 @@ fn ascending_cache(
 // The cache whose parts these are; nothing exactly where they are those of none.
 #[tactic(auto, using(crate::proofs::PartLemmas::not_used, crate::proofs::PartLemmas::not_read, crate::proofs::PartLemmas::not_ascending, crate::proofs::PartLemmas::is_cache_of))]
 fn cache_of(alloc: Global, parts: &Pooled) -> Result<Option<Cache<Key, Out>>, WantOfMemory>
-    ensures { IfOk result (λ r. MatchOption r ((entries : List (EntryOf KeyOf OutOf)) → IsCacheOf parts.now entries → ⊥) (λ entries. IsCacheOf parts.now entries)) }
+    ensures { IfOk result (λ r. MatchOption r ((entries : List (EntryOf KeyOf OutOf)) → IsCacheOf
+        parts.now entries → ⊥) (λ entries. IsCacheOf parts.now entries)) }
 {
     if !are_used(alloc, parts)? {
         return Ok(None);
@@ -83,7 +85,8 @@ fn unpack_body(
     requires known { is_edition edition ≡ true }
     requires head { take 20 bytes.now ≡ head_of edition (length (drop 20 bytes.now)) }
     requires fits { nat_lt (length bytes.now) (256 ^ 8) ≡ true }
-    ensures { IfOk result (λ r. MatchOption r (IsNoTextOf edition bytes.now) (λ entries. IsTextOf edition entries bytes.now)) }
+    ensures { IfOk result (λ r. MatchOption r (IsNoTextOf edition bytes.now)
+        (λ entries. IsTextOf edition entries bytes.now)) }
 {
     let parts = match parts_of(alloc, bytes)? {
         None => return Ok(None),

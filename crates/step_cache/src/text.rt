@@ -3,11 +3,12 @@ ghost use Rattle.std.specs.Prelude.{◌≡◌, ◌++◌, ◌≤◌, ◌^◌, ◌
 ghost use Rattle.packed_values.specs.Form.{IsSpelling};
 ghost use Rattle.packed_values.specs.Plain.{number_form};
 ghost use Rattle.step_cache.specs.CacheText.{edition_in, head_of, is_edition, newest};
-ghost use Rattle.step_cache.specs.Numbered.{pooled_form};
+ghost use Rattle.step_cache.specs.Numbered.{pooled_form, pooled_with};
 ghost use Rattle.step_cache.specs.declared.numbered.Pooled.{Pooled as PooledOf};
 
-use crate::numbered::Pooled;
-use build_base::{Text, WantOfMemory};
+use crate::numbered::{Numbered, Pooled};
+use crate::pool::Pool;
+use build_base::{Rows, Text, WantOfMemory};
 use packed_values::{Packed, unpack_behind};
 use std::alloc::Global;
 
@@ -37,15 +38,6 @@ fn put_head(edition: u32, count: u64, out: &mut Vec<u8>) -> Result<(), WantOfMem
     u64::put(&(HEAD as u64 + count), out)
 }
 
-// Room for a head, and for so many bytes behind it.
-fn room(alloc: Global, more: usize) -> Result<Vec<u8>, WantOfMemory>
-    ensures { IfOk result (λ text. length text.items ≡ 20) }
-{
-    let mut text = Vec::from_slice(alloc, [0; HEAD].as_slice())?;
-    text.reserve(more)?;
-    Ok(text)
-}
-
 // Writes a head over what stands at the front.
 fn set_front(text: &mut [u8], head: &[u8])
     requires room { 20 ≤ length text.old }
@@ -68,14 +60,19 @@ fn with_head(alloc: Global, mut text: Vec<u8>) -> Result<Text, WantOfMemory>
     Ok(Text::from_vec(text))
 }
 
-/// The text of the newest edition with these parts, which take about so many bytes.
-pub(crate) fn text_of(alloc: Global, parts: &Pooled, more: usize) -> Result<Text, WantOfMemory>
-    ensures value { OnOk result (pooled_form.is_value parts.now ≡ true) }
-    ensures text { IfOk result (λ t. t ≡ head_of newest (length (pooled_form.spelling parts.now))
-        ++ pooled_form.spelling parts.now) }
+/// The text of the newest edition with this pool and these entries.
+pub(crate) fn text_of(
+    alloc: Global,
+    pool: Pool,
+    entries: &Rows<Numbered>,
+) -> Result<Text, WantOfMemory>
+    ensures value { OnOk result (pooled_form.is_value (pooled_with pool entries.now) ≡ true) }
+    ensures text { IfOk result
+        (λ t. t ≡ head_of newest (length (pooled_form.spelling (pooled_with pool entries.now)))
+        ++ pooled_form.spelling (pooled_with pool entries.now)) }
 {
-    let mut text = room(alloc, more)?;
-    Pooled::put(parts, &mut text)?;
+    let mut text = pool.into_bytes()?;
+    Rows::<Numbered>::put(entries, &mut text)?;
     let whole = with_head(alloc, text)?;
     Ok(whole)
 }
@@ -113,7 +110,8 @@ pub(crate) fn edition_in(bytes: &[u8]) -> u32
 /// Whether the bytes begin with the head of what stands behind it, in an edition.
 pub(crate) fn is_head(alloc: Global, edition: u32, bytes: &[u8]) -> Result<bool, WantOfMemory>
     requires { 20 ≤ length bytes.now }
-    ensures { IfOk result (λ yes. IsTrue yes ↔ (take 20 bytes.now ≡ head_of edition (length (drop 20 bytes.now)))) }
+    ensures { IfOk result (λ yes. IsTrue yes ↔
+        (take 20 bytes.now ≡ head_of edition (length (drop 20 bytes.now)))) }
 {
     let mut head = Vec::new(alloc);
     put_head(edition, tail(bytes).len() as u64, &mut head)?;

@@ -4,6 +4,7 @@ ghost use Rattle.std.specs.List.{list_all, flat_map};
 ghost use Rattle.packed_outcomes.specs.Talk.{answer_form, outcome_form};
 ghost use Rattle.packed_values.specs.Form.{IsSpelling};
 ghost use Rattle.step_cache.specs.CacheText.{IsCacheText, pair_text, batch_texts, entry_texts, cache_texts, numbered_pair, numbered_batch, numbered, pooled, pair_is_value, batch_is_value, entry_is_value};
+ghost use Rattle.step_cache.specs.Numbered.{pooled_with};
 ghost use Rattle.step_cache.specs.Known.{IsNumbered, AreNoted, AreAmong, AreAllAmong};
 ghost use Rattle.step_cache.specs.Pools.{with_texts, with_text, number_in};
 ghost use Rattle.step_engine.specs.Agreeing.{HasPair};
@@ -11,12 +12,11 @@ ghost use Rattle.step_engine.specs.Caches.{AreInOrder};
 ghost use Rattle.step_pack.specs.Keys.{key_cmp};
 
 use crate::known::{Known, known_number, note_number};
-use crate::numbered::{Asked, Numbered, Pooled};
+use crate::numbered::{Asked, Numbered};
 use crate::pool::Pool;
 use crate::text::{fits, text_of};
 use build_base::{Rows, Same, Text, WantOfMemory};
 use packed_outcomes::talk::{AnswerForm, OutcomeForm};
-use packed_values::Packed;
 use std::alloc::Global;
 use step_engine::{Answer, Batch, Cache, Entry, Outcome, Pair};
 use step_pack::{Key, Out};
@@ -27,9 +27,7 @@ fn answer_number(alloc: Global, pool: &mut Pool, answer: &Answer<Out>) -> Result
     ensures number { IfOk result (λ n. n ≡ number_in pool.new (answer_form.spelling answer.now)) }
     ensures value { OnOk result (answer_form.is_value answer.now ≡ true) }
 {
-    let mut text = Vec::new(alloc);
-    AnswerForm::put(answer, &mut text)?;
-    pool.number(Text::from_vec(text))
+    pool.put::<AnswerForm>(alloc, answer)
 }
 
 // The number of a result's packed form, which is put into the pool where it isn't there.
@@ -42,12 +40,11 @@ fn result_number(
     ensures number { IfOk result (λ n. n ≡ number_in pool.new (outcome_form.spelling outcome.now)) }
     ensures value { OnOk result (outcome_form.is_value outcome.now ≡ true) }
 {
-    let mut text = Vec::new(alloc);
-    OutcomeForm::put(outcome, &mut text)?;
-    pool.number(Text::from_vec(text))
+    pool.put::<OutcomeForm>(alloc, outcome)
 }
 
-// The number of a pair's answer, which is packed. It is noted where all answers to its part are the same.
+// The number of a pair's answer, which is packed. It is noted where all answers to its part are the
+// same.
 fn new_number(
     alloc: Global,
     cache: &Cache<Key, Out>,
@@ -199,27 +196,24 @@ fn numbered_entries(
     Ok(rows)
 }
 
+/// What the text of a cache is made from.
+#[derive(Drop)]
+struct Parts {
+    pool: Pool,
+    entries: Rows<Numbered>,
+}
+
 // The pool of all entries, and they with its numbers.
 #[tactic(auto, unfolding(crate::specs::CacheText::pooled))]
-fn make_pooled(alloc: Global, cache: &Cache<Key, Out>) -> Result<Pooled, WantOfMemory>
-    ensures parts { IfOk result (λ parts. parts ≡ pooled cache.now) }
+fn make_parts(alloc: Global, cache: &Cache<Key, Out>) -> Result<Parts, WantOfMemory>
+    ensures parts { IfOk result (λ parts. pooled_with parts.pool parts.entries ≡ pooled cache.now) }
     ensures value { OnOk result (list_all entry_is_value cache.now ≡ true) }
     ensures sorted { OnOk result (AreInOrder key_cmp cache.now) }
 {
     let mut pool = Pool::new(alloc);
     let mut known = Known::new(alloc);
     let entries = numbered_entries(alloc, cache, &mut pool, &mut known)?;
-    let pool = pool.into_rows(alloc)?;
-    Ok(Pooled { pool, entries })
-}
-
-// How many bytes the texts have together, at least where they are many.
-fn size_of(pool: &[Text]) -> usize {
-    let mut size: usize = 0;
-    for text in pool {
-        size = size.saturating_add(text.bytes().len());
-    }
-    size
+    Ok(Parts { pool, entries })
 }
 
 /// The text of a cache. Each cache has one.
@@ -227,8 +221,8 @@ fn size_of(pool: &[Text]) -> usize {
 pub fn pack(alloc: Global, cache: &Cache<Key, Out>) -> Result<Text, WantOfMemory>
     ensures { IfOk result (λ text. IsCacheText cache.now text) }
 {
-    let parts = make_pooled(alloc, cache)?;
-    let text = text_of(alloc, &parts, size_of(parts.pool.items()))?;
+    let Parts { pool, entries } = make_parts(alloc, cache)?;
+    let text = text_of(alloc, pool, &entries)?;
     fits(&text);
     Ok(text)
 }

@@ -1,5 +1,5 @@
 use Rattle.step_cache.proofs.TableLemmas.{add_text}
-use Rattle.step_cache.proofs.pool.Pool.add.Goals as goal
+use Rattle.step_cache.proofs.seen.Seen.add.Goals as goal
 
 pub returns : goal.returns
 returns c =

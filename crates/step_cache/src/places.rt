@@ -1,0 +1,112 @@
+//! Texts that stand behind one another, and where each is found.
+ghost use Rattle.std.specs.Prelude.{◌≡◌, ◌++◌, ◌∷◌, [], List, ℕ, false, None, cond, nat_eq, length, slice_get, OnOk};
+ghost use Rattle.std.specs.HashMap.{get};
+ghost use Rattle.step_cache.specs.Places.{digest, span_text, texts_at, is_some_text, first_at, found_in, numbers_at, IsPlaced};
+ghost use Rattle.step_cache.specs.Pools.{has_text};
+
+use build_base::{Rows, WantOfMemory};
+use indexmap::IndexMap;
+use std::alloc::Global;
+use std::hash::{FoldHasher, Hasher};
+
+/// Where a text stands: so many bytes behind a start.
+#[derive(Clone, Copy)]
+pub struct Span {
+    pub start: usize,
+    pub count: usize,
+}
+
+/// A number of a text, by which it is looked up.
+#[tactic(auto, unfolding(crate::specs::Places::digest))]
+pub(crate) fn digest(text: &[u8]) -> u64
+    ensures { result ≡ digest text.now }
+{
+    let mut state = FoldHasher::default();
+    state.write(text);
+    state.finish()
+}
+
+// So many bytes behind a start, or as many as there are.
+#[tactic(auto, using(crate::proofs::PlaceLemmas::part_within))]
+fn span_text(bytes: &[u8], span: Span) -> &[u8]
+    ensures { result.now ≡ span_text bytes.now span }
+{
+    let rest = &bytes[span.start.min(bytes.len())..];
+    &rest[..span.count.min(rest.len())]
+}
+
+// Whether a text stands at a number.
+#[tactic(auto, using(crate::proofs::PlaceLemmas::text_stands, crate::proofs::PlaceLemmas::text_lacks))]
+fn stands_at(bytes: &[u8], spans: &[Span], text: &[u8], number: usize) -> bool
+    ensures { result ≡ is_some_text text.now (slice_get (texts_at bytes.now spans.now) number) }
+{
+    match spans.get(number) {
+        Some(span) => text == span_text(bytes, *span),
+        None => false,
+    }
+}
+
+// The first of the numbers at which a text stands.
+#[tactic(auto, unfolding(crate::specs::Places::first_at))]
+fn first_at(bytes: &[u8], spans: &[Span], text: &[u8], numbers: &[usize]) -> Option<usize>
+    ensures { result ≡ first_at (texts_at bytes.now spans.now) text.now numbers.now }
+{
+    let mut left = numbers;
+    while let [number, rest @ ..] = left {
+        if stands_at(bytes, spans, text, *number) {
+            return Some(*number);
+        }
+        left = rest;
+    }
+    None
+}
+
+/// The number of a text with this digest, where it is there.
+#[tactic(auto, using(crate::proofs::PlaceLemmas::found_among, crate::proofs::PlaceLemmas::found_nowhere))]
+pub(crate) fn find(
+    bytes: &[u8],
+    spans: &[Span],
+    table: &IndexMap<u64, Rows<usize>>,
+    text: &[u8],
+    at: u64,
+) -> Option<usize>
+    requires placed { IsPlaced (texts_at bytes.now spans.now) table.now }
+    requires digest { at ≡ digest text.now }
+    ensures { result ≡ found_in (texts_at bytes.now spans.now) text.now }
+{
+    match table.get(&at) {
+        Some(numbers) => first_at(bytes, spans, text, numbers.items()),
+        None => None,
+    }
+}
+
+// Takes the numbers at a digest out of a table.
+fn take_numbers(alloc: Global, table: &mut IndexMap<u64, Rows<usize>>, digest: u64) -> Rows<usize>
+    ensures numbers { result ≡ numbers_at table.old digest }
+    ensures others { (other : ℕ) → get nat_eq table.new other ≡
+        cond (nat_eq digest other) None (get nat_eq table.old other) }
+{
+    match table.swap_remove(&digest) {
+        Some(numbers) => numbers,
+        None => Rows::new(alloc),
+    }
+}
+
+/// Adds the number of a text with this digest, which isn't there yet, to the table.
+pub(crate) fn note(
+    alloc: Global,
+    table: &mut IndexMap<u64, Rows<usize>>,
+    at: u64,
+    number: usize,
+) -> Result<(), WantOfMemory>
+    ensures { (text : List ℕ) (texts : List (List ℕ)) → at ≡ digest text →
+        has_text texts text ≡ false → length texts ≡ number →
+        IsPlaced texts table.old → OnOk result (IsPlaced (texts ++ text ∷ []) table.new) }
+{
+    let mut numbers = take_numbers(alloc, table, at);
+    numbers.push(number)?;
+    match table.insert(at, numbers) {
+        Ok(_) => Ok(()),
+        Err(_) => Err(WantOfMemory),
+    }
+}
