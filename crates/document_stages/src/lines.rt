@@ -4,7 +4,7 @@ ghost use Rattle.build_stages.specs.Gives.{GivesIn};
 ghost use Rattle.document_stages.specs.Documents.{got_in};
 ghost use Rattle.document_stages.specs.Learning.{gets, AreTold, Learns, GivesLines};
 
-use build_base::{FILE_LIMIT, Got, Lines, Macro, Path, Permit, Rows, Same, WantOfMemory};
+use build_base::{FILE_LIMIT, Got, Lines, Macro, Path, Permit, Rows, Same, Text, WantOfMemory};
 use build_stages::{Known as KnownAnswers, Shapes, Stop, gather};
 use macro_conditions::{Known, Turned, expand};
 use std::alloc::Global;
@@ -53,6 +53,17 @@ fn told<S: Shapes>(
     }
 }
 
+// The same path, whose copies share its bytes.
+fn shared_path(alloc: Global, path: &Path) -> Result<Path, WantOfMemory>
+    ensures { IfOk result (λ p. p ≡ path.now) }
+{
+    let bytes = Vec::from_slice(alloc, path.bytes())?;
+    match Path::of_text(Text::shared(alloc, bytes)?) {
+        Some(shared) => Ok(shared),
+        None => path.copy(alloc),
+    }
+}
+
 // All files that the talk tells. With them a turn expands the document once, however many files it
 // has learnt in the turns before.
 fn all_told<S: Shapes>(
@@ -66,7 +77,7 @@ fn all_told<S: Shapes>(
     let paths = known.file_paths(alloc)?;
     for path in paths.items() {
         if let Some(got) = told(alloc, rules, known, path)? {
-            let path = path.copy(alloc)?;
+            let path = shared_path(alloc, path)?;
             files.push(Known { path, got })?;
         }
     }
@@ -88,14 +99,13 @@ fn learn<S: Shapes>(
     asks.push(Ask::File(path.copy(alloc)?))?;
     let (given, permit) = gather(alloc, rules, known, asks.items(), permit)?;
     let got = got(alloc, given.file(0)?)?;
-    let path = path.copy(alloc)?;
+    let path = shared_path(alloc, path)?;
     files.push(Known { path, got })?;
     Ok(permit)
 }
 
-/// The lines of a document, and the permit again. Each path that an include line comes to is asked
-/// for, one after another, the document's own first. A turn begins with all files that it was told.
-pub fn lines_of<S: Shapes>(
+// The lines of a document, and the permit again.
+fn lines_from<S: Shapes>(
     alloc: Global,
     rules: &S,
     known: &KnownAnswers<'_, S::Key, S::Out>,
@@ -120,4 +130,22 @@ pub fn lines_of<S: Shapes>(
             Err(refusal) => return Err(Stop::from(refusal)),
         }
     }
+}
+
+/// The lines of a document, and the permit again. Each path that an include line comes to is asked
+/// for, one after another, the document's own first. A turn begins with all files that it was told.
+/// The places of a file's lines share its path.
+pub fn lines_of<S: Shapes>(
+    alloc: Global,
+    rules: &S,
+    known: &KnownAnswers<'_, S::Key, S::Out>,
+    root: &Path,
+    macros: &Rows<Macro>,
+    fixed: &Rows<Macro>,
+    permit: Permit,
+) -> Result<(Lines, Permit), Stop<S::Key>>
+    ensures { GivesLines S.Key.cmp S.staged.fits known.now root.now macros.now fixed.now result }
+{
+    let root = shared_path(alloc, root)?;
+    lines_from(alloc, rules, known, &root, macros, fixed, permit)
 }
