@@ -45,21 +45,21 @@ begun-right tokens = sym (right-sized (read trees (wanting []) tokens))
 
 -- the fault of a term, as the machine sees it
 abbrev pub seen_fault : Place → Bool → State Size → Token → List ℕ → Option Fault
-seen_fault at edge s k term = option_map (λ code. fault_of code at term) (term_code (is_right (step sizes s k)) edge k)
+seen_fault at edge s k term = option_map (λ code. fault_of code at term) (term_code (is_right (step sizes s k)) edge term k)
 
 fault-seen : (at : Place) (edge : Bool) (before : List Token) (k : Token) (term : List ℕ)
-    → option_map (λ code. fault_of code at term) (term_code (is_begun (before ++ k ∷ [])) edge k) ≡ seen_fault at edge (state_size (read trees (wanting []) before)) k term
+    → option_map (λ code. fault_of code at term) (term_code (is_begun (before ++ k ∷ [])) edge term k) ≡ seen_fault at edge (state_size (read trees (wanting []) before)) k term
 fault-seen at edge before k term =
-    ap (λ b. option_map (λ code. fault_of code at term) (term_code b edge k)) (begun-right (before ++ k ∷ []) ∙ ap is_right (sym (turn-state before k)))
+    ap (λ b. option_map (λ code. fault_of code at term) (term_code b edge term k)) (begun-right (before ++ k ∷ []) ∙ ap is_right (sym (turn-state before k)))
 
 terms-some : (at : Place) (guids : List NamedGuid) (edge : Bool) (before : List Token) (term : List ℕ) (rest : List (List ℕ)) (f : Fault)
-    → option_map (λ code. fault_of code at term) (term_code (is_begun (before ++ token_of guids term ∷ [])) edge (token_of guids term)) ≡ Some f
+    → option_map (λ code. fault_of code at term) (term_code (is_begun (before ++ token_of guids term ∷ [])) edge term (token_of guids term)) ≡ Some f
     → terms_fault at guids edge before (term ∷ rest) ≡ Some f
 unfolding terms_fault
 terms-some at guids edge before term rest f e = rw e refl
 
 terms-none : (at : Place) (guids : List NamedGuid) (edge : Bool) (before : List Token) (term : List ℕ) (rest : List (List ℕ))
-    → option_map (λ code. fault_of code at term) (term_code (is_begun (before ++ token_of guids term ∷ [])) edge (token_of guids term)) ≡ None
+    → option_map (λ code. fault_of code at term) (term_code (is_begun (before ++ token_of guids term ∷ [])) edge term (token_of guids term)) ≡ None
     → terms_fault at guids edge before (term ∷ rest) ≡ terms_fault at guids edge (before ++ token_of guids term ∷ []) rest
 unfolding terms_fault
 terms-none at guids edge before term rest e = rw e refl
@@ -75,7 +75,7 @@ pub record Follows (at : Place) (guids : List NamedGuid) (edge : Bool) (terms : 
 
 pub follows-step : (at : Place) (guids : List NamedGuid) (edge : Bool) (terms : List (List ℕ)) (i : ℕ) (term : List ℕ) (s : State Size) (ws : List Waiting) (n : Stage)
     → Follows at guids edge terms i s → i < length terms → term ≡ get_or terms i term
-    → step sizes s (token_of guids term) ≡ state_of ws n → own_code edge (token_of guids term) ≡ None
+    → step sizes s (token_of guids term) ≡ state_of ws n → own_code edge term (token_of guids term) ≡ None
     → Follows at guids edge terms (i + 1) (state_of ws n)
 follows-step at guids edge terms i term s ws n f h is goes own =
     let before = map (token_of guids) (take i terms) in
@@ -83,8 +83,8 @@ follows-step at guids edge terms i term s ws n f h is goes own =
     let next : map (token_of guids) (take (i + 1) terms) ≡ map (token_of guids) (take i terms) ++ token_of guids term ∷ [] = map-passed (token_of guids) terms i term h is in
     let here : drop i terms ≡ term ∷ drop (i + 1) terms = head_drop terms i term h is in
     let right : is_right (step sizes (state_size (read trees (wanting []) (map (token_of guids) (take i terms)))) (token_of guids term)) ≡ true = ap (λ z. is_right (step sizes z k)) (sym f.state) ∙ ap is_right goes ∙ right-kept ws n in
-    let none : option_map (λ code. fault_of code at term) (term_code (is_begun (map (token_of guids) (take i terms) ++ token_of guids term ∷ [])) edge (token_of guids term)) ≡ None =
-    fault-seen at edge before k term ∙ ap (λ b. option_map (λ code. fault_of code at term) (term_code b edge k)) right ∙ ap (option_map (λ code. fault_of code at term)) own in
+    let none : option_map (λ code. fault_of code at term) (term_code (is_begun (map (token_of guids) (take i terms) ++ token_of guids term ∷ [])) edge term (token_of guids term)) ≡ None =
+    fault-seen at edge before k term ∙ ap (λ b. option_map (λ code. fault_of code at term) (term_code b edge term k)) right ∙ ap (option_map (λ code. fault_of code at term)) own in
     record {
       state = sym goes ∙ ap (λ z. step sizes z k) f.state ∙ turn-state before k ∙ ap (λ l. state_size (read trees (wanting []) l)) (sym next);
       rest = ap (λ l. terms_fault at guids edge l (drop (i + 1) terms)) next ∙ sym (terms-none at guids edge before term (drop (i + 1) terms) none) ∙ ap (terms_fault at guids edge before) (sym here) ∙ f.rest;

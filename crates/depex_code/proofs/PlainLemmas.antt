@@ -64,20 +64,20 @@ abbrev AllClean : List Token → Type 0
 AllClean [] = Unit {0}
 AllClean (k ∷ ks) = Clean k × AllClean ks
 
-clean-own : (edge : Bool) (k : Token) → own_code edge k ≡ None → Sixteen k → Clean k
-clean-own edge (token.Name None) e s = absurd (cc)
-clean-own edge (token.Name (Some g)) e s = s
-clean-own edge (token.Constant b) e s = tt
-clean-own edge (token.Edge d) e s = tt
-clean-own edge (token.Joiner op) e s = tt
-clean-own edge (token.Prefix Not) e s = tt
-clean-own edge (token.Prefix Sor) e s = absurd (cc)
-clean-own edge token.Open e s = tt
-clean-own edge token.Close e s = tt
+clean-own : (edge : Bool) (term : List ℕ) (k : Token) → own_code edge term k ≡ None → Sixteen k → Clean k
+clean-own edge term (token.Name None) e s = absurd (cc)
+clean-own edge term (token.Name (Some g)) e s = s
+clean-own edge term (token.Constant b) e s = tt
+clean-own edge term (token.Edge d) e s = tt
+clean-own edge term (token.Joiner op) e s = tt
+clean-own edge term (token.Prefix Not) e s = tt
+clean-own edge term (token.Prefix Sor) e s = absurd (cc)
+clean-own edge term token.Open e s = tt
+clean-own edge term token.Close e s = tt
 
-code-own : (begun edge : Bool) (k : Token) → term_code begun edge k ≡ None → own_code edge k ≡ None
-code-own true edge k e = e
-code-own false edge k e = absurd (cc)
+code-own : (begun edge : Bool) (term : List ℕ) (k : Token) → term_code begun edge term k ≡ None → own_code edge term k ≡ None
+code-own true edge term k e = e
+code-own false edge term k e = absurd (cc)
 
 or-none : {T : Type 0} (a b : Option T) → or_else a b ≡ None → (a ≡ None) × (b ≡ None)
 or-none None b e = (refl, e)
@@ -95,9 +95,9 @@ terms-clean at guids edge before (term ∷ terms) a e =
     let k = token_of guids term in
     let now = before ++ token_of guids term ∷ [] in
     let n =
-    or-none (option_map (λ code. fault_of code at term) (term_code (is_begun (before ++ token_of guids term ∷ [])) edge (token_of guids term)))
+    or-none (option_map (λ code. fault_of code at term) (term_code (is_begun (before ++ token_of guids term ∷ [])) edge term (token_of guids term)))
     (terms_fault at guids edge (before ++ token_of guids term ∷ []) terms) e in (
-      clean-own edge k (code-own (is_begun now) edge k (map-none (λ code. fault_of code at term) (term_code (is_begun now) edge k) n.0)) (token-sixteen guids term a),
+      clean-own edge term k (code-own (is_begun now) edge term k (map-none (λ code. fault_of code at term) (term_code (is_begun now) edge term k) n.0)) (token-sixteen guids term a),
       terms-clean at guids edge now terms a n.1,
     )
 

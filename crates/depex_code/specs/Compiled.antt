@@ -19,6 +19,7 @@ use Rattle.depex_code.specs.declared.token.Token.TheVariants as token
 use Rattle.depex_code.specs.declared.token.Prefix.TheVariants.{Sor}
 use Rattle.depex_code.specs.Tree.{Tree, both, sor, nest, opcodes, is_alone, simplified, bytes_of}
 use Rattle.depex_code.specs.Terms.{expression, is_begun}
+use Rattle.meta_lexer.specs.Words.{is_identifier}
 use Rattle.depex_code.specs.Words.{token_of}
 use Rattle.build_base.specs.FaultCodes.{BAD_PLACE, BAD_TERM, DEPEX_GUID_UNKNOWN, TOO_DEEP}
 
@@ -34,17 +35,20 @@ map_ok f (Err e) = Err e
 
 -- Terms.
 
--- 502: no line declares the name; 503: SOR is not at the front, or a BEFORE or AFTER may not stand
--- here
-abbrev pub own_code : Bool → Token → Option ℕ
-own_code edge (token.Name None) = Some DEPEX_GUID_UNKNOWN
-own_code edge (token.Edge e) = if edge then None else Some BAD_PLACE
-own_code edge (token.Prefix Sor) = Some BAD_PLACE
-own_code edge k = None
+-- a term that no line declares: 502 for an identifier; any other is no name, 501
+abbrev pub unknown_code : List ℕ → ℕ
+unknown_code term = if is_identifier term then DEPEX_GUID_UNKNOWN else BAD_TERM
+
+-- that, and 503: SOR is not at the front, or a BEFORE or AFTER may not stand here
+abbrev pub own_code : Bool → List ℕ → Token → Option ℕ
+own_code edge term (token.Name None) = Some (unknown_code term)
+own_code edge term (token.Edge e) = if edge then None else Some BAD_PLACE
+own_code edge term (token.Prefix Sor) = Some BAD_PLACE
+own_code edge term k = None
 
 -- 501: no expression begins with the terms up to this one
-abbrev pub term_code : Bool → Bool → Token → Option ℕ
-term_code begun edge k = if begun then own_code edge k else Some BAD_TERM
+abbrev pub term_code : Bool → Bool → List ℕ → Token → Option ℕ
+term_code begun edge term k = if begun then own_code edge term k else Some BAD_TERM
 
 -- the first fault of the terms, each with those before it
 unfoldable pub terms_fault : Place → List NamedGuid → Bool → List Token → List (List ℕ)
@@ -53,7 +57,7 @@ terms_fault at guids edge before [] = None
 terms_fault at guids edge before (term ∷ terms) =
     or_else
     (option_map (λ code. fault_of code at term)
-    (term_code (is_begun (before ++ token_of guids term ∷ [])) edge (token_of guids term)))
+    (term_code (is_begun (before ++ token_of guids term ∷ [])) edge term (token_of guids term)))
     (terms_fault at guids edge (before ++ token_of guids term ∷ []) terms)
 
 -- the tree of the terms; 501 at the end where they are no expression yet

@@ -87,6 +87,6 @@ Steps next new (Some s) = next ≡ state_of new s
 -- one more term leads to a state, or is at fault
 abbrev pub TermRead : Place → Bool → Token → List ℕ → State Size → List Waiting
     → Result Stage Refusal → Type 0
-TermRead at edge k term next new (Ok s) = (next ≡ state_of new s) × (own_code edge k ≡ None)
+TermRead at edge k term next new (Ok s) = (next ≡ state_of new s) × (own_code edge term k ≡ None)
 TermRead at edge k term next new (Err e) =
-    Finds e (option_map (λ code. fault_of code at term) (term_code (is_right next) edge k))
+    Finds e (option_map (λ code. fault_of code at term) (term_code (is_right next) edge term k))

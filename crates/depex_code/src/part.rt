@@ -6,7 +6,7 @@ ghost use Rattle.depex_code.specs.Terms.{step, ended};
 ghost use Rattle.depex_code.specs.Sizes.{sizes, size_of};
 ghost use Rattle.depex_code.specs.Kept.{piece_size, state_of, TermRead};
 ghost use Rattle.build_base.specs.FaultText.{fault_of};
-ghost use Rattle.depex_code.specs.Compiled.{value_or, own_code, terms_tree, after_sor, is_edge_part, part_tree, map_ok};
+ghost use Rattle.depex_code.specs.Compiled.{value_or, unknown_code, own_code, terms_tree, after_sor, is_edge_part, part_tree, map_ok};
 ghost use Rattle.build_base.specs.FaultCodes.{BAD_TERM};
 
 use crate::leave::Leave;
@@ -18,14 +18,26 @@ use crate::words::{begins_with_sor, is_edge_part, token};
 use build_base::fault_codes::{BAD_PLACE, BAD_TERM, DEPEX_GUID_UNKNOWN};
 use build_base::{Place, Refusal, Text, WantOfMemory, refuse};
 use doc_types::depex::{DepexPart, NamedGuid};
+use meta_lexer::words::is_identifier;
 use std::alloc::Global;
 
+// What is wrong with a term that no line declares.
+fn unknown_code(term: &[u8]) -> u16
+    ensures { result ≡ unknown_code term.now }
+{
+    if is_identifier(term) {
+        DEPEX_GUID_UNKNOWN
+    } else {
+        BAD_TERM
+    }
+}
+
 // What is wrong with a term, whatever stands before it.
-fn own_code(edge: bool, token: Token) -> Option<u16>
-    ensures { result ≡ own_code edge token }
+fn own_code(edge: bool, term: &[u8], token: Token) -> Option<u16>
+    ensures { result ≡ own_code edge term.now token }
 {
     match token {
-        Token::Name(None) => Some(DEPEX_GUID_UNKNOWN),
+        Token::Name(None) => Some(unknown_code(term)),
         Token::Edge(_) if !edge => Some(BAD_PLACE),
         Token::Prefix(Prefix::Sor) => Some(BAD_PLACE),
         _ => None,
@@ -52,7 +64,7 @@ fn turn(
         Ok(None) => return Err(refuse(alloc, BAD_TERM, at, term)),
         Err(_) => return Err(Refusal::WantOfMemory),
     };
-    match own_code(edge, token) {
+    match own_code(edge, term, token) {
         Some(code) => Err(refuse(alloc, code, at, term)),
         None => Ok(next),
     }

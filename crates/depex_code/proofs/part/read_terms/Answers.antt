@@ -26,7 +26,7 @@ loop-term-preserved c =
     let read = c.in-Ok.ensures in
     follows-step c.args.at.now c.args.guids.now c.args.edge c.args.terms.now c.loop-term.term-index c.term-item.result state c.turn.new.waits.items c.in-Ok.next
     c.loop-term.invariant c.loop-term-test.true c.term-item.is
-    (ap (step sizes (state_of c.loop-term.waits.items c.loop-term.stage)) (sym same) ∙ read.0) (ap (own_code c.args.edge) (sym same) ∙ read.1)
+    (ap (step sizes (state_of c.loop-term.waits.items c.loop-term.stage)) (sym same) ∙ read.0) (ap (λ (t : List ℕ). own_code c.args.edge t (token_of c.args.guids.now t)) (sym c.bytes.ensures) ∙ read.1)
 
 pub returns : goal.returns
 returns c = subst (λ (r : Result Size Fault). AnswersAs piece_size c.whole.result r)
