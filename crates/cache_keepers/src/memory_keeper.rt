@@ -94,12 +94,10 @@ impl MemoryKeeper {
         ensures { self.new
             ≡ record {
               kept = option_map (λ there. Some bytes.now) self.old.kept;
-              room =
-                  self.old.room;
+              room = self.old.room;
               faults = self.old.faults;
               fails = self.old.fails;
-              calls =
-                  self.old.calls;
+              calls = self.old.calls;
             } }
     {
         if self.tells {
@@ -113,12 +111,10 @@ impl MemoryKeeper {
         ensures { self.new
             ≡ record {
               kept = stored left self.old.kept self.old.room bytes.now;
-              room =
-                  self.old.room;
+              room = self.old.room;
               faults = self.old.faults;
               fails = self.old.fails;
-              calls =
-                  self.old.calls;
+              calls = self.old.calls;
             } }
     {
         if bytes.len() as u64 > self.room {
