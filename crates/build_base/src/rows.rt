@@ -83,7 +83,7 @@ impl<T: Drop> Rows<T> {
 
 impl<T: Same + Drop> Same for Rows<T> {
     fn copy(&self, alloc: Global) -> Result<Rows<T>, WantOfMemory> {
-        let mut rows = Rows::new(alloc);
+        let mut rows = Rows::from_vec(Vec::with_capacity(alloc, self.items().len())?);
         for item in self.items() {
             rows.push(item.copy(alloc)?)?;
         }

@@ -20,8 +20,8 @@ impl From<AllocError> for WantOfMemory {
     }
 }
 
-/// A text of any bytes. The copies of one that is shared hold the same bytes and take no memory for
-/// them.
+/// A text of any bytes. One that is made of at most 23 bytes stands in place. The copies of one that
+/// is shared hold the same bytes and take no memory for them.
 #[derive(Debug, Drop)]
 pub struct Text {
     store: Store,
@@ -59,11 +59,13 @@ impl Text {
     pub fn of(alloc: Global, bytes: &[u8]) -> Result<Text, WantOfMemory>
         ensures { IfOk result (λ t. t ≡ bytes.now) }
     {
-        Ok(Text::from_vec(Vec::from_slice(alloc, bytes)?))
+        Ok(Text {
+            store: Store::of(alloc, bytes)?,
+        })
     }
 
-    /// So many of its bytes behind a start, or as many as there are. Of a shared text no byte is
-    /// copied.
+    /// So many of its bytes behind a start, or as many as there are. Of a shared text at most 23
+    /// bytes are copied.
     pub fn part(&self, alloc: Global, start: usize, count: usize) -> Result<Text, WantOfMemory>
         ensures { IfOk result (λ t. t ≡ take count (drop start self.now)) }
     {

@@ -11,11 +11,6 @@ use Rattle.step_cache.specs.declared.places.Span.{Span}
 use Rattle.step_cache.proofs.PoolLemmas.{text_is-true, number_more, number_last}
 use Rattle.step_cache.proofs.OnceLemmas.{number_end, get_middle}
 
-pub part_within : (span : Span) (bytes : List ℕ)
-    → take (min span.count (length (drop (min span.start (length bytes)) bytes))) (drop (min span.start (length bytes)) bytes) ≡ span_text bytes span
-part_within span bytes =
-    take_min span.count (drop (min span.start (length bytes)) bytes) ∙ ap (take span.count) (drop_min span.start bytes)
-
 abbrev pub some_text : List ℕ → Option Span → Option (List ℕ)
 some_text bytes None = None
 some_text bytes (Some span) = Some (span_text bytes span)

@@ -1,9 +1,10 @@
 //! Texts that stand behind one another, and where each is found.
 ghost use Rattle.std.specs.Prelude.{◌≡◌, ◌++◌, ◌∷◌, [], List, ℕ, false, None, cond, nat_eq, length, slice_get, OnOk};
 ghost use Rattle.std.specs.HashMap.{get};
-ghost use Rattle.step_cache.specs.Places.{digest, span_text, texts_at, is_some_text, first_at, found_in, numbers_at, IsPlaced};
+ghost use Rattle.step_cache.specs.Places.{digest, texts_at, is_some_text, first_at, found_in, numbers_at, IsPlaced};
 ghost use Rattle.step_cache.specs.Pools.{has_text};
 
+use build_base::bytes::part_of;
 use build_base::{Rows, WantOfMemory};
 use indexmap::IndexMap;
 use std::alloc::Global;
@@ -26,22 +27,13 @@ pub(crate) fn digest(text: &[u8]) -> u64
     state.finish()
 }
 
-// So many bytes behind a start, or as many as there are.
-#[tactic(auto, using(crate::proofs::PlaceLemmas::part_within))]
-fn span_text(bytes: &[u8], span: Span) -> &[u8]
-    ensures { result.now ≡ span_text bytes.now span }
-{
-    let rest = &bytes[span.start.min(bytes.len())..];
-    &rest[..span.count.min(rest.len())]
-}
-
 // Whether a text stands at a number.
 #[tactic(auto, using(crate::proofs::PlaceLemmas::text_stands, crate::proofs::PlaceLemmas::text_lacks))]
 fn stands_at(bytes: &[u8], spans: &[Span], text: &[u8], number: usize) -> bool
     ensures { result ≡ is_some_text text.now (slice_get (texts_at bytes.now spans.now) number) }
 {
     match spans.get(number) {
-        Some(span) => text == span_text(bytes, *span),
+        Some(span) => text == part_of(bytes, span.start, span.count),
         None => false,
     }
 }
@@ -68,13 +60,13 @@ pub(crate) fn find(
     spans: &[Span],
     table: &IndexMap<u64, Rows<usize>>,
     text: &[u8],
-    at: u64,
+    hash: u64,
 ) -> Option<usize>
     requires placed { IsPlaced (texts_at bytes.now spans.now) table.now }
-    requires digest { at ≡ digest text.now }
+    requires digest { hash ≡ digest text.now }
     ensures { result ≡ found_in (texts_at bytes.now spans.now) text.now }
 {
-    match table.get(&at) {
+    match table.get(&hash) {
         Some(numbers) => first_at(bytes, spans, text, numbers.items()),
         None => None,
     }
@@ -96,16 +88,16 @@ fn take_numbers(alloc: Global, table: &mut IndexMap<u64, Rows<usize>>, digest: u
 pub(crate) fn note(
     alloc: Global,
     table: &mut IndexMap<u64, Rows<usize>>,
-    at: u64,
+    hash: u64,
     number: usize,
 ) -> Result<(), WantOfMemory>
-    ensures { (text : List ℕ) (texts : List (List ℕ)) → at ≡ digest text →
+    ensures { (text : List ℕ) (texts : List (List ℕ)) → hash ≡ digest text →
         has_text texts text ≡ false → length texts ≡ number →
         IsPlaced texts table.old → OnOk result (IsPlaced (texts ++ text ∷ []) table.new) }
 {
-    let mut numbers = take_numbers(alloc, table, at);
+    let mut numbers = take_numbers(alloc, table, hash);
     numbers.push(number)?;
-    match table.insert(at, numbers) {
+    match table.insert(hash, numbers) {
         Ok(_) => Ok(()),
         Err(_) => Err(WantOfMemory),
     }

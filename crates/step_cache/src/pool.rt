@@ -7,7 +7,7 @@ ghost use Rattle.step_cache.specs.Places.{digest, texts_at, IsPlaced, IsPool, Is
 ghost use Rattle.step_cache.specs.Pools.{has_text, with_text, number_in};
 
 use crate::places::{Span, digest, find, note};
-use crate::text::HEAD;
+use crate::text::{HEAD, before, behind};
 use build_base::{Rows, WantOfMemory};
 use indexmap::IndexMap;
 use packed_values::Packed;
@@ -54,21 +54,6 @@ fn put_number(bytes: &mut Vec<u8>, start: usize, number: u64)
     set_number(bytes.as_mut_slice(), start, number);
 }
 
-// What stands behind a start.
-fn behind(bytes: &[u8], start: usize) -> &[u8]
-    requires { start ≤ length bytes.now }
-    ensures { result.now ≡ drop start bytes.now }
-{
-    &bytes[start..]
-}
-
-fn before(bytes: &[u8], start: usize) -> &[u8]
-    requires { start ≤ length bytes.now }
-    ensures { result.now ≡ take start bytes.now }
-{
-    &bytes[..start]
-}
-
 // The number of the text with this digest that stands behind a start and room for its length, where
 // it stands before too.
 #[tactic(auto, using(crate::proofs::PoolTextLemmas::told_by))]
@@ -77,10 +62,10 @@ fn find_last(
     start: usize,
     spans: &[Span],
     table: &IndexMap<u64, Rows<usize>>,
-    at: u64,
+    hash: u64,
 ) -> Option<usize>
     requires room { start + 8 ≤ length bytes.now }
-    requires digest { at ≡ digest (drop (start + 8) bytes.now) }
+    requires digest { hash ≡ digest (drop (start + 8) bytes.now) }
     requires placed { IsPlaced (texts_at (take start bytes.now) spans.now) table.now }
     ensures { MatchOption result
         (has_text (texts_at (take start bytes.now) spans.now) (drop (start + 8) bytes.now) ≡ false)
@@ -91,7 +76,7 @@ fn find_last(
         spans,
         table,
         behind(bytes, start + 8),
-        at,
+        hash,
     )
 }
 
@@ -114,8 +99,8 @@ fn make_room(
     Ok(())
 }
 
-// Adds the text with this digest that stands behind a start and room for its length, and isn't there
-// yet.
+// Adds the text with this digest that stands behind a start and room for its length, and isn't
+// there yet.
 #[tactic(auto, using(crate::proofs::PoolTextLemmas::length_texts))]
 fn add(
     alloc: Global,
@@ -123,11 +108,11 @@ fn add(
     bytes: &mut Vec<u8>,
     spans: &mut Vec<Span>,
     table: &mut IndexMap<u64, Rows<usize>>,
-    at: u64,
+    hash: u64,
 ) -> Result<usize, WantOfMemory>
     requires front { 28 ≤ start }
     requires room { start + 8 ≤ length bytes.old.items }
-    requires digest { at ≡ digest (drop (start + 8) bytes.old.items) }
+    requires digest { hash ≡ digest (drop (start + 8) bytes.old.items) }
     requires pool { IsPool (take start bytes.old.items) spans.old.items table.old }
     requires none { has_text (texts_at (take start bytes.old.items) spans.old.items)
         (drop (start + 8) bytes.old.items) ≡ false }
@@ -142,7 +127,7 @@ fn add(
         start: start + 8,
         count: bytes.len() - (start + 8),
     };
-    note(alloc, table, at, number)?;
+    note(alloc, table, hash, number)?;
     put_number(bytes, start, span.count as u64);
     if spans.push(span).is_err() {
         return Err(WantOfMemory);
@@ -168,14 +153,14 @@ fn close(
     ensures number { IfOk result (λ n. n ≡ number_in (texts_at bytes.new.items spans.new.items)
         (drop (start + 8) bytes.old.items)) }
 {
-    let at = digest(behind(bytes.as_slice(), start + 8));
-    match find_last(bytes.as_slice(), start, spans.as_slice(), table, at) {
+    let hash = digest(behind(bytes.as_slice(), start + 8));
+    match find_last(bytes.as_slice(), start, spans.as_slice(), table, hash) {
         Some(number) => {
             bytes.truncate(start);
             Ok(number)
         }
         None => {
-            let number = add(alloc, start, bytes, spans, table, at)?;
+            let number = add(alloc, start, bytes, spans, table, hash)?;
             Ok(number)
         }
     }

@@ -84,19 +84,20 @@ pub(crate) fn fits(text: &Text)
     let _bytes = text.bytes();
 }
 
-// What stands behind the head.
-fn tail(bytes: &[u8]) -> &[u8]
-    requires { 20 ≤ length bytes.now }
-    ensures { result.now ≡ drop 20 bytes.now }
+/// What stands behind a start.
+pub(crate) fn behind(bytes: &[u8], start: usize) -> &[u8]
+    requires { start ≤ length bytes.now }
+    ensures { result.now ≡ drop start bytes.now }
 {
-    &bytes[HEAD..]
+    &bytes[start..]
 }
 
-fn front(bytes: &[u8]) -> &[u8]
-    requires { 20 ≤ length bytes.now }
-    ensures { result.now ≡ take 20 bytes.now }
+/// What stands before it.
+pub(crate) fn before(bytes: &[u8], start: usize) -> &[u8]
+    requires { start ≤ length bytes.now }
+    ensures { result.now ≡ take start bytes.now }
 {
-    &bytes[..HEAD]
+    &bytes[..start]
 }
 
 /// The edition that a head states, if one that is read.
@@ -114,8 +115,8 @@ pub(crate) fn is_head(alloc: Global, edition: u32, bytes: &[u8]) -> Result<bool,
         (take 20 bytes.now ≡ head_of edition (length (drop 20 bytes.now)))) }
 {
     let mut head = Vec::new(alloc);
-    put_head(edition, tail(bytes).len() as u64, &mut head)?;
-    Ok(front(bytes) == head.as_slice())
+    put_head(edition, behind(bytes, HEAD).len() as u64, &mut head)?;
+    Ok(before(bytes, HEAD) == head.as_slice())
 }
 
 /// The parts whose spelling stands behind the head, where there are any.
