@@ -3,7 +3,7 @@ ghost use Rattle.std.specs.Prelude.{◌≡◌, ℕ, List, [], true, IfOk};
 ghost use Rattle.build_stages.specs.Gives.{Gives, GivesIn};
 ghost use Rattle.build_stages.specs.Known.{advance_at};
 ghost use Rattle.library_choice.specs.Choices.{choice};
-ghost use Rattle.library_choice.specs.Closure.{is_known, wanted};
+ghost use Rattle.library_choice.specs.Closure.{is_known, own_lines, wanted};
 ghost use Rattle.pcd_resolve.specs.Platform.{SkusEnd};
 ghost use Rattle.step_pack.specs.Keys.{key_cmp};
 ghost use Rattle.build_rules.specs.Fits.{fits};
@@ -22,9 +22,9 @@ use doc_types::flash::FlashDoc;
 use doc_types::module::InfDoc;
 use doc_types::parts::ModuleParts;
 use doc_types::pcd::PcdSet;
-use doc_types::platform::PlatformDoc;
+use doc_types::platform::{LibraryLine, PlatformDoc};
 use doc_types::values::Values;
-use library_choice::{choose, next_wanted};
+use library_choice::{choose_with, next_wanted_with, own_lines};
 use module_steps::parts::choice_at;
 use module_steps::{
     Described, Linked, Setting, choice_asks, commands_of, dec_asks, described_at, described_from,
@@ -64,15 +64,18 @@ fn chosen(
     alloc: Global,
     module: &Module,
     platform: &PlatformDoc,
+    own: &[LibraryLine],
     infs: &Rows<InfDoc>,
     permit: Permit,
 ) -> Result<Out, Stop<Key>>
     requires known { is_known infs.now «module».now.inf ≡ true }
+    requires own { own.now ≡ own_lines «module».now platform.now.components }
     requires closed { wanted «module».now platform.now infs.now ≡ [] }
     ensures { GivesIn (λ out. out) result
         (given_as out.Choice (choice «module».now platform.now infs.now)) }
 {
-    Ok(Out::Choice(choose(alloc, permit, module, platform, infs)?))
+    let choice = choose_with(alloc, permit, module, platform, own, infs)?;
+    Ok(Out::Choice(choice))
 }
 
 // The libraries of a module, of which some descriptions are known.
@@ -88,13 +91,14 @@ fn rounds(
     requires { is_known first «module».now.inf ≡ true }
     ensures { Comes known.now (choice_after most_rounds «module».now platform.now first) result }
 {
+    let own = own_lines(module, platform.components.items());
     let mut infs = first;
     let mut permit = permit;
     let mut left = MOST_ROUNDS;
     while left > 0 {
-        let wanted = next_wanted(alloc, module, platform, &infs)?;
+        let wanted = next_wanted_with(alloc, module, platform, own, &infs)?;
         if wanted.items().is_empty() {
-            return chosen(alloc, module, platform, &infs, permit);
+            return chosen(alloc, module, platform, own, &infs, permit);
         }
         match round(alloc, known, infs, wanted.items(), permit) {
             Ok((more, again)) => {
@@ -266,11 +270,11 @@ fn one_described(
 fn one_parts(
     alloc: Global,
     known: &Known<'_, Key, Out>,
-    described: &Described,
+    described: Described,
     permit: Permit,
 ) -> Result<(ModuleParts, Permit), Stop<Key>>
     ensures { Gives (λ x. x.0) result
-        (advance_at key_cmp fits known.now (one_parts described.now)) }
+        (advance_at key_cmp fits known.now (one_parts described)) }
 {
     let asks = dec_asks(alloc, described.packages.items())?;
     let (given, permit) = gather(alloc, &EdkRules, known, asks.items(), permit)?;
@@ -292,7 +296,7 @@ pub fn module_parts(
 {
     let linked = linked_module(alloc, module, choice)?;
     let (described, permit) = one_described(alloc, known, &linked, permit)?;
-    one_parts(alloc, known, &described, permit)
+    one_parts(alloc, known, described, permit)
 }
 
 #[tactic(auto, using(build_stages::specs::Bounds::advance_bind))]

@@ -16,7 +16,7 @@ mod tables;
 mod user;
 mod wanted;
 
-pub use choosing::choose;
+pub use choosing::{choose, choose_with};
 pub use laws::{instances_stand_by_walks, lines_hold_by_rank};
 pub use lines::type_covers;
-pub use wanted::{is_known, next_wanted};
+pub use wanted::{is_known, next_wanted, next_wanted_with, own_lines};

@@ -33,8 +33,9 @@ fn component_of<'a>(user: &Module, components: &'a [Component]) -> Option<&'a Co
     None
 }
 
+/// The lines of [LibraryClasses] in the braces of a module's own component.
 #[tactic(auto, unfolding(crate::specs::Closure::own_lines))]
-fn own_lines<'a>(user: &Module, components: &'a [Component]) -> &'a [LibraryLine]
+pub fn own_lines<'a>(user: &Module, components: &'a [Component]) -> &'a [LibraryLine]
     ensures { result.now ≡ own_lines user.now components.now }
 {
     match component_of(user, components) {
@@ -64,22 +65,23 @@ pub fn is_known(infs: &Rows<InfDoc>, path: &Path) -> bool
     known(infs.items(), path).is_some()
 }
 
-/// What the choice for a module is made from.
+/// What the choice for a module is made from, with the lines of its own braces.
 #[tactic(auto, unfolding(crate::specs::Closure::setting_of))]
 pub fn setting_of<'a>(
     alloc: Global,
     user: &Module,
     platform: &'a PlatformDoc,
+    own: &'a [LibraryLine],
     infs: &'a [InfDoc],
     inf: &InfDoc,
 ) -> Result<Tables<'a>, WantOfMemory>
+    requires { own.now ≡ own_lines user.now platform.now.components }
     ensures { IfOk result (λ t. t ≡ setting_of user.now platform.now infs.now inf.now) }
 {
     let asking = User {
         arch: user.arch,
         kind: inf.module_type,
     };
-    let own = own_lines(user, platform.components.items());
     Tables::new(alloc, asking, platform.libraries.items(), own, infs)
 }
 
@@ -128,10 +130,33 @@ fn wanted_by(alloc: Global, tables: &Tables<'_>, inf: &InfDoc) -> Result<Rows<Pa
     }
 }
 
+/// The same as `next_wanted`, for one that has the lines of the module's own braces at hand.
+#[tactic(auto, unfolding(crate::specs::Closure::wanted), using(crate::proofs::RoundLemmas::falls))]
+pub fn next_wanted_with(
+    alloc: Global,
+    module: &Module,
+    platform: &PlatformDoc,
+    own: &[LibraryLine],
+    infs: &Rows<InfDoc>,
+) -> Result<Rows<Path>, WantOfMemory>
+    requires known { is_known infs.now «module».now.inf ≡ true }
+    requires own { own.now ≡ own_lines «module».now platform.now.components }
+    ensures wanted { IfOk result (λ w. w ≡ wanted «module».now platform.now infs.now) }
+    ensures falls { Falls «module».now platform.now infs.now }
+{
+    let Some(inf) = known(infs.items(), &module.inf) else {
+        return Ok(Rows::new(alloc));
+    };
+    if !inf.serves.items().is_empty() {
+        return Ok(Rows::new(alloc));
+    }
+    let tables = setting_of(alloc, module, platform, own, infs.items(), inf)?;
+    wanted_by(alloc, &tables, inf)
+}
+
 /// The INF files that the choice for a module needs next: those of the instances found so far that
 /// aren't among `infs`, in first-found order. None are wanted of a library, where all are known,
 /// and where more than 1,024 instances are found.
-#[tactic(auto, unfolding(crate::specs::Closure::wanted), using(crate::proofs::RoundLemmas::falls))]
 pub fn next_wanted(
     alloc: Global,
     module: &Module,
@@ -142,12 +167,6 @@ pub fn next_wanted(
     ensures wanted { IfOk result (λ w. w ≡ wanted «module».now platform.now infs.now) }
     ensures falls { Falls «module».now platform.now infs.now }
 {
-    let Some(inf) = known(infs.items(), &module.inf) else {
-        return Ok(Rows::new(alloc));
-    };
-    if !inf.serves.items().is_empty() {
-        return Ok(Rows::new(alloc));
-    }
-    let tables = setting_of(alloc, module, platform, infs.items(), inf)?;
-    wanted_by(alloc, &tables, inf)
+    let own = own_lines(module, platform.components.items());
+    next_wanted_with(alloc, module, platform, own, infs)
 }

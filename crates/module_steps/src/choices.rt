@@ -1,11 +1,11 @@
 //! What is known of a module's libraries, round by round.
-ghost use Rattle.std.specs.Prelude.{◌≡◌, ◌++◌, ℕ, List, true, IfOk, OnOk};
+ghost use Rattle.std.specs.Prelude.{◌≡◌, ℕ, List, true, IfOk};
 ghost use Rattle.build_stages.specs.Gives.{GivesIn};
 ghost use Rattle.library_choice.specs.Closure.{is_known};
 ghost use Rattle.module_steps.specs.Choices.{own_inf, with_more};
 
-use crate::parts::{inf_at, infs_from};
-use build_base::{Path, Rows, Same, WantOfMemory};
+use crate::parts::{inf_at, infs_behind};
+use build_base::{Path, Rows};
 use build_stages::{Given, Stop};
 use doc_types::choice::Module;
 use doc_types::module::InfDoc;
@@ -29,19 +29,8 @@ pub fn own_inf(
     Ok(infs)
 }
 
-fn push_infs(alloc: Global, infs: &mut Rows<InfDoc>, more: &[InfDoc]) -> Result<(), WantOfMemory>
-    ensures { OnOk result (infs.new ≡ infs.old ++ more.now) }
-{
-    let mut left = more;
-    while let [inf, rest @ ..] = left {
-        infs.push(inf.copy(alloc)?)?;
-        left = rest;
-    }
-    Ok(())
-}
-
 /// The descriptions of some paths behind those that are known, by the answers of a round.
-#[tactic(auto, using(crate::proofs::KnownLemmas::still_known))]
+#[tactic(auto, using(crate::proofs::KnownLemmas::behind_front, crate::proofs::KnownLemmas::known_in_front))]
 pub fn with_more(
     alloc: Global,
     known: Rows<InfDoc>,
@@ -52,8 +41,6 @@ pub fn with_more(
     ensures known { (path : List ℕ) → is_known known path ≡ true
         → IfOk result (λ infs. is_known infs path ≡ true) }
 {
-    let mut infs = known;
-    let (more, _next) = infs_from(alloc, given, 0, paths)?;
-    push_infs(alloc, &mut infs, more.items())?;
+    let (infs, _next) = infs_behind(alloc, known, given, 0, paths)?;
     Ok(infs)
 }

@@ -1,6 +1,7 @@
 //! The descriptions of modules and their libraries, and the packages that they name.
 ghost use Rattle.std.specs.Prelude.{◌≡◌, ◌+◌, ◌++◌, ◌∷◌, [], List, Result, nat_eq, true, Ok, length, IfOk, OnOk};
 ghost use Rattle.std.specs.Cmp.Lexicographic.{pointwise};
+ghost use Rattle.build_base.specs.First.{with_front};
 ghost use Rattle.build_base.specs.Path.{path_field};
 ghost use Rattle.std.specs.List.{filter_map};
 ghost use Rattle.build_base.specs.declared.fault.Fault.{Fault};
@@ -150,8 +151,32 @@ fn push_inf(
     Ok(next)
 }
 
-/// The descriptions of some paths, of which the first stands at a place, and the place behind them.
+/// The descriptions of some paths, of which the first stands at a place, behind those that are
+/// known, and the place behind them.
 #[tactic(auto, unfolding(crate::specs::Parts::taken))]
+pub(crate) fn infs_behind(
+    alloc: Global,
+    known: Rows<InfDoc>,
+    given: &Given<'_, Out>,
+    place: usize,
+    paths: &[Path],
+) -> Result<(Rows<InfDoc>, usize), Stop<Key>>
+    ensures value { GivesIn (λ x. x.0) result
+        (with_front known (infs_from given.now place paths.now)) }
+    ensures next { IfOk result (λ x. x.1 ≡ place + length paths.now) }
+{
+    let mut infs = known;
+    let mut at = place;
+    let mut left = paths;
+    while let [path, rest @ ..] = left {
+        at = push_inf(alloc, given, at, path, &mut infs)?;
+        left = rest;
+    }
+    Ok((infs, at))
+}
+
+/// The descriptions of some paths, of which the first stands at a place, and the place behind them.
+#[tactic(auto, using(crate::proofs::KnownLemmas::none_in_front))]
 pub fn infs_from(
     alloc: Global,
     given: &Given<'_, Out>,
@@ -161,14 +186,7 @@ pub fn infs_from(
     ensures value { GivesIn (λ x. x.0) result (infs_from given.now place paths.now) }
     ensures next { IfOk result (λ x. x.1 ≡ place + length paths.now) }
 {
-    let mut infs = Rows::new(alloc);
-    let mut at = place;
-    let mut left = paths;
-    while let [path, rest @ ..] = left {
-        at = push_inf(alloc, given, at, path, &mut infs)?;
-        left = rest;
-    }
-    Ok((infs, at))
+    infs_behind(alloc, Rows::new(alloc), given, place, paths)
 }
 
 // Appends the package at a place; the place behind it.
@@ -356,18 +374,28 @@ pub fn parts_at(
     alloc: Global,
     given: &Given<'_, Out>,
     place: usize,
-    held: &Described,
+    held: Described,
 ) -> Result<(ModuleParts, usize), Stop<Key>>
-    ensures value { GivesIn (λ x. x.0) result (parts_at given.now place held.now) }
-    ensures next { IfOk result (λ x. x.1 ≡ place + length held.now.packages) }
+    ensures value { GivesIn (λ x. x.0) result (parts_at given.now place held) }
+    ensures next { IfOk result (λ x. x.1 ≡ place + length held.packages) }
 {
-    let (decs, next) = packages_from(alloc, given, place, held.packages.items())?;
-    let parts = ModuleParts {
+    let Described {
+        module,
+        infs,
+        packages,
+    } = held;
+    let (decs, next) = packages_from(alloc, given, place, packages.items())?;
+    Ok((ModuleParts { module, infs, decs }, next))
+}
+
+fn described_again(alloc: Global, held: &Described) -> Result<Described, WantOfMemory>
+    ensures { IfOk result (λ again. again ≡ held.now) }
+{
+    Ok(Described {
         module: held.module.copy(alloc)?,
         infs: held.infs.copy(alloc)?,
-        decs,
-    };
-    Ok((parts, next))
+        packages: held.packages.copy(alloc)?,
+    })
 }
 
 /// The same of each module, where those of the first begin at the first place.
@@ -383,7 +411,8 @@ pub fn parts_from(
     let mut at = 0;
     let mut left = modules;
     while let [held, rest @ ..] = left {
-        let (parts, next) = parts_at(alloc, given, at, held)?;
+        let again = described_again(alloc, held)?;
+        let (parts, next) = parts_at(alloc, given, at, again)?;
         all.push(parts)?;
         at = next;
         left = rest;

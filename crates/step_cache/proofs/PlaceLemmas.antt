@@ -1,10 +1,9 @@
 -- Where a text is found.
-use Rattle.std.proofs.Common.{◌≡◌, ◌∙◌, ◌++◌, ◌<◌, ◌≤◌, ℕ, zero, suc, Bool, true, false, ◌||◌, cond, nat_eq, List, [], ◌∷◌, length, take, drop, min, Option, Some, None, refl, sym, ap, append_assoc, append-nil, arith, rules}
+use Rattle.std.proofs.Common.{◌≡◌, ◌∙◌, ◌++◌, ◌<◌, ◌≤◌, ℕ, zero, suc, Bool, true, false, ◌||◌, cond, nat_eq, List, [], ◌∷◌, length, Option, Some, None, refl, sym, ap, append_assoc, append-nil, arith, rules}
 use Rattle.std.specs.Prelude.{slice_get, slice_index_or, unwrap_or}
 use Rattle.std.specs.List.{list_any}
 use Rattle.std.specs.Cmp.Lexicographic.{pointwise}
 use Rattle.std.specs.HashMap.{HashMap, get}
-use Rattle.std.proofs.lemmas.List.{take_min, drop_min}
 use Rattle.step_cache.specs.Places.{digest, span_text, texts_at, is_some_text, first_at, found_in, numbers_at, IsPlaced}
 use Rattle.step_cache.specs.Pools.{text_is, has_text, number_in}
 use Rattle.step_cache.specs.declared.places.Span.{Span}
