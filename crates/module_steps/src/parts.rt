@@ -398,6 +398,20 @@ fn described_again(alloc: Global, held: &Described) -> Result<Described, WantOfM
     })
 }
 
+// The same of one that is lent.
+fn lent_parts(
+    alloc: Global,
+    given: &Given<'_, Out>,
+    place: usize,
+    held: &Described,
+) -> Result<(ModuleParts, usize), Stop<Key>>
+    ensures value { GivesIn (λ x. x.0) result (parts_at given.now place held.now) }
+    ensures next { IfOk result (λ x. x.1 ≡ place + length held.now.packages) }
+{
+    let again = described_again(alloc, held)?;
+    parts_at(alloc, given, place, again)
+}
+
 /// The same of each module, where those of the first begin at the first place.
 #[tactic(auto, unfolding(crate::specs::Parts::taken))]
 pub fn parts_from(
@@ -411,8 +425,7 @@ pub fn parts_from(
     let mut at = 0;
     let mut left = modules;
     while let [held, rest @ ..] = left {
-        let again = described_again(alloc, held)?;
-        let (parts, next) = parts_at(alloc, given, at, again)?;
+        let (parts, next) = lent_parts(alloc, given, at, held)?;
         all.push(parts)?;
         at = next;
         left = rest;
