@@ -4,6 +4,7 @@ ghost use Rattle.build_stages.specs.Gives.{Gives, GivesIn};
 ghost use Rattle.build_stages.specs.Known.{advance_at};
 ghost use Rattle.library_choice.specs.Choices.{choice};
 ghost use Rattle.library_choice.specs.Closure.{is_known, own_lines, wanted};
+ghost use Rattle.module_steps.specs.Parts.{parts_at};
 ghost use Rattle.pcd_resolve.specs.Platform.{SkusEnd};
 ghost use Rattle.step_pack.specs.Keys.{key_cmp};
 ghost use Rattle.build_rules.specs.Fits.{fits};
@@ -59,6 +60,13 @@ fn round(
     Ok((with_more(alloc, infs, &given, paths)?, permit))
 }
 
+// The lines of [LibraryClasses] in the braces of a module's own component.
+fn braces<'a>(module: &Module, platform: &'a PlatformDoc) -> &'a [LibraryLine]
+    ensures { result.now ≡ own_lines «module».now platform.now.components }
+{
+    own_lines(module, platform.components.items())
+}
+
 // The libraries of a module of which all descriptions are known that it wants.
 fn chosen(
     alloc: Global,
@@ -91,7 +99,7 @@ fn rounds(
     requires { is_known first «module».now.inf ≡ true }
     ensures { Comes known.now (choice_after most_rounds «module».now platform.now first) result }
 {
-    let own = own_lines(module, platform.components.items());
+    let own = braces(module, platform);
     let mut infs = first;
     let mut permit = permit;
     let mut left = MOST_ROUNDS;
@@ -267,6 +275,19 @@ fn one_described(
     Ok((described, permit))
 }
 
+// A module's parts, of which the first package is that of the first answer.
+fn parts_of(
+    alloc: Global,
+    given: &Given<'_, Out>,
+    described: Described,
+    permit: Permit,
+) -> Result<(ModuleParts, Permit), Stop<Key>>
+    ensures { GivesIn (λ x. x.0) result (parts_at given.now 0 described) }
+{
+    let (parts, _next) = parts_at(alloc, given, 0, described)?;
+    Ok((parts, permit))
+}
+
 fn one_parts(
     alloc: Global,
     known: &Known<'_, Key, Out>,
@@ -278,8 +299,7 @@ fn one_parts(
 {
     let asks = dec_asks(alloc, described.packages.items())?;
     let (given, permit) = gather(alloc, &EdkRules, known, asks.items(), permit)?;
-    let (parts, _next) = parts_at(alloc, &given, 0, described)?;
-    Ok((parts, permit))
+    parts_of(alloc, &given, described, permit)
 }
 
 /// A module with the descriptions and the packages that its values come from.
