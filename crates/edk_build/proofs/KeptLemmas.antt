@@ -6,7 +6,7 @@ use Rattle.std.specs.Option.{IfSome}
 use Rattle.build_base.proofs.OptionLemmas.{some_then}
 use Rattle.build_base.proofs.SpellingLemmas.{SpellsCut-append, SpellsCut-more}
 use Rattle.build_base.specs.Keeping.{Stores}
-use Rattle.build_base.specs.Outside.{Emission, Files}
+use Rattle.build_base.specs.Outside.{Emission, Files, Rose}
 use Rattle.build_base.specs.Spelling.{Output, text, Spells, SpellsCut, Spelled, SpelledCut}
 use Rattle.build_base.specs.World.{World}
 use Rattle.build_base.specs.declared.fault.Fault.{Fault}
@@ -36,15 +36,15 @@ use Rattle.step_pack.specs.declared.key.Key.TheVariants as key
 use Rattle.step_pack.specs.declared.out.Out.{Out}
 use Rattle.edk_build.proofs.BuildLemmas.{built, cut_short}
 use Rattle.edk_build.proofs.RunLemmas.{told_over}
-use Rattle.edk_build.specs.Building.{means, IsBrought, IsBuilt, IsCutShort, Leaves, result_status}
+use Rattle.edk_build.specs.Building.{means, IsBrought, IsBuilt, IsCutShort, IsOwn, Leaves, result_status}
 use Rattle.edk_build.specs.Emitting.{emitted, outputs_of, status_of, summary}
 use Rattle.edk_build.specs.FilePair.{FilePair}
 use Rattle.edk_build.specs.Kept.{HasText, IsOfText, IsSoundKept, OfKept, StandsFor, StaysSound}
-use Rattle.edk_build.specs.KeptBuild.{Told, told, AsMade, Makes, WroteAll, HasFailed, HasEnded, HasStopped, Comes}
+use Rattle.edk_build.specs.KeptBuild.{Told, told, AsMade, Makes, WroteAll, HasBuilt, HasFailed, HasEnded, HasStopped, Comes}
 use Rattle.edk_build.specs.Outcome.{outcome, files_by}
 use Rattle.edk_build.specs.Run.{IsComplete, plain, world_of}
-use Rattle.edk_build.specs.Statuses.{OnEnd, OnReadFault, OnUnwritten, OnUsage, OnWriteFault}
-use Rattle.edk_build.specs.Stops.{IfWriteFault}
+use Rattle.edk_build.specs.Statuses.{OnEnd, OnReadFault, OnUsage, OnWriteFault}
+use Rattle.edk_build.specs.Stops.{IfReadFault, IfUnwritten, IfWriteFault, stop_status}
 use Rattle.edk_build.specs.declared.status.Status.{Status}
 use Rattle.edk_build.specs.declared.status.Status.TheVariants.{Done, FileFault, Usage, ReadFault, WriteFault, WantOfMemory}
 use Rattle.edk_build.specs.declared.stop.Stop.{Stop}
@@ -176,29 +176,75 @@ no_fault (Ok files) o e = absurd cc
 no_fault (Err fault) o e = absurd cc
 
 -- a load changes neither what is kept nor the count
-pub loaded_ended : (held : Option Files) (job : Job) (cache : List (Entry Key Out)) (status : Status) (written : Option (List Emission)) (kept kept' : Option (Option (List ℕ))) (sink count count' : ℕ) (new : Told)
-    → kept' ≡ kept → count' ≡ count → HasEnded held job cache status (told written kept' sink count') new → HasEnded held job cache status (told written kept sink count) new
-loaded_ended held job cache status written kept kept' sink count count' new e f h =
-    subst (λ n. HasEnded held job cache status (told written kept sink n) new) f (subst (λ k. HasEnded held job cache status (told written k sink count') new) e h)
+pub built_loaded : (status : Status) (held : Option Files) (job : Job) (cache : List (Entry Key Out)) (written : Option (List Emission)) (kept kept' : Option (Option (List ℕ))) (sink count count' : ℕ) (new : Told)
+    → kept' ≡ kept → count' ≡ count → IfSome kept (λ there. StandsFor there cache)
+    → (IfSome kept' (λ there. StandsFor there cache) → HasBuilt held job status (told written kept' sink count') new) → HasBuilt held job status (told written kept sink count) new
+built_loaded status held job cache written kept kept' sink count count' new e f stands b =
+    subst (λ n. HasBuilt held job status (told written kept sink n) new) f
+    (subst (λ k. HasBuilt held job status (told written k sink count') new) e (b (subst (λ k. IfSome k (λ there. StandsFor there cache)) (sym e) stands)))
+
+-- a build that came to its end is done, or told a fault
+own_ends : (status : Status) (left : List (Entry Key Out)) (P : Status → Type 0) → IsOwn status left → P Done → P FileFault → P status
+own_ends status left P (Good given, entry, e) done fault = subst P (sym e) done
+own_ends status left P (Bad given, entry, e) done fault = subst P (sym e) fault
+
+pub end_built : (status : Status) (held : Option Files) (job : Job) (cache : List (Entry Key Out)) (old new : Told)
+    → IfSome old.kept (λ there. StandsFor there cache) → HasEnded held job cache status old new → new.sink ≡ old.sink → new.keeper ≡ old.keeper → HasBuilt held job status old new
+end_built status held job cache old new stands h s k =
+    own_ends status h.left (λ z. HasEnded held job cache z old new → HasBuilt held job z old new) h.own
+    (λ h. record { ended = (cache, stands, h); stopped = tt; kept = tt; unwritten = tt; no_usage = tt; sink_count = s; keeper_count = k; write_fault = tt })
+    (λ h. record { ended = (cache, stands, h); stopped = tt; kept = tt; unwritten = tt; no_usage = tt; sink_count = s; keeper_count = k; write_fault = tt }) h
+
+pub end_reads : (status : Status) (left : List (Entry Key Out)) (P : Type 0) → IsOwn status left → OnReadFault status P
+end_reads status left P own = own_ends status left (λ z. OnReadFault z P) own tt tt
+
+stop_built : (stop : Stop) (held : Option Files) (job : Job) (cache : List (Entry Key Out)) (old new : Told)
+    → IfSome old.kept (λ there. StandsFor there cache) → IfWriteFault {A = Status} (Err stop) (HasStopped held job cache old new)
+    → IfUnwritten {A = Status} (Err stop) (new.kept ≡ old.kept) → IfUnwritten {A = Status} (Err stop) (new.written ≡ old.written)
+    → IfWriteFault {A = Status} (Err stop) (Rose old.sink new.sink ⊎ Rose old.keeper new.keeper) → HasBuilt held job (stop_status stop) old new
+stop_built stop.ReadFault held job cache old new stands h kept written rose = record { ended = tt; stopped = tt; kept = kept; unwritten = written; no_usage = tt; sink_count = tt; keeper_count = tt; write_fault = tt }
+stop_built stop.WantOfMemory held job cache old new stands h kept written rose = record { ended = tt; stopped = tt; kept = kept; unwritten = written; no_usage = tt; sink_count = tt; keeper_count = tt; write_fault = tt }
+stop_built stop.WriteFault held job cache old new stands h kept written rose =
+    record { ended = tt; stopped = (cache, stands, h); kept = tt; unwritten = tt; no_usage = tt; sink_count = tt; keeper_count = tt; write_fault = rose }
+
+pub built_stopped : (status : Status) (stop : Stop) (held : Option Files) (job : Job) (cache : List (Entry Key Out)) (old new : Told) → status ≡ stop_status stop
+    → IfSome old.kept (λ there. StandsFor there cache) → IfWriteFault {A = Status} (Err stop) (HasStopped held job cache old new)
+    → IfUnwritten {A = Status} (Err stop) (new.kept ≡ old.kept) → IfUnwritten {A = Status} (Err stop) (new.written ≡ old.written)
+    → IfWriteFault {A = Status} (Err stop) (Rose old.sink new.sink ⊎ Rose old.keeper new.keeper) → HasBuilt held job status old new
+built_stopped status stop held job cache old new e stands h kept written rose =
+    subst (λ s. HasBuilt held job s old new) (sym e) (stop_built stop held job cache old new stands h kept written rose)
+
+stop_reads : (stop : Stop) (P Q : Type 0) → IfReadFault {A = Status} (Err stop) P → OnReadFault (stop_status stop) (P ⊎ Q)
+stop_reads stop.ReadFault P Q r = inl r
+stop_reads stop.WriteFault P Q r = tt
+stop_reads stop.WantOfMemory P Q r = tt
+
+pub stopped_reads : (status : Status) (stop : Stop) (P Q : Type 0) → status ≡ stop_status stop → IfReadFault {A = Status} (Err stop) P → OnReadFault status (P ⊎ Q)
+stopped_reads status stop P Q e r = subst (λ s. OnReadFault s (P ⊎ Q)) (sym e) (stop_reads stop P Q r)
 
 pub on_ok : {A E : Type 0} (r : Result A E) (P : Type 0) → P → OnOk r P
 on_ok (Ok x) P p = p
 on_ok (Err x) P p = tt
 
--- where no object failed, and what is kept is sound
-pub completes : (status : Status) (held : Option Files) (job : Job) (kept : Option (Option (List ℕ))) (old new : Told) (T K S : Type 0)
+completes_at : (status : Status) (held : Option Files) (job : Job) (kept : Option (Option (List ℕ))) (old new : Told) (T K S : Type 0)
     → OnEnd status (OfKept kept (λ cache. HasEnded held job cache status old new)) → OnReadFault status (T ⊎ K) → OnWriteFault status (S ⊎ K) → OnUsage status ⊥
     → IfSome held (λ files. IfSome kept (λ there. IsSoundKept there → IsComplete (world_of files job) (T ⊎ K) S status))
-completes status None job kept old new T K S ends read write usage = tt
-completes status (Some files) job None old new T K S ends read write usage = tt
-completes Done (Some files) job (Some there) old new T K S ends read write usage = λ s o t f. inl refl
-completes FileFault (Some files) job (Some there) old new T K S ends read write usage = λ s o t f.
+completes_at status None job kept old new T K S ends read write usage = tt
+completes_at status (Some files) job None old new T K S ends read write usage = tt
+completes_at Done (Some files) job (Some there) old new T K S ends read write usage = λ s o t f. inl refl
+completes_at FileFault (Some files) job (Some there) old new T K S ends read write usage = λ s o t f.
     absurd (no_fault (outcome (world_of files job)) o ((ends.2.built (s ends.0 ends.1)).ends))
-completes Usage (Some files) job (Some there) old new T K S ends read write usage = absurd usage
-completes ReadFault (Some files) job (Some there) old new T K S ends read write usage = λ s o t f. absurd (t read)
-completes WriteFault (Some files) job (Some there) old new T K S ends read (inl failed) usage = λ s o t f. absurd (f failed)
-completes WriteFault (Some files) job (Some there) old new T K S ends read (inr failed) usage = λ s o t f. absurd (t (inr failed))
-completes WantOfMemory (Some files) job (Some there) old new T K S ends read write usage = λ s o t f. inr refl
+completes_at Usage (Some files) job (Some there) old new T K S ends read write usage = absurd usage
+completes_at ReadFault (Some files) job (Some there) old new T K S ends read write usage = λ s o t f. absurd (t read)
+completes_at WriteFault (Some files) job (Some there) old new T K S ends read (inl failed) usage = λ s o t f. absurd (f failed)
+completes_at WriteFault (Some files) job (Some there) old new T K S ends read (inr failed) usage = λ s o t f. absurd (t (inr failed))
+completes_at WantOfMemory (Some files) job (Some there) old new T K S ends read write usage = λ s o t f. inr refl
+
+-- where no object failed, and what is kept is sound
+pub completes : (status : Status) (held : Option Files) (job : Job) (old new : Told) (T : Type 0) → HasBuilt held job status old new → OnReadFault status (T ⊎ Rose old.keeper new.keeper)
+    → IfSome held (λ files. IfSome old.kept (λ there. IsSoundKept there → IsComplete (world_of files job) (T ⊎ Rose old.keeper new.keeper) (Rose old.sink new.sink) status))
+completes status held job old new T b read =
+    completes_at status held job old.kept old new T (Rose old.keeper new.keeper) (Rose old.sink new.sink) b.ended read b.write_fault b.no_usage
 
 pub empty_sound : AreSound means []
 empty_sound k x h = absurd (omega arith)
@@ -276,15 +322,14 @@ ended_sound : (held : Option Files) (job : Job) (status : Status) (old new : Tol
 ended_sound held job status old new e = stored_sound old.kept new.kept e.0 e.2.left e.2.stored e.1 e.2.stored_is e.2.sound e.2.kept
 
 -- soundness outlives each build, however it ends
-pub stays : (status : Status) (held : Option Files) (job : Job) (old new : Told) → OnEnd status (OfKept old.kept (λ cache. HasEnded held job cache status old new))
-    → OnWriteFault status (OfKept old.kept (λ cache. HasStopped held job cache old new)) → OnUnwritten status (new.kept ≡ old.kept) → OnUsage status ⊥
-    → StaysSound old.kept new.kept
-stays Done held job old new ends stops same usage = ended_sound held job Done old new ends
-stays FileFault held job old new ends stops same usage = ended_sound held job FileFault old new ends
-stays Usage held job old new ends stops same usage = absurd usage
-stays ReadFault held job old new ends stops same usage = same_sound old.kept new.kept same
-stays WantOfMemory held job old new ends stops same usage = same_sound old.kept new.kept same
-stays WriteFault held job old new ends stops same usage =
+pub stays : (status : Status) (held : Option Files) (job : Job) (old new : Told) → HasBuilt held job status old new → StaysSound old.kept new.kept
+stays Done held job old new b = ended_sound held job Done old new b.ended
+stays FileFault held job old new b = ended_sound held job FileFault old new b.ended
+stays Usage held job old new b = absurd b.no_usage
+stays ReadFault held job old new b = same_sound old.kept new.kept b.kept
+stays WantOfMemory held job old new b = same_sound old.kept new.kept b.kept
+stays WriteFault held job old new b =
+    let stops = b.stopped in
     failed_sound old new stops.0 stops.2.left stops.2.outputs stops.2.line stops.2.stored stops.1 stops.2.stored_is stops.2.sound stops.2.failed
 
 -- a load changes nothing of what is kept

@@ -1,5 +1,5 @@
 -- From what a build has done to what a run answers.
-use Rattle.std.proofs.Common.{◌≡◌, ap, ◌∙◌, ℕ, List, [], Option, subst}
+use Rattle.std.proofs.Common.{◌≡◌, sym, ap, ◌∙◌, ℕ, List, [], Option, subst}
 use Rattle.build_base.specs.Outside.{Files}
 use Rattle.step_engine.specs.Build.{setting, Ran, RanAll, HasRead}
 use Rattle.step_engine.proofs.EditLemmas.{over_none}
@@ -12,8 +12,11 @@ use Rattle.step_pack.specs.declared.key.Key.TheVariants as key
 use Rattle.step_pack.specs.declared.out.Out.{Out}
 use Rattle.edk_build.specs.Building.{means}
 use Rattle.edk_build.specs.Statuses.{OnEnd}
+use Rattle.edk_build.specs.Stops.{stop_status}
 use Rattle.edk_build.specs.declared.status.Status.{Status}
 use Rattle.edk_build.specs.declared.status.Status.TheVariants.{Done, FileFault, Usage, ReadFault, WriteFault, WantOfMemory}
+use Rattle.edk_build.specs.declared.stop.Stop.{Stop}
+use Rattle.edk_build.specs.declared.stop.Stop.TheVariants as stop
 
 pub on_end : (s : Status) (P : Type 0) → P → OnEnd s P
 on_end Done P p = p
@@ -22,6 +25,14 @@ on_end Usage P p = tt
 on_end ReadFault P p = tt
 on_end WriteFault P p = tt
 on_end WantOfMemory P p = tt
+
+stop_no_end : (stop : Stop) (P : Type 0) → OnEnd (stop_status stop) P
+stop_no_end stop.ReadFault P = tt
+stop_no_end stop.WriteFault P = tt
+stop_no_end stop.WantOfMemory P = tt
+
+pub on_stop : (s : Status) (stop : Stop) (P : Type 0) → s ≡ stop_status stop → OnEnd s P
+on_stop s stop P e = subst (λ z. OnEnd z P) (sym e) (stop_no_end stop P)
 
 same_setting : (held : Option Files) (f f' : List (List ℕ)) (o : List (Entry Key Out)) → f ≡ f' → setting means held f o ≡ setting means held f' o
 same_setting held f f' o e = ap (λ z. setting means held z o) e

@@ -11,15 +11,19 @@ use Rattle.build_base.specs.declared.outside.Target.{Target}
 use Rattle.build_base.specs.declared.outside.Target.TheVariants.{Out as ToOut}
 use Rattle.build_words.specs.declared.job.Job.{Job}
 use Rattle.step_cache.specs.CacheText.{IsCacheText}
+use Rattle.step_engine.specs.Build.{setting, Ran, RanAll, HasRead}
 use Rattle.step_engine.specs.Entries.{AreSound}
 use Rattle.step_engine.specs.declared.talk.Entry.{Entry}
 use Rattle.step_engine.specs.declared.talk.Outcome.{Outcome}
 use Rattle.step_pack.specs.declared.key.Key.{Key}
+use Rattle.step_pack.specs.declared.key.Key.TheVariants as key
 use Rattle.step_pack.specs.declared.out.Out.{Out}
 use Rattle.edk_build.specs.Building.{means, AgreesOnGood, IsBuilt, IsCounted, IsCutShort, IsOwn, Leaves, result_status}
 use Rattle.edk_build.specs.Emitting.{outputs_of, status_of, summary}
+use Rattle.edk_build.specs.Kept.{OfKept}
 use Rattle.edk_build.specs.Outcome.{outcome, files_by}
 use Rattle.edk_build.specs.Run.{plain, world_of}
+use Rattle.edk_build.specs.Statuses.{OnEnd, OnUnwritten, OnUsage, OnWriteFault}
 use Rattle.edk_build.specs.declared.status.Status.{Status}
 
 -- what the sink and the keeper tell, and their counts of faults
@@ -132,3 +136,27 @@ pub record HasStopped (held : Option Files) (job : Job) (cache : List (Entry Key
       → Comes (world_of files job) cache outputs line left)
   pub cut : IfSome held (λ files. AreSound means cache
       → IsCutShort (world_of files job) cache plain old.written new.written)
+
+-- A build from what was kept answered this status: what is written and kept where it came to its
+-- end, failed in writing or stopped before that, and which counts of faults rose.
+pub record HasBuilt (held : Option Files) (job : Job) (status : Status) (old new : Told)
+    : Type 0 where
+  pub ended : OnEnd status (OfKept old.kept (λ cache. HasEnded held job cache status old new))
+  pub stopped : OnWriteFault status (OfKept old.kept (λ cache. HasStopped held job cache old new))
+  pub kept : OnUnwritten status (new.kept ≡ old.kept)
+  pub unwritten : OnUnwritten status (new.written ≡ old.written)
+  pub no_usage : OnUsage status ⊥
+  pub sink_count : OnEnd status (new.sink ≡ old.sink)
+  pub keeper_count : OnEnd status (new.keeper ≡ old.keeper)
+  pub write_fault : OnWriteFault status (Rose old.sink new.sink ⊎ Rose old.keeper new.keeper)
+
+-- Such a build ran each step at most once, and only where it was wanted, and all of these where it
+-- came to its end; it read each path at most once, and only where a needed step asks for it.
+pub record RanWanted (held : Option Files) (fields : List (List ℕ))
+    (kept : Option (Option (List ℕ))) (status : Status) (a b : List Key)
+    (reads reads' : Option (List (List ℕ))) : Type 0 where
+  pub ran : (b ≡ a) ⊎ OfKept kept (λ cache. Ran (setting means held fields cache) key.All a b)
+  pub all : OnEnd status
+      (OfKept kept (λ cache. RanAll (setting means held fields cache) key.All a b))
+  pub read : (reads' ≡ reads)
+      ⊎ OfKept kept (λ cache. HasRead (setting means held fields cache) key.All reads reads')

@@ -8,11 +8,11 @@ ghost use Rattle.step_cache.specs.CacheText.{IsCacheText, is_edition, newest};
 ghost use Rattle.step_engine.specs.Build.{setting, Ran, RanAll, HasRead};
 ghost use Rattle.step_pack.specs.declared.key.Key.TheVariants.{All};
 ghost use Rattle.edk_build.specs.Building.{means, result_status};
-ghost use Rattle.edk_build.specs.Kept.{HasText, IsKept, IsSoundKept, OfKept, StandsFor, StaysSound};
+ghost use Rattle.edk_build.specs.Kept.{HasText, IsKept, IsSoundKept, StandsFor, StaysSound};
 ghost use Rattle.edk_build.specs.Run.{IsComplete, world_of};
-ghost use Rattle.edk_build.specs.KeptBuild.{AsMade, HasEnded, HasFailed, HasStopped, WroteAll, told};
+ghost use Rattle.edk_build.specs.KeptBuild.{AsMade, HasBuilt, HasEnded, HasFailed, HasStopped, RanWanted, WroteAll, told};
 ghost use Rattle.edk_build.specs.Made.{made_outputs};
-ghost use Rattle.edk_build.specs.Statuses.{OnEnd, OnReadFault, OnUnwritten, OnUsage, OnWriteFault};
+ghost use Rattle.edk_build.specs.Statuses.{OnEnd, OnReadFault};
 ghost use Rattle.edk_build.specs.Stops.{IfReadFault, IfUnwritten, IfWriteFault};
 
 use crate::build::{Brought, bring_all};
@@ -351,72 +351,6 @@ fn build_from<H: Threads + Sync, T: Tree, S: Sink, K: Keeper, G: Gate>(
     emit_kept(alloc, &brought, is_kept, sink, keeper)
 }
 
-// Builds from the cache that is kept.
-fn build_loaded<H: Threads + Sync, T: Tree, S: Sink, K: Keeper, G: Gate>(
-    rt: &H,
-    alloc: Global,
-    job: &Job,
-    tree: &mut T,
-    sink: &mut S,
-    keeper: &mut K,
-    gate: &G,
-    book: &mut Book<Key>,
-) -> Status
-    requires job { is_job (job_fields job.now) ≡ true }
-
-    // Where it wrote.
-    ensures ended { OnEnd result
-        (OfKept (K.kept keeper.old) (λ cache. HasEnded (T.held tree.old) job.now cache result
-        (told (S.written sink.old) (K.kept keeper.old) (S.faults sink.old) (K.faults keeper.old))
-        (told (S.written sink.new) (K.kept keeper.new) (S.faults sink.new)
-        (K.faults keeper.new)))) }
-    ensures stopped { OnWriteFault result
-        (OfKept (K.kept keeper.old) (λ cache. HasStopped (T.held tree.old) job.now cache
-        (told (S.written sink.old) (K.kept keeper.old) (S.faults sink.old) (K.faults keeper.old))
-        (told (S.written sink.new) (K.kept keeper.new) (S.faults sink.new)
-        (K.faults keeper.new)))) }
-
-    // Where it didn't.
-    ensures kept { OnUnwritten result (K.kept keeper.new ≡ K.kept keeper.old) }
-    ensures unwritten { OnUnwritten result (S.written sink.new ≡ S.written sink.old) }
-    ensures no_usage { OnUsage result ⊥ }
-
-    // The objects.
-    ensures held { T.held tree.new ≡ T.held tree.old }
-    ensures tree_count { OnEnd result (T.faults tree.new ≡ T.faults tree.old) }
-    ensures sink_count { OnEnd result (S.faults sink.new ≡ S.faults sink.old) }
-    ensures keeper_count { OnEnd result (K.faults keeper.new ≡ K.faults keeper.old) }
-    ensures read_fault { OnReadFault result
-        (Rose (T.faults tree.old) (T.faults tree.new)
-        ⊎ Rose (K.faults keeper.old) (K.faults keeper.new)) }
-    ensures write_fault { OnWriteFault result
-        (Rose (S.faults sink.old) (S.faults sink.new)
-        ⊎ Rose (K.faults keeper.old) (K.faults keeper.new)) }
-
-    // Each step once, and only where wanted.
-    ensures ran { (book.new ≡ book.old)
-        ⊎ OfKept (K.kept keeper.old)
-        (λ cache. Ran (setting means (T.held tree.old) (job_fields job.now) cache) All book.old
-        book.new) }
-    ensures all { OnEnd result
-        (OfKept (K.kept keeper.old)
-        (λ cache. RanAll (setting means (T.held tree.old) (job_fields job.now) cache) All book.old
-        book.new)) }
-    ensures read { (T.reads tree.new ≡ T.reads tree.old)
-        ⊎ OfKept (K.kept keeper.old)
-        (λ cache. HasRead (setting means (T.held tree.old) (job_fields job.now) cache) All
-        (T.reads tree.old) (T.reads tree.new)) }
-{
-    let loaded = match load_cache(alloc, keeper) {
-        Ok(loaded) => loaded,
-        Err(stop) => return stop.status(),
-    };
-    match build_from(rt, alloc, job, loaded, tree, sink, keeper, gate, book) {
-        Ok(status) => status,
-        Err(stop) => stop.status(),
-    }
-}
-
 /// Builds what a job asks for from the cache that is kept, which it loads first, and keeps the one
 /// that it leaves: the text of that is stored after the outputs and before the summary, unless it
 /// is what is kept.
@@ -433,49 +367,18 @@ pub fn build_kept<H: Threads + Sync, T: Tree, S: Sink, K: Keeper, G: Gate>(
     book: &mut Book<Key>,
 ) -> Status
     requires job { is_job (job_fields job.now) ≡ true }
-
-    // Where it wrote.
-    ensures ended { OnEnd result
-        (OfKept (K.kept keeper.old) (λ cache. HasEnded (T.held tree.old) job.now cache result
+    ensures built { HasBuilt (T.held tree.old) job.now result
         (told (S.written sink.old) (K.kept keeper.old) (S.faults sink.old) (K.faults keeper.old))
-        (told (S.written sink.new) (K.kept keeper.new) (S.faults sink.new)
-        (K.faults keeper.new)))) }
-    ensures stopped { OnWriteFault result
-        (OfKept (K.kept keeper.old) (λ cache. HasStopped (T.held tree.old) job.now cache
-        (told (S.written sink.old) (K.kept keeper.old) (S.faults sink.old) (K.faults keeper.old))
-        (told (S.written sink.new) (K.kept keeper.new) (S.faults sink.new)
-        (K.faults keeper.new)))) }
+        (told (S.written sink.new) (K.kept keeper.new) (S.faults sink.new) (K.faults keeper.new)) }
+    ensures steps { RanWanted (T.held tree.old) (job_fields job.now) (K.kept keeper.old) result
+        book.old book.new (T.reads tree.old) (T.reads tree.new) }
 
-    // Where it didn't.
-    ensures kept { OnUnwritten result (K.kept keeper.new ≡ K.kept keeper.old) }
-    ensures unwritten { OnUnwritten result (S.written sink.new ≡ S.written sink.old) }
-    ensures no_usage { OnUsage result ⊥ }
-
-    // The objects.
+    // The tree.
     ensures held { T.held tree.new ≡ T.held tree.old }
     ensures tree_count { OnEnd result (T.faults tree.new ≡ T.faults tree.old) }
-    ensures sink_count { OnEnd result (S.faults sink.new ≡ S.faults sink.old) }
-    ensures keeper_count { OnEnd result (K.faults keeper.new ≡ K.faults keeper.old) }
     ensures read_fault { OnReadFault result
         (Rose (T.faults tree.old) (T.faults tree.new)
         ⊎ Rose (K.faults keeper.old) (K.faults keeper.new)) }
-    ensures write_fault { OnWriteFault result
-        (Rose (S.faults sink.old) (S.faults sink.new)
-        ⊎ Rose (K.faults keeper.old) (K.faults keeper.new)) }
-
-    // Each step once, and only where wanted.
-    ensures ran { (book.new ≡ book.old)
-        ⊎ OfKept (K.kept keeper.old)
-        (λ cache. Ran (setting means (T.held tree.old) (job_fields job.now) cache) All book.old
-        book.new) }
-    ensures all { OnEnd result
-        (OfKept (K.kept keeper.old)
-        (λ cache. RanAll (setting means (T.held tree.old) (job_fields job.now) cache) All book.old
-        book.new)) }
-    ensures read { (T.reads tree.new ≡ T.reads tree.old)
-        ⊎ OfKept (K.kept keeper.old)
-        (λ cache. HasRead (setting means (T.held tree.old) (job_fields job.now) cache) All
-        (T.reads tree.old) (T.reads tree.new)) }
 
     // Where what is kept is sound.
     ensures complete { IfSome (T.held tree.old)
@@ -486,5 +389,12 @@ pub fn build_kept<H: Threads + Sync, T: Tree, S: Sink, K: Keeper, G: Gate>(
         (Rose (S.faults sink.old) (S.faults sink.new)) result)) }
     ensures stays_sound { StaysSound (K.kept keeper.old) (K.kept keeper.new) }
 {
-    build_loaded(rt, alloc, job, tree, sink, keeper, gate, book)
+    let loaded = match load_cache(alloc, keeper) {
+        Ok(loaded) => loaded,
+        Err(stop) => return stop.status(),
+    };
+    match build_from(rt, alloc, job, loaded, tree, sink, keeper, gate, book) {
+        Ok(status) => status,
+        Err(stop) => stop.status(),
+    }
 }
