@@ -113,8 +113,9 @@ impl Store {
             ≡ take count (drop start (store_bytes self.now))) }
     {
         match self {
-            Store::Own(bytes) => Store::of(alloc, part_of(bytes.as_slice(), start, count)),
-            Store::Small(_bytes, _count) => Store::of(alloc, part_of(self.bytes(), start, count)),
+            Store::Own(_) | Store::Small(_, _) => {
+                Store::of(alloc, part_of(self.bytes(), start, count))
+            }
             Store::Shared(bytes) => Ok(Store::Part(Arc::try_clone(bytes)?, start, count)),
             Store::Part(bytes, from, most) => {
                 Store::part_of_part(alloc, bytes, (*from, *most), start, count)

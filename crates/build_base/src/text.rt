@@ -20,8 +20,8 @@ impl From<AllocError> for WantOfMemory {
     }
 }
 
-/// A text of any bytes. One that is made of at most 23 bytes stands in place. The copies of one that
-/// is shared hold the same bytes and take no memory for them.
+/// A text of any bytes. One that is made of at most 23 bytes stands in place. The copies of one
+/// that is shared hold the same bytes and take no memory for them.
 #[derive(Debug, Drop)]
 pub struct Text {
     store: Store,

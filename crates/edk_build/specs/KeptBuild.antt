@@ -153,10 +153,12 @@ pub record HasBuilt (held : Option Files) (job : Job) (status : Status) (old new
 -- Such a build ran each step at most once, and only where it was wanted, and all of these where it
 -- came to its end; it read each path at most once, and only where a needed step asks for it.
 pub record RanWanted (held : Option Files) (fields : List (List ℕ))
-    (kept : Option (Option (List ℕ))) (status : Status) (a b : List Key)
-    (reads reads' : Option (List (List ℕ))) : Type 0 where
-  pub ran : (b ≡ a) ⊎ OfKept kept (λ cache. Ran (setting means held fields cache) key.All a b)
+    (kept : Option (Option (List ℕ))) (status : Status) (ran_before ran_after : List Key)
+    (read_before read_after : Option (List (List ℕ))) : Type 0 where
+  pub ran : (ran_after ≡ ran_before)
+      ⊎ OfKept kept (λ cache. Ran (setting means held fields cache) key.All ran_before ran_after)
   pub all : OnEnd status
-      (OfKept kept (λ cache. RanAll (setting means held fields cache) key.All a b))
-  pub read : (reads' ≡ reads)
-      ⊎ OfKept kept (λ cache. HasRead (setting means held fields cache) key.All reads reads')
+      (OfKept kept (λ cache. RanAll (setting means held fields cache) key.All ran_before ran_after))
+  pub read : (read_after ≡ read_before)
+      ⊎ OfKept kept (λ cache. HasRead (setting means held fields cache) key.All read_before
+          read_after)
