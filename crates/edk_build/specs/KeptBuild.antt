@@ -161,4 +161,4 @@ pub record RanWanted (held : Option Files) (fields : List (List ℕ))
       (OfKept kept (λ cache. RanAll (setting means held fields cache) key.All ran_before ran_after))
   pub read : (read_after ≡ read_before)
       ⊎ OfKept kept (λ cache. HasRead (setting means held fields cache) key.All read_before
-          read_after)
+      read_after)
