@@ -49,7 +49,8 @@ pub fn inf(
 {
     let none = Rows::new(alloc);
     let (lines, permit) = lines_of(alloc, &EdkRules, known, path, &none, &none, permit)?;
-    Ok(Out::Inf(read_inf(alloc, permit, &lines)?))
+    let document = read_inf(alloc, permit, &lines)?;
+    Ok(Out::Inf(Shared::new(alloc, document)?))
 }
 
 // The file that the first answer names.

@@ -46,10 +46,10 @@ const MOST_ROUNDS: u32 = 1026;
 fn round(
     alloc: Global,
     known: &Known<'_, Key, Out>,
-    infs: Rows<InfDoc>,
+    infs: Rows<Shared<InfDoc>>,
     paths: &[Path],
     permit: Permit,
-) -> Result<(Rows<InfDoc>, Permit), Stop<Key>>
+) -> Result<(Rows<Shared<InfDoc>>, Permit), Stop<Key>>
     ensures value { Gives (λ x. x.0) result
         (advance_at key_cmp fits known.now (round_stages infs paths.now)) }
     ensures known { (path : List ℕ) → is_known infs path ≡ true
@@ -73,7 +73,7 @@ fn chosen(
     module: &Module,
     platform: &PlatformDoc,
     own: &[LibraryLine],
-    infs: &Rows<InfDoc>,
+    infs: &Rows<Shared<InfDoc>>,
     permit: Permit,
 ) -> Result<Out, Stop<Key>>
     requires known { is_known infs.now «module».now.inf ≡ true }
@@ -93,7 +93,7 @@ fn rounds(
     known: &Known<'_, Key, Out>,
     module: &Module,
     platform: &PlatformDoc,
-    first: Rows<InfDoc>,
+    first: Rows<Shared<InfDoc>>,
     permit: Permit,
 ) -> Result<Out, Stop<Key>>
     requires { is_known first «module».now.inf ≡ true }

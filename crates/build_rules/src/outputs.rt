@@ -339,7 +339,7 @@ fn base_of_out(out: &Out) -> Result<&[u8], Stop<Key>>
     ensures { GivesIn (λ name. name.now) result (base_of_out out.now) }
 {
     match out {
-        Out::Inf(inf) => Ok(inf.base_name.bytes()),
+        Out::Inf(inf) => Ok(inf.value().base_name.bytes()),
         _ => Err(Stop::Misfit),
     }
 }

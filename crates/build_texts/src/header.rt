@@ -12,6 +12,7 @@ use doc_types::pcd::PcdName;
 use doc_types::values::PcdRow;
 use pcd_resolve::names::is_dynamic;
 use pcd_values::print_value;
+use shared_value::Shared;
 use std::alloc::{AllocError, Global};
 
 /// Adds the first line of both texts.
@@ -27,12 +28,12 @@ pub fn put_title(out: &mut Vec<u8>, user: &Module) -> Result<(), AllocError>
     Ok(())
 }
 
-fn base_name(infs: &[InfDoc]) -> &[u8]
+fn base_name(infs: &[Shared<InfDoc>]) -> &[u8]
     ensures { result.now ≡ base_name infs.now }
 {
     match infs {
         [] => b"".as_slice(),
-        [inf, ..] => inf.base_name.bytes(),
+        [inf, ..] => inf.value().base_name.bytes(),
     }
 }
 

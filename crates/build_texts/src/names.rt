@@ -21,6 +21,7 @@ use pcd_resolve::groups::group;
 use pcd_resolve::marks::{mark, no_marks};
 use pcd_resolve::names::serves;
 use pcd_resolve::packages::packages_of;
+use shared_value::Shared;
 use std::alloc::Global;
 use std::collections::BTreeMap;
 
@@ -153,7 +154,7 @@ fn infs_guids<'a>(
     arch: Arch,
     marks: &[bool],
     table: &IndexMap<Vec<u8>, Vec<DeclaredGuid<'_>>>,
-    infs: &'a [InfDoc],
+    infs: &'a [Shared<InfDoc>],
 ) -> Result<Vec<FoundGuid<'a>>, Refusal>
     requires kept { All (λ inf. All (λ n. is_kept marks.now n.name ≡ true) inf.guids) infs.now }
     ensures { (lines : List Declared)
@@ -162,7 +163,7 @@ fn infs_guids<'a>(
 {
     let mut guids = Vec::new(alloc);
     for inf in infs {
-        let more = inf_guids(alloc, arch, marks, table, inf)?;
+        let more = inf_guids(alloc, arch, marks, table, inf.value())?;
         append(&mut guids, more.as_slice())?;
     }
     Ok(guids)
@@ -178,18 +179,18 @@ fn mark_guids(marks: &mut Vec<bool>, names: &[Named])
     }
 }
 
-fn mark_infs(marks: &mut Vec<bool>, infs: &[InfDoc])
+fn mark_infs(marks: &mut Vec<bool>, infs: &[Shared<InfDoc>])
     ensures { marks.new.items ≡ fold with_guids marks.old.items infs.now }
 {
     let mut left = infs;
     while let [inf, rest @ ..] = left {
-        mark_guids(marks, inf.guids.items());
+        mark_guids(marks, inf.value().guids.items());
         left = rest;
     }
 }
 
 // Marks with the names of all lines.
-fn guid_marks(alloc: Global, infs: &[InfDoc]) -> Result<Vec<bool>, WantOfMemory>
+fn guid_marks(alloc: Global, infs: &[Shared<InfDoc>]) -> Result<Vec<bool>, WantOfMemory>
     ensures { IfOk result
         (λ marks. All (λ inf. All (λ n. is_kept marks.items n.name ≡ true) inf.guids) infs.now) }
 {

@@ -12,6 +12,7 @@ use crate::names::{FoundGuid, by_name};
 use build_base::{Guid, Text, WantOfMemory};
 use doc_types::choice::{Call, Choice};
 use doc_types::module::{InfDoc, Named};
+use shared_value::Shared;
 use std::alloc::{AllocError, Global};
 use std::collections::BTreeMap;
 
@@ -125,12 +126,12 @@ fn put_destructors(out: &mut Vec<u8>, choice: &Choice) -> Result<(), AllocError>
     Ok(())
 }
 
-fn entry_points(infs: &[InfDoc]) -> &[Named]
+fn entry_points(infs: &[Shared<InfDoc>]) -> &[Named]
     ensures { result.now ≡ entry_points infs.now }
 {
     match infs {
         [] => &[],
-        [inf, ..] => inf.entry_points.items(),
+        [inf, ..] => inf.value().entry_points.items(),
     }
 }
 
@@ -146,7 +147,7 @@ fn put_entry_list(out: &mut Vec<u8>, name: &[u8], listed: &[Named]) -> Result<()
 }
 
 #[tactic(auto, unfolding(crate::specs::Code::entry_point_list))]
-fn put_entry_points(out: &mut Vec<u8>, infs: &[InfDoc]) -> Result<(), AllocError>
+fn put_entry_points(out: &mut Vec<u8>, infs: &[Shared<InfDoc>]) -> Result<(), AllocError>
     ensures { OnOk result (out.new.items ≡ out.old.items ++ entry_point_list infs.now) }
 {
     put_entry_list(out, b"EntryPointList", entry_points(infs))?;

@@ -9,6 +9,7 @@ use doc_types::choice::{Call, Choice, Module};
 use doc_types::module::InfDoc;
 use doc_types::platform::PlatformDoc;
 use library_choice::{choose, is_known, next_wanted};
+use shared_value::Shared;
 use std::alloc::Global;
 
 // A round's paths as one line.
@@ -42,11 +43,11 @@ fn tell_choice(page: &mut Page, choice: &Choice) {
 fn add_infs(
     alloc: Global,
     files: &[Output],
-    infs: &mut Rows<InfDoc>,
+    infs: &mut Rows<Shared<InfDoc>>,
     paths: &[Path],
 ) -> Result<(), Stop> {
     for path in paths {
-        infs.push(module_of(alloc, files, path)?)?;
+        infs.push(Shared::new(alloc, module_of(alloc, files, path)?)?)?;
     }
     Ok(())
 }
@@ -60,7 +61,7 @@ fn tell_rounds(
 ) -> Result<(), Stop> {
     let alloc = page.alloc();
     let mut infs = Rows::new(alloc);
-    infs.push(module_of(alloc, files, &module.inf)?)?;
+    infs.push(Shared::new(alloc, module_of(alloc, files, &module.inf)?)?)?;
     for _ in 0..2000 {
         if !is_known(&infs, &module.inf) {
             return Ok(());

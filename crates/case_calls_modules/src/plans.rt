@@ -44,10 +44,11 @@ fn package_read(alloc: Global, files: &[Output], word: &str) -> Result<Package, 
     Ok(Package { path, doc })
 }
 
-fn infs_read(alloc: Global, files: &[Output], paths: &str) -> Result<Rows<InfDoc>, Stop> {
+fn infs_read(alloc: Global, files: &[Output], paths: &str) -> Result<Rows<Shared<InfDoc>>, Stop> {
     let mut infs = Rows::new(alloc);
     for path in paths.split(' ') {
-        infs.push(module_of(alloc, files, &path_of(alloc, path)?)?)?;
+        let module = module_of(alloc, files, &path_of(alloc, path)?)?;
+        infs.push(Shared::new(alloc, module)?)?;
     }
     Ok(infs)
 }

@@ -18,7 +18,7 @@ pub struct Package {
 #[derive(Debug, Drop)]
 pub struct ModuleParts {
     pub module: Module,
-    pub infs: Rows<InfDoc>,
+    pub infs: Rows<Shared<InfDoc>>,
     pub decs: Rows<Package>,
 }
 

@@ -25,6 +25,7 @@ use build_base::{Path, Permit, Place, Refusal, Rows, Same, WantOfMemory, refuse}
 use doc_types::choice::{Call, Choice, Module};
 use doc_types::module::InfDoc;
 use doc_types::platform::{LibraryLine, PlatformDoc};
+use shared_value::Shared;
 use std::alloc::Global;
 
 fn push_calls(alloc: Global, calls: &[Call], out: &mut Vec<Call>) -> Result<(), WantOfMemory>
@@ -240,7 +241,7 @@ pub fn choose_with(
     module: &Module,
     platform: &PlatformDoc,
     own: &[LibraryLine],
-    infs: &Rows<InfDoc>,
+    infs: &Rows<Shared<InfDoc>>,
 ) -> Result<Choice, Refusal>
     requires known { is_known infs.now «module».now.inf ≡ true }
     requires own { own.now ≡ own_lines «module».now platform.now.components }
@@ -266,7 +267,7 @@ pub fn choose(
     permit: Permit,
     module: &Module,
     platform: &PlatformDoc,
-    infs: &Rows<InfDoc>,
+    infs: &Rows<Shared<InfDoc>>,
 ) -> Result<Choice, Refusal>
     requires known { is_known infs.now «module».now.inf ≡ true }
     requires closed { wanted «module».now platform.now infs.now ≡ [] }

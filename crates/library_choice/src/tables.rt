@@ -12,6 +12,7 @@ use build_base::{Path, WantOfMemory};
 use doc_types::module::{InfDoc, Named};
 use doc_types::platform::LibraryLine;
 use indexmap::IndexMap;
+use shared_value::Shared;
 use std::alloc::Global;
 use std::marker::Model;
 
@@ -77,7 +78,7 @@ fn line_places(
     Ok(places)
 }
 
-fn is_there(inf: Option<&InfDoc>) -> bool
+fn is_there(inf: Option<&Shared<InfDoc>>) -> bool
     ensures { result ≡ is_some (option_copied inf.entry) }
 {
     match inf {
@@ -89,7 +90,7 @@ fn is_there(inf: Option<&InfDoc>) -> bool
 // Adds an INF file under its path, unless one above has it.
 fn add_inf(
     alloc: Global,
-    infs: &[InfDoc],
+    infs: &[Shared<InfDoc>],
     place: usize,
     places: &mut IndexMap<Vec<u8>, usize>,
 ) -> Result<(), WantOfMemory>
@@ -97,7 +98,8 @@ fn add_inf(
     ensures { Infs infs.now (take place infs.now) places.old →
         OnOk result (Infs infs.now (take (place + 1) infs.now) places.new) }
 {
-    let key = Vec::from_slice(alloc, infs[place].at.path.bytes())?;
+    let inf = infs[place].value();
+    let key = Vec::from_slice(alloc, inf.at.path.bytes())?;
     if is_there(picked(infs, places, &key)) {
         return Ok(());
     }
@@ -108,7 +110,10 @@ fn add_inf(
 }
 
 // For each path the place of its INF file.
-fn inf_places(alloc: Global, infs: &[InfDoc]) -> Result<IndexMap<Vec<u8>, usize>, WantOfMemory>
+fn inf_places(
+    alloc: Global,
+    infs: &[Shared<InfDoc>],
+) -> Result<IndexMap<Vec<u8>, usize>, WantOfMemory>
     ensures { IfOk result (Infs infs.now infs.now) }
 {
     let mut places = IndexMap::new(alloc);
@@ -124,7 +129,7 @@ pub struct Tables<'a> {
     user: User,
     sections: &'a [LibraryLine],
     own: &'a [LibraryLine],
-    infs: &'a [InfDoc],
+    infs: &'a [Shared<InfDoc>],
     section_places: IndexMap<Vec<u8>, usize>,
     own_places: IndexMap<Vec<u8>, usize>,
     inf_places: IndexMap<Vec<u8>, usize>,
@@ -153,7 +158,7 @@ impl<'a> Tables<'a> {
         user: User,
         sections: &'a [LibraryLine],
         own: &'a [LibraryLine],
-        infs: &'a [InfDoc],
+        infs: &'a [Shared<InfDoc>],
     ) -> Result<Tables<'a>, WantOfMemory>
         ensures { IfOk result
             (λ t. t
@@ -215,7 +220,10 @@ impl<'a> Tables<'a> {
         ensures { IfOk result (λ inf. option_copied inf ≡ known self.now.infs path.now) }
     {
         let key = Vec::from_slice(alloc, path.bytes())?;
-        Ok(picked(self.infs, &self.inf_places, &key))
+        match picked(self.infs, &self.inf_places, &key) {
+            Some(inf) => Ok(Some(inf.value())),
+            None => Ok(None),
+        }
     }
 
     /// The instance for a line of [LibraryClasses] in an INF file.

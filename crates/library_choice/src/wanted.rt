@@ -13,6 +13,7 @@ use build_base::{Path, Rows, Same, WantOfMemory};
 use doc_types::choice::Module;
 use doc_types::module::InfDoc;
 use doc_types::platform::{Component, LibraryLine, PlatformDoc};
+use shared_value::Shared;
 use std::alloc::Global;
 
 #[tactic(auto, unfolding(crate::specs::Closure::is_component))]
@@ -46,12 +47,12 @@ pub fn own_lines<'a>(user: &Module, components: &'a [Component]) -> &'a [Library
 
 /// The INF file of a path, where it is known.
 #[tactic(auto, unfolding(crate::specs::Closure::known))]
-pub fn known<'a>(infs: &'a [InfDoc], path: &Path) -> Option<&'a InfDoc>
+pub fn known<'a>(infs: &'a [Shared<InfDoc>], path: &Path) -> Option<&'a InfDoc>
     ensures { option_copied result ≡ known infs.now path.now }
 {
     for inf in infs {
-        if inf.at.path == *path {
-            return Some(inf);
+        if inf.value().at.path == *path {
+            return Some(inf.value());
         }
     }
     None
@@ -59,7 +60,7 @@ pub fn known<'a>(infs: &'a [InfDoc], path: &Path) -> Option<&'a InfDoc>
 
 /// Whether an INF file is known.
 #[tactic(auto, unfolding(crate::specs::Closure::is_known))]
-pub fn is_known(infs: &Rows<InfDoc>, path: &Path) -> bool
+pub fn is_known(infs: &Rows<Shared<InfDoc>>, path: &Path) -> bool
     ensures { result ≡ is_known infs.now path.now }
 {
     known(infs.items(), path).is_some()
@@ -72,7 +73,7 @@ pub fn setting_of<'a>(
     user: &Module,
     platform: &'a PlatformDoc,
     own: &'a [LibraryLine],
-    infs: &'a [InfDoc],
+    infs: &'a [Shared<InfDoc>],
     inf: &InfDoc,
 ) -> Result<Tables<'a>, WantOfMemory>
     requires { own.now ≡ own_lines user.now platform.now.components }
@@ -137,7 +138,7 @@ pub fn next_wanted_with(
     module: &Module,
     platform: &PlatformDoc,
     own: &[LibraryLine],
-    infs: &Rows<InfDoc>,
+    infs: &Rows<Shared<InfDoc>>,
 ) -> Result<Rows<Path>, WantOfMemory>
     requires known { is_known infs.now «module».now.inf ≡ true }
     requires own { own.now ≡ own_lines «module».now platform.now.components }
@@ -161,7 +162,7 @@ pub fn next_wanted(
     alloc: Global,
     module: &Module,
     platform: &PlatformDoc,
-    infs: &Rows<InfDoc>,
+    infs: &Rows<Shared<InfDoc>>,
 ) -> Result<Rows<Path>, WantOfMemory>
     requires known { is_known infs.now «module».now.inf ≡ true }
     ensures wanted { IfOk result (λ w. w ≡ wanted «module».now platform.now infs.now) }

@@ -86,7 +86,7 @@ fn name_below(
     ensures { GivesIn (λ name. name) result (name_below given.now place line.now platform.now) }
 {
     let (inf, next) = inf_at(alloc, given, place, &line.inf)?;
-    name_described(alloc, given, next, line, platform, &inf)
+    name_described(alloc, given, next, line, platform, inf.value())
 }
 
 // The name of the file of a statement's module, whose answers begin at a place.

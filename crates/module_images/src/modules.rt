@@ -95,7 +95,7 @@ fn plan_below(
     ensures { GivesIn (λ plan. plan) result (plan_below flash.now line.now given.now platform.now) }
 {
     let (inf, _next) = inf_at(alloc, given, 1, &line.inf)?;
-    plan_described(alloc, flash, line, given, platform, &inf)
+    plan_described(alloc, flash, line, given, platform, inf.value())
 }
 
 /// The file of a statement's module, by the answers of what the statement asks.

@@ -9,6 +9,7 @@ use build_base::{Path, Rows};
 use build_stages::{Given, Stop};
 use doc_types::choice::Module;
 use doc_types::module::InfDoc;
+use shared_value::Shared;
 use std::alloc::Global;
 use step_pack::{Key, Out};
 
@@ -19,7 +20,7 @@ pub fn own_inf(
     given: &Given<'_, Out>,
     place: usize,
     module: &Module,
-) -> Result<Rows<InfDoc>, Stop<Key>>
+) -> Result<Rows<Shared<InfDoc>>, Stop<Key>>
     ensures value { GivesIn (λ infs. infs) result (own_inf given.now place «module».now.inf) }
     ensures known { IfOk result (λ infs. is_known infs «module».now.inf ≡ true) }
 {
@@ -33,10 +34,10 @@ pub fn own_inf(
 #[tactic(auto, using(crate::proofs::KnownLemmas::behind_front, crate::proofs::KnownLemmas::known_in_front))]
 pub fn with_more(
     alloc: Global,
-    known: Rows<InfDoc>,
+    known: Rows<Shared<InfDoc>>,
     given: &Given<'_, Out>,
     paths: &[Path],
-) -> Result<Rows<InfDoc>, Stop<Key>>
+) -> Result<Rows<Shared<InfDoc>>, Stop<Key>>
     ensures value { GivesIn (λ infs. infs) result (with_more known given.now paths.now) }
     ensures known { (path : List ℕ) → is_known known path ≡ true
         → IfOk result (λ infs. is_known infs path ≡ true) }

@@ -37,7 +37,7 @@ pub struct Linked {
 #[derive(Drop)]
 pub struct Described {
     pub module: Module,
-    pub infs: Rows<InfDoc>,
+    pub infs: Rows<Shared<InfDoc>>,
     pub packages: Rows<Path>,
 }
 
@@ -70,13 +70,13 @@ pub fn choice_at<'a>(given: &Given<'a, Out>, place: usize) -> Result<(&'a Choice
     Ok((choice_of_out(out)?, next))
 }
 
-fn inf_of_out<'a>(path: &Path, out: &'a Out) -> Result<&'a InfDoc, Stop<Key>>
+fn inf_of_out<'a>(path: &Path, out: &'a Out) -> Result<&'a Shared<InfDoc>, Stop<Key>>
     ensures value { GivesIn (λ inf. inf.now) result (inf_of_out path.now out.now) }
     ensures named { IfOk result (λ inf. pointwise nat_eq inf.now.at.path path.now ≡ true) }
 {
     match out {
         Out::Inf(inf) => {
-            if inf.at.path == *path {
+            if inf.value().at.path == *path {
                 return Ok(inf);
             }
             Err(Stop::Misfit)
@@ -91,7 +91,7 @@ pub fn inf_at(
     given: &Given<'_, Out>,
     place: usize,
     path: &Path,
-) -> Result<(InfDoc, usize), Stop<Key>>
+) -> Result<(Shared<InfDoc>, usize), Stop<Key>>
     ensures value { GivesIn (λ x. x.0) result (inf_at given.now place path.now) }
     ensures next { IfOk result (λ x. x.1 ≡ place + 1) }
     ensures named { IfOk result (λ x. pointwise nat_eq x.0.at.path path.now ≡ true) }
@@ -139,7 +139,7 @@ fn push_inf(
     given: &Given<'_, Out>,
     place: usize,
     path: &Path,
-    infs: &mut Rows<InfDoc>,
+    infs: &mut Rows<Shared<InfDoc>>,
 ) -> Result<usize, Stop<Key>>
     ensures value { (more : Result (List InfModel) Fault)
         → Steps result infs.old infs.new (inf_at given.now place path.now) more }
@@ -156,11 +156,11 @@ fn push_inf(
 #[tactic(auto, unfolding(crate::specs::Parts::taken))]
 pub(crate) fn infs_behind(
     alloc: Global,
-    known: Rows<InfDoc>,
+    known: Rows<Shared<InfDoc>>,
     given: &Given<'_, Out>,
     place: usize,
     paths: &[Path],
-) -> Result<(Rows<InfDoc>, usize), Stop<Key>>
+) -> Result<(Rows<Shared<InfDoc>>, usize), Stop<Key>>
     ensures value { GivesIn (λ x. x.0) result
         (with_front known (infs_from given.now place paths.now)) }
     ensures next { IfOk result (λ x. x.1 ≡ place + length paths.now) }
@@ -182,7 +182,7 @@ pub fn infs_from(
     given: &Given<'_, Out>,
     place: usize,
     paths: &[Path],
-) -> Result<(Rows<InfDoc>, usize), Stop<Key>>
+) -> Result<(Rows<Shared<InfDoc>>, usize), Stop<Key>>
     ensures value { GivesIn (λ x. x.0) result (infs_from given.now place paths.now) }
     ensures next { IfOk result (λ x. x.1 ≡ place + length paths.now) }
 {
@@ -287,7 +287,11 @@ pub(crate) fn each_text(alloc: Global, texts: &[&[u8]]) -> Result<Rows<Text>, Wa
     Ok(rows)
 }
 
-fn named_packages(alloc: Global, arch: Arch, infs: &[InfDoc]) -> Result<Rows<Text>, WantOfMemory>
+fn named_packages(
+    alloc: Global,
+    arch: Arch,
+    infs: &[Shared<InfDoc>],
+) -> Result<Rows<Text>, WantOfMemory>
     ensures { IfOk result (λ names. names ≡ packages_in arch infs.now) }
 {
     let names = packages_in(alloc, arch, infs)?;
@@ -318,7 +322,11 @@ fn each_path(alloc: Global, names: &[Text]) -> Result<Rows<Path>, WantOfMemory>
 
 // The packages that some descriptions name for an architecture, each at its first place.
 #[tactic(auto, unfolding(crate::specs::Parts::package_paths))]
-fn package_paths(alloc: Global, arch: Arch, infs: &[InfDoc]) -> Result<Rows<Path>, WantOfMemory>
+fn package_paths(
+    alloc: Global,
+    arch: Arch,
+    infs: &[Shared<InfDoc>],
+) -> Result<Rows<Path>, WantOfMemory>
     ensures { IfOk result (λ paths. paths ≡ package_paths arch infs.now) }
 {
     let names = named_packages(alloc, arch, infs)?;

@@ -52,7 +52,7 @@ impl Packed for OutForm {
             }
             Out::Inf(document) => {
                 put_byte(1, out)?;
-                InfDocForm::put(document, out)
+                <Shared<InfDocForm>>::put(document, out)
             }
             Out::Platform(document) => {
                 put_byte(2, out)?;
@@ -112,7 +112,7 @@ impl Packed for OutForm {
                 None => Ok(None),
                 Some(document) => Ok(Some(Out::Dec(document))),
             },
-            Some(1) => match InfDocForm::take(alloc, input)? {
+            Some(1) => match <Shared<InfDocForm>>::take(alloc, input)? {
                 None => Ok(None),
                 Some(document) => Ok(Some(Out::Inf(document))),
             },

@@ -18,6 +18,7 @@ use doc_types::module::{InfDoc, Named};
 use doc_types::package::DecPcd;
 use doc_types::parts::ModuleParts;
 use indexmap::IndexMap;
+use shared_value::Shared;
 use std::alloc::Global;
 
 /// A module, the packages that its INFs name for its architecture, each once, and the lines of its
@@ -92,13 +93,13 @@ pub fn packages_of<'a>(
 fn named_in<'a>(
     alloc: Global,
     arch: Arch,
-    infs: &'a [InfDoc],
+    infs: &'a [Shared<InfDoc>],
 ) -> Result<Vec<&'a [u8]>, WantOfMemory>
     ensures { IfOk result (λ v. map (λ p. p.now) v.items ≡ flat_map (packages_of arch) infs.now) }
 {
     let mut paths = Vec::new(alloc);
     for inf in infs {
-        put_packages(arch, inf, &mut paths)?;
+        put_packages(arch, inf.value(), &mut paths)?;
     }
     Ok(paths)
 }
@@ -142,7 +143,7 @@ fn put_each_once<'a>(paths: &mut Vec<&'a [u8]>, more: &[&'a [u8]]) -> Result<(),
 pub fn packages_in<'a>(
     alloc: Global,
     arch: Arch,
-    infs: &'a [InfDoc],
+    infs: &'a [Shared<InfDoc>],
 ) -> Result<Vec<&'a [u8]>, WantOfMemory>
     ensures { IfOk result (λ v. map (λ p. p.now) v.items ≡ packages_in arch infs.now) }
 {

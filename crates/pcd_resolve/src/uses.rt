@@ -10,6 +10,7 @@ use crate::names::serves;
 use build_base::WantOfMemory;
 use doc_types::module::{InfDoc, UsedPcd};
 use doc_types::parts::ModuleParts;
+use shared_value::Shared;
 use std::alloc::Global;
 
 fn put_line<'a>(
@@ -63,14 +64,14 @@ fn put_inf<'a>(
 
 fn put_infs<'a>(
     parts: &'a ModuleParts,
-    infs: &'a [InfDoc],
+    infs: &'a [Shared<InfDoc>],
     uses: &mut Vec<UseAt<'a>>,
 ) -> Result<(), WantOfMemory>
     ensures { OnOk result (map (at_view parts.now) uses.new.items
         ≡ map (at_view parts.now) uses.old.items ++ flat_map (uses_by parts.now) infs.now) }
 {
     for inf in infs {
-        put_inf(parts, inf, uses)?;
+        put_inf(parts, inf.value(), uses)?;
     }
     Ok(())
 }

@@ -27,7 +27,7 @@ pub struct Output {
 #[derive(Debug, Drop)]
 pub enum Out {
     Dec(Shared<DecDoc>),
-    Inf(InfDoc),
+    Inf(Shared<InfDoc>),
     Platform(Shared<PlatformDoc>),
     Flash(Shared<FlashDoc>),
     Choice(Choice),

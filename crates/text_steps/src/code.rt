@@ -21,7 +21,7 @@ use step_pack::Key;
 fn is_component(module: &Module, component: &Component) -> bool
     ensures { result ≡ is_component «module».now component.now }
 {
-    component.inf.bytes() == module.inf.bytes() && serves(component.arch, module.arch)
+    component.inf == module.inf && serves(component.arch, module.arch)
 }
 
 fn component_of<'a>(module: &Module, components: &'a [Component]) -> Option<&'a Component>
@@ -46,12 +46,12 @@ pub fn stated_guid(platform: &PlatformDoc, module: &Module) -> Option<Guid>
     }
 }
 
-fn own_guid(infs: &[InfDoc]) -> Result<Guid, Stop<Key>>
+fn own_guid(infs: &[Shared<InfDoc>]) -> Result<Guid, Stop<Key>>
     ensures { GivesIn (λ guid. guid) result (own_guid infs.now) }
 {
     match infs {
         [] => Err(Stop::Misfit),
-        [inf, ..] => Ok(inf.file_guid),
+        [inf, ..] => Ok(inf.value().file_guid),
     }
 }
 

@@ -15,6 +15,7 @@ use doc_types::module_type::ModuleType;
 use doc_types::parts::{ModuleParts, Package};
 use library_choice::type_covers;
 use pcd_resolve::names::serves;
+use shared_value::Shared;
 use std::alloc::Global;
 use step_pack::Key;
 
@@ -190,14 +191,14 @@ fn each_group(
     arch: Arch,
     kind: ModuleType,
     decs: &[Package],
-    infs: &[InfDoc],
+    infs: &[Shared<InfDoc>],
 ) -> Result<Rows<DepexGroup>, WantOfMemory>
     ensures { IfOk result (λ groups. groups ≡ map (group_of arch kind decs.now) infs.now) }
 {
     let mut groups = Rows::new(alloc);
     let mut left = infs;
     while let [inf, rest @ ..] = left {
-        groups.push(group_of(alloc, arch, kind, decs, inf)?)?;
+        groups.push(group_of(alloc, arch, kind, decs, inf.value())?)?;
         left = rest;
     }
     Ok(groups)
@@ -221,12 +222,12 @@ fn groups_of(
     )
 }
 
-fn own_type(infs: &[InfDoc]) -> Result<ModuleType, Stop<Key>>
+fn own_type(infs: &[Shared<InfDoc>]) -> Result<ModuleType, Stop<Key>>
     ensures { GivesIn (λ kind. kind) result (own_type infs.now) }
 {
     match infs {
         [] => Err(Stop::Misfit),
-        [inf, ..] => Ok(inf.module_type),
+        [inf, ..] => Ok(inf.value().module_type),
     }
 }
 

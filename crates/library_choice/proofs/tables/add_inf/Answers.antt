@@ -8,7 +8,7 @@ use Rattle.library_choice.proofs.tables.add_inf.Goals as goal
 pub returns-then-is_there : goal.returns-then-is_there
 returns-then-is_there c = λ held.
     infs_kept c.args.infs.now c.args.place c.index-infs-place.result c.args.places.now c.in_ok-key.key c.requires c.index-infs-place.is
-    (c.in_ok-key.ensures.items ∙ c.bytes.ensures.text ∙ ap (λ (x : InfDoc). x.at.path) (sym c.index-infs-place.is)) (sym (ap is_some c.picked.ensures) ∙ sym c.is_there.ensures ∙ c.if-is_there.true) held
+    (c.in_ok-key.ensures.items ∙ c.bytes.ensures.text ∙ ap (λ (x : InfDoc). x.at.path) c.value-inf.ensures) (sym (ap is_some c.picked.ensures) ∙ sym c.is_there.ensures ∙ c.if-is_there.true) held
 
 pub returns : goal.returns
 returns c =
@@ -16,7 +16,7 @@ returns c =
       | in-Ok w ↦ λ held.
           rw w.result-is
           (infs_added c.args.infs.now c.args.place c.index-infs-place.result c.args.places.now c.insert.new.self c.in_ok-key.key c.requires c.index-infs-place.is
-          (c.in_ok-key.ensures.items ∙ c.bytes.ensures.text ∙ ap (λ (x : InfDoc). x.at.path) (sym c.index-infs-place.is)) (sym (ap is_some c.picked.ensures) ∙ sym c.is_there.ensures ∙ c.if-is_there.false)
+          (c.in_ok-key.ensures.items ∙ c.bytes.ensures.text ∙ ap (λ (x : InfDoc). x.at.path) c.value-inf.ensures) (sym (ap is_some c.picked.ensures) ∙ sym c.is_there.ensures ∙ c.if-is_there.false)
           w.in-Ok.ensures.updates.0 held)
       | in-Err w ↦ λ held. rw w.result-is tt
     ]
