@@ -33,12 +33,6 @@ over first second a = or_else (first a) (second a)
 abbrev pub one : {K V : Type 0} → (Ask K → Ask K → Bool) → Ask K → V → Ask K → Option V
 one same b x a = if same a b then Some x else None
 
--- the value stands at the key, and all else is as before
-abbrev pub Puts : {Q V : Type 0} → (Q → Q → Ordering) → Q → V → List (Q × V) → List (Q × V) → Type 0
-Puts {Q} cmp k x old new =
-    (q : Q) → lookup (is_at (cmp q)) new
-    ≡ (if is_at (cmp k) q then Some x else lookup (is_at (cmp q)) old)
-
 -- the ask has the value where it had none, and all else is as before
 abbrev pub Notes : {K V : Type 0} → (K → K → Ordering) → Ask K → V → Tables K V → Tables K V
     → Type 0

@@ -1,20 +1,21 @@
 //! Tables with a value for each of some asks.
 ghost use Rattle.std.specs.Prelude.{◌≡◌, None, OnOk};
 ghost use Rattle.std.specs.Option.{option_copied};
-ghost use Rattle.build_stages.specs.Asks.{found_at, Puts, Notes};
+ghost use Rattle.build_stages.specs.Asks.{found_at, Notes};
+ghost use Rattle.step_engine.specs.Table.{Puts};
 
 use build_base::{Path, Rows, Same, WantOfMemory};
 use std::alloc::Global;
 use std::collections::BTreeMap;
 use std::marker::Model;
-use step_engine::{Ask, StepKey};
+use step_engine::{Ask, KeyTable, StepKey};
 
 /// A value for each of some asks: a table of the files, one of the fields and one of the parts.
 #[derive(Drop)]
 pub struct AskTable<K: StepKey, V: Drop> {
     files: BTreeMap<Path, V>,
     fields: BTreeMap<u8, V>,
-    parts: BTreeMap<K, V>,
+    parts: KeyTable<K, V>,
 }
 
 impl<K: StepKey, V: Drop> Model for AskTable<K, V> {
@@ -22,7 +23,7 @@ impl<K: StepKey, V: Drop> Model for AskTable<K, V> {
 
     ghost Value = { Tables K V };
 
-    ghost view = { λ t. (t.files.entries, t.fields.entries, t.parts.entries) };
+    ghost view = { λ t. (t.files.entries, t.fields.entries, t.parts) };
 }
 
 // Puts a value into a table.
@@ -47,7 +48,7 @@ impl<K: StepKey, V: Drop> AskTable<K, V> {
         AskTable {
             files: BTreeMap::new(alloc),
             fields: BTreeMap::new(alloc),
-            parts: BTreeMap::new(alloc),
+            parts: KeyTable::new(alloc),
         }
     }
 
@@ -72,7 +73,7 @@ impl<K: StepKey, V: Drop> AskTable<K, V> {
         match ask {
             Ask::File(path) => put(&mut self.files, path.copy(alloc)?, value),
             Ask::Field(number) => put(&mut self.fields, *number, value),
-            Ask::Part(key) => put(&mut self.parts, key.copy(alloc)?, value),
+            Ask::Part(key) => self.parts.insert(key.copy(alloc)?, value),
         }
     }
 

@@ -6,15 +6,14 @@ ghost use Rattle.step_engine.specs.Table.{IsPlaced};
 
 use build_base::{Same, WantOfMemory};
 use std::alloc::Global;
-use std::collections::BTreeMap;
 use std::marker::Model;
-use step_engine::{Ask, Cache, Pair};
+use step_engine::{Ask, Cache, KeyTable, Pair};
 use step_pack::{Key, Out};
 
-/// The numbers of the answers to parts, seen as the list of both in ascending order of the parts.
+/// The numbers of the answers to parts, seen as the list of both.
 #[derive(Drop)]
 pub(crate) struct Known {
-    map: BTreeMap<Key, u64>,
+    table: KeyTable<Key, u64>,
 }
 
 impl Model for Known {
@@ -23,7 +22,7 @@ impl Model for Known {
 
     ghost Value = { List (KeyOf × ℕ) };
 
-    ghost view = { λ k. k.map.entries };
+    ghost view = { λ k. k.table };
 }
 
 impl Known {
@@ -32,7 +31,7 @@ impl Known {
         ensures { result ≡ [] }
     {
         Known {
-            map: BTreeMap::new(alloc),
+            table: KeyTable::new(alloc),
         }
     }
 
@@ -40,7 +39,7 @@ impl Known {
     pub(crate) fn get(&self, part: &Key) -> Option<u64>
         ensures { result ≡ number_at self.now part.now }
     {
-        match self.map.get(part) {
+        match self.table.get(part) {
             Some(number) => Some(*number),
             None => None,
         }
@@ -50,9 +49,7 @@ impl Known {
     pub(crate) fn note(&mut self, part: Key, number: u64) -> Result<(), WantOfMemory>
         ensures { OnOk result (IsPlaced part number (number_at self.old) (number_at self.new)) }
     {
-        if self.map.insert(part, number).is_err() {
-            return Err(WantOfMemory);
-        }
+        self.table.insert(part, number)?;
         Ok(())
     }
 }

@@ -1,5 +1,6 @@
 -- What a build leaves, over what holds when its key has its outcome.
-use Rattle.std.proofs.Common.{◌≡◌, ℕ, ◌+◌, List, [], ◌∷◌, refl, sym, ap, ◌∙◌, subst, Contains, All, arith, inl, inr, ◌⊎◌, length, length-append, slice_get, Option, Some, None, IsPermutation}
+use Rattle.std.proofs.Common.{◌≡◌, ℕ, ◌+◌, List, [], ◌∷◌, refl, sym, ap, ◌∙◌, subst, Contains, All, arith, inl, inr, ◌⊎◌, length, length-append, slice_get, Option, Some, None, IsPermutation, Result, Ok, Err}
+use Rattle.std.specs.Result.{IsErrAnd}
 use Rattle.std.proofs.lemmas.List.Elements.{All-nil, All-contains, All-weaker, All-contains_itself}
 use Rattle.std.proofs.lemmas.Option.{slice_get_read}
 use Rattle.std.specs.Cmp.{IsTotalOrder}
@@ -12,7 +13,7 @@ use Rattle.step_engine.specs.Meaning.{IsTalk, Asks}
 use Rattle.step_engine.specs.Entries.{IsSound, AreSound, IsValid, IsEntry}
 use Rattle.step_engine.specs.Needed.{IsNeeded, IsStep, IsFull, IsBad, IsNeededEntry, IsOtherEntry, IsLeft, IsNeededCount}
 use Rattle.step_engine.specs.Needed.IsNeededBy.{itself, asked}
-use Rattle.step_engine.specs.Build.{Setting, IsHere, IsEntryOf, RanAll, IsBuilt, Built}
+use Rattle.step_engine.specs.Build.{Setting, IsHere, IsEntryOf, RanAll, IsBuilt, Built, Counts}
 use Rattle.step_engine.specs.Engine.{State, state, AreKept}
 use Rattle.step_engine.specs.Agreeing.{HasTalkParts, Agree}
 use Rattle.step_engine.proofs.Talks.{valid_entry, same_entry, asked_in}
@@ -21,6 +22,8 @@ use Rattle.step_engine.proofs.Caches.{Contains-cons_cases, put_has, put_keeps, p
 use Rattle.step_engine.proofs.Left.{keys, has_key, key_of, length_keys, keys_distinct, left_one, joined_sound}
 use Rattle.step_engine.specs.declared.talk.Outcome.TheVariants.{Good, Bad}
 use Rattle.step_engine.specs.declared.talk.Outcome.{Outcome}
+use Rattle.step_engine.specs.declared.refusal.EngineRefusal.{EngineRefusal}
+use Rattle.step_engine.specs.declared.refusal.EngineRefusal.TheVariants.{ReadFault, WantOfMemory}
 use Rattle.step_engine.specs.declared.talk.Ask.TheVariants as ask
 use Rattle.step_engine.specs.declared.talk.Entry.{Entry}
 use Rattle.std.proofs.lemmas.List.Sorted.{Contains-permutation, IsPermutation-sym}
@@ -280,3 +283,9 @@ no_more (x ∷ xs) e = absurd (omega (arith, e))
 
 pub puts_done : {K O : Type 0} (fresh rest cache : List (Entry K O)) → length rest ≡ 0 → ((e : Entry K O) → Contains cache e → Contains fresh e) → ((e : Entry K O) → Contains fresh e → Contains rest e ⊎ Contains cache e) → AreSame fresh cache
 puts_done fresh rest cache e only all = puts_end fresh rest cache (no_more rest e) only all
+
+-- a build that wants memory behind a result leaves the count of the tree's faults
+pub counts_wanting : {A : Type 0} (r : Result A EngineRefusal) (before now : ℕ) → IsErrAnd r (λ e. e ≡ WantOfMemory) → now ≡ before → Counts before now r
+counts_wanting (Ok x) before now w e = e
+counts_wanting (Err ReadFault) before now w e = absurd (cc)
+counts_wanting (Err WantOfMemory) before now w e = e

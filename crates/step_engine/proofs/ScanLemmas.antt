@@ -1,7 +1,6 @@
 -- Keys under way that are looked at.
 use Rattle.std.proofs.Common.{◌≡◌, ◌++◌, ◌⊎◌, List, [], ◌∷◌, Option, Some, None, refl, sym, ◌∙◌, subst, Contains, All, inl, inr}
 use Rattle.std.proofs.lemmas.List.Elements.{All-nil, All-cons, All-weaker, All-contains, All-contains_itself, Contains-append_cases, Contains-push_cases}
-use Rattle.std.specs.BTreeMap.{BTreeMap}
 use Rattle.std.specs.declared.cmp.Ordering.{Ordering}
 use Rattle.build_base.specs.Outside.{Files}
 use Rattle.step_engine.specs.Turns.{AreLawful}
@@ -139,7 +138,7 @@ module _ {K O : Type 0} (cmp : K → K → Ordering) (pool : Pool K O) (news : L
   pub readies_noted : (old : List (Entry K O)) (book book' : List K) (t : Known K) → ScansAllNoted news old book t book' → ReadiesNoted cmp pool old book t book'
   readies_noted old book book' t n s y law o e r h top x g w = n s y law o e r (under_news s y h) top x g (wanted_news s top w)
 
-  pub able_held : (waiting : List (Waiting K O)) (able : List (Item K O)) (empty : List (Waiting K O)) (parked : BTreeMap K (Queue K O)) → empty ≡ [] → ((a : Item K O) → Holds waiting a → Contains news a ⊎ Holds woken a) → ((a : Item K O) → Contains able a ⊎ Parks cmp parked a → Holds waiting a ⊎ Parks cmp pool.parked a) → (a : Item K O) → Contains able a ⊎ (Holds empty a ⊎ Parks cmp parked a) → IsIn cmp pool a
+  pub able_held : (waiting : List (Waiting K O)) (able : List (Item K O)) (empty : List (Waiting K O)) (parked : List (K × Queue K O)) → empty ≡ [] → ((a : Item K O) → Holds waiting a → Contains news a ⊎ Holds woken a) → ((a : Item K O) → Contains able a ⊎ Parks cmp parked a → Holds waiting a ⊎ Parks cmp pool.parked a) → (a : Item K O) → Contains able a ⊎ (Holds empty a ⊎ Parks cmp parked a) → IsIn cmp pool a
   able_held waiting able empty parked none f m a h =
       let before : Contains able a ⊎ Parks cmp parked a = elim h as (λ _. Contains able a ⊎ Parks cmp parked a) [
         | inl l ↦ inl l
@@ -200,16 +199,16 @@ module _ {K O : Type 0} (cmp : K → K → Ordering) (s : Setting K O) (law : Ar
 top_wanted : {K O : Type 0} (s : Setting K O) (top : K) → AreWanted s top (top ∷ [])
 top_wanted s top = All-cons (IsWanted s top) top [] (λ w i. needed_itself s.means w top) (All-nil (IsWanted s top))
 
-parks_none : {K O : Type 0} (cmp : K → K → Ordering) (m : BTreeMap K (Queue K O)) (a : Item K O) → m.entries ≡ [] → Parks cmp m a → ⊥
+parks_none : {K O : Type 0} (cmp : K → K → Ordering) (m : List (K × Queue K O)) (a : Item K O) → m ≡ [] → Parks cmp m a → ⊥
 parks_none {K} {O} cmp m a e h = absurd (let f : None ≡ Some h.1 = rw e at h.2 in cc)
 
-first_only : {K O : Type 0} (cmp : K → K → Ordering) (pool : Pool K O) → pool.woken.items ≡ [] → pool.parked.entries ≡ [] → (a : Item K O) → IsIn cmp pool a → Contains pool.news.items a
+first_only : {K O : Type 0} (cmp : K → K → Ordering) (pool : Pool K O) → pool.woken.items ≡ [] → pool.parked ≡ [] → (a : Item K O) → IsIn cmp pool a → Contains pool.news.items a
 first_only cmp pool none empty a (inl c) = c
 first_only cmp pool none empty a (inr (inl h)) = absurd (holds_none a (rw none at h))
 first_only cmp pool none empty a (inr (inr h)) = absurd (parks_none cmp pool.parked a empty h)
 
 -- one key is under way
-pub begins : {K O : Type 0} (cmp : K → K → Ordering) (top : K) (keys : List K) (old : List (Entry K O)) (book book' : List K) (t u : Known K) (pool : Pool K O) → keys ≡ top ∷ [] → Opens keys old book t book' u pool.news.items → pool.woken.items ≡ [] → pool.parked.entries ≡ [] → Begins cmp top old book t book' u pool
+pub begins : {K O : Type 0} (cmp : K → K → Ordering) (top : K) (keys : List K) (old : List (Entry K O)) (book book' : List K) (t u : Known K) (pool : Pool K O) → keys ≡ top ∷ [] → Opens keys old book t book' u pool.news.items → pool.woken.items ≡ [] → pool.parked ≡ [] → Begins cmp top old book t book' u pool
 begins {K} {O} cmp top keys old book book' t u pool ks so none empty s y o e r =
     let z = state y.fresh y.learned book' y.reads in
     let l = so s y o e r in

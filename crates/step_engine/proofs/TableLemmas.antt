@@ -2,23 +2,36 @@
 use Rattle.std.proofs.Common.{◌≡◌, ℕ, zero, suc, ◌<◌, ◌++◌, ◌⊎◌, List, [], ◌∷◌, Option, Some, None, Bool, true, false, cond, refl, sym, ap, ◌∙◌, subst, Contains, inl, inr, length, slice_get, get_or, Result, Ok, Err, is_err, OnOk}
 use Rattle.std.proofs.lemmas.Option.{slice_get_within, get_or_from_slice_get, slice_get_read}
 use Rattle.std.proofs.lemmas.List.Elements.{Contains-push_cases, Contains-push, Contains-append_left}
-use Rattle.std.specs.BTreeMap.{BTreeMap, is_at, get, Updates}
+use Rattle.std.specs.BTreeMap.{is_at}
+use Rattle.std.specs.Map.{lookup}
+use Rattle.std.specs.Ordering.{is_eq}
 use Rattle.std.specs.declared.cmp.Ordering.{Ordering}
 use Rattle.std.specs.declared.cmp.Ordering.TheVariants.{Equal}
 use Rattle.std.proofs.lemmas.Map.Views.{tells_apart}
 use Rattle.step_engine.specs.Build.{IsEntryOf}
 use Rattle.step_engine.specs.declared.talk.Entry.{Entry}
-use Rattle.step_engine.specs.Table.{Known, IsPlaced, IsDone, IsStarted, Finds, IsTable}
+use Rattle.step_engine.specs.Table.{Known, Sets, Puts, IsPlaced, IsDone, IsStarted, Finds, IsTable}
 use Rattle.step_engine.specs.declared.places.Place.TheVariants.{Checking, Running, Done}
+
+eq_is : {K : Type 0} (eq : K → K → Bool) (cmp : K → K → Ordering) → ((a b : K) → eq a b ≡ is_eq (cmp a b)) → eq ≡ (λ a. is_at (cmp a))
+eq_is eq cmp law = λ i a b. law a b i
+
+-- what is found by equality is found by the order
+pub found_same : {K V : Type 0} (eq : K → K → Bool) (cmp : K → K → Ordering) → ((a b : K) → eq a b ≡ is_eq (cmp a b)) → (entries : List (K × V)) (k : K) → lookup (eq k) entries ≡ lookup (is_at (cmp k)) entries
+found_same {K} eq cmp law entries k = ap (λ (e : K → K → Bool). lookup (e k) entries) (eq_is eq cmp law)
+
+pub sets_same : {K V : Type 0} (eq : K → K → Bool) (cmp : K → K → Ordering) → ((a b : K) → eq a b ≡ is_eq (cmp a b)) → (k : K) (x : Option V) (old new : List (K × V))
+    → ((j : K) → lookup (eq j) new ≡ cond (eq k j) x (lookup (eq j) old)) → Sets cmp k x old new
+sets_same {K} eq cmp law k x old new h = subst (λ (e : K → K → Bool). (j : K) → lookup (e j) new ≡ cond (e k j) x (lookup (e j) old)) (eq_is eq cmp law) h
 
 placed_case : {K V : Type 0} (cmp : K → K → Ordering) (law : (a b : K) → cmp a b ≡ Equal → a ≡ b) (k j : K) (p : V) (t u : K → Option V) (b : Bool) → is_at (cmp k) j ≡ b → u j ≡ cond b (Some p) (t j) → ((k ≡ j) × (u j ≡ Some p)) ⊎ (u j ≡ t j)
 placed_case cmp law k j p t u true e h = inl (tells_apart law k j e, h)
 placed_case cmp law k j p t u false e h = inr h
 
-pub placed : {K V : Type 0} (cmp : K → K → Ordering) (law : (a b : K) → cmp a b ≡ Equal → a ≡ b) (k : K) (p : V) (m n : BTreeMap K V) → Updates cmp m n k (Some p) → IsPlaced k p (get cmp m) (get cmp n)
-placed cmp law k p m n h = record {
-  here = h.1;
-  cases = λ j. placed_case cmp law k j p (get cmp m) (get cmp n) (is_at (cmp k) j) refl (h.0 j);
+pub placed : {K V : Type 0} (cmp : K → K → Ordering) (law : (a b : K) → cmp a b ≡ Equal → a ≡ b) (k : K) (p : V) (old new : List (K × V)) → Puts cmp k p old new → lookup (is_at (cmp k)) new ≡ Some p → IsPlaced k p (λ j. lookup (is_at (cmp j)) old) (λ j. lookup (is_at (cmp j)) new)
+placed cmp law k p old new puts here = record {
+  here = here;
+  cases = λ j. placed_case cmp law k j p (λ j. lookup (is_at (cmp j)) old) (λ j. lookup (is_at (cmp j)) new) (is_at (cmp k) j) refl (puts j);
 }
 
 pub get_push_old : {A : Type 0} (xs : List A) (y a : A) (i : ℕ) → slice_get xs i ≡ Some a → slice_get (xs ++ y ∷ []) i ≡ Some a

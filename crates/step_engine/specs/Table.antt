@@ -1,5 +1,5 @@
 -- Where the keys of a build stand.
-use Rattle.std.specs.Prelude.{◌≡◌, ℕ, ◌⊎◌, ◌++◌, List, [], ◌∷◌, Option, Some, Contains, slice_get, length}
+use Rattle.std.specs.Prelude.{◌≡◌, ℕ, ◌⊎◌, ◌++◌, List, [], ◌∷◌, Option, Some, Contains, slice_get, length, if◌then◌else◌}
 use Rattle.std.specs.BTreeMap.{is_at}
 use Rattle.std.specs.Map.{lookup}
 use Rattle.std.specs.declared.cmp.Ordering.{Ordering}
@@ -13,6 +13,18 @@ Known K = K → Option Place
 -- what is noted of a key
 abbrev pub place_at : {K : Type 0} → (K → K → Ordering) → List (K × Place) → Known K
 place_at cmp entries k = lookup (is_at (cmp k)) entries
+
+-- this stands at the key, and all else is as before
+abbrev pub Sets : {K V : Type 0} → (K → K → Ordering) → K → Option V → List (K × V)
+    → List (K × V) → Type 0
+Sets {K} cmp k x old new =
+    (j : K) → lookup (is_at (cmp j)) new
+    ≡ (if is_at (cmp k) j then x else lookup (is_at (cmp j)) old)
+
+-- the value stands at the key, and all else is as before
+abbrev pub Puts : {K V : Type 0} → (K → K → Ordering) → K → V → List (K × V) → List (K × V)
+    → Type 0
+Puts cmp k x = Sets cmp k (Some x)
 
 -- at the key stands this, and at all others what stood there
 pub record IsPlaced {K V : Type 0} (k : K) (p : V) (t u : K → Option V) : Type 0 where

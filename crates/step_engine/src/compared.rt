@@ -3,17 +3,17 @@ ghost use Rattle.std.specs.Prelude.{◌≡◌, [], OnOk, OnErr};
 ghost use Rattle.step_engine.specs.Reading.{compared_at};
 ghost use Rattle.step_engine.specs.Table.{IsPlaced};
 
+use crate::key_table::KeyTable;
 use crate::rules::StepKey;
 use build_base::text::WantOfMemory;
 use std::alloc::Global;
-use std::collections::BTreeMap;
 use std::marker::Model;
 
 /// Whether the old answers to a part are its outcome, for each part that was compared, seen as the
-/// list of both in ascending order of the parts.
+/// list of both.
 #[derive(Drop)]
 pub struct Compared<K: StepKey> {
-    map: BTreeMap<K, bool>,
+    table: KeyTable<K, bool>,
 }
 
 impl<K: StepKey> Model for Compared<K> {
@@ -21,7 +21,7 @@ impl<K: StepKey> Model for Compared<K> {
 
     ghost Value = { List (K × Bool) };
 
-    ghost view = { λ c. c.map.entries };
+    ghost view = { λ c. c.table };
 }
 
 impl<K: StepKey> Compared<K> {
@@ -30,7 +30,7 @@ impl<K: StepKey> Compared<K> {
         ensures { result ≡ [] }
     {
         Compared {
-            map: BTreeMap::new(alloc),
+            table: KeyTable::new(alloc),
         }
     }
 
@@ -38,7 +38,7 @@ impl<K: StepKey> Compared<K> {
     pub fn get(&self, part: &K) -> Option<bool>
         ensures { result ≡ compared_at K.cmp self.now part.now }
     {
-        match self.map.get(part) {
+        match self.table.get(part) {
             Some(same) => Some(*same),
             None => None,
         }
@@ -50,9 +50,6 @@ impl<K: StepKey> Compared<K> {
             (IsPlaced part same (compared_at K.cmp self.old) (compared_at K.cmp self.new)) }
         ensures err { OnErr result (self.new ≡ self.old) }
     {
-        if self.map.insert(part, same).is_err() {
-            return Err(WantOfMemory);
-        }
-        Ok(())
+        self.table.insert(part, same)
     }
 }

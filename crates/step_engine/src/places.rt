@@ -2,10 +2,10 @@
 ghost use Rattle.std.specs.Prelude.{◌≡◌, [], OnOk, OnErr};
 ghost use Rattle.step_engine.specs.Table.{place_at, IsPlaced};
 
+use crate::key_table::KeyTable;
 use crate::rules::StepKey;
 use build_base::text::WantOfMemory;
 use std::alloc::Global;
-use std::collections::BTreeMap;
 use std::marker::Model;
 
 /// Where a key stands: its old entry is checked, its step runs, or its entry is made, and has this
@@ -17,11 +17,10 @@ pub enum Place {
     Done(usize),
 }
 
-/// The place of each key that a build has met, seen as the list of both in ascending order of the
-/// keys.
+/// The place of each key that a build has met, seen as the list of both.
 #[derive(Drop)]
 pub struct Places<K: StepKey> {
-    map: BTreeMap<K, Place>,
+    table: KeyTable<K, Place>,
 }
 
 impl<K: StepKey> Model for Places<K> {
@@ -30,7 +29,7 @@ impl<K: StepKey> Model for Places<K> {
 
     ghost Value = { List (K × Place) };
 
-    ghost view = { λ p. p.map.entries };
+    ghost view = { λ p. p.table };
 }
 
 impl<K: StepKey> Places<K> {
@@ -39,7 +38,7 @@ impl<K: StepKey> Places<K> {
         ensures { result ≡ [] }
     {
         Places {
-            map: BTreeMap::new(alloc),
+            table: KeyTable::new(alloc),
         }
     }
 
@@ -47,7 +46,7 @@ impl<K: StepKey> Places<K> {
     pub fn get(&self, key: &K) -> Option<Place>
         ensures { result ≡ place_at K.cmp self.now key.now }
     {
-        match self.map.get(key) {
+        match self.table.get(key) {
             Some(place) => Some(*place),
             None => None,
         }
@@ -59,9 +58,6 @@ impl<K: StepKey> Places<K> {
             (IsPlaced key place (place_at K.cmp self.old) (place_at K.cmp self.new)) }
         ensures err { OnErr result (self.new ≡ self.old) }
     {
-        if self.map.insert(key, place).is_err() {
-            return Err(WantOfMemory);
-        }
-        Ok(())
+        self.table.insert(key, place)
     }
 }

@@ -4,10 +4,10 @@ ghost use Rattle.step_engine.specs.Pooling.{Holds, Parks};
 ghost use Rattle.step_engine.specs.declared.items.Item.{Item};
 
 use crate::items::{Item, Queue, Waiting};
+use crate::key_table::KeyTable;
 use crate::rules::StepKey;
 use build_base::text::WantOfMemory;
 use std::alloc::Global;
-use std::collections::BTreeMap;
 
 /// The keys under way: new ones, those of which a part was done just now, and those that wait for a
 /// part, by that part.
@@ -15,14 +15,14 @@ use std::collections::BTreeMap;
 pub struct Pool<K: StepKey, O: Drop> {
     pub news: Vec<Item<K, O>>,
     pub woken: Vec<Waiting<K, O>>,
-    pub parked: BTreeMap<K, Queue<K, O>>,
+    pub parked: KeyTable<K, Queue<K, O>>,
 }
 
 /// Takes out the keys that wait for a part.
 pub fn taken<K: StepKey, O: Drop>(
     alloc: Global,
     part: &K,
-    parked: &mut BTreeMap<K, Queue<K, O>>,
+    parked: &mut KeyTable<K, Queue<K, O>>,
 ) -> Vec<Waiting<K, O>>
     ensures out { (a : Item K O) → Holds result.items a → Parks K.cmp parked.old a }
     ensures less { (a : Item K O) → Parks K.cmp parked.new a → Parks K.cmp parked.old a }
@@ -38,7 +38,7 @@ pub fn park<K: StepKey, O: Drop>(
     alloc: Global,
     part: K,
     waiting: Waiting<K, O>,
-    parked: &mut BTreeMap<K, Queue<K, O>>,
+    parked: &mut KeyTable<K, Queue<K, O>>,
 ) -> Result<(), WantOfMemory>
     ensures { OnOk result ((a : Item K O) → Parks K.cmp parked.new a → (waiting.item ≡ a)
         ⊎ Parks K.cmp parked.old a) }
@@ -47,9 +47,7 @@ pub fn park<K: StepKey, O: Drop>(
     if list.push(waiting).is_err() {
         return Err(WantOfMemory);
     }
-    if parked.insert(part, Queue { list }).is_err() {
-        return Err(WantOfMemory);
-    }
+    parked.insert(part, Queue { list })?;
     Ok(())
 }
 
@@ -57,7 +55,7 @@ pub fn park<K: StepKey, O: Drop>(
 pub fn wake<K: StepKey, O: Drop>(
     alloc: Global,
     part: &K,
-    parked: &mut BTreeMap<K, Queue<K, O>>,
+    parked: &mut KeyTable<K, Queue<K, O>>,
     woken: &mut Vec<Waiting<K, O>>,
 ) -> Result<(), WantOfMemory>
     ensures { OnOk result ((a : Item K O) → Parks K.cmp parked.new a

@@ -10,9 +10,10 @@ use build_base::rows::Rows;
 use build_base::same::Same;
 use build_base::text::WantOfMemory;
 use std::alloc::Global;
+use std::hash::Hash;
 
 /// The key of a step. Keys that compare equal are the same.
-pub trait StepKey: Same + Ord + Drop + Send + Sync {
+pub trait StepKey: Same + Ord + Hash + Drop + Send + Sync {
     ghost same_key: { (a b : Self) → Self.cmp a b ≡ Equal → a ≡ b };
 }
 

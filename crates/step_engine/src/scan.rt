@@ -7,6 +7,7 @@ ghost use Rattle.step_engine.specs.declared.items.Item.{Item};
 
 use crate::cache::Cache;
 use crate::items::{Item, Queue, Waiting};
+use crate::key_table::KeyTable;
 use crate::open::open_all;
 use crate::places::Places;
 use crate::pool::{Pool, park, wake};
@@ -16,7 +17,6 @@ use crate::wanted::{missing, parts_of};
 use build_base::book::Book;
 use build_base::text::WantOfMemory;
 use std::alloc::Global;
-use std::collections::BTreeMap;
 use std::mem::replace;
 
 // The parts that a key asks for are opened, and then it waits for them.
@@ -79,7 +79,7 @@ fn sort_one<K: StepKey, O: Drop>(
     alloc: Global,
     one: Waiting<K, O>,
     places: &Places<K>,
-    parked: &mut BTreeMap<K, Queue<K, O>>,
+    parked: &mut KeyTable<K, Queue<K, O>>,
     able: &mut Vec<Item<K, O>>,
 ) -> Result<(), WantOfMemory>
     ensures { OnOk result ((a : Item K O) → Contains able.new.items a
@@ -103,7 +103,7 @@ fn sort_all<K: StepKey, O: Drop>(
     alloc: Global,
     waiting: Vec<Waiting<K, O>>,
     places: &Places<K>,
-    parked: &mut BTreeMap<K, Queue<K, O>>,
+    parked: &mut KeyTable<K, Queue<K, O>>,
 ) -> Result<Vec<Item<K, O>>, WantOfMemory>
     ensures { IfOk result (λ able. (a : Item K O) → Contains able.items a
         ⊎ Parks K.cmp parked.new a → Holds waiting.items a ⊎ Parks K.cmp parked.old a) }
@@ -145,7 +145,7 @@ pub fn take_able<R: Rules>(
 fn wake_all<K: StepKey, O: Drop>(
     alloc: Global,
     made: &[Entry<K, O>],
-    parked: &mut BTreeMap<K, Queue<K, O>>,
+    parked: &mut KeyTable<K, Queue<K, O>>,
     woken: &mut Vec<Waiting<K, O>>,
 ) -> Result<(), WantOfMemory>
     ensures { OnOk result ((a : Item K O) → Parks K.cmp parked.new a

@@ -14,6 +14,7 @@ ghost use Rattle.step_engine.specs.Opening.{OpensNoted};
 use crate::advance::count_act;
 use crate::cache::Cache;
 use crate::edits::Edits;
+use crate::key_table::KeyTable;
 use crate::learned::Learned;
 use crate::open::open_all;
 use crate::places::Places;
@@ -30,7 +31,6 @@ use build_base::rows::Rows;
 use build_base::same::Same;
 use build_base::text::{Text, WantOfMemory};
 use std::alloc::Global;
-use std::collections::BTreeMap;
 use std::thread::Threads;
 
 // All keys that are able to go on do, those that are to make a turn in one wave.
@@ -110,7 +110,7 @@ fn begin<K: StepKey, O: Same + Drop>(
     Ok(Pool {
         news,
         woken: Vec::new(alloc),
-        parked: BTreeMap::new(alloc),
+        parked: KeyTable::new(alloc),
     })
 }
 

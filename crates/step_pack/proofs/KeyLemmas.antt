@@ -1,14 +1,16 @@
 -- The order of keys by their variants and the fields that they have.
-use Rattle.std.proofs.Common.{◌≡◌, ℕ, List, refl, sym, ap, ◌∙◌, subst}
-use Rattle.std.specs.Ordering.{nat_cmp, ordering_then}
+use Rattle.std.proofs.Common.{◌≡◌, ◌↔◌, ℕ, List, Bool, true, false, IsTrue, refl, sym, ap, ◌∙◌, subst}
+use Rattle.std.specs.Cmp.{tied_itself}
+use Rattle.std.specs.Ordering.{nat_cmp, ordering_then, is_eq, eq_by_cmp}
 use Rattle.std.specs.declared.cmp.Ordering.{Ordering}
 use Rattle.std.specs.declared.cmp.Ordering.TheVariants.{Less, Equal, Greater}
 use Rattle.std.proofs.lemmas.Map.Lookups.{exact_unsigned}
+use Rattle.std.proofs.lemmas.Map.Views.{tells_apart}
 use Rattle.doc_types.specs.declared.choice.Module.{Module}
 use Rattle.step_pack.specs.declared.key.Key.{Key}
 use Rattle.step_pack.specs.declared.key.Key.TheVariants as key
 use Rattle.step_pack.specs.Keys.{arch_byte, variant, arch_of, path_of, first_of, second_of, number_cmp, path_cmp, fields_cmp, held_cmp, key_cmp}
-use Rattle.step_pack.specs.KeyLaws.{arch_at, key_at, key_back}
+use Rattle.step_pack.specs.KeyLaws.{arch_at, key_at, key_back, keys_exact, keys_total}
 use Rattle.step_pack.proofs.NumberLemmas.{then_equal}
 
 modules_held : (m : Module) (arch : ℕ) (q : List ℕ)
@@ -54,3 +56,12 @@ differing Greater b n = refl
 pub apart : (a b : Key) → (nat_cmp (variant a) (variant b) ≡ Equal → ⊥) → nat_cmp (variant a) (variant b) ≡ key_cmp a b
 unfolding key_cmp
 apart a b n = differing (nat_cmp (variant a) (variant b)) (fields_cmp a b) n
+
+-- keys are the same where they compare equal
+pub same_by_order : (a b : Key) (same : Bool) → IsTrue same ↔ (a ≡ b) → same ≡ eq_by_cmp key_cmp a b
+same_by_order a b true h = sym (subst (λ (k : Key). eq_by_cmp key_cmp a k ≡ true) (h.0 refl) (ap is_eq (tied_itself keys_total a)))
+same_by_order a b false h =
+    elim (eq_by_cmp key_cmp a b) as (λ r. eq_by_cmp key_cmp a b ≡ r → false ≡ r) [
+      | true ↦ λ e. h.1 (tells_apart keys_exact a b e)
+      | false ↦ λ e. refl
+    ] refl

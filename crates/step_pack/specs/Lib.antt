@@ -1,3 +1,4 @@
+pub mod Hashing
 pub mod Keys
 pub mod KeyLaws
 pub mod Packed

@@ -3,6 +3,7 @@ ghost use Rattle.std.specs.Prelude.{◌≡◌};
 ghost use Rattle.std.proofs.Common.{rules};
 ghost use Rattle.std.specs.Cmp.{eq_by_cmp_equiv, partial_equiv_from_equiv, partial_order_from_total};
 ghost use Rattle.std.specs.Ordering.{as_partial_cmp, eq_by_cmp};
+ghost use Rattle.step_pack.specs.Hashing.{key_input, equal_inputs};
 ghost use Rattle.step_pack.specs.KeyLaws.{keys_total};
 ghost use Rattle.step_pack.specs.Keys.{key_cmp, held_cmp, module_cmp, item_cmp, variant, arch_of, path_of, first_of, second_of};
 
@@ -11,6 +12,7 @@ use build_base::{Path, Same, WantOfMemory};
 use doc_types::choice::Module;
 use std::alloc::Global;
 use std::cmp::Ordering;
+use std::hash::{Hash, Hasher};
 
 /// A step of a build. `File(v, i)` is item i of volume v, `Based(v)` is volume v moved to its base;
 /// volumes, items and devices count from 0.
@@ -149,12 +151,26 @@ impl PartialEq for Key {
     ghost laws = { partial_equiv_from_equiv (eq_by_cmp_equiv keys_total) };
 
     fn eq(&self, other: &Key) -> bool {
-        self.cmp(other).is_eq()
+        self.same(other)
     }
 }
 
 impl Eq for Key {
     ghost laws = { eq_by_cmp_equiv keys_total };
+}
+
+impl Hash for Key {
+    ghost hash_input = { key_input };
+
+    ghost respects_eq = { equal_inputs };
+
+    fn hash<H: Hasher>(&self, state: &mut H) {
+        state.write_u8(self.variant());
+        state.write_u8(self.arch());
+        state.write_u32(self.first());
+        state.write_u32(self.second());
+        state.write(self.path());
+    }
 }
 
 impl PartialOrd for Key {

@@ -1,11 +1,11 @@
 -- The promises of a build.
-use Rattle.std.proofs.Common.{refl, ap, length}
+use Rattle.std.proofs.Common.{refl, sym, ap, ◌∙◌, length, true≢false}
 use Rattle.step_engine.specs.Build.{setting}
 use Rattle.step_engine.specs.Edits.{over}
 use Rattle.step_engine.specs.Engine.{state}
 use Rattle.step_engine.specs.Reading.{knowledge}
 use Rattle.step_engine.specs.Table.{place_at}
-use Rattle.step_engine.proofs.Ending.{begun, ready_none, kept_none, one_each, end_of, end_all, end_joined, end_sound, end_joined_sound, built_good, built_bad, unchanged_good, unchanged_bad}
+use Rattle.step_engine.proofs.Ending.{counts_wanting, begun, ready_none, kept_none, one_each, end_of, end_all, end_joined, end_sound, end_joined_sound, built_good, built_bad, unchanged_good, unchanged_bad}
 use Rattle.step_engine.proofs.AgreeLemmas.{made_agree}
 use Rattle.step_engine.proofs.brought.bring_over.Goals as goal
 
@@ -140,7 +140,7 @@ returns-clause-built g c =
     let e = end_of s c.args.top x z t u c.in_ok-result.result c.in_ok-made.made b on same in
     let y = state c.in_ok-made.made z.learned z.ran z.reads in
     let ord = g.met.R.Key.Ord g.world.𝓛 g.world.𝓜 g.world.𝓡 ((λ s x. x), (λ x. x), (λ x. x), λ x. x) in
-    built_good s c.args.top y on.added c.in_ok-result.result e g.R.Key.Ord.cmp ord.total c.entries.ensures.sorted _ (ap length c.entries.ensures.all) (λ b. let h = c.if-is_bad.ensures.1 b in cc)
+    built_good s c.args.top y on.added c.in_ok-result.result e g.R.Key.Ord.cmp ord.total c.entries.ensures.sorted _ (ap length c.entries.ensures.all) (λ b. true≢false (sym (c.if-is_bad.ensures.1 b)))
 
 pub returns-then-is_bad-clause-built : goal.returns-then-is_bad-clause-built
 returns-then-is_bad-clause-built g c =
@@ -243,3 +243,12 @@ returns-then-is_bad-clause-unchanged g c =
     let same = c.in_ok-made.ensures.same (one_each u on.added z.fresh on.table) in
     let ord = g.met.R.Key.Ord g.world.𝓛 g.world.𝓜 g.world.𝓡 ((λ s x. x), (λ x. x), (λ x. x), λ x. x) in
     λ q. unchanged_bad s c.args.top x z u on g.R.Key.Ord.cmp ord.total c.in_ok-made.made same c.in_ok-left.left c.in_ok-left.ensures.joined c.is_idle-unchanged.ensures.order c.is_idle-unchanged.ensures.sorted _ (ap length c.ran-first.ensures) (c.is_idle-unchanged.ensures.idle.0 q)
+
+pub returns-then-is_bad-clause-told : goal.returns-then-is_bad-clause-told
+returns-then-is_bad-clause-told g c = λ same left. c.is_idle-unchanged.ensures.idle.1 (ap length same ∙ ap length (sym c.ran-first.ensures), ap length left)
+
+pub returns-clause-told : goal.returns-clause-told
+returns-clause-told g c = λ same left. c.is_idle-unchanged-2.ensures.idle.1 (ap length same ∙ ap length (sym c.ran-first.ensures), ap length left)
+
+pub returns-in_err-left-clause-count : goal.returns-in_err-left-clause-count
+returns-in_err-left-clause-count g c = counts_wanting c.from_residual-in_err-left.result _ _ c.from_residual-in_err-left.ensures.1 c.in_ok-result.ensures.count

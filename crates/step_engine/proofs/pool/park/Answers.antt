@@ -1,8 +1,7 @@
 -- The queue has one more key.
 use Rattle.std.proofs.Common.{refl}
-use Rattle.step_engine.proofs.TableLemmas.{on_ok}
 use Rattle.step_engine.proofs.PoolLemmas.{parked_more}
 use Rattle.step_engine.proofs.pool.park.Goals as goal
 
 pub returns : goal.returns
-returns g c = parked_more g.K.Ord.cmp c.args.part c.args.parked.now c.taken-list.new.parked c.insert.new.self c.taken-list.result.items c.args.waiting (record { list = c.push.new.self }) c.taken-list.ensures.out c.taken-list.ensures.less (rw (c.push.ensures.items, c.if-is_err.ensures.negation) refl) (on_ok _ _ c.if-is_err-2.ensures.value c.insert.ensures.updates)
+returns g c = parked_more g.K.Ord.cmp c.args.part c.args.parked.now c.taken-list.new.parked c.insert.new.self c.taken-list.result.items c.args.waiting (record { list = c.push.new.self }) c.taken-list.ensures.out c.taken-list.ensures.less (rw (c.push.ensures.items, c.if-is_err.ensures.negation) refl) c.in_ok-insert.ensures.puts

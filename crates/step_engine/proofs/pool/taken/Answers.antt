@@ -7,10 +7,10 @@ pub returns-in-Some-clause-out : goal.returns-in-Some-clause-out
 returns-in-Some-clause-out g c = λ a h. (c.args.part.now, c.in-Some.queue, sym c.remove.ensures.value ∙ c.in-Some.is, h)
 
 pub returns-in-Some-clause-less : goal.returns-in-Some-clause-less
-returns-in-Some-clause-less g c = taken_less g.K.Ord.cmp c.args.part.now c.args.parked.now c.remove.new.self c.remove.ensures.updates
+returns-in-Some-clause-less g c = taken_less g.K.Ord.cmp c.args.part.now c.args.parked.now c.remove.new.self c.remove.ensures.sets
 
 pub returns-in-None-clause-out : goal.returns-in-None-clause-out
 returns-in-None-clause-out g c = λ a h. absurd (holds_none a (rw c.new.ensures.items at h))
 
 pub returns-in-None-clause-less : goal.returns-in-None-clause-less
-returns-in-None-clause-less g c = taken_less g.K.Ord.cmp c.args.part.now c.args.parked.now c.remove.new.self c.remove.ensures.updates
+returns-in-None-clause-less g c = taken_less g.K.Ord.cmp c.args.part.now c.args.parked.now c.remove.new.self c.remove.ensures.sets

@@ -22,4 +22,4 @@ returns-clause-noted g c =
 pub returns-clause-ok : goal.returns-clause-ok
 returns-clause-ok g c =
     let ks : c.push.new.self.items ≡ c.args.top.now ∷ [] = rw (c.push.ensures.items, c.if-is_err.ensures.negation, c.new-keys.ensures.items, c.in_ok-key.ensures) refl in
-    begins _ _ _ _ _ _ _ _ (record { news = c.in_ok-news.news; woken = c.new.result; parked = c.new-2.result }) ks c.in_ok-news.ensures.ok c.new.ensures.items c.new-2.ensures.empty
+    begins _ _ _ _ _ _ _ _ (record { news = c.in_ok-news.news; woken = c.new.result; parked = c.new-2.result }) ks c.in_ok-news.ensures.ok c.new.ensures.items c.new-2.ensures

@@ -1,6 +1,7 @@
+-- What is noted of a part.
 use Rattle.std.proofs.Common.{List, ℕ, subst}
 use Rattle.step_engine.specs.Table.{IsPlaced}
-use Rattle.step_engine.proofs.TableLemmas.{placed, on_ok}
+use Rattle.step_engine.proofs.TableLemmas.{placed}
 use Rattle.step_pack.specs.KeyLaws.{keys_exact}
 use Rattle.step_pack.specs.Keys.{key_cmp}
 use Rattle.step_pack.specs.declared.key.Key.{Key}
@@ -9,5 +10,5 @@ use Rattle.step_cache.proofs.known.Known.note.Goals as goal
 
 pub returns : goal.returns
 returns c =
-    subst (λ (old : List (Key × ℕ)). IsPlaced c.args.part c.args.number (number_at old) (number_at c.insert.new.self.entries)) c.self.view_is
-    (placed key_cmp keys_exact _ _ c.self.inside.map c.insert.new.self (on_ok _ _ c.if-is_err.ensures.value c.insert.ensures.updates))
+    subst (λ (old : List (Key × ℕ)). IsPlaced c.args.part c.args.number (number_at old) (number_at c.insert.new.self)) c.self.view_is
+    (placed key_cmp keys_exact c.args.part c.args.number c.self.inside.table c.insert.new.self c.in_ok-insert.ensures.puts c.in_ok-insert.ensures.here)
