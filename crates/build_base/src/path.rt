@@ -130,6 +130,7 @@ impl Path {
     }
 
     /// Its text.
+    #[inline(always)]
     pub fn bytes(&self) -> &[u8]
         ensures text { result.now ≡ self.now }
         ensures form { IsPath self.now }

@@ -72,6 +72,7 @@ impl Store {
         }
     }
 
+    #[inline(always)]
     pub(crate) fn bytes(&self) -> &[u8]
         ensures { result.now ≡ store_bytes self.now }
     {

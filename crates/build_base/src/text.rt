@@ -75,6 +75,7 @@ impl Text {
     }
 
     /// Its bytes.
+    #[inline(always)]
     pub fn bytes(&self) -> &[u8]
         ensures { result.now ≡ self.now }
     {

@@ -7,7 +7,7 @@ abbrev pub tail_of : List ℕ → List ℕ
 tail_of name = drop (length name - 8) name
 
 abbrev pub step : ℕ → ℕ → ℕ
-step place byte = (place * 31 + byte) % 16384
+step place byte = (place * 31 + byte) % 2048
 
 -- the place to which a name comes, by its last bytes
 unfoldable pub place_of : List ℕ → ℕ

@@ -21,7 +21,7 @@ fn place_in(tail: &[u8]) -> usize
 {
     let mut place = 0;
     for byte in tail {
-        place = (place * 31 + *byte as usize) % 16384;
+        place = (place * 31 + *byte as usize) % 2048;
     }
     place
 }
@@ -35,10 +35,10 @@ fn place_of(name: &[u8]) -> usize
 
 /// Marks where none is set.
 pub fn no_marks(alloc: Global) -> Result<Vec<bool>, WantOfMemory>
-    ensures { IfOk result (λ marks. length marks.items ≡ 16384) }
+    ensures { IfOk result (λ marks. length marks.items ≡ 2048) }
 {
     let mut marks = Vec::new(alloc);
-    marks.resize(16384, false)?;
+    marks.resize(2048, false)?;
     Ok(marks)
 }
 

@@ -42,6 +42,7 @@ fn add_line<'a>(
     Ok(())
 }
 
+#[inline(always)]
 fn add_lines<'a>(
     alloc: Global,
     marks: &[bool],
@@ -59,6 +60,7 @@ fn add_lines<'a>(
     Ok(())
 }
 
+#[inline(always)]
 fn add_component<'a>(
     alloc: Global,
     marks: &[bool],

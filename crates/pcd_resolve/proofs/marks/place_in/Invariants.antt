@@ -4,6 +4,6 @@ use Rattle.pcd_resolve.proofs.marks.place_in.Given as goal
 
 abbrev pub invariant-loop-byte : goal.invariant-loop-byte
 invariant-loop-byte l = record {
-  below : l.place < 16384;
+  below : l.place < 2048;
   left : fold step l.place (drop l.byte-index l.tail) ≡ fold step 0 l.tail;
 }
