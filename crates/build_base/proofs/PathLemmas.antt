@@ -1,5 +1,5 @@
 -- A path's form, segment by segment.
-use Rattle.std.proofs.Common.{◌≡◌, ◌∷◌, [], ◌++◌, IsTrue, refl, Bool, Some, None, cond, unwrap_or, nat_lt, ◌==◌, ◌+◌, ◌<◌, ◌&&◌, List, ℕ, length, take, drop, get_or, ap, sym, ◌∙◌, subst, false, true, arith}
+use Rattle.std.proofs.Common.{◌≡◌, ◌∷◌, [], ◌++◌, IsTrue, refl, Bool, Some, None, cond, unwrap_or, nat_lt, ◌==◌, ◌+◌, ◌<◌, ◌&&◌, List, ℕ, nat_eq, rules, length, take, drop, get_or, ap, sym, ◌∙◌, subst, false, true, arith}
 use Rattle.std.proofs.lemmas.List.{take-append-drop, at_drop_more}
 use Rattle.std.specs.List.{position, position_or_len, list_all, slice_split, onto_first, All}
 use Rattle.std.proofs.lemmas.List.Splits.{slice_split_first, slice_split_none, length-slice_split}
@@ -7,6 +7,8 @@ use Rattle.std.proofs.lemmas.List.Folds.{list_all-append}
 use Rattle.std.proofs.lemmas.List.Sums.{fails_before_first, prefix_len-le-length}
 use Rattle.std.proofs.lemmas.Bool.Decides.{nat_tests}
 use Rattle.std.proofs.Math.Bool.{and-true}
+use Rattle.std.specs.Cmp.Lexicographic.{pointwise}
+use Rattle.build_base.specs.Digest.{digest}
 use Rattle.build_base.specs.Path.{IsPath, is_path, is_segment}
 
 pub is_path_last : (xs : List ℕ) → position_or_len (λ byte. byte == 47) xs ≡ length xs → is_path xs ≡ is_segment xs
@@ -70,3 +72,14 @@ is_path_front xs i l e h =
     before_slash (take i xs) (drop (i + 1) xs) (subst IsPath split h)
 
 pub ruleset path_joins = (IsPath-join)
+
+-- texts with different digests are different
+pub other_digest : (xs ys : List ℕ) (m n : ℕ) → m ≡ digest xs → n ≡ digest ys → nat_eq m n ≡ false → pointwise nat_eq xs ys ≡ false
+other_digest xs ys m n of_xs of_ys differ = step (pointwise nat_eq xs ys) refl
+  where
+    step : (b : Bool) → pointwise nat_eq xs ys ≡ b → b ≡ false
+    step true e =
+        let same : xs ≡ ys = search (rules, e) in
+        let numbers : m ≡ n = of_xs ∙ ap digest same ∙ sym of_ys in
+        absurd (search (rules, differ, numbers))
+    step false e = refl

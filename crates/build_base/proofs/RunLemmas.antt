@@ -60,7 +60,7 @@ pub blank_left : (runs : List Run) (i : ℕ) (run : Run) → i < length runs →
 blank_left runs i run h e b = blank_next run (drop (i + 1) runs) (sym (ap are_blank (head_drop runs i run h e)) ∙ b)
 
 -- a suffix, as a range gives it
-tail_is : {X : Type 0} (xs : List X) (k : ℕ) → take (length xs - k) (drop k xs) ≡ drop k xs
+pub tail_is : {X : Type 0} (xs : List X) (k : ℕ) → take (length xs - k) (drop k xs) ≡ drop k xs
 tail_is xs k = take_all (length xs - k) (drop k xs) (omega (arith, length-drop k xs))
 
 pub runs_tail : (runs : List Run) (k : ℕ) → runs_bytes (take (length runs - k) (drop k runs)) ≡ runs_bytes (drop k runs)

@@ -1,5 +1,6 @@
 pub mod Path
 pub mod Outside
+pub mod Digest
 pub mod FaultText
 pub mod Keeping
 pub mod Guid

@@ -8,18 +8,23 @@ ghost use Rattle.std.specs.Cmp.{partial_order_from_own_ties};
 ghost use Rattle.std.specs.Cmp.Rules.{comparing};
 ghost use Rattle.std.specs.Cmp.Lexicographic.{pointwise, slice_cmp};
 ghost use Rattle.std.specs.Ordering.{nat_cmp, as_partial_cmp};
+ghost use Rattle.build_base.specs.Digest.{digest, path_input, equal_paths};
 ghost use Rattle.build_base.specs.Path.{IsPath, IsPathField, path_field, folder_of, folder_size, is_path, is_segment, is_dots, is_path_byte};
 
+use crate::bytes::digest;
 use crate::same::Same;
 use crate::text::{Text, WantOfMemory};
 use std::alloc::Global;
 use std::cmp::Ordering;
+use std::hash::{Hash, Hasher};
 use std::marker::Model;
 
-/// A file in the workspace, from its root: segments joined by single slashes.
+/// A file in the workspace, from its root: segments joined by single slashes. It knows a number of
+/// its text, so that other paths are mostly told apart without a look at their bytes.
 #[derive(Debug, Drop)]
 pub struct Path {
     text: Text,
+    mark: u64,
 }
 
 impl Model for Path {
@@ -27,11 +32,13 @@ impl Model for Path {
 
     ghost Value = { List ℕ };
 
+    ghost use Rattle.std.specs.Prelude.{◌≡◌};
+    ghost use Rattle.build_base.specs.Digest.{digest};
     ghost use Rattle.build_base.specs.Path.{IsPath};
 
     ghost view = { λ p. p.text };
 
-    ghost invariant = { λ p. IsPath p.text };
+    ghost invariant = { λ p. IsPath p.text × (p.mark ≡ digest p.text) };
 }
 
 /// Why a text is no path.
@@ -102,6 +109,14 @@ pub fn is_path(text: &[u8]) -> bool
 }
 
 impl Path {
+    fn made(text: Text) -> Path
+        requires { IsPath text }
+        ensures { result ≡ text }
+    {
+        let mark = digest(text.bytes());
+        Path { text, mark }
+    }
+
     /// The path that a field of a document names: at most 512 bytes.
     pub fn new(alloc: Global, text: &[u8]) -> Result<Path, PathRefusal>
         ensures path { IfOk result (λ p. p ≡ text.now) }
@@ -112,7 +127,7 @@ impl Path {
             return Err(PathRefusal::BadPath);
         }
         match Text::of(alloc, text) {
-            Ok(text) => Ok(Path { text }),
+            Ok(text) => Ok(Path::made(text)),
             Err(_) => Err(PathRefusal::WantOfMemory),
         }
     }
@@ -123,7 +138,7 @@ impl Path {
             (λ p. (p ≡ text) × (is_path text ≡ true)) }
     {
         if is_path(text.bytes()) {
-            Some(Path { text })
+            Some(Path::made(text))
         } else {
             None
         }
@@ -138,6 +153,14 @@ impl Path {
         self.text.bytes()
     }
 
+    /// A number of its text; others may have it too.
+    #[inline(always)]
+    pub fn digest(&self) -> u64
+        ensures { result ≡ digest self.now }
+    {
+        self.mark
+    }
+
     /// The path of a file below this one, taken as a folder.
     #[tactic(auto, using(crate::proofs::PathLemmas::path_joins))]
     pub fn join(&self, alloc: Global, more: &Path) -> Result<Path, WantOfMemory>
@@ -146,9 +169,7 @@ impl Path {
     {
         let mut bytes = Vec::from_slice(alloc, self.bytes())?;
         push_segment(&mut bytes, more.bytes())?;
-        Ok(Path {
-            text: Text::of(alloc, bytes.as_slice())?,
-        })
+        Ok(Path::made(Text::of(alloc, bytes.as_slice())?))
     }
 }
 
@@ -176,9 +197,7 @@ impl Path {
         if size == 0 {
             return Ok(None);
         }
-        Ok(Some(Path {
-            text: Text::of(alloc, &bytes[..size - 1])?,
-        }))
+        Ok(Some(Path::made(Text::of(alloc, &bytes[..size - 1])?)))
     }
 }
 
@@ -197,11 +216,12 @@ impl Same for Path {
     fn copy(&self, alloc: Global) -> Result<Path, WantOfMemory> {
         Ok(Path {
             text: self.text.copy(alloc)?,
+            mark: self.mark,
         })
     }
 
     fn same(&self, other: &Path) -> bool {
-        self.bytes() == other.bytes()
+        self == other
     }
 }
 
@@ -210,13 +230,25 @@ impl PartialEq for Path {
 
     ghost laws = { Prim.search (comparing, rules) };
 
+    #[inline(always)]
+    #[tactic(auto, using(crate::proofs::PathLemmas::other_digest))]
     fn eq(&self, other: &Path) -> bool {
-        self.bytes() == other.bytes()
+        self.mark == other.mark && self.bytes() == other.bytes()
     }
 }
 
 impl Eq for Path {
     ghost laws = { Prim.search (comparing, rules) };
+}
+
+impl Hash for Path {
+    ghost hash_input = { path_input };
+
+    ghost respects_eq = { equal_paths };
+
+    fn hash<H: Hasher>(&self, state: &mut H) {
+        state.write_u64(self.mark);
+    }
 }
 
 impl PartialOrd for Path {

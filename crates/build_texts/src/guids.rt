@@ -6,7 +6,7 @@ ghost use Rattle.build_texts.specs.Guids.{guid_text, byte_numbers, initializer};
 
 use build_base::{Guid, WantOfMemory};
 use doc_types::pcd::Datum;
-use pcd_values::print_value;
+use pcd_values::{print_value, put_byte_number};
 use std::alloc::{AllocError, Global};
 use uuid::Uuid;
 
@@ -31,27 +31,27 @@ pub fn put_number(alloc: Global, out: &mut Vec<u8>, bytes: &[u8]) -> Result<(), 
     Ok(())
 }
 
-fn put_rest(alloc: Global, out: &mut Vec<u8>, bytes: &[u8]) -> Result<(), WantOfMemory>
+fn put_rest(out: &mut Vec<u8>, bytes: &[u8]) -> Result<(), AllocError>
     ensures { OnOk result (out.new.items ≡ out.old.items
         ++ flat_map (λ c. codes ", " ++ number_text (c ∷ [])) bytes.now) }
 {
     let mut left = bytes;
     while let [byte, rest @ ..] = left {
         out.extend_from_slice(b", ")?;
-        put_number(alloc, out, &[*byte])?;
+        put_byte_number(out, *byte)?;
         left = rest;
     }
     Ok(())
 }
 
-fn put_bytes(alloc: Global, out: &mut Vec<u8>, bytes: &[u8]) -> Result<(), WantOfMemory>
+fn put_bytes(out: &mut Vec<u8>, bytes: &[u8]) -> Result<(), AllocError>
     ensures { OnOk result (out.new.items ≡ out.old.items ++ byte_numbers bytes.now) }
 {
     match bytes {
         [] => Ok(()),
         [first, rest @ ..] => {
-            put_number(alloc, out, &[*first])?;
-            put_rest(alloc, out, rest)?;
+            put_byte_number(out, *first)?;
+            put_rest(out, rest)?;
             Ok(())
         }
     }
@@ -80,11 +80,11 @@ fn put_third(alloc: Global, out: &mut Vec<u8>, guid: &[u8; 16]) -> Result<(), Wa
     Ok(())
 }
 
-fn put_last(alloc: Global, out: &mut Vec<u8>, guid: &[u8; 16]) -> Result<(), WantOfMemory>
+fn put_last(out: &mut Vec<u8>, guid: &[u8; 16]) -> Result<(), AllocError>
     ensures { OnOk result (out.new.items ≡ out.old.items ++ byte_numbers (drop 8 guid.now)) }
 {
     let (_, last) = guid.as_slice().split_at(8);
-    put_bytes(alloc, out, last)?;
+    put_bytes(out, last)?;
     Ok(())
 }
 
@@ -104,7 +104,7 @@ pub fn put_initializer(
     out.extend_from_slice(b", ")?;
     put_third(alloc, out, guid)?;
     out.extend_from_slice(b", {")?;
-    put_last(alloc, out, guid)?;
+    put_last(out, guid)?;
     out.extend_from_slice(b"}}")?;
     Ok(())
 }

@@ -2,7 +2,6 @@ pub mod CallerLemmas
 pub mod CountLemmas
 pub mod FallLemmas
 pub mod FoundLemmas
-pub mod FoundTable
 pub mod InsideLemmas
 pub mod LawLemmas
 pub mod LedLemmas

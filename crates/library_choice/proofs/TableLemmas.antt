@@ -2,7 +2,6 @@
 use Rattle.std.proofs.Common.{◌≡◌, ◌∙◌, ℕ, ◌+◌, ◌<◌, ◌≤◌, Bool, true, false, cond, nat_eq, nat_lt, List, [], ◌∷◌, ◌++◌, length, take, get_or, Option, Some, None, refl, sym, ap, subst, arith, add-one}
 use Rattle.std.specs.Prelude.{find, is_some}
 use Rattle.std.specs.Option.{option_or}
-use Rattle.std.specs.Global.{Vec}
 use Rattle.std.specs.HashMap.{HashMap, get}
 use Rattle.std.specs.Cmp.Lexicographic.{pointwise, same_text}
 use Rattle.std.proofs.Math.Seq.{take-suc}
@@ -56,11 +55,11 @@ some-either true r h = refl
 some-either false r h = absurd (omega (arith, h))
 
 -- a line that doesn't hold
-pub lines_skipped : {S : Type 0} (user : User) (own : Bool) (lines : List LibraryLine) (i : ℕ) (line : LibraryLine) (table : HashMap (Vec ℕ) ℕ S)
+pub lines_skipped : {S : Type 0} (user : User) (own : Bool) (lines : List LibraryLine) (i : ℕ) (line : LibraryLine) (table : HashMap (List ℕ) ℕ S)
     → i < length lines → line ≡ get_or lines i line → rank user own line ≡ 0 → Lines user own lines (take i lines) table → Lines user own lines (take (i + 1) lines) table
 lines_skipped user own lines i line table h e zero held = λ key.
-    let w = weight user own key.items in
-    held key ∙ sym (best_next (weight user own key.items) lines i line h e ∙ skipped (weight user own key.items) (best (weight user own key.items) (take i lines)) line (zero-either (pointwise nat_eq line.class key.items) (rank user own line) zero))
+    let w = weight user own key in
+    held key ∙ sym (best_next (weight user own key) lines i line h e ∙ skipped (weight user own key) (best (weight user own key) (take i lines)) line (zero-either (pointwise nat_eq line.class key) (rank user own line) zero))
 
 -- of the class of the line, what is held weighs its rank
 beaten : (user : User) (own : Bool) (class : List ℕ) (line : LibraryLine) (held : Option LibraryLine) (b : Bool)
@@ -83,39 +82,39 @@ taken user own class line (Some x) e p counts o =
     more (weight user own class) x line (omega (arith, wx, wl, ltb-false (rank user own line) (rank user own x) o)) (omega (arith, wl, p))
 
 -- what is held under equal keys
-held_same : {S X : Type 0} (xs : List X) (table : HashMap (Vec ℕ) ℕ S) (k q : Vec ℕ) → k.items ≡ q.items → picked xs (get same_key table k) ≡ picked xs (get same_key table q)
-held_same xs table k q e = ap (λ (t : List ℕ). picked xs (get {K = Vec ℕ} (λ a b. pointwise nat_eq t b.items) table k)) e
+held_same : {S X : Type 0} (xs : List X) (table : HashMap (List ℕ) ℕ S) (k q : List ℕ) → k ≡ q → picked xs (get same_key table k) ≡ picked xs (get same_key table q)
+held_same xs table k q e = ap (λ (t : List ℕ). picked xs (get {K = List ℕ} (λ a b. pointwise nat_eq t b) table k)) e
 
 -- a line that one above goes before
-pub lines_beaten : {S : Type 0} (user : User) (own : Bool) (lines : List LibraryLine) (i : ℕ) (line : LibraryLine) (table : HashMap (Vec ℕ) ℕ S) (k : Vec ℕ)
-    → i < length lines → line ≡ get_or lines i line → k.items ≡ line.class → outweighs user own (rank user own line) (picked lines (get same_key table k)) ≡ true → Lines user own lines (take i lines) table → Lines user own lines (take (i + 1) lines) table
+pub lines_beaten : {S : Type 0} (user : User) (own : Bool) (lines : List LibraryLine) (i : ℕ) (line : LibraryLine) (table : HashMap (List ℕ) ℕ S) (k : List ℕ)
+    → i < length lines → line ≡ get_or lines i line → k ≡ line.class → outweighs user own (rank user own line) (picked lines (get same_key table k)) ≡ true → Lines user own lines (take i lines) table → Lines user own lines (take (i + 1) lines) table
 lines_beaten user own lines i line table k h e is o held = λ key.
-    held key ∙ sym (best_next (weight user own key.items) lines i line h e ∙ kept key (pointwise nat_eq line.class key.items) refl)
+    held key ∙ sym (best_next (weight user own key) lines i line h e ∙ kept key (pointwise nat_eq line.class key) refl)
   where
-    kept : (key : Vec ℕ) (b : Bool) → pointwise nat_eq line.class key.items ≡ b → over (weight user own key.items) (best (weight user own key.items) (take i lines)) (counted (weight user own key.items) line) ≡ best (weight user own key.items) (take i lines)
-    kept key false f = skipped (weight user own key.items) (best (weight user own key.items) (take i lines)) line (ap (λ v. cond v (rank user own line) 0) f)
+    kept : (key : List ℕ) (b : Bool) → pointwise nat_eq line.class key ≡ b → over (weight user own key) (best (weight user own key) (take i lines)) (counted (weight user own key) line) ≡ best (weight user own key) (take i lines)
+    kept key false f = skipped (weight user own key) (best (weight user own key) (take i lines)) line (ap (λ v. cond v (rank user own line) 0) f)
     kept key true f =
-        let same : k.items ≡ key.items = is ∙ same_text line.class key.items (sym f) in
-        let there : picked lines (get same_key table k) ≡ best (weight user own key.items) (take i lines) = held_same lines table k key same ∙ held key in
-        beaten user own key.items line (best (weight user own key.items) (take i lines)) true f (best-counts (weight user own key.items) (take i lines)) (subst (λ p. outweighs user own (rank user own line) p ≡ true) there o)
+        let same : k ≡ key = is ∙ same_text line.class key (sym f) in
+        let there : picked lines (get same_key table k) ≡ best (weight user own key) (take i lines) = held_same lines table k key same ∙ held key in
+        beaten user own key line (best (weight user own key) (take i lines)) true f (best-counts (weight user own key) (take i lines)) (subst (λ p. outweighs user own (rank user own line) p ≡ true) there o)
 
 -- a line that holds from now on
-pub lines_added : {S : Type 0} (user : User) (own : Bool) (lines : List LibraryLine) (i : ℕ) (line : LibraryLine) (table new : HashMap (Vec ℕ) ℕ S) (k : Vec ℕ)
-    → i < length lines → line ≡ get_or lines i line → k.items ≡ line.class → 0 < rank user own line → outweighs user own (rank user own line) (picked lines (get same_key table k)) ≡ false
-    → ((q : Vec ℕ) → get same_key new q ≡ cond (same_key k q) (Some i) (get same_key table q)) → Lines user own lines (take i lines) table → Lines user own lines (take (i + 1) lines) new
+pub lines_added : {S : Type 0} (user : User) (own : Bool) (lines : List LibraryLine) (i : ℕ) (line : LibraryLine) (table new : HashMap (List ℕ) ℕ S) (k : List ℕ)
+    → i < length lines → line ≡ get_or lines i line → k ≡ line.class → 0 < rank user own line → outweighs user own (rank user own line) (picked lines (get same_key table k)) ≡ false
+    → ((q : List ℕ) → get same_key new q ≡ cond (same_key k q) (Some i) (get same_key table q)) → Lines user own lines (take i lines) table → Lines user own lines (take (i + 1) lines) new
 lines_added user own lines i line table new k h e is p o update held = λ key.
-    ap (picked lines) (update key) ∙ ap (λ (t : List ℕ). picked lines (cond (pointwise nat_eq t key.items) (Some i) (get same_key table key))) is
-    ∙ put key (pointwise nat_eq line.class key.items) refl ∙ sym (best_next (weight user own key.items) lines i line h e)
+    ap (picked lines) (update key) ∙ ap (λ (t : List ℕ). picked lines (cond (pointwise nat_eq t key) (Some i) (get same_key table key))) is
+    ∙ put key (pointwise nat_eq line.class key) refl ∙ sym (best_next (weight user own key) lines i line h e)
   where
-    put : (key : Vec ℕ) (b : Bool) → pointwise nat_eq line.class key.items ≡ b → picked lines (cond b (Some i) (get same_key table key)) ≡ over (weight user own key.items) (best (weight user own key.items) (take i lines)) (counted (weight user own key.items) line)
-    put key false f = held key ∙ sym (skipped (weight user own key.items) (best (weight user own key.items) (take i lines)) line (ap (λ v. cond v (rank user own line) 0) f))
+    put : (key : List ℕ) (b : Bool) → pointwise nat_eq line.class key ≡ b → picked lines (cond b (Some i) (get same_key table key)) ≡ over (weight user own key) (best (weight user own key) (take i lines)) (counted (weight user own key) line)
+    put key false f = held key ∙ sym (skipped (weight user own key) (best (weight user own key) (take i lines)) line (ap (λ v. cond v (rank user own line) 0) f))
     put key true f =
-        let same : k.items ≡ key.items = is ∙ same_text line.class key.items (sym f) in
-        let there : picked lines (get same_key table k) ≡ best (weight user own key.items) (take i lines) = held_same lines table k key same ∙ held key in
+        let same : k ≡ key = is ∙ same_text line.class key (sym f) in
+        let there : picked lines (get same_key table k) ≡ best (weight user own key) (take i lines) = held_same lines table k key same ∙ held key in
         slice_get-get_or lines i line h ∙ ap (λ (l : LibraryLine). Some l) (sym e)
-        ∙ sym (taken user own key.items line (best (weight user own key.items) (take i lines)) f p (best-counts (weight user own key.items) (take i lines)) (subst (λ r. outweighs user own (rank user own line) r ≡ false) there o))
+        ∙ sym (taken user own key line (best (weight user own key) (take i lines)) f p (best-counts (weight user own key) (take i lines)) (subst (λ r. outweighs user own (rank user own line) r ≡ false) there o))
 
-pub lines_none : {S : Type 0} (user : User) (own : Bool) (lines : List LibraryLine) (table : HashMap (Vec ℕ) ℕ S) → table.entries ≡ [] → Lines user own lines [] table
+pub lines_none : {S : Type 0} (user : User) (own : Bool) (lines : List LibraryLine) (table : HashMap (List ℕ) ℕ S) → table.entries ≡ [] → Lines user own lines [] table
 unfolding best
 lines_none user own lines table e = λ key. rw e refl
 
@@ -139,31 +138,31 @@ none-some : {X : Type 0} (o : Option X) → is_some o ≡ false → o ≡ None
 none-some None e = refl
 none-some (Some x) e = absurd (cc)
 
-pub infs_kept : {S : Type 0} (infs : List InfDoc) (i : ℕ) (inf : InfDoc) (table : HashMap (Vec ℕ) ℕ S) (k : Vec ℕ)
-    → i < length infs → inf ≡ get_or infs i inf → k.items ≡ inf.at.path → is_some (picked infs (get same_key table k)) ≡ true → Infs infs (take i infs) table → Infs infs (take (i + 1) infs) table
+pub infs_kept : {S : Type 0} (infs : List InfDoc) (i : ℕ) (inf : InfDoc) (table : HashMap (List ℕ) ℕ S) (k : List ℕ)
+    → i < length infs → inf ≡ get_or infs i inf → k ≡ inf.at.path → is_some (picked infs (get same_key table k)) ≡ true → Infs infs (take i infs) table → Infs infs (take (i + 1) infs) table
 infs_kept infs i inf table k h e is there held = λ key.
-    held key ∙ sym (known_next infs i inf key.items h e ∙ kept key (pointwise nat_eq inf.at.path key.items) refl)
+    held key ∙ sym (known_next infs i inf key h e ∙ kept key (pointwise nat_eq inf.at.path key) refl)
   where
-    kept : (key : Vec ℕ) (b : Bool) → pointwise nat_eq inf.at.path key.items ≡ b → option_or (known (take i infs) key.items) (cond b (Some inf) None) ≡ known (take i infs) key.items
-    kept key false f = or-none (known (take i infs) key.items)
+    kept : (key : List ℕ) (b : Bool) → pointwise nat_eq inf.at.path key ≡ b → option_or (known (take i infs) key) (cond b (Some inf) None) ≡ known (take i infs) key
+    kept key false f = or-none (known (take i infs) key)
     kept key true f =
-        let same : k.items ≡ key.items = is ∙ same_text inf.at.path key.items (sym f) in
-        or-some (known (take i infs) key.items) (Some inf) (subst (λ r. is_some r ≡ true) (held_same infs table k key same ∙ held key) there)
+        let same : k ≡ key = is ∙ same_text inf.at.path key (sym f) in
+        or-some (known (take i infs) key) (Some inf) (subst (λ r. is_some r ≡ true) (held_same infs table k key same ∙ held key) there)
 
-pub infs_added : {S : Type 0} (infs : List InfDoc) (i : ℕ) (inf : InfDoc) (table new : HashMap (Vec ℕ) ℕ S) (k : Vec ℕ)
-    → i < length infs → inf ≡ get_or infs i inf → k.items ≡ inf.at.path → is_some (picked infs (get same_key table k)) ≡ false
-    → ((q : Vec ℕ) → get same_key new q ≡ cond (same_key k q) (Some i) (get same_key table q)) → Infs infs (take i infs) table → Infs infs (take (i + 1) infs) new
+pub infs_added : {S : Type 0} (infs : List InfDoc) (i : ℕ) (inf : InfDoc) (table new : HashMap (List ℕ) ℕ S) (k : List ℕ)
+    → i < length infs → inf ≡ get_or infs i inf → k ≡ inf.at.path → is_some (picked infs (get same_key table k)) ≡ false
+    → ((q : List ℕ) → get same_key new q ≡ cond (same_key k q) (Some i) (get same_key table q)) → Infs infs (take i infs) table → Infs infs (take (i + 1) infs) new
 infs_added infs i inf table new k h e is there update held = λ key.
-    ap (picked infs) (update key) ∙ ap (λ (t : List ℕ). picked infs (cond (pointwise nat_eq t key.items) (Some i) (get same_key table key))) is
-    ∙ put key (pointwise nat_eq inf.at.path key.items) refl ∙ sym (known_next infs i inf key.items h e)
+    ap (picked infs) (update key) ∙ ap (λ (t : List ℕ). picked infs (cond (pointwise nat_eq t key) (Some i) (get same_key table key))) is
+    ∙ put key (pointwise nat_eq inf.at.path key) refl ∙ sym (known_next infs i inf key h e)
   where
-    put : (key : Vec ℕ) (b : Bool) → pointwise nat_eq inf.at.path key.items ≡ b → picked infs (cond b (Some i) (get same_key table key)) ≡ option_or (known (take i infs) key.items) (cond b (Some inf) None)
-    put key false f = held key ∙ sym (or-none (known (take i infs) key.items))
+    put : (key : List ℕ) (b : Bool) → pointwise nat_eq inf.at.path key ≡ b → picked infs (cond b (Some i) (get same_key table key)) ≡ option_or (known (take i infs) key) (cond b (Some inf) None)
+    put key false f = held key ∙ sym (or-none (known (take i infs) key))
     put key true f =
-        let same : k.items ≡ key.items = is ∙ same_text inf.at.path key.items (sym f) in
-        let none : known (take i infs) key.items ≡ None = none-some (known (take i infs) key.items) (subst (λ r. is_some r ≡ false) (held_same infs table k key same ∙ held key) there) in
+        let same : k ≡ key = is ∙ same_text inf.at.path key (sym f) in
+        let none : known (take i infs) key ≡ None = none-some (known (take i infs) key) (subst (λ r. is_some r ≡ false) (held_same infs table k key same ∙ held key) there) in
         slice_get-get_or infs i inf h ∙ ap (λ (x : InfDoc). Some x) (sym e) ∙ ap (λ o. option_or o (Some inf)) (sym none)
 
-pub infs_none : {S : Type 0} (infs : List InfDoc) (table : HashMap (Vec ℕ) ℕ S) → table.entries ≡ [] → Infs infs [] table
+pub infs_none : {S : Type 0} (infs : List InfDoc) (table : HashMap (List ℕ) ℕ S) → table.entries ≡ [] → Infs infs [] table
 unfolding known
 infs_none infs table e = λ key. rw e refl

@@ -1,7 +1,6 @@
 -- What tables of places tell.
 use Rattle.std.specs.Prelude.{◌≡◌, ℕ, Bool, false, nat_lt, nat_eq, List, Option, Some, None, slice_get}
 use Rattle.std.specs.Cmp.Lexicographic.{pointwise}
-use Rattle.std.specs.Global.{Vec}
 use Rattle.std.specs.HashMap.{HashMap, get}
 use Rattle.doc_types.specs.declared.module.InfDoc.{InfDoc}
 use Rattle.doc_types.specs.declared.platform.LibraryLine.{LibraryLine}
@@ -10,8 +9,8 @@ use Rattle.build_base.specs.Best.{best}
 use Rattle.library_choice.specs.Closure.{known}
 use Rattle.library_choice.specs.Lines.{rank, weight}
 
-abbrev pub same_key : Vec ℕ → Vec ℕ → Bool
-same_key x y = pointwise nat_eq x.items y.items
+abbrev pub same_key : List ℕ → List ℕ → Bool
+same_key = pointwise nat_eq
 
 abbrev pub picked : {X : Type 0} → List X → Option ℕ → Option X
 picked xs None = None
@@ -19,13 +18,13 @@ picked xs (Some place) = slice_get xs place
 
 -- a table gives for each class the place of its line among those above
 abbrev pub Lines : {S : Type 0} → User → Bool → List LibraryLine → List LibraryLine
-    → HashMap (Vec ℕ) ℕ S → Type 0
+    → HashMap (List ℕ) ℕ S → Type 0
 Lines user own lines above table =
-    (key : Vec ℕ) → picked lines (get same_key table key) ≡ best (weight user own key.items) above
+    (key : List ℕ) → picked lines (get same_key table key) ≡ best (weight user own key) above
 
 -- a table gives for each path the place of the first INF file of it among those above
-abbrev pub Infs : {S : Type 0} → List InfDoc → List InfDoc → HashMap (Vec ℕ) ℕ S → Type 0
-Infs infs above table = (key : Vec ℕ) → picked infs (get same_key table key) ≡ known above key.items
+abbrev pub Infs : {S : Type 0} → List InfDoc → List InfDoc → HashMap (List ℕ) ℕ S → Type 0
+Infs infs above table = (key : List ℕ) → picked infs (get same_key table key) ≡ known above key
 
 abbrev pub outweighs : User → Bool → ℕ → Option LibraryLine → Bool
 outweighs user own weight None = false

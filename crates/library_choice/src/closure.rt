@@ -39,7 +39,7 @@ fn put_class(
         add same_path found.new (filter_map (instance_of tables.now) rest)
         ≡ add same_path found.old (filter_map (instance_of tables.now) (class.now ∷ rest))) }
 {
-    match tables.instance_of(alloc, class)? {
+    match tables.instance_of(class) {
         Some(path) => put_here(alloc, path, found),
         None => Ok(()),
     }
@@ -62,19 +62,14 @@ pub fn put_classes(
     Ok(())
 }
 
-fn known_at<'a>(
-    alloc: Global,
-    tables: &Tables<'a>,
-    found: &Found,
-    at: usize,
-) -> Result<Option<&'a InfDoc>, WantOfMemory>
+fn known_at<'a>(tables: &Tables<'a>, found: &Found, at: usize) -> Option<&'a InfDoc>
     requires { at < length found.now }
-    ensures { IfOk result (λ inf. option_copied inf
-        ≡ known tables.now.infs (slice_index_or found.now at [])) }
+    ensures { option_copied result
+        ≡ known tables.now.infs (slice_index_or found.now at []) }
 {
     match found.get(at) {
-        Some(path) => tables.known(alloc, path),
-        None => Ok(None),
+        Some(path) => tables.known(path),
+        None => None,
     }
 }
 
@@ -90,7 +85,7 @@ fn put_next(
     ensures { OnOk result
         (found.new ≡ add same_path found.old (next tables.now (slice_index_or found.old at []))) }
 {
-    match known_at(alloc, tables, found, at)? {
+    match known_at(tables, found, at) {
         Some(inf) => put_classes(alloc, tables, inf.classes.items(), found),
         None => Ok(()),
     }
@@ -211,8 +206,8 @@ pub fn instances(
 
 /// Whether no INF file of a path is known.
 #[tactic(auto, unfolding(crate::specs::Closure::is_unknown))]
-pub fn is_unknown(alloc: Global, tables: &Tables<'_>, path: &Path) -> Result<bool, WantOfMemory>
-    ensures { IfOk result (λ b. b ≡ is_unknown tables.now.infs path.now) }
+pub fn is_unknown(tables: &Tables<'_>, path: &Path) -> bool
+    ensures { result ≡ is_unknown tables.now.infs path.now }
 {
-    Ok(tables.known(alloc, path)?.is_none())
+    tables.known(path).is_none()
 }

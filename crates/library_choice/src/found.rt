@@ -5,25 +5,22 @@ ghost use Rattle.library_choice.specs.Closure.{same_path};
 ghost use Rattle.library_choice.specs.Found.{is_in, put};
 
 use build_base::{Path, Rows, Same, WantOfMemory};
-use indexmap::IndexMap;
+use indexmap::IndexSet;
 use std::alloc::Global;
 use std::marker::Model;
 
-/// Paths, each once, in the order in which they were put; a path is looked up in a table.
+/// Paths, each once, in the order in which they were put.
 #[derive(Drop)]
 pub struct Found {
-    paths: IndexMap<Vec<u8>, Path>,
+    paths: IndexSet<Path>,
 }
 
 impl Model for Found {
-    ghost use Rattle.std.specs.Prelude.{List, ℕ, ◌≡◌, map};
-    ghost use Rattle.std.specs.HashMap.{keys, values};
+    ghost use Rattle.std.specs.Prelude.{List, ℕ};
 
     ghost Value = { List (List ℕ) };
 
-    ghost view = { λ f. values f.paths };
-
-    ghost invariant = { λ f. map (λ k. k.items) (keys f.paths) ≡ values f.paths };
+    ghost view = { λ f. f.paths.keys };
 }
 
 impl Found {
@@ -32,7 +29,7 @@ impl Found {
         ensures { result ≡ [] }
     {
         Found {
-            paths: IndexMap::new(alloc),
+            paths: IndexSet::new(alloc),
         }
     }
 
@@ -47,36 +44,34 @@ impl Found {
     pub fn get(&self, place: usize) -> Option<&Path>
         ensures { option_copied result ≡ slice_get self.now place }
     {
-        match self.paths.get_index(place) {
-            Some((_, path)) => Some(path),
-            None => None,
-        }
+        self.paths.get_index(place)
+    }
+
+    /// All paths, in order.
+    pub fn items(&self) -> &[Path]
+        ensures { result.now ≡ self.now }
+    {
+        self.paths.as_slice()
     }
 
     /// Whether a path is there.
-    pub fn has(&self, alloc: Global, path: &Path) -> Result<bool, WantOfMemory>
-        ensures { IfOk result (λ there. there ≡ is_in same_path self.now path.now) }
+    pub fn has(&self, path: &Path) -> bool
+        ensures { result ≡ is_in same_path self.now path.now }
     {
-        let key = Vec::from_slice(alloc, path.bytes())?;
-        Ok(self.paths.contains_key(&key))
+        self.paths.contains(path)
     }
 
     /// Puts a path at the end, unless it is there.
     pub fn put(&mut self, alloc: Global, path: &Path) -> Result<(), WantOfMemory>
         ensures { OnOk result (self.new ≡ put same_path self.old path.now) }
     {
-        let key = Vec::from_slice(alloc, path.bytes())?;
-        if self.paths.contains_key(&key) {
-            return Ok(());
-        }
-        let path = path.copy(alloc)?;
-        match self.paths.insert(key, path) {
+        match self.paths.insert(path.copy(alloc)?) {
             Ok(_) => Ok(()),
             Err(_) => Err(WantOfMemory),
         }
     }
 
-    /// All paths, in order.
+    /// Copies of all paths, in order.
     pub fn paths(&self, alloc: Global) -> Result<Rows<Path>, WantOfMemory>
         ensures { IfOk result (λ rows. rows ≡ self.now) }
     {

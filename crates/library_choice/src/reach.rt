@@ -24,7 +24,7 @@ fn put_onward(
 ) -> Result<(), WantOfMemory>
     ensures { OnOk result (found.new ≡ add same_path found.old (next tables.now path.now)) }
 {
-    match tables.known(alloc, path)? {
+    match tables.known(path) {
         Some(inf) => put_classes(alloc, tables, inf.classes.items(), found),
         None => Ok(()),
     }
@@ -50,7 +50,7 @@ fn row_in(alloc: Global, found: &Found, callers: &[Caller]) -> Result<Rows<bool>
 {
     let mut row = Rows::new(alloc);
     for caller in callers {
-        row.push(found.has(alloc, &caller.inf)?)?;
+        row.push(found.has(&caller.inf))?;
     }
     Ok(row)
 }

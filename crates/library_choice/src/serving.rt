@@ -103,7 +103,7 @@ fn check_line(
     match line {
         None => Err(refuse(alloc, CLASS_UNRESOLVED, &class.at, class.name.bytes())),
         Some(line) => {
-            let inf = tables.known(alloc, &line.instance)?;
+            let inf = tables.known(&line.instance);
             check_instance(alloc, tables.user(), line, class.name.bytes(), inf)
         }
     }
@@ -116,7 +116,7 @@ fn check_class(alloc: Global, tables: &Tables<'_>, class: &Named) -> Result<(), 
     if !covers(class.arch, tables.user().arch) {
         return Ok(());
     }
-    let line = tables.chosen_line(alloc, class.name.bytes())?;
+    let line = tables.chosen_line(&class.name);
     check_line(alloc, tables, class, line)
 }
 
@@ -132,7 +132,7 @@ fn check_classes(alloc: Global, tables: &Tables<'_>, classes: &[Named]) -> Resul
 fn check_path(alloc: Global, tables: &Tables<'_>, path: &Path) -> Result<(), Refusal>
     ensures { Checks result (path_fault tables.now path.now) }
 {
-    match tables.known(alloc, path)? {
+    match tables.known(path) {
         None => Ok(()),
         Some(inf) => check_classes(alloc, tables, inf.classes.items()),
     }

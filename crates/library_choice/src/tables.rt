@@ -4,20 +4,25 @@ ghost use Rattle.std.specs.HashMap.{get};
 ghost use Rattle.std.specs.Option.{is_some, option_copied};
 ghost use Rattle.library_choice.specs.Closure.{known, instance_of};
 ghost use Rattle.library_choice.specs.Lines.{chosen_line};
-ghost use Rattle.library_choice.specs.Tables.{same_key, Lines, Infs, outweighs, picked};
+ghost use Rattle.library_choice.specs.Tables.{Lines, Infs, outweighs, picked};
 
 use crate::lines::{covers, rank};
 use crate::user::User;
-use build_base::{Path, WantOfMemory};
+use build_base::{Path, Same, Text, WantOfMemory};
 use doc_types::module::{InfDoc, Named};
 use doc_types::platform::LibraryLine;
 use indexmap::IndexMap;
 use shared_value::Shared;
 use std::alloc::Global;
+use std::hash::Hash;
 use std::marker::Model;
 
-fn picked<'a, T>(items: &'a [T], places: &IndexMap<Vec<u8>, usize>, key: &Vec<u8>) -> Option<&'a T>
-    ensures { option_copied result ≡ picked items.now (get same_key places.now key.now) }
+fn picked<'a, K: Hash + Eq, T>(
+    items: &'a [T],
+    places: &IndexMap<K, usize>,
+    key: &K,
+) -> Option<&'a T>
+    ensures { option_copied result ≡ picked items.now (get K.eq places.now key.now) }
 {
     match places.get(key) {
         Some(place) => items.get(*place),
@@ -41,7 +46,7 @@ fn add_line(
     own: bool,
     lines: &[LibraryLine],
     place: usize,
-    places: &mut IndexMap<Vec<u8>, usize>,
+    places: &mut IndexMap<Text, usize>,
 ) -> Result<(), WantOfMemory>
     requires { place < length lines.now }
     ensures { Lines user own lines.now (take place lines.now) places.old →
@@ -52,11 +57,11 @@ fn add_line(
     if weight == 0 {
         return Ok(());
     }
-    let key = Vec::from_slice(alloc, line.class.bytes())?;
-    if outweighs(user, own, weight, picked(lines, places, &key)) {
+    if outweighs(user, own, weight, picked(lines, places, &line.class)) {
         return Ok(());
     }
-    match places.insert(key, place) {
+    let class = line.class.copy(alloc)?;
+    match places.insert(class, place) {
         Ok(_) => Ok(()),
         Err(_) => Err(WantOfMemory),
     }
@@ -68,10 +73,10 @@ fn line_places(
     user: User,
     own: bool,
     lines: &[LibraryLine],
-) -> Result<IndexMap<Vec<u8>, usize>, WantOfMemory>
+) -> Result<IndexMap<Text, usize>, WantOfMemory>
     ensures { IfOk result (Lines user own lines.now lines.now) }
 {
-    let mut places = IndexMap::new(alloc);
+    let mut places = IndexMap::with_capacity(alloc, lines.len())?;
     for place in 0..lines.len() {
         add_line(alloc, user, own, lines, place, &mut places)?;
     }
@@ -92,31 +97,28 @@ fn add_inf(
     alloc: Global,
     infs: &[Shared<InfDoc>],
     place: usize,
-    places: &mut IndexMap<Vec<u8>, usize>,
+    places: &mut IndexMap<Path, usize>,
 ) -> Result<(), WantOfMemory>
     requires { place < length infs.now }
     ensures { Infs infs.now (take place infs.now) places.old →
         OnOk result (Infs infs.now (take (place + 1) infs.now) places.new) }
 {
     let inf = infs[place].value();
-    let key = Vec::from_slice(alloc, inf.at.path.bytes())?;
-    if is_there(picked(infs, places, &key)) {
+    if is_there(picked(infs, places, &inf.at.path)) {
         return Ok(());
     }
-    match places.insert(key, place) {
+    let path = inf.at.path.copy(alloc)?;
+    match places.insert(path, place) {
         Ok(_) => Ok(()),
         Err(_) => Err(WantOfMemory),
     }
 }
 
 // For each path the place of its INF file.
-fn inf_places(
-    alloc: Global,
-    infs: &[Shared<InfDoc>],
-) -> Result<IndexMap<Vec<u8>, usize>, WantOfMemory>
+fn inf_places(alloc: Global, infs: &[Shared<InfDoc>]) -> Result<IndexMap<Path, usize>, WantOfMemory>
     ensures { IfOk result (Infs infs.now infs.now) }
 {
-    let mut places = IndexMap::new(alloc);
+    let mut places = IndexMap::with_capacity(alloc, infs.len())?;
     for place in 0..infs.len() {
         add_inf(alloc, infs, place, &mut places)?;
     }
@@ -130,9 +132,9 @@ pub struct Tables<'a> {
     sections: &'a [LibraryLine],
     own: &'a [LibraryLine],
     infs: &'a [Shared<InfDoc>],
-    section_places: IndexMap<Vec<u8>, usize>,
-    own_places: IndexMap<Vec<u8>, usize>,
-    inf_places: IndexMap<Vec<u8>, usize>,
+    section_places: IndexMap<Text, usize>,
+    own_places: IndexMap<Text, usize>,
+    inf_places: IndexMap<Path, usize>,
 }
 
 impl<'a> Model for Tables<'a> {
@@ -201,46 +203,36 @@ impl<'a> Tables<'a> {
 
     /// The line that gives a class its instance.
     #[tactic(auto, unfolding(crate::specs::Lines::chosen_line))]
-    pub fn chosen_line(
-        &self,
-        alloc: Global,
-        class: &[u8],
-    ) -> Result<Option<&'a LibraryLine>, WantOfMemory>
-        ensures { IfOk result (λ line. option_copied line ≡ chosen_line self.now class.now) }
+    pub fn chosen_line(&self, class: &Text) -> Option<&'a LibraryLine>
+        ensures { option_copied result ≡ chosen_line self.now class.now }
     {
-        let key = Vec::from_slice(alloc, class)?;
-        match picked(self.own, &self.own_places, &key) {
-            Some(line) => Ok(Some(line)),
-            None => Ok(picked(self.sections, &self.section_places, &key)),
+        match picked(self.own, &self.own_places, class) {
+            Some(line) => Some(line),
+            None => picked(self.sections, &self.section_places, class),
         }
     }
 
     /// The INF file of a path, where it is known.
-    pub fn known(&self, alloc: Global, path: &Path) -> Result<Option<&'a InfDoc>, WantOfMemory>
-        ensures { IfOk result (λ inf. option_copied inf ≡ known self.now.infs path.now) }
+    pub fn known(&self, path: &Path) -> Option<&'a InfDoc>
+        ensures { option_copied result ≡ known self.now.infs path.now }
     {
-        let key = Vec::from_slice(alloc, path.bytes())?;
-        match picked(self.infs, &self.inf_places, &key) {
-            Some(inf) => Ok(Some(inf.value())),
-            None => Ok(None),
+        match picked(self.infs, &self.inf_places, path) {
+            Some(inf) => Some(inf.value()),
+            None => None,
         }
     }
 
     /// The instance for a line of [LibraryClasses] in an INF file.
     #[tactic(auto, unfolding(crate::specs::Closure::instance_of))]
-    pub fn instance_of(
-        &self,
-        alloc: Global,
-        class: &Named,
-    ) -> Result<Option<&'a Path>, WantOfMemory>
-        ensures { IfOk result (λ path. option_copied path ≡ instance_of self.now class.now) }
+    pub fn instance_of(&self, class: &Named) -> Option<&'a Path>
+        ensures { option_copied result ≡ instance_of self.now class.now }
     {
         if !covers(class.arch, self.user().arch) {
-            return Ok(None);
+            return None;
         }
-        match self.chosen_line(alloc, class.name.bytes())? {
-            Some(line) => Ok(Some(&line.instance)),
-            None => Ok(None),
+        match self.chosen_line(&class.name) {
+            Some(line) => Some(&line.instance),
+            None => None,
         }
     }
 }

@@ -96,7 +96,7 @@ fn push_unknown(
     ensures { OnOk result (paths.new ≡ paths.old
         ++ filter (is_unknown tables.now.infs) (path.now ∷ [])) }
 {
-    if is_unknown(alloc, tables, path)? {
+    if is_unknown(tables, path) {
         paths.push(path.copy(alloc)?)?;
     }
     Ok(())
@@ -117,9 +117,7 @@ fn unknown(alloc: Global, tables: &Tables<'_>, found: &[Path]) -> Result<Rows<Pa
 fn unknown_of(alloc: Global, tables: &Tables<'_>, found: &Found) -> Result<Rows<Path>, WantOfMemory>
     ensures { IfOk result (λ w. w ≡ filter (is_unknown tables.now.infs) found.now) }
 {
-    let paths = found.paths(alloc)?;
-    let wanted = unknown(alloc, tables, paths.items())?;
-    Ok(wanted)
+    unknown(alloc, tables, found.items())
 }
 
 fn wanted_by(alloc: Global, tables: &Tables<'_>, inf: &InfDoc) -> Result<Rows<Path>, WantOfMemory>

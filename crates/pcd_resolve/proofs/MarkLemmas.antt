@@ -2,7 +2,8 @@
 use Rattle.std.proofs.Common.{◌≡◌, ◌∙◌, ◌+◌, ◌-◌, ◌≤◌, ◌<◌, ◌++◌, ℕ, zero, suc, Bool, true, false, List, [], ◌∷◌, length, drop, map, set, slice_get, get_or, subst, refl, sym, ap, arith}
 use Rattle.std.specs.Prelude.{fold}
 use Rattle.std.specs.List.{All}
-use Rattle.std.proofs.lemmas.List.{length-append}
+use Rattle.std.proofs.lemmas.List.{length-append, drop-append-le}
+use Rattle.std.proofs.lemmas.List.Sums.{fold-append}
 use Rattle.std.proofs.lemmas.List.Elements.{All-nil, All-cons, All-head, All-tail, All-get_or, All-weaker}
 use Rattle.pcd_resolve.specs.Tables.{AllKept}
 use Rattle.pcd_resolve.specs.Marks.{is_kept, mark_of, place_of, step, tail_of, with_mark, with_marks}
@@ -73,3 +74,18 @@ place_by_end front name h = ap (fold step 0) (tail_same front name h)
 
 pub kept_by_end : (marks : List Bool) (front name : List ℕ) → 8 ≤ length name → is_kept marks name ≡ false → is_kept marks (front ++ name) ≡ false
 kept_by_end marks front name h e = ap (λ place. mark_of (slice_get marks place)) (place_by_end front name h) ∙ e
+
+tail_of_parts : (space name : List ℕ) → length name < 8
+    → tail_of (space ++ 46 ∷ name) ≡ drop (length space - (7 - length name)) space ++ 46 ∷ name
+tail_of_parts space name h =
+    let both : length (space ++ 46 ∷ name) ≡ length space + length (46 ∷ name) = length-append space (46 ∷ name) in
+    let at : length (space ++ 46 ∷ name) - 8 ≡ length space - (7 - length name) = omega (arith, both, h) in
+    ap (λ n. drop n (space ++ 46 ∷ name)) at
+    ∙ drop-append-le (length space - (7 - length name)) space (46 ∷ name) (omega arith)
+
+-- the place of a name by its two parts
+pub place_of_parts : (space name : List ℕ) → length name < 8
+    → fold step (fold step (fold step 0 (drop (length space - (7 - length name)) space)) (46 ∷ [])) name ≡ place_of (space ++ 46 ∷ name)
+unfolding place_of
+place_of_parts space name h =
+    sym (ap (fold step 0) (tail_of_parts space name h) ∙ fold-append step 0 (drop (length space - (7 - length name)) space) (46 ∷ name))

@@ -1,9 +1,9 @@
 //! The names of which a table has the lines. A table of all lines of a package, made anew for each
 //! module, would cost far more than the lines that the module asks for: so the names that are asked
 //! for are marked, and a line without a mark is passed by.
-ghost use Rattle.std.specs.Prelude.{◌≡◌, false, fold, length, map, OnOk, IfOk};
+ghost use Rattle.std.specs.Prelude.{◌≡◌, ◌<◌, ◌++◌, codes, false, fold, length, map, slice_get, OnOk, IfOk};
 ghost use Rattle.pcd_resolve.specs.Listing.{uses_of_module};
-ghost use Rattle.pcd_resolve.specs.Marks.{is_kept, place_of, step, with_mark, with_marks};
+ghost use Rattle.pcd_resolve.specs.Marks.{is_kept, mark_of, place_of, step, with_mark, with_marks};
 ghost use Rattle.pcd_resolve.specs.Names.{dotted};
 ghost use Rattle.pcd_resolve.specs.Tables.{use_name, AllKept};
 ghost use Rattle.pcd_resolve.specs.Views.{at_view};
@@ -16,11 +16,13 @@ use doc_types::parts::ModuleParts;
 use doc_types::pcd::PcdName;
 use std::alloc::Global;
 
-fn place_in(tail: &[u8]) -> usize
-    ensures { result ≡ fold step 0 tail.now }
+fn place_from(start: usize, bytes: &[u8]) -> usize
+    requires { start < 2048 }
+    ensures place { result ≡ fold step start bytes.now }
+    ensures below { result < 2048 }
 {
-    let mut place = 0;
-    for byte in tail {
+    let mut place = start;
+    for byte in bytes {
         place = (place * 31 + *byte as usize) % 2048;
     }
     place
@@ -30,7 +32,16 @@ fn place_in(tail: &[u8]) -> usize
 fn place_of(name: &[u8]) -> usize
     ensures { result ≡ place_of name.now }
 {
-    place_in(&name[name.len().saturating_sub(8)..])
+    place_from(0, &name[name.len().saturating_sub(8)..])
+}
+
+// The place of a PCD's name whose second part has less than eight bytes.
+fn place_of_parts(space: &[u8], name: &[u8]) -> usize
+    requires { length name.now < 8 }
+    ensures { result ≡ place_of (space.now ++ codes "." ++ name.now) }
+{
+    let tail = &space[space.len().saturating_sub(7 - name.len())..];
+    place_from(place_from(place_from(0, tail), b"."), name)
 }
 
 /// Marks where none is set.
@@ -52,24 +63,29 @@ pub fn mark(marks: &mut Vec<bool>, name: &[u8])
     }
 }
 
-/// Whether a line of a name is wanted.
-pub fn is_kept(marks: &[bool], name: &[u8]) -> bool
-    ensures { result ≡ is_kept marks.now name.now }
+fn is_marked(marks: &[bool], place: usize) -> bool
+    ensures { result ≡ mark_of (slice_get marks.now place) }
 {
-    match marks.get(place_of(name)) {
+    match marks.get(place) {
         Some(mark) => *mark,
         None => true,
     }
 }
 
-/// Whether lines of a PCD may be wanted, by the second part of its name alone; where it is short
-/// they may be.
+/// Whether a line of a name is wanted.
+pub fn is_kept(marks: &[bool], name: &[u8]) -> bool
+    ensures { result ≡ is_kept marks.now name.now }
+{
+    is_marked(marks, place_of(name))
+}
+
+/// Whether lines of a PCD are wanted. Its name is not put together for that.
 pub fn may_be_kept(marks: &[bool], pcd: &PcdName) -> bool
     ensures { result ≡ false → is_kept marks.now (dotted pcd.now) ≡ false }
 {
     let name = pcd.name.bytes();
     if name.len() < 8 {
-        return true;
+        return is_marked(marks, place_of_parts(pcd.space.bytes(), name));
     }
     is_kept(marks, name)
 }

@@ -10,10 +10,12 @@ use std::alloc::{AllocError, Global};
 pub fn dotted(alloc: Global, pcd: &PcdName) -> Result<Vec<u8>, AllocError>
     ensures { IfOk result (λ v. v.items ≡ dotted pcd.now) }
 {
-    let mut name = Vec::from_slice(alloc, pcd.space.bytes())?;
-    name.extend_from_slice(b".")?;
-    name.extend_from_slice(pcd.name.bytes())?;
-    Ok(name)
+    let (space, name) = (pcd.space.bytes(), pcd.name.bytes());
+    let mut joined = Vec::with_capacity(alloc, space.len() + 1 + name.len())?;
+    joined.extend_from_slice(space)?;
+    joined.extend_from_slice(b".")?;
+    joined.extend_from_slice(name)?;
+    Ok(joined)
 }
 
 /// Whether a line of an architecture counts for another one.

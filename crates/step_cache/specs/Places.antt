@@ -1,17 +1,28 @@
 -- A pool as it is written: each text behind its length, spans that say where, and a table from a
 -- digest of a text to the numbers of the texts that may be it.
-use Rattle.std.specs.Prelude.{◌≡◌, ◌≤◌, ◌+◌, ℕ, Bool, true, false, nat_eq, List, [], ◌∷◌, ◌++◌, length, map, take, drop, slice_get, unwrap_or, Option, Some, None, if◌then◌else◌}
+use Rattle.std.specs.Prelude.{◌≡◌, ◌≤◌, ◌+◌, ◌-◌, ◌*◌, ◌/◌, ℕ, zero, suc, Bool, true, false, nat_eq, nat_le, List, [], ◌∷◌, ◌++◌, length, map, take, drop, slice_get, unwrap_or, Option, Some, None, if◌then◌else◌}
 use Rattle.std.specs.List.{list_all}
 use Rattle.std.specs.Hash.FoldHasher.{initial, write, finish}
+use Rattle.build_base.specs.Digest.{digest as whole_digest}
 use Rattle.std.specs.HashMap.{HashMap, get}
 use Rattle.packed_values.specs.Plain.{text_form}
 use Rattle.packed_values.specs.Parts.{spellings}
 use Rattle.step_cache.specs.Pools.{text_is, has_text, with_text, number_in}
 use Rattle.step_cache.specs.declared.places.Span.{Span}
 
--- a number of a text; others may have it too
+-- so many samples of a text written to a hash: 64 bytes behind every 1,024th
+unfoldable pub sampled : {H : Type 0} → (H → List ℕ → H) → H → List ℕ → ℕ → H
+sampled write state text zero = state
+sampled write state text (suc n) =
+    write (sampled write state text n) (take 64 (drop (n * 1024) text))
+
+-- a number of a text; others may have it too. A long text has that of its first and last 1,024
+-- bytes and of samples
 unfoldable pub digest : List ℕ → ℕ
-digest text = finish (write initial text)
+digest text =
+    if nat_le (length text) 16384 then whole_digest text
+    else finish (sampled write (write (write initial (take 1024 text))
+    (take 1024 (drop (length text - 1024) text))) text (length text / 1024))
 
 -- so many bytes behind a start, or as many as there are
 abbrev pub span_text : List ℕ → Span → List ℕ

@@ -3,7 +3,7 @@ ghost use Rattle.std.specs.Prelude.{◌≡◌};
 ghost use Rattle.std.proofs.Common.{rules};
 ghost use Rattle.std.specs.Cmp.{eq_by_cmp_equiv, partial_equiv_from_equiv, partial_order_from_total};
 ghost use Rattle.std.specs.Ordering.{as_partial_cmp, eq_by_cmp};
-ghost use Rattle.step_pack.specs.Hashing.{key_input, equal_inputs};
+ghost use Rattle.step_pack.specs.Hashing.{path_number, fields_number, key_input, equal_inputs};
 ghost use Rattle.step_pack.specs.KeyLaws.{keys_total};
 ghost use Rattle.step_pack.specs.Keys.{key_cmp, held_cmp, module_cmp, item_cmp, variant, arch_of, path_of, first_of, second_of};
 
@@ -107,6 +107,27 @@ impl Key {
         }
     }
 
+    // The digest of the path, where there is one, else 0.
+    fn path_number(&self) -> u64
+        ensures { result ≡ path_number self.now }
+    {
+        match self {
+            Key::Dec(path) | Key::Inf(path) => path.digest(),
+            Key::Choice(module) | Key::Values(module) | Key::Code(module) | Key::Depex(module) => {
+                module.inf.digest()
+            }
+            _ => 0,
+        }
+    }
+
+    // The fields but for the path, as one number.
+    fn fields_number(&self) -> u64
+        ensures { result ≡ fields_number self.now }
+    {
+        let numbers = self.first() as u64 * 65536 + self.second() as u64;
+        numbers * 256 + self.arch() as u64 * 16 + self.variant() as u64
+    }
+
     // The order by the fields that this key has.
     fn fields_cmp(&self, other: &Key) -> Ordering
         ensures { result ≡ held_cmp self.now other.now }
@@ -165,11 +186,7 @@ impl Hash for Key {
     ghost respects_eq = { equal_inputs };
 
     fn hash<H: Hasher>(&self, state: &mut H) {
-        state.write_u8(self.variant());
-        state.write_u8(self.arch());
-        state.write_u32(self.first());
-        state.write_u32(self.second());
-        state.write(self.path());
+        state.write_u64(self.path_number().wrapping_add(self.fields_number()));
     }
 }
 

@@ -1,9 +1,9 @@
 use Rattle.std.proofs.Common.{◌≡◌, ◌<◌, fold, drop}
 use Rattle.pcd_resolve.specs.Marks.{step}
-use Rattle.pcd_resolve.proofs.marks.place_in.Given as goal
+use Rattle.pcd_resolve.proofs.marks.place_from.Given as goal
 
 abbrev pub invariant-loop-byte : goal.invariant-loop-byte
 invariant-loop-byte l = record {
   below : l.place < 2048;
-  left : fold step l.place (drop l.byte-index l.tail) ≡ fold step 0 l.tail;
+  left : fold step l.place (drop l.byte-index l.bytes) ≡ fold step l.start l.bytes;
 }
