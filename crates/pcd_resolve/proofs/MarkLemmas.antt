@@ -72,8 +72,8 @@ pub place_by_end : (front name : List ℕ) → 8 ≤ length name → place_of (f
 unfolding place_of
 place_by_end front name h = ap (fold step 0) (tail_same front name h)
 
-pub kept_by_end : (marks : List Bool) (front name : List ℕ) → 8 ≤ length name → is_kept marks name ≡ false → is_kept marks (front ++ name) ≡ false
-kept_by_end marks front name h e = ap (λ place. mark_of (slice_get marks place)) (place_by_end front name h) ∙ e
+pub kept_by_end : (marks : List Bool) (front name : List ℕ) → 8 ≤ length name → is_kept marks (front ++ name) ≡ is_kept marks name
+kept_by_end marks front name h = ap (λ place. mark_of (slice_get marks place)) (place_by_end front name h)
 
 tail_of_parts : (space name : List ℕ) → length name < 8
     → tail_of (space ++ 46 ∷ name) ≡ drop (length space - (7 - length name)) space ++ 46 ∷ name

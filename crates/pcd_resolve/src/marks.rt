@@ -1,7 +1,7 @@
 //! The names of which a table has the lines. A table of all lines of a package, made anew for each
 //! module, would cost far more than the lines that the module asks for: so the names that are asked
 //! for are marked, and a line without a mark is passed by.
-ghost use Rattle.std.specs.Prelude.{◌≡◌, ◌<◌, ◌++◌, codes, false, fold, length, map, slice_get, OnOk, IfOk};
+ghost use Rattle.std.specs.Prelude.{◌≡◌, ◌<◌, ◌++◌, codes, fold, length, map, slice_get, OnOk, IfOk};
 ghost use Rattle.pcd_resolve.specs.Listing.{uses_of_module};
 ghost use Rattle.pcd_resolve.specs.Marks.{is_kept, mark_of, place_of, step, with_mark, with_marks};
 ghost use Rattle.pcd_resolve.specs.Names.{dotted};
@@ -80,8 +80,8 @@ pub fn is_kept(marks: &[bool], name: &[u8]) -> bool
 }
 
 /// Whether lines of a PCD are wanted. Its name is not put together for that.
-pub fn may_be_kept(marks: &[bool], pcd: &PcdName) -> bool
-    ensures { result ≡ false → is_kept marks.now (dotted pcd.now) ≡ false }
+pub fn is_pcd_kept(marks: &[bool], pcd: &PcdName) -> bool
+    ensures { result ≡ is_kept marks.now (dotted pcd.now) }
 {
     let name = pcd.name.bytes();
     if name.len() < 8 {

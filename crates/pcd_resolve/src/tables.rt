@@ -12,7 +12,7 @@ ghost use Rattle.pcd_resolve.specs.Views.{declared_view, stated_view};
 
 use crate::groups::add;
 use crate::listing::{DeclaredLine, StatedLine};
-use crate::marks::may_be_kept;
+use crate::marks::is_pcd_kept;
 use crate::names::dotted;
 use build_base::{Path, WantOfMemory};
 use doc_types::package::DecPcd;
@@ -34,7 +34,7 @@ fn add_line<'a>(
         → OnOk result (GroupedAt marks.now stated_view stated_name
         (xs ++ at_home (option_map (λ h. h.now) home.entry) line.now ∷ []) table.new) }
 {
-    if !may_be_kept(marks, &line.pcd) {
+    if !is_pcd_kept(marks, &line.pcd) {
         return Ok(());
     }
     let name = dotted(alloc, &line.pcd)?;
@@ -100,7 +100,7 @@ fn add_set<'a>(
     ensures { (xs : List Set) → GroupedAt marks.now (λ s. s.now) set_name xs table.old
         → OnOk result (GroupedAt marks.now (λ s. s.now) set_name (xs ++ set.now ∷ []) table.new) }
 {
-    if !may_be_kept(marks, &set.pcd) {
+    if !is_pcd_kept(marks, &set.pcd) {
         return Ok(());
     }
     let name = dotted(alloc, &set.pcd)?;
@@ -133,7 +133,7 @@ fn add_row<'a>(
     ensures { (xs : List Row) → GroupedAt marks.now (λ r. r.now) row_name xs table.old
         → OnOk result (GroupedAt marks.now (λ r. r.now) row_name (xs ++ row.now ∷ []) table.new) }
 {
-    if !may_be_kept(marks, &row.pcd) {
+    if !is_pcd_kept(marks, &row.pcd) {
         return Ok(());
     }
     let name = dotted(alloc, &row.pcd)?;
@@ -168,7 +168,7 @@ fn add_declared<'a>(
         → OnOk result (GroupedAt marks.now declared_view declared_name
         (xs ++ line_from from.now line.now ∷ []) table.new) }
 {
-    if !may_be_kept(marks, &line.pcd) {
+    if !is_pcd_kept(marks, &line.pcd) {
         return Ok(());
     }
     let name = dotted(alloc, &line.pcd)?;

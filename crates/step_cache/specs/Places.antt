@@ -1,8 +1,11 @@
 -- A pool as it is written: each text behind its length, spans that say where, and a table from a
 -- digest of a text to the numbers of the texts that may be it.
-use Rattle.std.specs.Prelude.{◌≡◌, ◌≤◌, ◌+◌, ◌-◌, ◌*◌, ◌/◌, ℕ, zero, suc, Bool, true, false, nat_eq, nat_le, List, [], ◌∷◌, ◌++◌, length, map, take, drop, slice_get, unwrap_or, Option, Some, None, if◌then◌else◌}
+use Rattle.std.specs.Prelude.{◌≡◌, ◌≤◌, ◌+◌, ◌-◌, ◌*◌, ◌/◌, ℕ, zero, suc, Bool, true, false, IsTrue, nat_eq, nat_le, List, [], ◌∷◌, ◌++◌, length, map, take, drop, slice_get, unwrap_or, Option, Some, None, if◌then◌else◌}
 use Rattle.std.specs.List.{list_all}
+use Rattle.std.specs.Cmp.Lexicographic.{pointwise}
+use Rattle.std.specs.Hash as fed
 use Rattle.std.specs.Hash.FoldHasher.{initial, write, finish}
+use Rattle.std.proofs.Common.{rules, ap}
 use Rattle.build_base.specs.Digest.{digest as whole_digest}
 use Rattle.std.specs.HashMap.{HashMap, get}
 use Rattle.packed_values.specs.Plain.{text_form}
@@ -23,6 +26,13 @@ digest text =
     if nat_le (length text) 16384 then whole_digest text
     else finish (sampled write (write (write initial (take 1024 text))
     (take 1024 (drop (length text - 1024) text))) text (length text / 1024))
+
+-- what a text writes to a hash: its digest alone
+abbrev pub digest_input : List ℕ → List (List ℕ)
+digest_input text = fed.u64 (digest text)
+
+pub equal_inputs : (a b : List ℕ) → IsTrue (pointwise nat_eq a b) → digest_input a ≡ digest_input b
+equal_inputs a b e = ap digest_input (search rules)
 
 -- so many bytes behind a start, or as many as there are
 abbrev pub span_text : List ℕ → Span → List ℕ

@@ -1,20 +1,22 @@
 //! Whether texts stand once.
-ghost use Rattle.std.specs.Prelude.{◌≡◌, [], ◌∷◌, IfOk, OnOk, not, nat_eq};
+ghost use Rattle.std.specs.Prelude.{◌≡◌, [], IfOk, OnOk, not, nat_eq};
 ghost use Rattle.indexmap.specs.IndexSet.{insert_key};
 ghost use Rattle.std.proofs.Common.{rules};
 ghost use Rattle.std.specs.Cmp.Lexicographic.{pointwise};
-ghost use Rattle.std.specs.Cmp.Rules.{comparing, hashing};
+ghost use Rattle.std.specs.Cmp.Rules.{comparing};
 ghost use Rattle.std.specs.List.{list_any};
 ghost use Rattle.step_cache.specs.Checking.{Adds};
+ghost use Rattle.step_cache.specs.Places.{digest_input, equal_inputs};
 ghost use Rattle.step_cache.specs.Pools.{text_is};
 
+use crate::places::digest;
 use build_base::{Text, WantOfMemory};
 use indexmap::IndexSet;
 use std::alloc::Global;
 use std::hash::{Hash, Hasher};
 use std::marker::Model;
 
-/// A text as a key, whose bytes are hashed in one call.
+/// A text as a key, of which its digest alone is hashed.
 #[derive(Drop)]
 pub(crate) struct TextKey {
     text: Text,
@@ -43,12 +45,12 @@ impl Eq for TextKey {
 }
 
 impl Hash for TextKey {
-    ghost hash_input = { λ k. k ∷ [] };
+    ghost hash_input = { digest_input };
 
-    ghost respects_eq = { Prim.search (hashing, rules) };
+    ghost respects_eq = { equal_inputs };
 
     fn hash<H: Hasher>(&self, state: &mut H) {
-        state.write(self.text.bytes());
+        state.write_u64(digest(self.text.bytes()));
     }
 }
 

@@ -1,9 +1,0 @@
-use Rattle.std.proofs.Common.{◌∙◌, ◌++◌, codes, ap, sym}
-use Rattle.pcd_resolve.specs.Marks.{is_kept}
-use Rattle.pcd_resolve.proofs.MarkLemmas.{kept_by_end}
-use Rattle.pcd_resolve.proofs.marks.may_be_kept.Goals as goal
-
-pub returns : goal.returns
-returns c = λ e.
-    ap (λ n. is_kept c.args.marks.now ((c.args.pcd.now.space ++ codes ".") ++ n)) (sym c.bytes-name.ensures)
-    ∙ kept_by_end c.args.marks.now (c.args.pcd.now.space ++ codes ".") c.bytes-name.result.now c.if-name-lt8.false (sym c.is_kept.ensures ∙ e)
