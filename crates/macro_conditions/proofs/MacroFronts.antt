@@ -1,9 +1,10 @@
 -- What the front of a text comes to.
-use Rattle.std.proofs.Common.{◌≡◌, ℕ, zero, suc, ◌+◌, ◌<◌, ◌≤◌, List, [], ◌∷◌, ◌++◌, length, take, drop, Option, Some, None, cond, append_assoc, refl, sym, ap, ◌∙◌, arith}
+use Rattle.std.proofs.Common.{◌≡◌, Bool, true, false, ℕ, zero, suc, ◌+◌, ◌<◌, ◌≤◌, List, [], ◌∷◌, ◌++◌, length, take, drop, Option, Some, None, cond, append_assoc, refl, sym, ap, ◌∙◌, arith}
+use Rattle.std.specs.Option.{option_or}
 use Rattle.std.proofs.lemmas.List.{drop_all}
 use Rattle.build_base.specs.declared.lines.Macro.{Macro}
 use Rattle.macro_conditions.specs.declared.macros.Undefined.{Undefined}
-use Rattle.macro_conditions.specs.Macros.{value_from, same_text, use_at, used, meaning, replaced_after, replaced}
+use Rattle.macro_conditions.specs.Macros.{value_from, value_of, same_text, use_at, used, meaning, replaced_after, replaced}
 
 after-drop : (u : Undefined) (ms : List Macro) (k : ℕ) (xs : List ℕ) → replaced_after u ms k xs ≡ replaced u ms (drop k xs)
 unfolding replaced_after
@@ -41,3 +42,21 @@ pub value_from_two : (found : Option (List ℕ)) (name : List ℕ) (xs ys : List
 unfolding value_from
 value_from_two found name [] ys = refl
 value_from_two found name (m ∷ xs) ys = value_from_two (cond (same_text m.name name) (Some m.value) found) name xs ys
+
+-- one that was found before holds where there is none
+pub value_from_found : (found : Option (List ℕ)) (name : List ℕ) (ms : List Macro) → value_from found name ms ≡ option_or (value_of name ms) found
+unfolding value_from
+value_from_found found name [] = refl
+value_from_found found name (m ∷ ms) =
+    let here : Option (List ℕ) = cond (same_text m.name name) (Some m.value) None in
+    value_from_found (cond (same_text m.name name) (Some m.value) found) name ms
+    ∙ by_case (value_of name ms) (same_text m.name name)
+    ∙ ap (λ o. option_or o found) (sym (value_from_found here name ms))
+  where
+    by_case : (o : Option (List ℕ)) (b : Bool) → option_or o (cond b (Some m.value) found) ≡ option_or (option_or o (cond b (Some m.value) None)) found
+    by_case (Some v) b = refl
+    by_case None true = refl
+    by_case None false = refl
+
+pub value_of_two : (name : List ℕ) (xs ys : List Macro) → value_of name (xs ++ ys) ≡ option_or (value_of name ys) (value_of name xs)
+value_of_two name xs ys = value_from_two None name xs ys ∙ value_from_found (value_of name xs) name ys

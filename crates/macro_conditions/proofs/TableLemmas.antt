@@ -1,33 +1,90 @@
--- Macros put into a table.
-use Rattle.std.proofs.Common.{◌≡◌, ℕ, suc, ◌+◌, ◌<◌, ◌≤◌, Bool, true, false, cond, List, [], ◌∷◌, ◌++◌, length, get_or, slice_set, refl, ap, ◌∙◌, arith}
+-- Macros in a table by their names.
+use Rattle.std.proofs.Common.{◌≡◌, ◌∙◌, ℕ, ◌+◌, ◌<◌, Bool, true, false, cond, List, [], ◌∷◌, ◌++◌, length, take, get_or, fold, map, Option, Some, None, refl, sym, ap, subst, add-one}
+use Rattle.std.specs.Option.{option_or}
+use Rattle.std.specs.Cmp.Lexicographic.{nat_list_eq_equiv, same_text as same_bytes}
+use Rattle.std.specs.HashMap.{HashMap, IsUnique, get, get_by}
+use Rattle.std.specs.List.{AllByRecursion, IsDistinct}
+use Rattle.std.specs.Map.{keys_of, lookup}
+use Rattle.std.proofs.Math.Seq.{take-suc}
+use Rattle.std.proofs.lemmas.List.Sums.{fold-append}
+use Rattle.indexmap.specs.IndexMap.{insert_entry}
 use Rattle.build_base.specs.declared.lines.Macro.{Macro}
-use Rattle.macro_conditions.specs.Macros.{same_text}
-use Rattle.macro_conditions.specs.Expansion.{put_macro, macro_place}
+use Rattle.macro_conditions.specs.Macros.{macro_of, same_text, value_of, value_from}
+use Rattle.macro_conditions.specs.Expansion.{put_macro}
+use Rattle.macro_conditions.proofs.MacroFronts.{value_from_found, value_from_two}
 
-abbrev with_value : Macro → List ℕ → Macro
-with_value m value = record { name = m.name; value = value }
+-- a pair that is put is a macro that is put
+pub put_entry : (es : List (List ℕ × List ℕ)) (name value : List ℕ) → map macro_of (insert_entry same_text es name value) ≡ put_macro name value (map macro_of es)
+unfolding put_macro
+put_entry [] name value = refl
+put_entry (e ∷ es) name value =
+    by_case (same_text name e.0) (same_text e.0 name) (nat_list_eq_equiv.symm name e.0) (put_entry es name value)
+  where
+    by_case : (a b : Bool) → a ≡ b → map macro_of (insert_entry same_text es name value) ≡ put_macro name value (map macro_of es)
+        → map macro_of (cond a ((e.0, value) ∷ es) (e ∷ insert_entry same_text es name value)) ≡ cond b (record { name = e.0; value = value } ∷ map macro_of es) (macro_of e ∷ put_macro name value (map macro_of es))
+    by_case true true h rest = refl
+    by_case false false h rest = ap (λ ms. macro_of e ∷ ms) rest
+    by_case true false h rest = cc
+    by_case false true h rest = cc
 
--- one that is there
-pub put_at : (name value : List ℕ) (ms : List Macro) (i : ℕ) (d : Macro) → i ≡ macro_place name ms → i < length ms → slice_set ms i (with_value (get_or ms i d) value) ≡ put_macro name value ms
-unfolding put_macro macro_place
-put_at name value [] i d e l = absurd (omega arith)
-put_at name value (m ∷ ms) i d e l =
-    let Goal : Bool → Type 0 = λ b. i ≡ cond b 0 (1 + macro_place name ms) → slice_set (m ∷ ms) i (with_value (get_or (m ∷ ms) i d) value) ≡ cond b (with_value m value ∷ ms) (m ∷ put_macro name value ms) in
-    let Set : ℕ → List Macro = λ k. slice_set (m ∷ ms) k (with_value (get_or (m ∷ ms) k d) value) in
-    elim (same_text m.name name) as Goal [
-      | true ↦ λ h. ap Set h
-      | false ↦ λ h.
-          let k : i ≡ suc (macro_place name ms) = omega (arith, h) in
-          ap Set k ∙ ap (λ xs. m ∷ xs) (put_at name value ms (macro_place name ms) d refl (omega (arith, l, k)))
-    ] e
+-- a name that stands nowhere has no value
+no_value : (es : List (List ℕ × List ℕ)) (name : List ℕ) → AllByRecursion (λ y. same_text name y ≡ false) (keys_of es) → value_of name (map macro_of es) ≡ None
+unfolding value_from
+no_value [] name h = refl
+no_value (e ∷ es) name h =
+    ap (λ b. value_from (cond b (Some e.1) None) name (map macro_of es)) (nat_list_eq_equiv.symm e.0 name ∙ h.0) ∙ no_value es name h.1
 
--- one that isn't
-pub put_end : (name value : List ℕ) (ms : List Macro) → length ms ≤ macro_place name ms → ms ++ record { name = name; value = value } ∷ [] ≡ put_macro name value ms
-unfolding put_macro macro_place
-put_end name value [] l = refl
-put_end name value (m ∷ ms) l =
-    let Goal : Bool → Type 0 = λ b. length ms + 1 ≤ cond b 0 (1 + macro_place name ms) → m ∷ (ms ++ record { name = name; value = value } ∷ []) ≡ cond b (with_value m value ∷ ms) (m ∷ put_macro name value ms) in
-    elim (same_text m.name name) as Goal [
-      | true ↦ λ h. absurd (omega (arith, h))
-      | false ↦ λ h. ap (λ xs. m ∷ xs) (put_end name value ms (omega (arith, h)))
-    ] (omega (arith, l))
+or_none : (o : Option (List ℕ)) → option_or o None ≡ o
+or_none None = refl
+or_none (Some x) = refl
+
+-- where each name stands once, the first of a name is the last
+pub looked_up : (es : List (List ℕ × List ℕ)) (name : List ℕ) → IsDistinct same_text (keys_of es) → lookup (same_text name) es ≡ value_of name (map macro_of es)
+unfolding value_from IsDistinct
+looked_up [] name d = refl
+looked_up (e ∷ es) name d =
+    by_case (same_text name e.0) refl (looked_up es name d.1)
+    ∙ sym (value_from_found (cond (same_text e.0 name) (Some e.1) None) name (map macro_of es))
+  where
+    by_case : (b : Bool) → same_text name e.0 ≡ b → lookup (same_text name) es ≡ value_of name (map macro_of es)
+        → cond b (Some e.1) (lookup (same_text name) es) ≡ option_or (value_of name (map macro_of es)) (cond (same_text e.0 name) (Some e.1) None)
+    by_case true h rest =
+        let same : e.0 ≡ name = sym (same_bytes name e.0 (sym h)) in
+        let none : value_of name (map macro_of es) ≡ None = no_value es name (subst (λ n. AllByRecursion (λ y. same_text n y ≡ false) (keys_of es)) same d.0) in
+        sym (ap (λ o. option_or o (cond (same_text e.0 name) (Some e.1) None)) none ∙ ap (λ b. cond b (Some e.1) None) (nat_list_eq_equiv.symm e.0 name ∙ h))
+    by_case false h rest =
+        rest ∙ sym (or_none (value_of name (map macro_of es))) ∙ ap (λ b. option_or (value_of name (map macro_of es)) (cond b (Some e.1) None)) (sym (nat_list_eq_equiv.symm e.0 name ∙ h))
+
+pub found_value : {S : Type 0} (m : HashMap (List ℕ) (List ℕ) S) (name : List ℕ) → IsUnique same_text m → get_by (same_text name) m ≡ value_of name (map macro_of m.entries)
+found_value m name d = looked_up m.entries name d
+
+-- with a pair more, or another value
+pub put_table : {S : Type 0} (old new : HashMap (List ℕ) (List ℕ) S) (before : List Macro) (k name value : List ℕ) → before ≡ map macro_of old.entries → k ≡ name
+    → new.entries ≡ insert_entry same_text old.entries k value → map macro_of new.entries ≡ put_macro name value before
+put_table old new before k name value b e h =
+    ap (map macro_of) h ∙ put_entry old.entries k value ∙ ap (λ n. put_macro n value (map macro_of old.entries)) e ∙ ap (put_macro name value) (sym b)
+
+pub put_values : {S : Type 0} (old new : HashMap (List ℕ) (List ℕ) S) (before : List Macro) (k name value : List ℕ) → before ≡ map macro_of old.entries → k ≡ name
+    → IsUnique same_text old → IsUnique same_text new → ((q : List ℕ) → get same_text new q ≡ cond (same_text k q) (Some value) (get same_text old q))
+    → (q : List ℕ) → value_of q (map macro_of new.entries) ≡ cond (same_text name q) (Some value) (value_of q before)
+put_values {S = S} old new before k name value b e u v h = λ q.
+    sym (turned new q v) ∙ h q ∙ ap (λ n. cond (same_text n q) (Some value) (get same_text old q)) e
+    ∙ ap (λ o. cond (same_text name q) (Some value) o) (turned old q u ∙ ap (value_of q) (sym b))
+  where
+    turned : (m : HashMap (List ℕ) (List ℕ) S) (q : List ℕ) → IsUnique same_text m → get same_text m q ≡ value_of q (map macro_of m.entries)
+    turned m q d = found_value m q d
+
+-- with a macro more of a list
+pub table_next : (ms : List Macro) (i : ℕ) (m : Macro) → i < length ms → m ≡ get_or ms i m
+    → fold (λ table (x : Macro). put_macro x.name x.value table) [] (take (i + 1) ms) ≡ put_macro m.name m.value (fold (λ table (x : Macro). put_macro x.name x.value table) [] (take i ms))
+table_next ms i m h e =
+    ap (λ n. fold (λ table (x : Macro). put_macro x.name x.value table) [] (take n ms)) (add-one i)
+    ∙ ap (fold (λ table (x : Macro). put_macro x.name x.value table) []) (take-suc ms i m h ∙ ap (λ y. take i ms ++ y ∷ []) (sym e))
+    ∙ fold-append (λ table (x : Macro). put_macro x.name x.value table) [] (take i ms) (m ∷ [])
+
+pub value_next : (ms : List Macro) (i : ℕ) (m : Macro) (name : List ℕ) → i < length ms → m ≡ get_or ms i m
+    → value_of name (take (i + 1) ms) ≡ cond (same_text m.name name) (Some m.value) (value_of name (take i ms))
+unfolding value_from
+value_next ms i m name h e =
+    ap (λ n. value_of name (take n ms)) (add-one i) ∙ ap (value_of name) (take-suc ms i m h ∙ ap (λ y. take i ms ++ y ∷ []) (sym e))
+    ∙ value_from_two None name (take i ms) (m ∷ [])

@@ -52,11 +52,6 @@ abbrev pub is_there : Option (List ℕ) → Bool
 is_there None = false
 is_there (Some value) = true
 
--- where the macro of the name stands, or the end
-unfoldable pub macro_place : List ℕ → List Macro → ℕ
-macro_place name [] = 0
-macro_place name (m ∷ ms) = if same_text m.name name then 0 else 1 + macro_place name ms
-
 -- the macro table has no place for another name: 4,096 names at most
 abbrev pub is_full : List ℕ → List Macro → Bool
 is_full name ms = not (is_there (value_of name ms)) && nat_le 4096 (length ms)

@@ -1,4 +1,5 @@
 pub mod Macros
+pub mod Scopes
 pub mod Values
 pub mod ExpressionTree
 pub mod ExpressionMachine

@@ -1,12 +1,11 @@
 -- Macros and their uses in a text.
-use Rattle.std.specs.Prelude.{ℕ, zero, suc, ◌+◌, Bool, ◌&&◌, nat_lt, nat_eq, ◌==◌, if◌then◌else◌, List, [], ◌∷◌, ◌++◌, length, take, drop, slice_index, Option, Some, None, unwrap_or}
+use Rattle.std.specs.Prelude.{◌≡◌, ℕ, zero, suc, ◌+◌, Bool, ◌&&◌, nat_lt, nat_eq, ◌==◌, if◌then◌else◌, List, [], ◌∷◌, ◌++◌, length, take, drop, slice_index, Option, Some, None, unwrap_or}
 use Rattle.std.specs.Cmp.Lexicographic.{pointwise}
 use Rattle.build_base.specs.declared.lines.Macro.{Macro}
 use Rattle.meta_lexer.specs.Tokens.{word_size}
 use Rattle.meta_lexer.specs.Words.{is_identifier}
 use Rattle.macro_conditions.specs.declared.macros.Undefined.{Undefined}
 use Rattle.macro_conditions.specs.declared.macros.Undefined.TheVariants.{Kept, Zero}
-use Rattle.macro_conditions.specs.declared.macros.Scope.{Scope}
 
 -- the same bytes
 abbrev pub same_text : List ℕ → List ℕ → Bool
@@ -33,9 +32,13 @@ value_from found name (m ∷ ms) =
 abbrev pub value_of : List ℕ → List Macro → Option (List ℕ)
 value_of name ms = value_from None name ms
 
--- the macros of the files, and then the fixed ones, which hold above them
-abbrev pub scope_of : Scope → List Macro
-scope_of scope = scope.files.now ++ scope.fixed.now
+-- a name and its value as a macro
+abbrev pub macro_of : List ℕ × List ℕ → Macro
+macro_of e = record { name = e.0; value = e.1 }
+
+-- each name has in a table the value that it has in a list
+abbrev pub HasValues : List Macro → List Macro → Type 0
+HasValues table ms = (name : List ℕ) → value_of name table ≡ value_of name ms
 
 -- what stands for the use of a macro that isn't defined
 abbrev pub undefined : Undefined → ℕ → List ℕ → List ℕ

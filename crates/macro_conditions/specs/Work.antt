@@ -43,7 +43,7 @@ abbrev pub frames_of : List code_frame.Frame → List Frame
 frames_of fs = reverse (map frame_view fs)
 
 abbrev pub env_of : Work → Env
-env_of w = record { rows = w.rows; macros = w.macros.items; open_files = w.open_files.items }
+env_of w = record { rows = w.rows; macros = w.macros; open_files = w.open_files.items }
 
 abbrev pub state_of : Vec code_frame.Frame Global → Work → State Env
 state_of fs w = record { frames = frames_of fs.items; found = env_of w }

@@ -7,8 +7,8 @@ ghost use Rattle.macro_conditions.specs.Expansion.{Env, acts, unbalanced, bad};
 ghost use Rattle.macro_conditions.specs.Work.{source_view, mode_view, frames_of, env_of, state_of, idle, Halts, Agrees};
 
 use crate::directive::directive_word;
+use crate::table::ListedMacros;
 use crate::work::{Frame, Mode, SourceLine, Stopped, Work, bad, test};
-use build_base::Macro;
 use build_base::fault_codes::UNBALANCED;
 use std::alloc::Global;
 
@@ -30,7 +30,7 @@ fn mode_by(holds: bool) -> Mode
 
 fn mode_of_test(
     alloc: Global,
-    fixed: &[Macro],
+    fixed: &ListedMacros<'_>,
     work: &Work,
     line: SourceLine<'_>,
 ) -> Result<Mode, Stopped>
@@ -45,7 +45,7 @@ fn mode_of_test(
 
 fn opened(
     alloc: Global,
-    fixed: &[Macro],
+    fixed: &ListedMacros<'_>,
     work: &Work,
     frames: &Vec<Frame<'_>>,
     line: SourceLine<'_>,
@@ -63,7 +63,7 @@ fn opened(
 
 fn turned(
     alloc: Global,
-    fixed: &[Macro],
+    fixed: &ListedMacros<'_>,
     work: &Work,
     mode: Mode,
     line: SourceLine<'_>,
@@ -97,7 +97,7 @@ fn push<'a>(frames: &mut Vec<Frame<'a>>, frame: Frame<'a>) -> Result<(), Stopped
 /// An `!if`, `!ifdef` or `!ifndef`.
 pub(crate) fn open<'a>(
     alloc: Global,
-    fixed: &[Macro],
+    fixed: &ListedMacros<'_>,
     work: &Work,
     frames: &mut Vec<Frame<'a>>,
     line: SourceLine<'a>,
@@ -122,7 +122,7 @@ pub(crate) fn open<'a>(
 /// An `!elseif`, or an `!else`, which is the last.
 pub(crate) fn turn<'a>(
     alloc: Global,
-    fixed: &[Macro],
+    fixed: &ListedMacros<'_>,
     work: &Work,
     frames: &mut Vec<Frame<'a>>,
     last: bool,
@@ -154,7 +154,7 @@ pub(crate) fn turn<'a>(
 /// An `!endif`.
 pub(crate) fn close<'a>(
     alloc: Global,
-    fixed: &[Macro],
+    fixed: &ListedMacros<'_>,
     work: &Work,
     frames: &mut Vec<Frame<'a>>,
     line: SourceLine<'a>,
@@ -170,7 +170,11 @@ pub(crate) fn close<'a>(
 }
 
 /// The end of a file, where no conditional may be open.
-pub(crate) fn end(alloc: Global, fixed: &[Macro], frames: &Vec<Frame<'_>>) -> Result<(), Stopped>
+pub(crate) fn end(
+    alloc: Global,
+    fixed: &ListedMacros<'_>,
+    frames: &Vec<Frame<'_>>,
+) -> Result<(), Stopped>
     ensures { (e : Env) → Agrees (λ u. e) result
         (at_end (acts fixed.now idle) (outermost (frames_of frames.now.items) None) e) }
 {

@@ -17,7 +17,8 @@ use crate::conditional::{active, close, end, open, turn};
 use crate::directive::{Kind, directive_rest, is_include, kind_of};
 use crate::known::{Known, Located, answer, locate, without_workspace};
 use crate::macros::{Undefined, replace};
-use crate::work::{Frame, SourceLine, Stopped, Work, act, bad, bad_at, table_of};
+use crate::table::{ListedMacros, MacroTable};
+use crate::work::{Frame, SourceLine, Stopped, Work, act, bad, bad_at};
 use build_base::fault_codes::{
     BAD_BYTE, BAD_PATH, FILE_ABSENT, FILE_TOO_LONG, INCLUDE_ABSENT, INCLUDE_LOOP, INCLUDE_TOO_DEEP,
 };
@@ -41,7 +42,7 @@ pub enum Turned {
 #[derive(Clone, Copy)]
 struct Given<'a> {
     known: &'a [Known],
-    fixed: &'a [Macro],
+    fixed: &'a ListedMacros<'a>,
 }
 
 fn hex_digit(n: u8) -> u8
@@ -327,10 +328,11 @@ fn whole(alloc: Global, root: &Path, work: Work) -> Result<Turned, Refusal>
     ensures { Expands result (document root.now (env_of work)) }
 {
     let root = root.copy(alloc)?;
+    let macros = work.macros.rows(alloc)?;
     Ok(Turned::Whole(Lines {
         root,
         rows: work.rows,
-        macros: Rows::from_vec(work.macros),
+        macros,
     }))
 }
 
@@ -362,7 +364,7 @@ fn carry_out(
 {
     let mut work = Work {
         rows: Rows::new(alloc),
-        macros: table_of(alloc, macros)?,
+        macros: MacroTable::of(alloc, macros)?,
         open_files: Vec::new(alloc),
     };
     match read_root(alloc, given, &mut work, root) {
@@ -385,9 +387,10 @@ pub fn expand(
     ensures worlds { (world : List ℕ → Gotten) → AgreesWith world (answer files.now)
         → HoldsIn result (expansion (told world) root.now macros.now fixed.now) }
 {
+    let fixed = ListedMacros::of(alloc, fixed.items())?;
     let given = Given {
         known: files.items(),
-        fixed: fixed.items(),
+        fixed: &fixed,
     };
     carry_out(alloc, given, root, macros.items())
 }

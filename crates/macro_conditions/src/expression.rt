@@ -7,7 +7,8 @@ ghost use Rattle.build_base.specs.FaultText.{fault_of};
 ghost use Rattle.meta_lexer.specs.Fields.{IsWithin};
 ghost use Rattle.meta_lexer.specs.Tokens.{token_span};
 ghost use Rattle.macro_conditions.specs.declared.macros.Undefined.TheVariants.{Zero};
-ghost use Rattle.macro_conditions.specs.Macros.{replaced, scope_of};
+ghost use Rattle.macro_conditions.specs.Macros.{replaced};
+ghost use Rattle.macro_conditions.specs.Scopes.{scope_of};
 ghost use Rattle.macro_conditions.specs.Values.{view};
 ghost use Rattle.macro_conditions.specs.ExpressionTree.{term_view};
 ghost use Rattle.macro_conditions.specs.ExpressionMachine.{run, wanting};
@@ -17,6 +18,7 @@ use crate::machine::run;
 use crate::macros::{Scope, Undefined, replace};
 use crate::operand::{Operand, Term};
 use crate::operator::{BinaryOperator, Keyword, PrefixOperator};
+use crate::table::{ListedMacros, MacroTable};
 use build_base::fault_codes::{BAD_EXPRESSION, OPEN_QUOTE, VALUE_RANGE};
 use build_base::{Macro, Place, Refusal, Rows, Text, WantOfMemory, refuse};
 use meta_lexer::head::{bytes_at, unquoted};
@@ -227,6 +229,23 @@ pub fn value_in(
     value_of_text(alloc, written.as_slice())
 }
 
+// The same for the macros of a list.
+fn listed_value(
+    alloc: Global,
+    text: &[u8],
+    macros: &[Macro],
+) -> Result<Result<Value, u16>, WantOfMemory>
+    ensures { IfOk result (λ r. r ≡ value_of_text (replaced Zero macros.now text.now)) }
+{
+    let files = MacroTable::new(alloc);
+    let fixed = ListedMacros::of(alloc, macros)?;
+    let scope = Scope {
+        files: &files,
+        fixed: &fixed,
+    };
+    value_in(alloc, scope, text)
+}
+
 /// The refusal of an expression with a fault.
 pub fn refuse_expression(alloc: Global, code: u16, at: &Place, text: &[u8]) -> Refusal
     ensures { Finds result (Some (fault_of code at.now (detail_of code text.now))) }
@@ -246,11 +265,7 @@ pub fn evaluate(
     ensures value { Answers result (evaluation at.now text.now macros.now) }
     ensures tree { IsMeaningOf (replaced Zero macros.now text.now) result }
 {
-    let scope = Scope {
-        files: macros.items(),
-        fixed: &[],
-    };
-    match value_in(alloc, scope, text.bytes())? {
+    match listed_value(alloc, text.bytes(), macros.items())? {
         Ok(value) => Ok(value),
         Err(code) => Err(refuse_expression(alloc, code, at, text.bytes())),
     }

@@ -11,6 +11,7 @@ pub mod machine;
 pub mod macros;
 pub mod operand;
 pub mod operator;
+pub mod table;
 mod work;
 
 pub use expansion::{Turned, expand};

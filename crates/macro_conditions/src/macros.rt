@@ -1,9 +1,11 @@
 //! Macros and their uses in a text.
 ghost use Rattle.std.specs.Prelude.{◌≡◌, ◌≤◌, ◌+◌, ◌-◌, ◌<◌, length, IfOk, IfSome, OnOk, ◌++◌, None, drop, List, ℕ};
 ghost use Rattle.std.specs.Option.{option_map};
-ghost use Rattle.macro_conditions.specs.Macros.{use_at, value_from, value_of, scope_of, undefined, meaning, replaced};
+ghost use Rattle.macro_conditions.specs.Macros.{use_at, value_of, undefined, meaning, replaced};
+ghost use Rattle.macro_conditions.specs.Scopes.{scope_of};
 
-use build_base::{Macro, WantOfMemory};
+use crate::table::{ListedMacros, MacroTable};
+use build_base::WantOfMemory;
 use meta_lexer::token::word_size;
 use meta_lexer::words::is_identifier;
 use std::alloc::Global;
@@ -16,10 +18,10 @@ pub enum Undefined {
 }
 
 /// The macros of the files, and the fixed ones, which hold above them.
-#[derive(Clone, Copy, Debug)]
+#[derive(Clone, Copy)]
 pub struct Scope<'a> {
-    pub files: &'a [Macro],
-    pub fixed: &'a [Macro],
+    pub files: &'a MacroTable,
+    pub fixed: &'a ListedMacros<'a>,
 }
 
 /// The length of the name, where the text begins with the use of a macro.
@@ -39,33 +41,16 @@ pub fn use_at(text: &[u8]) -> Option<usize>
     }
 }
 
-// The value of the last macro of the name, else what was found before.
-#[tactic(auto, unfolding(crate::specs::Macros::value_from))]
-pub(crate) fn value_from<'a>(
-    found: Option<&'a [u8]>,
-    name: &[u8],
-    macros: &'a [Macro],
-) -> Option<&'a [u8]>
-    ensures { option_map (λ v. v.now) result
-        ≡ value_from (option_map (λ v. v.now) found.entry) name.now macros.now }
-{
-    let mut last = found;
-    for m in macros {
-        if m.name.bytes() == name {
-            last = Some(m.value.bytes());
-        }
-    }
-    last
-}
-
 impl<'a> Scope<'a> {
     /// The value of a macro, if it is defined.
-    #[tactic(auto, using(crate::proofs::MacroFronts::value_from_two))]
+    #[tactic(auto, using(crate::proofs::MacroFronts::value_of_two))]
     pub fn value_of(self, name: &[u8]) -> Option<&'a [u8]>
         ensures { option_map (λ v. v.now) result ≡ value_of name.now (scope_of self.entry) }
     {
-        let found = value_from(None, name, self.files);
-        value_from(found, name, self.fixed)
+        match self.fixed.value_of(name) {
+            Some(value) => Some(value),
+            None => self.files.value_of(name),
+        }
     }
 }
 

@@ -1,16 +1,17 @@
 //! What an expansion has taken so far, and what one line adds to it.
 ghost use Rattle.std.specs.Prelude.{◌≡◌, ◌+◌, ◌≤◌, ◌++◌, ◌∷◌, [], length, map, drop, fold, IfOk, IfErr, OnOk, Some, Ok, not};
 ghost use Rattle.build_base.specs.FaultText.{fault_of};
-ghost use Rattle.macro_conditions.specs.Macros.{scope_of};
+ghost use Rattle.macro_conditions.specs.Scopes.{scope_of};
 ghost use Rattle.macro_conditions.specs.Directives.{macro_named, directive_rest, definition_of};
-ghost use Rattle.macro_conditions.specs.Expansion.{bad, settled, put_macro, macro_place, table_of, is_full, fault_at, holds, names, tested, defined, written, acted, scope};
+ghost use Rattle.macro_conditions.specs.Expansion.{bad, settled, is_full, fault_at, holds, names, tested, defined, written, acted, scope};
 ghost use Rattle.macro_conditions.specs.Work.{source_view, env_of, Halts, Agrees};
 
 use crate::directive::{
     definition_of, directive_rest, directive_word, is_definition, is_directive, macro_named,
 };
 use crate::expression::{Value, detail, value_in};
-use crate::macros::{Scope, Undefined, replace, value_from};
+use crate::macros::{Scope, Undefined, replace};
+use crate::table::{ListedMacros, MacroTable};
 use build_base::fault_codes::{BAD_DIRECTIVE, BAD_EXPRESSION, TOO_MANY_MACROS};
 use build_base::{
     Fault, Macro, Path, Place, Refusal, Rows, Same, Taken, Text, WantOfMemory, refuse,
@@ -69,7 +70,7 @@ impl From<WantOfMemory> for Stopped {
 #[derive(Drop)]
 pub(crate) struct Work {
     pub rows: Rows<Taken>,
-    pub macros: Vec<Macro>,
+    pub macros: MacroTable,
     pub open_files: Vec<Path>,
 }
 
@@ -102,58 +103,10 @@ pub(crate) fn bad_at(alloc: Global, code: u16, at: &Place, detail: &[u8]) -> Sto
     }
 }
 
-// Where the macro of the name stands, or the length.
-#[tactic(auto, unfolding(crate::specs::Expansion::macro_place))]
-fn macro_place(name: &[u8], macros: &[Macro]) -> usize
-    ensures at { result ≡ macro_place name.now macros.now }
-    ensures within { result ≤ length macros.now }
-{
-    for (i, m) in macros.iter().enumerate() {
-        if m.name.bytes() == name {
-            return i;
-        }
-    }
-    macros.len()
-}
-
-#[tactic(auto, using(crate::proofs::TableLemmas::put_at, crate::proofs::TableLemmas::put_end))]
-fn put_macro(
-    alloc: Global,
-    macros: &mut Vec<Macro>,
-    name: &[u8],
-    value: Text,
-) -> Result<(), WantOfMemory>
-    ensures { OnOk result (macros.new.items ≡ put_macro name.now value macros.old.items) }
-{
-    let i = macro_place(name, macros.as_slice());
-    if i < macros.len() {
-        macros[i].value = value;
-        return Ok(());
-    }
-    let name = Text::of(alloc, name)?;
-    match macros.push(Macro { name, value }) {
-        Ok(()) => Ok(()),
-        Err(_) => Err(WantOfMemory),
-    }
-}
-
-// Each name once, in first-seen order and with its last value.
-#[tactic(auto, unfolding(crate::specs::Expansion::table_of))]
-pub(crate) fn table_of(alloc: Global, macros: &[Macro]) -> Result<Vec<Macro>, WantOfMemory>
-    ensures { IfOk result (λ v. v.items ≡ table_of macros.now) }
-{
-    let mut table = Vec::new(alloc);
-    for m in macros {
-        let value = m.value.copy(alloc)?;
-        put_macro(alloc, &mut table, m.name.bytes(), value)?;
-    }
-    Ok(table)
-}
-
-fn is_full(name: &[u8], macros: &[Macro]) -> bool
+fn is_full(name: &[u8], macros: &MacroTable) -> bool
     ensures { result ≡ is_full name.now macros.now }
 {
-    value_from(None, name, macros).is_none() && macros.len() >= MACRO_LIMIT
+    macros.value_of(name).is_none() && macros.len() >= MACRO_LIMIT
 }
 
 fn holds(alloc: Global, line: SourceLine<'_>, value: Result<Value, u16>) -> Result<bool, Stopped>
@@ -180,11 +133,11 @@ fn names(alloc: Global, line: SourceLine<'_>, scope: Scope<'_>) -> Result<bool, 
 
 impl Work {
     // The macros above a line, and the fixed ones.
-    pub(crate) fn scope<'a>(&'a self, fixed: &'a [Macro]) -> Scope<'a>
+    pub(crate) fn scope<'a>(&'a self, fixed: &'a ListedMacros<'a>) -> Scope<'a>
         ensures { scope_of result ≡ scope fixed.now (env_of self.now) }
     {
         Scope {
-            files: self.macros.as_slice(),
+            files: &self.macros,
             fixed,
         }
     }
@@ -194,7 +147,7 @@ impl Work {
 #[tactic(auto, unfolding(crate::specs::Expansion::tested))]
 pub(crate) fn test(
     alloc: Global,
-    fixed: &[Macro],
+    fixed: &ListedMacros<'_>,
     work: &Work,
     line: SourceLine<'_>,
 ) -> Result<bool, Stopped>
@@ -223,7 +176,7 @@ pub(crate) fn test(
 
 fn define(
     alloc: Global,
-    fixed: &[Macro],
+    fixed: &ListedMacros<'_>,
     work: &mut Work,
     line: SourceLine<'_>,
 ) -> Result<(), Stopped>
@@ -235,17 +188,17 @@ fn define(
     let Some((name, value)) = definition_of(line.text) else {
         return Err(bad(alloc, BAD_DIRECTIVE, line, line.text));
     };
-    if is_full(name, work.macros.as_slice()) {
+    if is_full(name, &work.macros) {
         return Err(bad(alloc, TOO_MANY_MACROS, line, name));
     }
     let value = replace(alloc, Undefined::Kept, work.scope(fixed), value)?;
-    put_macro(alloc, &mut work.macros, name, Text::from_vec(value))?;
+    work.macros.put(alloc, name, Text::from_vec(value))?;
     Ok(())
 }
 
 fn take(
     alloc: Global,
-    fixed: &[Macro],
+    fixed: &ListedMacros<'_>,
     work: &mut Work,
     line: SourceLine<'_>,
 ) -> Result<(), Stopped>
@@ -265,7 +218,7 @@ fn take(
 #[tactic(auto, unfolding(crate::specs::Expansion::acted))]
 pub(crate) fn act(
     alloc: Global,
-    fixed: &[Macro],
+    fixed: &ListedMacros<'_>,
     work: &mut Work,
     line: SourceLine<'_>,
 ) -> Result<(), Stopped>

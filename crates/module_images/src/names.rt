@@ -9,6 +9,7 @@ use doc_types::choice::Module;
 use doc_types::module::InfDoc;
 use doc_types::platform::PlatformDoc;
 use macro_conditions::macros::{Scope, Undefined, replace};
+use macro_conditions::table::{ListedMacros, MacroTable};
 use std::alloc::Global;
 use text_steps::{stated_guid, stem_of};
 use uuid::Uuid;
@@ -190,9 +191,10 @@ pub fn rule_names(
 pub fn filled(alloc: Global, names: &[Macro], text: &[u8]) -> Result<Text, WantOfMemory>
     ensures { IfOk result (λ t. t ≡ filled names.now text.now) }
 {
+    let (files, fixed) = (MacroTable::new(alloc), ListedMacros::of(alloc, names)?);
     let scope = Scope {
-        files: &[],
-        fixed: names,
+        files: &files,
+        fixed: &fixed,
     };
     Ok(Text::from_vec(replace(alloc, Undefined::Kept, scope, text)?))
 }

@@ -1,5 +1,5 @@
 use Rattle.std.proofs.Common.{◌++◌, append-nil, ap, sym, ◌∙◌, arith}
-use Rattle.macro_conditions.specs.Macros.{scope_of}
+use Rattle.macro_conditions.specs.Scopes.{scope_of}
 use Rattle.macro_conditions.proofs.MacroFronts.{replaced-end}
 use Rattle.macro_conditions.proofs.macros.replace.Goals as goal
 

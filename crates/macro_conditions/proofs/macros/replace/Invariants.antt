@@ -1,5 +1,6 @@
 use Rattle.std.proofs.Common.{◌≡◌, ◌-◌, ◌≤◌, ◌++◌, length, drop}
-use Rattle.macro_conditions.specs.Macros.{replaced, scope_of}
+use Rattle.macro_conditions.specs.Macros.{replaced}
+use Rattle.macro_conditions.specs.Scopes.{scope_of}
 use Rattle.macro_conditions.proofs.macros.replace.Given as goal
 
 abbrev pub invariant-loop-i : goal.invariant-loop-i

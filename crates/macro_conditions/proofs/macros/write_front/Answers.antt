@@ -1,5 +1,6 @@
 use Rattle.std.proofs.Common.{◌+◌, take, drop, sym}
-use Rattle.macro_conditions.specs.Macros.{meaning, scope_of}
+use Rattle.macro_conditions.specs.Macros.{meaning}
+use Rattle.macro_conditions.specs.Scopes.{scope_of}
 use Rattle.macro_conditions.proofs.MacroFronts.{front_use, front_byte, written_front}
 use Rattle.macro_conditions.proofs.macros.write_front.Goals as goal
 
