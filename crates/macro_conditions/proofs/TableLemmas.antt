@@ -1,5 +1,5 @@
 -- Macros in a table by their names.
-use Rattle.std.proofs.Common.{◌≡◌, ◌∙◌, ℕ, ◌+◌, ◌<◌, Bool, true, false, cond, List, [], ◌∷◌, ◌++◌, length, take, get_or, fold, map, Option, Some, None, refl, sym, ap, subst, add-one}
+use Rattle.std.proofs.Common.{◌≡◌, ◌∙◌, ℕ, ◌+◌, ◌<◌, Bool, true, false, cond, List, [], ◌∷◌, ◌++◌, length, take, get_or, map, Some, None, refl, sym, ap, subst, add-one}
 use Rattle.std.specs.Option.{option_or}
 use Rattle.std.specs.Cmp.Lexicographic.{nat_list_eq_equiv, same_text as same_bytes}
 use Rattle.std.specs.HashMap.{HashMap, IsUnique, get, get_by}
@@ -10,7 +10,7 @@ use Rattle.std.proofs.lemmas.List.Sums.{fold-append}
 use Rattle.indexmap.specs.IndexMap.{insert_entry}
 use Rattle.build_base.specs.declared.lines.Macro.{Macro}
 use Rattle.macro_conditions.specs.Macros.{macro_of, same_text, value_of, value_from}
-use Rattle.macro_conditions.specs.Expansion.{put_macro}
+use Rattle.macro_conditions.specs.Expansion.{put_macro, table_of}
 use Rattle.macro_conditions.proofs.MacroFronts.{value_from_found, value_from_two}
 
 -- a pair that is put is a macro that is put
@@ -34,12 +34,8 @@ no_value [] name h = refl
 no_value (e ∷ es) name h =
     ap (λ b. value_from (cond b (Some e.1) None) name (map macro_of es)) (nat_list_eq_equiv.symm e.0 name ∙ h.0) ∙ no_value es name h.1
 
-or_none : (o : Option (List ℕ)) → option_or o None ≡ o
-or_none None = refl
-or_none (Some x) = refl
-
 -- where each name stands once, the first of a name is the last
-pub looked_up : (es : List (List ℕ × List ℕ)) (name : List ℕ) → IsDistinct same_text (keys_of es) → lookup (same_text name) es ≡ value_of name (map macro_of es)
+looked_up : (es : List (List ℕ × List ℕ)) (name : List ℕ) → IsDistinct same_text (keys_of es) → lookup (same_text name) es ≡ value_of name (map macro_of es)
 unfolding value_from IsDistinct
 looked_up [] name d = refl
 looked_up (e ∷ es) name d =
@@ -53,7 +49,7 @@ looked_up (e ∷ es) name d =
         let none : value_of name (map macro_of es) ≡ None = no_value es name (subst (λ n. AllByRecursion (λ y. same_text n y ≡ false) (keys_of es)) same d.0) in
         sym (ap (λ o. option_or o (cond (same_text e.0 name) (Some e.1) None)) none ∙ ap (λ b. cond b (Some e.1) None) (nat_list_eq_equiv.symm e.0 name ∙ h))
     by_case false h rest =
-        rest ∙ sym (or_none (value_of name (map macro_of es))) ∙ ap (λ b. option_or (value_of name (map macro_of es)) (cond b (Some e.1) None)) (sym (nat_list_eq_equiv.symm e.0 name ∙ h))
+        rest ∙ value_from_found None name (map macro_of es) ∙ ap (λ b. option_or (value_of name (map macro_of es)) (cond b (Some e.1) None)) (sym (nat_list_eq_equiv.symm e.0 name ∙ h))
 
 pub found_value : {S : Type 0} (m : HashMap (List ℕ) (List ℕ) S) (name : List ℕ) → IsUnique same_text m → get_by (same_text name) m ≡ value_of name (map macro_of m.entries)
 found_value m name d = looked_up m.entries name d
@@ -67,19 +63,15 @@ put_table old new before k name value b e h =
 pub put_values : {S : Type 0} (old new : HashMap (List ℕ) (List ℕ) S) (before : List Macro) (k name value : List ℕ) → before ≡ map macro_of old.entries → k ≡ name
     → IsUnique same_text old → IsUnique same_text new → ((q : List ℕ) → get same_text new q ≡ cond (same_text k q) (Some value) (get same_text old q))
     → (q : List ℕ) → value_of q (map macro_of new.entries) ≡ cond (same_text name q) (Some value) (value_of q before)
-put_values {S = S} old new before k name value b e u v h = λ q.
-    sym (turned new q v) ∙ h q ∙ ap (λ n. cond (same_text n q) (Some value) (get same_text old q)) e
-    ∙ ap (λ o. cond (same_text name q) (Some value) o) (turned old q u ∙ ap (value_of q) (sym b))
-  where
-    turned : (m : HashMap (List ℕ) (List ℕ) S) (q : List ℕ) → IsUnique same_text m → get same_text m q ≡ value_of q (map macro_of m.entries)
-    turned m q d = found_value m q d
+put_values old new before k name value b e u v h = λ q.
+    sym (found_value new q v) ∙ h q ∙ ap (λ n. cond (same_text n q) (Some value) (get same_text old q)) e
+    ∙ ap (λ o. cond (same_text name q) (Some value) o) (found_value old q u ∙ ap (value_of q) (sym b))
 
 -- with a macro more of a list
-pub table_next : (ms : List Macro) (i : ℕ) (m : Macro) → i < length ms → m ≡ get_or ms i m
-    → fold (λ table (x : Macro). put_macro x.name x.value table) [] (take (i + 1) ms) ≡ put_macro m.name m.value (fold (λ table (x : Macro). put_macro x.name x.value table) [] (take i ms))
+pub table_next : (ms : List Macro) (i : ℕ) (m : Macro) → i < length ms → m ≡ get_or ms i m → table_of (take (i + 1) ms) ≡ put_macro m.name m.value (table_of (take i ms))
+unfolding table_of
 table_next ms i m h e =
-    ap (λ n. fold (λ table (x : Macro). put_macro x.name x.value table) [] (take n ms)) (add-one i)
-    ∙ ap (fold (λ table (x : Macro). put_macro x.name x.value table) []) (take-suc ms i m h ∙ ap (λ y. take i ms ++ y ∷ []) (sym e))
+    ap (λ n. table_of (take n ms)) (add-one i) ∙ ap table_of (take-suc ms i m h ∙ ap (λ y. take i ms ++ y ∷ []) (sym e))
     ∙ fold-append (λ table (x : Macro). put_macro x.name x.value table) [] (take i ms) (m ∷ [])
 
 pub value_next : (ms : List Macro) (i : ℕ) (m : Macro) (name : List ℕ) → i < length ms → m ≡ get_or ms i m

@@ -1,4 +1,4 @@
--- Macros that hold at a line.
+-- Macros that hold at a line (EDK II DSC specification, macro statements).
 use Rattle.std.specs.Prelude.{List, ◌++◌}
 use Rattle.build_base.specs.declared.lines.Macro.{Macro}
 use Rattle.macro_conditions.specs.declared.macros.Scope.{Scope}
