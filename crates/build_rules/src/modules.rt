@@ -3,7 +3,7 @@ ghost use Rattle.std.specs.Prelude.{◌≡◌, ℕ, List, [], true, IfOk};
 ghost use Rattle.build_stages.specs.Gives.{Gives, GivesIn};
 ghost use Rattle.build_stages.specs.Known.{advance_at};
 ghost use Rattle.library_choice.specs.Choices.{choice};
-ghost use Rattle.library_choice.specs.Closure.{is_known, own_lines, wanted};
+ghost use Rattle.library_choice.specs.Closure.{is_known, wanted};
 ghost use Rattle.module_steps.specs.Parts.{parts_at};
 ghost use Rattle.pcd_resolve.specs.Platform.{SkusEnd};
 ghost use Rattle.step_pack.specs.Keys.{key_cmp};
@@ -23,14 +23,14 @@ use doc_types::flash::FlashDoc;
 use doc_types::module::InfDoc;
 use doc_types::parts::ModuleParts;
 use doc_types::pcd::PcdSet;
-use doc_types::platform::{LibraryLine, PlatformDoc};
+use doc_types::platform::PlatformDoc;
 use doc_types::values::Values;
-use library_choice::{choose_with, next_wanted_with, own_lines};
-use module_steps::parts::choice_at;
+use library_choice::InstanceSearch;
+use module_steps::parts::{choice_at, infs_from};
 use module_steps::{
     Described, Linked, Setting, choice_asks, commands_of, dec_asks, described_at, described_from,
     inf_asks, linked_asks, linked_from, linked_module, own_inf, package_asks, parts_at, parts_from,
-    pcds_given, setting_of, skus_end, values_given, with_more,
+    pcds_given, setting_of, skus_end, values_given,
 };
 use shared_value::Shared;
 use std::alloc::Global;
@@ -42,47 +42,33 @@ use text_steps::report::values_at;
 /// one of 1,025 instances known.
 const MOST_ROUNDS: u32 = 1026;
 
-// The descriptions that a round asks for, behind those that are known.
-fn round(
+// The search of a round, with the descriptions that it asks for behind those that are known.
+fn round<'a>(
     alloc: Global,
     known: &Known<'_, Key, Out>,
-    infs: Rows<Shared<InfDoc>>,
+    search: InstanceSearch<'a>,
     paths: &[Path],
     permit: Permit,
-) -> Result<(Rows<Shared<InfDoc>>, Permit), Stop<Key>>
-    ensures value { Gives (λ x. x.0) result
-        (advance_at key_cmp fits known.now (round_stages infs paths.now)) }
-    ensures known { (path : List ℕ) → is_known infs path ≡ true
-        → IfOk result (λ x. is_known x.0 path ≡ true) }
+) -> Result<(InstanceSearch<'a>, Permit), Stop<Key>>
+    ensures value { Gives (λ x. x.0.infs) result
+        (advance_at key_cmp fits known.now (round_stages search.entry.infs paths.now)) }
+    ensures user { IfOk result (λ x. x.0.user ≡ search.entry.user) }
+    ensures platform { IfOk result (λ x. x.0.platform ≡ search.entry.platform) }
 {
     let asks = inf_asks(alloc, paths)?;
     let (given, permit) = gather(alloc, &EdkRules, known, asks.items(), permit)?;
-    Ok((with_more(alloc, infs, &given, paths)?, permit))
-}
-
-// The lines of [LibraryClasses] in the braces of a module's own component.
-fn braces<'a>(module: &Module, platform: &'a PlatformDoc) -> &'a [LibraryLine]
-    ensures { result.now ≡ own_lines «module».now platform.now.components }
-{
-    own_lines(module, platform.components.items())
+    let (infs, _next) = infs_from(alloc, &given, 0, paths)?;
+    Ok((search.with_more(alloc, infs.items())?, permit))
 }
 
 // The libraries of a module of which all descriptions are known that it wants.
-fn chosen(
-    alloc: Global,
-    module: &Module,
-    platform: &PlatformDoc,
-    own: &[LibraryLine],
-    infs: &Rows<Shared<InfDoc>>,
-    permit: Permit,
-) -> Result<Out, Stop<Key>>
-    requires known { is_known infs.now «module».now.inf ≡ true }
-    requires own { own.now ≡ own_lines «module».now platform.now.components }
-    requires closed { wanted «module».now platform.now infs.now ≡ [] }
+fn chosen(alloc: Global, search: InstanceSearch<'_>, permit: Permit) -> Result<Out, Stop<Key>>
+    requires closed { wanted search.user search.platform search.infs ≡ [] }
     ensures { GivesIn (λ out. out) result
-        (given_as out.Choice (choice «module».now platform.now infs.now)) }
+        (given_as out.Choice
+        (choice search.entry.user search.entry.platform search.entry.infs)) }
 {
-    let choice = choose_with(alloc, permit, module, platform, own, infs)?;
+    let choice = search.choose(alloc, permit)?;
     Ok(Out::Choice(choice))
 }
 
@@ -99,18 +85,17 @@ fn rounds(
     requires { is_known first «module».now.inf ≡ true }
     ensures { Comes known.now (choice_after most_rounds «module».now platform.now first) result }
 {
-    let own = braces(module, platform);
-    let mut infs = first;
+    let mut search = InstanceSearch::new(alloc, module, platform, first)?;
     let mut permit = permit;
     let mut left = MOST_ROUNDS;
     while left > 0 {
-        let wanted = next_wanted_with(alloc, module, platform, own, &infs)?;
+        let (wanted, behind) = search.wanted(alloc)?;
         if wanted.items().is_empty() {
-            return chosen(alloc, module, platform, own, &infs, permit);
+            return chosen(alloc, behind, permit);
         }
-        match round(alloc, known, infs, wanted.items(), permit) {
+        match round(alloc, known, behind, wanted.items(), permit) {
             Ok((more, again)) => {
-                infs = more;
+                search = more;
                 permit = again;
             }
             Err(stop) => return Err(stop),

@@ -2,10 +2,12 @@ pub mod CallerLemmas
 pub mod CountLemmas
 pub mod FallLemmas
 pub mod FoundLemmas
+pub mod FrontLemmas
 pub mod InsideLemmas
 pub mod LawLemmas
 pub mod LedLemmas
 pub mod MadeLemmas
+pub mod MoreLemmas
 pub mod OrderLaws
 pub mod OrderLemmas
 pub mod PathLemmas

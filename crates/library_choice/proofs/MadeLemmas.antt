@@ -1,7 +1,7 @@
 -- What is made of what is found.
-use Rattle.std.proofs.Common.{◌≡◌, ◌∙◌, ℕ, ◌≤◌, Bool, true, false, cond, List, [], length, Option, Some, None, Result, Err, sym, ap, subst, arith}
-use Rattle.std.specs.Prelude.{filter, codes}
-use Rattle.std.specs.List.{filter_map}
+use Rattle.std.proofs.Common.{◌≡◌, ◌∙◌, ℕ, ◌≤◌, Bool, true, false, cond, List, [], length, take, drop, Option, Some, None, Result, Err, refl, sym, ap, subst, arith}
+use Rattle.std.specs.Prelude.{filter, codes, is_none, is_some}
+use Rattle.std.specs.List.{All}
 use Rattle.std.proofs.lemmas.Bool.{le-leb, lt-leb}
 use Rattle.build_base.specs.Answer.{Refused, Finds as Faulty}
 use Rattle.build_base.specs.declared.refusal.Refusal.{Refusal}
@@ -13,13 +13,12 @@ use Rattle.doc_types.specs.declared.choice.Choice.{Choice}
 use Rattle.doc_types.specs.declared.choice.Module.{Module}
 use Rattle.doc_types.specs.declared.module.InfDoc.{InfDoc}
 use Rattle.library_choice.specs.Choices.{classes_fault, choice_of, made}
-use Rattle.library_choice.specs.Closure.{same_path, instance_of, next, nulls, instances, are_few, is_unknown, wanted_by}
+use Rattle.library_choice.specs.Closure.{known, is_known, instances, are_few, is_unknown, wanted_by}
+use Rattle.library_choice.specs.Fronts.{FindsFor, Whole}
 use Rattle.library_choice.specs.Lines.{Setting}
-use Rattle.library_choice.specs.Search.{Finds}
+use Rattle.library_choice.specs.Search.{Prefix}
+use Rattle.library_choice.proofs.FrontLemmas.{wanted-behind}
 use Rattle.build_base.specs.FaultCodes.{TOO_MANY_INSTANCES}
-
-abbrev pub FindsFor : Setting → InfDoc → Option (List (List ℕ)) → Type 0
-FindsFor s inf found = Finds same_path (next s) (filter_map (instance_of s) inf.classes) (nulls s) found
 
 found-is : (s : Setting) (inf : InfDoc) (found : List (List ℕ)) → FindsFor s inf (Some found) → found ≡ instances s inf
 unfolding instances
@@ -42,6 +41,19 @@ wanted_some s inf found f =
 pub wanted_none : (s : Setting) (inf : InfDoc) → FindsFor s inf None → wanted_by s inf ≡ []
 unfolding wanted_by
 wanted_none s inf f = ap (λ b. cond b (filter (is_unknown s.infs) (instances s inf)) []) (many-is s inf f)
+
+known-found : (infs : List InfDoc) (path : List ℕ) → is_known infs path ≡ true → is_unknown infs path ≡ false
+unfolding is_known is_unknown
+known-found infs path e = some-there (known infs path) e
+  where
+    some-there : (o : Option InfDoc) → is_some o ≡ true → is_none o ≡ false
+    some-there None e = absurd (cc)
+    some-there (Some inf) e = refl
+
+pub wanted_whole : (s : Setting) (inf : InfDoc) (found new : List (List ℕ)) (at : ℕ) (few : Bool) → Prefix found new → at ≤ length found → All (λ path. is_known s.infs path ≡ true) (take at found) → Whole s inf new few
+    → cond few (filter (is_unknown s.infs) (drop at new)) [] ≡ wanted_by s inf
+wanted_whole s inf found new at true p l h f = sym (wanted_some s inf new f ∙ wanted-behind (is_known s.infs) (is_unknown s.infs) found new at (known-found s.infs) p l h)
+wanted_whole s inf found new at false p l h f = sym (wanted_none s inf f)
 
 pub made_some : (user : Module) (s : Setting) (inf : InfDoc) (found : List (List ℕ)) → FindsFor s inf (Some found) → made user s inf ≡ or_fault (classes_fault s inf found) (choice_of s found)
 unfolding made

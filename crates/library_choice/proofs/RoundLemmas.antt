@@ -1,41 +1,19 @@
 -- The number falls from round to round.
-use Rattle.std.proofs.Common.{◌≡◌, ◌∙◌, ◌||◌, ℕ, suc, ◌-◌, ◌<◌, ◌≤◌, Bool, true, false, cond, nat_eq, List, [], ◌∷◌, ◌++◌, length, Option, Some, None, refl, sym, ap, subst, arith}
-use Rattle.std.specs.Prelude.{filter, find, is_none, is_some}
-use Rattle.std.specs.Option.{option_or}
-use Rattle.std.specs.List.{filter_map, cons_option}
-use Rattle.std.specs.Cmp.Lexicographic.{pointwise}
+use Rattle.std.proofs.Common.{◌≡◌, ◌||◌, ℕ, suc, ◌-◌, ◌<◌, ◌≤◌, Bool, true, false, cond, List, [], ◌∷◌, ◌++◌, length, Option, Some, None, refl, sym, ap, subst, arith}
+use Rattle.std.specs.Prelude.{filter, is_none, is_some}
+use Rattle.std.specs.List.{filter_map}
 use Rattle.std.proofs.lemmas.Bool.{leb-true}
-use Rattle.std.proofs.lemmas.List.Folds.{find-append}
 use Rattle.doc_types.specs.declared.choice.Module.{Module}
 use Rattle.doc_types.specs.declared.module.InfDoc.{InfDoc}
-use Rattle.doc_types.specs.declared.module.Named.{Named}
 use Rattle.doc_types.specs.declared.platform.PlatformDoc.{PlatformDoc}
 use Rattle.library_choice.specs.Closure.{known, is_known, is_unknown, instances, instance_of, classes_of, next, nulls, are_few, is_library, same_path, setting_of, wanted_by, wanted_for, wanted}
 use Rattle.library_choice.specs.Found.{is_in, found_in}
-use Rattle.library_choice.specs.Lines.{Setting, chosen_line}
+use Rattle.library_choice.specs.Lines.{Setting}
 use Rattle.library_choice.specs.Rounds.{unknown_left, left_for, rounds_left, Falls}
 use Rattle.library_choice.proofs.CountLemmas.{Distinct}
 use Rattle.library_choice.proofs.FallLemmas.{More, found-more, distinct-found, kept, one-more}
+use Rattle.library_choice.proofs.MoreLemmas.{known-stays, known-more, with_more, same-instances}
 use Rattle.library_choice.proofs.PathLemmas.{path_same}
-
--- what is known stays known
-known-stays : (infs more : List InfDoc) (path : List ℕ) (inf : InfDoc) → known infs path ≡ Some inf → known (infs ++ more) path ≡ Some inf
-unfolding known
-known-stays infs more path inf e =
-    find-append (λ (x : InfDoc). pointwise nat_eq x.at.path path) infs more
-    ∙ ap (λ (o : Option InfDoc). option_or o (find (λ (x : InfDoc). pointwise nat_eq x.at.path path) more)) e
-
-abbrev with_more : Setting → List InfDoc → Setting
-with_more s more = record s { infs = s.infs ++ more }
-
-same-instance : (s : Setting) (more : List InfDoc) (n : Named) → instance_of (with_more s more) n ≡ instance_of s n
-unfolding instance_of chosen_line
-same-instance s more n = refl
-
-same-instances : (s : Setting) (more : List InfDoc) (ns : List Named) → filter_map (instance_of (with_more s more)) ns ≡ filter_map (instance_of s) ns
-same-instances s more [] = refl
-same-instances s more (n ∷ ns) =
-    ap (λ o. cons_option o (filter_map (instance_of (with_more s more)) ns)) (same-instance s more n) ∙ ap (cons_option (instance_of s n)) (same-instances s more ns)
 
 next-by : (s : Setting) (more : List InfDoc) (x y : List ℕ) (o : Option InfDoc) → known s.infs x ≡ o → is_in same_path (next s x) y ≡ true → is_in same_path (next (with_more s more) x) y ≡ true
 unfolding next
@@ -71,14 +49,6 @@ some-known (Some x) e = absurd (cc)
 unknown-is : (infs : List InfDoc) (path : List ℕ) → is_unknown infs path ≡ true → is_known infs path ≡ false
 unfolding is_unknown is_known
 unknown-is infs path e = some-known (known infs path) e
-
-known-more-by : (infs more : List InfDoc) (path : List ℕ) (o : Option InfDoc) → known infs path ≡ o → is_some o ≡ true → is_some (known (infs ++ more) path) ≡ true
-known-more-by infs more path None e h = absurd (cc)
-known-more-by infs more path (Some inf) e h = ap is_some (known-stays infs more path inf e)
-
-known-more : (infs more : List InfDoc) (path : List ℕ) → is_known infs path ≡ true → is_known (infs ++ more) path ≡ true
-unfolding is_known
-known-more infs more path h = known-more-by infs more path (known infs path) refl h
 
 first-in : (xs : List (List ℕ)) → 0 < length xs → (x : List ℕ) × (is_in same_path xs x ≡ true)
 first-in [] h = absurd (omega (arith, h))

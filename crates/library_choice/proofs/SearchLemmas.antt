@@ -4,7 +4,7 @@ use Rattle.std.specs.List.{flat_map}
 use Rattle.std.proofs.lemmas.List.{take_all, take_at, take_more}
 use Rattle.std.proofs.lemmas.List.Concat.{flat_map-append}
 use Rattle.library_choice.specs.Found.{add, ends, found_in, IsFound}
-use Rattle.library_choice.specs.Search.{Same, AllIn, Closed, Prefix, grown, Going, Stands, Ended, Passed, Reason, Finds}
+use Rattle.library_choice.specs.Search.{Same, AllIn, Closed, Prefix, grown, Going, Stands, Ended, Passed, Reason, First, Finds}
 use Rattle.library_choice.proofs.FoundLemmas.{Prefix-trans, Prefix-length, Prefix-both, Prefix-take, take-Prefix, add_append, add-grows, AllIn-grown, add-skip, added, grown-mono, ends-grown, ends-up}
 
 -- nothing but what was there and the starts
@@ -100,38 +100,36 @@ many-second eq s next classes nulls first found at a few g h =
     add_append eq [] (ends next classes 1025) (ends next nulls 1025) ∙ ap (λ f. add eq f (ends next nulls 1025)) (a.whole 1025 (omega (arith, few))) in
     omega (arith, h, ap length e, more-eq eq s next nulls first found at a.closed g.going g.early)
 
+-- a queue came to a place, for a reason
+abbrev pub Went : {X : Type 0} → (X → X → Bool) → (X → List X) → List X → List X → List X → Bool → Type 0
+Went eq next b starts found few = (at : ℕ) × Stands eq next b starts found at × Reason few found at
+
 -- the first queue
-first-going : {X : Type 0} (eq : X → X → Bool) (next : X → List X) (classes start found : List X) (few : Bool) → start ≡ add eq [] classes → Passed eq next start 0 found few → (at : ℕ) × Stands eq next [] classes found at × Reason few found at
-first-going eq next classes start found few e p = p [] classes tt (subst (λ l. Stands eq next [] classes l 0) (sym e) (record { going = Going-start eq next [] classes tt; early = omega arith }))
+first-went : {X : Type 0} (eq : X → X → Bool) (next : X → List X) (classes start found : List X) (few : Bool) → start ≡ add eq [] classes → Passed eq next start 0 found few → Went eq next [] classes found few
+first-went eq next classes start found few e p = p [] classes tt (subst (λ l. Stands eq next [] classes l 0) (sym e) (record { going = Going-start eq next [] classes tt; early = omega arith }))
 
-pub first-many : {X : Type 0} (eq : X → X → Bool) → Same eq → (next : X → List X) (classes nulls start found : List X) (few : Bool) → start ≡ add eq [] classes → Passed eq next start 0 found few → few ≡ false → 1025 ≤ length (found_in eq next classes nulls 1025)
-first-many eq s next classes nulls start found few e p f =
-    let g = first-going eq next classes start found few e p in
-    many-first eq s next classes nulls found g.0 g.1 (subst (λ v. Reason v found g.0) f g.2)
+pub first-many : {X : Type 0} (eq : X → X → Bool) → Same eq → (next : X → List X) (classes nulls found : List X) (few : Bool) → Went eq next [] classes found few → few ≡ false → 1025 ≤ length (found_in eq next classes nulls 1025)
+first-many eq s next classes nulls found few g f = many-first eq s next classes nulls found g.0 g.1 (subst (λ v. Reason v found g.0) f g.2)
 
-pub record First {X : Type 0} (eq : X → X → Bool) (next : X → List X) (classes found : List X) : Type 0 where
-  pub ended : Ended eq next [] classes found
-  pub few : length found ≤ 1024
+pub first-end : {X : Type 0} (eq : X → X → Bool) → Same eq → (next : X → List X) (classes found : List X) (at : ℕ) → Stands eq next [] classes found at → at ≡ length found → First eq next classes found
+first-end eq s next classes found at g end = record { ended = Going-end eq s next [] classes found at tt g.going end; few = omega (arith, end, g.early) }
 
-pub first-ended : {X : Type 0} (eq : X → X → Bool) → Same eq → (next : X → List X) (classes start found : List X) (few : Bool) → start ≡ add eq [] classes → Passed eq next start 0 found few → few ≡ true → First eq next classes found
-first-ended eq s next classes start found few e p f =
-    let g = first-going eq next classes start found few e p in
-    let end : g.0 ≡ length found = subst (λ v. Reason v found g.0) f g.2 in
-    record { ended = Going-end eq s next [] classes found g.0 tt g.1.going end; few = omega (arith, end, g.1.early) }
+pub first-ended : {X : Type 0} (eq : X → X → Bool) → Same eq → (next : X → List X) (classes found : List X) (few : Bool) → Went eq next [] classes found few → few ≡ true → First eq next classes found
+first-ended eq s next classes found few g f = first-end eq s next classes found g.0 g.1 (subst (λ v. Reason v found g.0) f g.2)
 
 -- the second
-second-going : {X : Type 0} (eq : X → X → Bool) (next : X → List X) (classes nulls first start found : List X) (whole : Bool) → First eq next classes first → start ≡ add eq first nulls → Passed eq next start (length first) found whole → (at : ℕ) × Stands eq next first nulls found at × Reason whole found at
-second-going eq next classes nulls first start found whole a e p =
-    p first nulls a.ended.closed (subst (λ l. Stands eq next first nulls l (length first)) (sym e) (record { going = Going-start eq next first nulls a.ended.closed; early = a.few }))
+pub second-starts : {X : Type 0} (eq : X → X → Bool) (next : X → List X) (classes nulls first : List X) → First eq next classes first → Stands eq next first nulls (add eq first nulls) (length first)
+second-starts eq next classes nulls first a = record { going = Going-start eq next first nulls a.ended.closed; early = a.few }
 
-pub second-many : {X : Type 0} (eq : X → X → Bool) → Same eq → (next : X → List X) (classes nulls first start found : List X) (whole : Bool) → First eq next classes first → start ≡ add eq first nulls → Passed eq next start (length first) found whole → whole ≡ false → 1025 ≤ length (found_in eq next classes nulls 1025)
-second-many eq s next classes nulls first start found whole a e p f =
-    let g = second-going eq next classes nulls first start found whole a e p in
-    many-second eq s next classes nulls first found g.0 a.ended a.few g.1 (subst (λ v. Reason v found g.0) f g.2)
+pub second-went : {X : Type 0} (eq : X → X → Bool) (next : X → List X) (classes nulls first start found : List X) (from : ℕ) (whole : Bool) → First eq next classes first → start ≡ add eq first nulls → from ≡ length first → Passed eq next start from found whole → Went eq next first nulls found whole
+second-went eq next classes nulls first start found from whole a e l p =
+    p first nulls a.ended.closed (subst (λ n. Stands eq next first nulls start n) (sym l) (subst (λ l. Stands eq next first nulls l (length first)) (sym e) (second-starts eq next classes nulls first a)))
 
-pub second-found : {X : Type 0} (eq : X → X → Bool) → Same eq → (next : X → List X) (classes nulls first start found : List X) (whole : Bool) → First eq next classes first → start ≡ add eq first nulls → Passed eq next start (length first) found whole → whole ≡ true → Finds eq next classes nulls (Some found)
-second-found eq s next classes nulls first start found whole a e p f =
-    let g = second-going eq next classes nulls first start found whole a e p in
+pub second-many : {X : Type 0} (eq : X → X → Bool) → Same eq → (next : X → List X) (classes nulls first found : List X) (whole : Bool) → First eq next classes first → Went eq next first nulls found whole → whole ≡ false → 1025 ≤ length (found_in eq next classes nulls 1025)
+second-many eq s next classes nulls first found whole a g f = many-second eq s next classes nulls first found g.0 a.ended a.few g.1 (subst (λ v. Reason v found g.0) f g.2)
+
+pub second-found : {X : Type 0} (eq : X → X → Bool) → Same eq → (next : X → List X) (classes nulls first found : List X) (whole : Bool) → First eq next classes first → Went eq next first nulls found whole → whole ≡ true → Finds eq next classes nulls (Some found)
+second-found eq s next classes nulls first found whole a g f =
     let end : g.0 ≡ length found = subst (λ v. Reason v found g.0) f g.2 in
     let ended = Going-end eq s next first nulls found g.0 a.ended.closed g.1.going end in
     let is = found-whole eq next classes nulls first found a.ended ended in
@@ -141,10 +139,10 @@ second-found eq s next classes nulls first start found whole a e p f =
 -- one queue that ended, from nothing
 pub led-whole : {X : Type 0} (eq : X → X → Bool) → Same eq → (next : X → List X) (starts begun found : List X) (few : Bool) → begun ≡ add eq [] starts → Passed eq next begun 0 found few → few ≡ true → (n : ℕ) → 1024 ≤ n → add eq [] (ends next starts n) ≡ found
 led-whole eq s next starts begun found few e p f n h =
-    let g = first-ended eq s next starts begun found few e p f in
+    let g = first-ended eq s next starts found few (first-went eq next starts begun found few e p) f in
     g.ended.whole n (omega (arith, g.few, h))
 
 pub led-many : {X : Type 0} (eq : X → X → Bool) → Same eq → (next : X → List X) (starts begun found : List X) (few : Bool) → begun ≡ add eq [] starts → Passed eq next begun 0 found few → few ≡ false → 1025 ≤ length (add eq [] (ends next starts 1025))
 led-many eq s next starts begun found few e p f =
-    let g = first-going eq next starts begun found few e p in
+    let g = first-went eq next starts begun found few e p in
     omega (arith, more-eq eq s next starts [] found g.0 tt g.1.going g.1.early, subst (λ v. Reason v found g.0) f g.2)

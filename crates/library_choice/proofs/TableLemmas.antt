@@ -1,6 +1,6 @@
 -- Tables of places, made item by item.
 use Rattle.std.proofs.Common.{◌≡◌, ◌∙◌, ℕ, ◌+◌, ◌<◌, ◌≤◌, Bool, true, false, cond, nat_eq, nat_lt, List, [], ◌∷◌, ◌++◌, length, take, get_or, Option, Some, None, refl, sym, ap, subst, arith, add-one}
-use Rattle.std.specs.Prelude.{find, is_some}
+use Rattle.std.specs.Prelude.{is_some}
 use Rattle.std.specs.Option.{option_or}
 use Rattle.std.specs.HashMap.{HashMap, get}
 use Rattle.std.specs.Cmp.Lexicographic.{pointwise, same_text}
@@ -119,12 +119,9 @@ unfolding best
 lines_none user own lines table e = λ key. rw e refl
 
 -- the first INF file of a path, with one more
-known_next : (infs : List InfDoc) (i : ℕ) (inf : InfDoc) (path : List ℕ) → i < length infs → inf ≡ get_or infs i inf → known (take (i + 1) infs) path ≡ option_or (known (take i infs) path) (cond (pointwise nat_eq inf.at.path path) (Some inf) None)
+known_next : (infs : List InfDoc) (inf : InfDoc) (path : List ℕ) → known (infs ++ inf ∷ []) path ≡ option_or (known infs path) (cond (pointwise nat_eq inf.at.path path) (Some inf) None)
 unfolding known
-known_next infs i inf path h e =
-    ap (λ n. find (λ (x : InfDoc). pointwise nat_eq x.at.path path) (take n infs)) (add-one i) ∙ ap (find (λ (x : InfDoc). pointwise nat_eq x.at.path path)) (take-suc infs i inf h)
-    ∙ ap (λ (y : InfDoc). find (λ (x : InfDoc). pointwise nat_eq x.at.path path) (take i infs ++ y ∷ [])) (sym e)
-    ∙ find-append (λ (x : InfDoc). pointwise nat_eq x.at.path path) (take i infs) (inf ∷ [])
+known_next infs inf path = find-append (λ (x : InfDoc). pointwise nat_eq x.at.path path) infs (inf ∷ [])
 
 or-none : {X : Type 0} (o : Option X) → option_or o None ≡ o
 or-none None = refl
@@ -138,31 +135,34 @@ none-some : {X : Type 0} (o : Option X) → is_some o ≡ false → o ≡ None
 none-some None e = refl
 none-some (Some x) e = absurd (cc)
 
-pub infs_kept : {S : Type 0} (infs : List InfDoc) (i : ℕ) (inf : InfDoc) (table : HashMap (List ℕ) ℕ S) (k : List ℕ)
-    → i < length infs → inf ≡ get_or infs i inf → k ≡ inf.at.path → is_some (picked infs (get same_key table k)) ≡ true → Infs infs (take i infs) table → Infs infs (take (i + 1) infs) table
-infs_kept infs i inf table k h e is there held = λ key.
-    held key ∙ sym (known_next infs i inf key h e ∙ kept key (pointwise nat_eq inf.at.path key) refl)
+-- what is under equal keys
+under_same : {S : Type 0} (table : HashMap (List ℕ) InfDoc S) (k q : List ℕ) → k ≡ q → get same_key table k ≡ get same_key table q
+under_same table k q e = ap (λ (t : List ℕ). get {K = List ℕ} (λ a b. pointwise nat_eq t b) table k) e
+
+pub infs_kept : {S : Type 0} (infs : List InfDoc) (inf : InfDoc) (table : HashMap (List ℕ) InfDoc S) (k : List ℕ)
+    → k ≡ inf.at.path → is_some (get same_key table k) ≡ true → Infs infs table → Infs (infs ++ inf ∷ []) table
+infs_kept infs inf table k is there held = λ key.
+    held key ∙ sym (known_next infs inf key ∙ kept key (pointwise nat_eq inf.at.path key) refl)
   where
-    kept : (key : List ℕ) (b : Bool) → pointwise nat_eq inf.at.path key ≡ b → option_or (known (take i infs) key) (cond b (Some inf) None) ≡ known (take i infs) key
-    kept key false f = or-none (known (take i infs) key)
+    kept : (key : List ℕ) (b : Bool) → pointwise nat_eq inf.at.path key ≡ b → option_or (known infs key) (cond b (Some inf) None) ≡ known infs key
+    kept key false f = or-none (known infs key)
     kept key true f =
         let same : k ≡ key = is ∙ same_text inf.at.path key (sym f) in
-        or-some (known (take i infs) key) (Some inf) (subst (λ r. is_some r ≡ true) (held_same infs table k key same ∙ held key) there)
+        or-some (known infs key) (Some inf) (ap is_some (sym (held key)) ∙ subst (λ (t : List ℕ). is_some (get same_key table t) ≡ true) same there)
 
-pub infs_added : {S : Type 0} (infs : List InfDoc) (i : ℕ) (inf : InfDoc) (table new : HashMap (List ℕ) ℕ S) (k : List ℕ)
-    → i < length infs → inf ≡ get_or infs i inf → k ≡ inf.at.path → is_some (picked infs (get same_key table k)) ≡ false
-    → ((q : List ℕ) → get same_key new q ≡ cond (same_key k q) (Some i) (get same_key table q)) → Infs infs (take i infs) table → Infs infs (take (i + 1) infs) new
-infs_added infs i inf table new k h e is there update held = λ key.
-    ap (picked infs) (update key) ∙ ap (λ (t : List ℕ). picked infs (cond (pointwise nat_eq t key) (Some i) (get same_key table key))) is
-    ∙ put key (pointwise nat_eq inf.at.path key) refl ∙ sym (known_next infs i inf key h e)
+pub infs_added : {S : Type 0} (infs : List InfDoc) (inf : InfDoc) (table new : HashMap (List ℕ) InfDoc S) (k : List ℕ)
+    → k ≡ inf.at.path → is_some (get same_key table k) ≡ false → ((q : List ℕ) → get same_key new q ≡ cond (same_key k q) (Some inf) (get same_key table q)) → Infs infs table → Infs (infs ++ inf ∷ []) new
+infs_added infs inf table new k is there update held = λ key.
+    update key ∙ ap (λ (t : List ℕ). cond (pointwise nat_eq t key) (Some inf) (get same_key table key)) is
+    ∙ put key (pointwise nat_eq inf.at.path key) refl ∙ sym (known_next infs inf key)
   where
-    put : (key : List ℕ) (b : Bool) → pointwise nat_eq inf.at.path key ≡ b → picked infs (cond b (Some i) (get same_key table key)) ≡ option_or (known (take i infs) key) (cond b (Some inf) None)
-    put key false f = held key ∙ sym (or-none (known (take i infs) key))
+    put : (key : List ℕ) (b : Bool) → pointwise nat_eq inf.at.path key ≡ b → cond b (Some inf) (get same_key table key) ≡ option_or (known infs key) (cond b (Some inf) None)
+    put key false f = held key ∙ sym (or-none (known infs key))
     put key true f =
         let same : k ≡ key = is ∙ same_text inf.at.path key (sym f) in
-        let none : known (take i infs) key ≡ None = none-some (known (take i infs) key) (subst (λ r. is_some r ≡ false) (held_same infs table k key same ∙ held key) there) in
-        slice_get-get_or infs i inf h ∙ ap (λ (x : InfDoc). Some x) (sym e) ∙ ap (λ o. option_or o (Some inf)) (sym none)
+        let none : known infs key ≡ None = none-some (known infs key) (ap is_some (sym (held key)) ∙ subst (λ (t : List ℕ). is_some (get same_key table t) ≡ false) same there) in
+        ap (λ o. option_or o (Some inf)) (sym none)
 
-pub infs_none : {S : Type 0} (infs : List InfDoc) (table : HashMap (List ℕ) ℕ S) → table.entries ≡ [] → Infs infs [] table
+pub infs_none : {S : Type 0} (table : HashMap (List ℕ) InfDoc S) → table.entries ≡ [] → Infs [] table
 unfolding known
-infs_none infs table e = λ key. rw e refl
+infs_none table e = λ key. rw e refl

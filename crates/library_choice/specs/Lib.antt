@@ -1,11 +1,13 @@
 pub mod Choices
 pub mod Closure
 pub mod Found
+pub mod Fronts
 pub mod Laws
 pub mod Lines
 pub mod Order
 pub mod Reaching
 pub mod Rounds
 pub mod Search
+pub mod Searches
 pub mod Tables
 pub mod Walks

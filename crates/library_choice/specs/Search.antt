@@ -56,6 +56,12 @@ Passed {X} eq next old from new whole =
     (b starts : List X) → Closed eq next b → Stands eq next b starts old from → (at : ℕ)
     × Stands eq next b starts new at × Reason whole new at
 
+-- a queue that begins with the classes has ended, with few that are found
+pub record First {X : Type 0} (eq : X → X → Bool) (next : X → List X) (classes found : List X)
+    : Type 0 where
+  pub ended : Ended eq next [] classes found
+  pub few : length found ≤ 1024
+
 -- all that is found, at most 1,024, or that there are more
 abbrev pub Finds : {X : Type 0} → (X → X → Bool) → (X → List X) → List X → List X → Option (List X)
     → Type 0

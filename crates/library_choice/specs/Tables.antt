@@ -22,9 +22,9 @@ abbrev pub Lines : {S : Type 0} → User → Bool → List LibraryLine → List 
 Lines user own lines above table =
     (key : List ℕ) → picked lines (get same_key table key) ≡ best (weight user own key) above
 
--- a table gives for each path the place of the first INF file of it among those above
-abbrev pub Infs : {S : Type 0} → List InfDoc → List InfDoc → HashMap (List ℕ) ℕ S → Type 0
-Infs infs above table = (key : List ℕ) → picked infs (get same_key table key) ≡ known above key
+-- a table gives for each path the first INF file of it
+abbrev pub Infs : {S : Type 0} → List InfDoc → HashMap (List ℕ) InfDoc S → Type 0
+Infs infs table = (key : List ℕ) → get same_key table key ≡ known infs key
 
 abbrev pub outweighs : User → Bool → ℕ → Option LibraryLine → Bool
 outweighs user own weight None = false

@@ -6,7 +6,8 @@ ghost use Rattle.build_base.specs.Answer.{Answers, Checks, Finds as Faulty};
 ghost use Rattle.build_base.specs.FaultText.{fault_of};
 ghost use Rattle.build_base.specs.First.{or_fault};
 ghost use Rattle.library_choice.specs.Choices.{caller_fault, loop_fault, looped, constructors_at, destructors_at, choice_in, choice_by, choice_of, classes_fault, made, empty_choice, choice};
-ghost use Rattle.library_choice.specs.Closure.{same_path, is_known, instance_of, next, nulls, own_lines, wanted};
+ghost use Rattle.library_choice.specs.Closure.{same_path, is_known, instance_of, next, nulls, wanted};
+ghost use Rattle.library_choice.specs.Fronts.{IsFrontOf};
 ghost use Rattle.library_choice.specs.Laws.{IsLawful, AreLawful};
 ghost use Rattle.library_choice.specs.Reaching.{IsWhole};
 ghost use Rattle.library_choice.specs.Search.{Finds};
@@ -14,17 +15,17 @@ ghost use Rattle.build_base.specs.FaultCodes.{TOO_MANY_INSTANCES};
 
 use crate::caller::Caller;
 use crate::callers::callers;
-use crate::closure::instances;
+use crate::front::{Front, instances_behind};
 use crate::order::{call_order, first_looped, places};
 use crate::reach::reach;
+use crate::search::InstanceSearch;
 use crate::serving::check_all;
 use crate::tables::Tables;
-use crate::wanted::{known, own_lines, setting_of};
 use build_base::fault_codes::{CONSTRUCTOR_LOOP, TOO_MANY_INSTANCES};
 use build_base::{Path, Permit, Place, Refusal, Rows, Same, WantOfMemory, refuse};
 use doc_types::choice::{Call, Choice, Module};
 use doc_types::module::InfDoc;
-use doc_types::platform::{LibraryLine, PlatformDoc};
+use doc_types::platform::PlatformDoc;
 use shared_value::Shared;
 use std::alloc::Global;
 
@@ -211,18 +212,26 @@ fn too_many(alloc: Global, inf: &Path) -> Refusal
     }
 }
 
-#[tactic(auto, unfolding(crate::specs::Choices::made))]
-fn made(alloc: Global, user: &Module, tables: &Tables<'_>, inf: &InfDoc) -> Result<Choice, Refusal>
+/// The choice for a module, of whose instances so much is found.
+pub fn made(
+    alloc: Global,
+    user: &Module,
+    tables: &Tables<'_>,
+    inf: &InfDoc,
+    front: Front,
+) -> Result<Choice, Refusal>
+    requires { IsFrontOf tables.now inf.now front }
     ensures value { Answers result (made user.now tables.now inf.now) }
     ensures laws { OnOk result (IsLawful tables.now inf.now) }
 {
-    match instances(alloc, tables, inf)? {
+    match instances_behind(alloc, tables, front)? {
         Some(found) => lawful_choice(alloc, tables, inf, found.paths(alloc)?),
         None => Err(too_many(alloc, &user.inf)),
     }
 }
 
-fn empty_choice(alloc: Global) -> Choice
+/// The choice for a library.
+pub fn empty_choice(alloc: Global) -> Choice
     ensures { result ≡ empty_choice }
 {
     Choice {
@@ -231,33 +240,6 @@ fn empty_choice(alloc: Global) -> Choice
         constructors: Rows::new(alloc),
         destructors: Rows::new(alloc),
     }
-}
-
-/// The same as `choose`, for one that has the lines of the module's own braces at hand.
-#[tactic(auto, unfolding(crate::specs::Choices::choice))]
-pub fn choose_with(
-    alloc: Global,
-    permit: Permit,
-    module: &Module,
-    platform: &PlatformDoc,
-    own: &[LibraryLine],
-    infs: &Rows<Shared<InfDoc>>,
-) -> Result<Choice, Refusal>
-    requires known { is_known infs.now «module».now.inf ≡ true }
-    requires own { own.now ≡ own_lines «module».now platform.now.components }
-    requires closed { wanted «module».now platform.now infs.now ≡ [] }
-    ensures value { Answers result (choice «module».now platform.now infs.now) }
-    ensures laws { OnOk result (AreLawful «module».now platform.now infs.now) }
-{
-    let _ = permit;
-    let Some(inf) = known(infs.items(), &module.inf) else {
-        return Ok(empty_choice(alloc));
-    };
-    if !inf.serves.items().is_empty() {
-        return Ok(empty_choice(alloc));
-    }
-    let tables = setting_of(alloc, module, platform, own, infs.items(), inf)?;
-    made(alloc, module, &tables, inf)
 }
 
 /// The library instances of a module in first-found order, and what they have called (EDK II Build
@@ -274,6 +256,6 @@ pub fn choose(
     ensures value { Answers result (choice «module».now platform.now infs.now) }
     ensures laws { OnOk result (AreLawful «module».now platform.now infs.now) }
 {
-    let own = own_lines(module, platform.components.items());
-    choose_with(alloc, permit, module, platform, own, infs)
+    let search = InstanceSearch::new(alloc, module, platform, infs.copy(alloc)?)?;
+    search.choose(alloc, permit)
 }

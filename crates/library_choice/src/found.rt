@@ -1,5 +1,5 @@
 //! The instances found so far.
-ghost use Rattle.std.specs.Prelude.{◌≡◌, ◌<◌, ◌∷◌, ◌++◌, [], IfOk, OnOk, length, slice_get, slice_index_or};
+ghost use Rattle.std.specs.Prelude.{◌≡◌, ◌<◌, ◌∷◌, ◌++◌, [], IfOk, OnOk, drop, length, slice_get, slice_index_or, take};
 ghost use Rattle.std.specs.Option.{option_copied};
 ghost use Rattle.library_choice.specs.Closure.{same_path};
 ghost use Rattle.library_choice.specs.Found.{is_in, put};
@@ -52,6 +52,24 @@ impl Found {
         ensures { result.now ≡ self.now }
     {
         self.paths.as_slice()
+    }
+
+    /// The paths from a place on.
+    pub fn behind(&self, place: usize) -> &[Path]
+        ensures { result.now ≡ drop place self.now }
+    {
+        let all = self.items();
+        if place > all.len() {
+            return &[];
+        }
+        &all[place..]
+    }
+
+    /// Leaves so many of the paths.
+    pub fn truncate(&mut self, count: usize)
+        ensures { self.new ≡ take count self.old }
+    {
+        self.paths.truncate(count);
     }
 
     /// Whether a path is there.

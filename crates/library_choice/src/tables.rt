@@ -1,14 +1,17 @@
 //! Look-ups of lines by class and of INF files by path.
-ghost use Rattle.std.specs.Prelude.{◌≡◌, ◌<◌, ◌+◌, take, length, IfOk, OnOk};
+ghost use Rattle.std.specs.Prelude.{◌≡◌, ◌<◌, ◌+◌, ◌∷◌, ◌++◌, [], nat_eq, codes, take, length, IfOk, OnOk};
+ghost use Rattle.std.specs.Cmp.Lexicographic.{pointwise};
 ghost use Rattle.std.specs.HashMap.{get};
-ghost use Rattle.std.specs.Option.{is_some, option_copied};
-ghost use Rattle.library_choice.specs.Closure.{known, instance_of};
+ghost use Rattle.std.specs.List.{filter_map};
+ghost use Rattle.std.specs.Option.{option_copied};
+ghost use Rattle.library_choice.specs.Closure.{known, instance_of, null_of, nulls};
 ghost use Rattle.library_choice.specs.Lines.{chosen_line};
-ghost use Rattle.library_choice.specs.Tables.{Lines, Infs, outweighs, picked};
+ghost use Rattle.library_choice.specs.Tables.{Lines, outweighs, picked};
 
-use crate::lines::{covers, rank};
+use crate::known_infs::KnownInfs;
+use crate::lines::{applies, covers, rank};
 use crate::user::User;
-use build_base::{Path, Same, Text, WantOfMemory};
+use build_base::{Path, Rows, Same, Text, WantOfMemory};
 use doc_types::module::{InfDoc, Named};
 use doc_types::platform::LibraryLine;
 use indexmap::IndexMap;
@@ -83,46 +86,68 @@ fn line_places(
     Ok(places)
 }
 
-fn is_there(inf: Option<&Shared<InfDoc>>) -> bool
-    ensures { result ≡ is_some (option_copied inf.entry) }
+fn is_null(class: &[u8]) -> bool
+    ensures { result ≡ pointwise nat_eq class.now (codes "NULL") }
 {
-    match inf {
-        None => false,
-        Some(_) => true,
+    class == b"NULL".as_slice()
+}
+
+#[tactic(auto, unfolding(crate::specs::Closure::null_of))]
+fn null_of(user: User, line: &LibraryLine) -> Option<&Path>
+    ensures { option_copied result ≡ null_of user line.now }
+{
+    if is_null(line.class.bytes()) && applies(user, line) {
+        Some(&line.instance)
+    } else {
+        None
     }
 }
 
-// Adds an INF file under its path, unless one above has it.
-fn add_inf(
+fn push_null(
     alloc: Global,
-    infs: &[Shared<InfDoc>],
-    place: usize,
-    places: &mut IndexMap<Path, usize>,
+    user: User,
+    line: &LibraryLine,
+    paths: &mut Rows<Path>,
 ) -> Result<(), WantOfMemory>
-    requires { place < length infs.now }
-    ensures { Infs infs.now (take place infs.now) places.old →
-        OnOk result (Infs infs.now (take (place + 1) infs.now) places.new) }
+    ensures { OnOk result (paths.new ≡ paths.old ++ filter_map (null_of user) (line.now ∷ [])) }
 {
-    let inf = infs[place].value();
-    if is_there(picked(infs, places, &inf.at.path)) {
-        return Ok(());
-    }
-    let path = inf.at.path.copy(alloc)?;
-    match places.insert(path, place) {
-        Ok(_) => Ok(()),
-        Err(_) => Err(WantOfMemory),
+    match null_of(user, line) {
+        Some(path) => paths.push(path.copy(alloc)?),
+        None => Ok(()),
     }
 }
 
-// For each path the place of its INF file.
-fn inf_places(alloc: Global, infs: &[Shared<InfDoc>]) -> Result<IndexMap<Path, usize>, WantOfMemory>
-    ensures { IfOk result (Infs infs.now infs.now) }
+fn push_nulls(
+    alloc: Global,
+    user: User,
+    lines: &[LibraryLine],
+    paths: &mut Rows<Path>,
+) -> Result<(), WantOfMemory>
+    ensures { OnOk result (paths.new ≡ paths.old ++ filter_map (null_of user) lines.now) }
 {
-    let mut places = IndexMap::with_capacity(alloc, infs.len())?;
-    for place in 0..infs.len() {
-        add_inf(alloc, infs, place, &mut places)?;
+    let mut left = lines;
+    while let [line, rest @ ..] = left {
+        push_null(alloc, user, line, paths)?;
+        left = rest;
     }
-    Ok(places)
+    Ok(())
+}
+
+// The instances that are linked without a class.
+fn nulls(
+    alloc: Global,
+    user: User,
+    sections: &[LibraryLine],
+    own: &[LibraryLine],
+) -> Result<Rows<Path>, WantOfMemory>
+    ensures { IfOk result (λ paths. paths
+        ≡ filter_map (null_of user) sections.now ++ filter_map (null_of user) own.now) }
+{
+    let mut paths = Rows::new(alloc);
+    let (first, then) = (sections, own);
+    push_nulls(alloc, user, first, &mut paths)?;
+    push_nulls(alloc, user, then, &mut paths)?;
+    Ok(paths)
 }
 
 /// What a choice is made from, with tables over it.
@@ -131,26 +156,28 @@ pub struct Tables<'a> {
     user: User,
     sections: &'a [LibraryLine],
     own: &'a [LibraryLine],
-    infs: &'a [Shared<InfDoc>],
     section_places: IndexMap<Text, usize>,
     own_places: IndexMap<Text, usize>,
-    inf_places: IndexMap<Path, usize>,
+    nulls: Rows<Path>,
+    infs: KnownInfs,
 }
 
 impl<'a> Model for Tables<'a> {
-    ghost use Rattle.std.specs.Prelude.{true, false};
+    ghost use Rattle.std.specs.Prelude.{true, false, ◌≡◌, ◌++◌};
+    ghost use Rattle.std.specs.List.{filter_map};
+    ghost use Rattle.library_choice.specs.Closure.{null_of};
     ghost use Rattle.library_choice.specs.Lines.{Setting};
-    ghost use Rattle.library_choice.specs.Tables.{Lines, Infs};
+    ghost use Rattle.library_choice.specs.Tables.{Lines};
 
     ghost Value = { Setting };
 
     ghost view = { λ t.
-        record { user = t.user; sections = t.sections.now; own = t.own.now; infs = t.infs.now } };
+        record { user = t.user; sections = t.sections.now; own = t.own.now; infs = t.infs } };
 
     ghost invariant = { λ t.
         (Lines t.user false t.sections.now t.sections.now t.section_places)
         × (Lines t.user true t.own.now t.own.now t.own_places)
-        × Infs t.infs.now t.infs.now t.inf_places };
+        × (t.nulls ≡ filter_map (null_of t.user) t.sections.now ++ filter_map (null_of t.user) t.own.now) };
 }
 
 impl<'a> Tables<'a> {
@@ -160,23 +187,52 @@ impl<'a> Tables<'a> {
         user: User,
         sections: &'a [LibraryLine],
         own: &'a [LibraryLine],
-        infs: &'a [Shared<InfDoc>],
+        infs: KnownInfs,
     ) -> Result<Tables<'a>, WantOfMemory>
         ensures { IfOk result
-            (λ t. t
-            ≡ record { user = user; sections = sections.now; own = own.now; infs = infs.now }) }
+            (λ t. t ≡ record { user = user; sections = sections.now; own = own.now; infs = infs }) }
     {
         let section_places = line_places(alloc, user, false, sections)?;
         let own_places = line_places(alloc, user, true, own)?;
-        let inf_places = inf_places(alloc, infs)?;
+        let nulls = nulls(alloc, user, sections, own)?;
         Ok(Tables {
             user,
             sections,
             own,
-            infs,
             section_places,
             own_places,
-            inf_places,
+            nulls,
+            infs,
+        })
+    }
+
+    /// The same with these files known behind the others.
+    pub fn with_more(
+        self,
+        alloc: Global,
+        more: &[Shared<InfDoc>],
+    ) -> Result<Tables<'a>, WantOfMemory>
+        ensures { IfOk result (λ t. t
+            ≡ record self.entry { infs = self.entry.infs ++ more.now }) }
+    {
+        let Tables {
+            user,
+            sections,
+            own,
+            section_places,
+            own_places,
+            nulls,
+            infs,
+        } = self;
+        let infs = infs.with_more(alloc, more)?;
+        Ok(Tables {
+            user,
+            sections,
+            own,
+            section_places,
+            own_places,
+            nulls,
+            infs,
         })
     }
 
@@ -187,18 +243,12 @@ impl<'a> Tables<'a> {
         self.user
     }
 
-    /// The lines of the platform's sections.
-    pub fn sections(&self) -> &'a [LibraryLine]
-        ensures { result.now ≡ self.now.sections }
+    /// The instances that are linked without a class: those of the sections, then those of the
+    /// module's own braces.
+    pub fn nulls(&self) -> &[Path]
+        ensures { result.now ≡ nulls self.now }
     {
-        self.sections
-    }
-
-    /// The lines of the module's own braces.
-    pub fn own(&self) -> &'a [LibraryLine]
-        ensures { result.now ≡ self.now.own }
-    {
-        self.own
+        self.nulls.items()
     }
 
     /// The line that gives a class its instance.
@@ -213,10 +263,10 @@ impl<'a> Tables<'a> {
     }
 
     /// The INF file of a path, where it is known.
-    pub fn known(&self, path: &Path) -> Option<&'a InfDoc>
+    pub fn known(&self, path: &Path) -> Option<&InfDoc>
         ensures { option_copied result ≡ known self.now.infs path.now }
     {
-        match picked(self.infs, &self.inf_places, path) {
+        match self.infs.get(path) {
             Some(inf) => Some(inf.value()),
             None => None,
         }

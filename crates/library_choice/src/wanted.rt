@@ -1,14 +1,11 @@
 //! Which INF files are wanted next.
-ghost use Rattle.std.specs.Prelude.{◌≡◌, ◌∷◌, ◌++◌, [], true, filter, find, IfOk, OnOk};
+ghost use Rattle.std.specs.Prelude.{◌≡◌, true, find, IfOk};
 ghost use Rattle.std.specs.Option.{option_copied};
-ghost use Rattle.library_choice.specs.Closure.{known, is_known, is_unknown, is_component, libraries_of, own_lines, setting_of, wanted_by, wanted};
+ghost use Rattle.library_choice.specs.Closure.{known, is_known, is_component, libraries_of, own_lines, wanted};
 ghost use Rattle.library_choice.specs.Rounds.{Falls};
 
-use crate::closure::{instances, is_unknown};
-use crate::found::Found;
 use crate::lines::covers;
-use crate::tables::Tables;
-use crate::user::User;
+use crate::search::InstanceSearch;
 use build_base::{Path, Rows, Same, WantOfMemory};
 use doc_types::choice::Module;
 use doc_types::module::InfDoc;
@@ -66,96 +63,10 @@ pub fn is_known(infs: &Rows<Shared<InfDoc>>, path: &Path) -> bool
     known(infs.items(), path).is_some()
 }
 
-/// What the choice for a module is made from, with the lines of its own braces.
-#[tactic(auto, unfolding(crate::specs::Closure::setting_of))]
-pub fn setting_of<'a>(
-    alloc: Global,
-    user: &Module,
-    platform: &'a PlatformDoc,
-    own: &'a [LibraryLine],
-    infs: &'a [Shared<InfDoc>],
-    inf: &InfDoc,
-) -> Result<Tables<'a>, WantOfMemory>
-    requires { own.now ≡ own_lines user.now platform.now.components }
-    ensures { IfOk result (λ t. t ≡ setting_of user.now platform.now infs.now inf.now) }
-{
-    let asking = User {
-        arch: user.arch,
-        kind: inf.module_type,
-    };
-    Tables::new(alloc, asking, platform.libraries.items(), own, infs)
-}
-
-// Puts the path at a place behind the others, unless its INF file is known.
-fn push_unknown(
-    alloc: Global,
-    tables: &Tables<'_>,
-    path: &Path,
-    paths: &mut Rows<Path>,
-) -> Result<(), WantOfMemory>
-    ensures { OnOk result (paths.new ≡ paths.old
-        ++ filter (is_unknown tables.now.infs) (path.now ∷ [])) }
-{
-    if is_unknown(tables, path) {
-        paths.push(path.copy(alloc)?)?;
-    }
-    Ok(())
-}
-
-fn unknown(alloc: Global, tables: &Tables<'_>, found: &[Path]) -> Result<Rows<Path>, WantOfMemory>
-    ensures { IfOk result (λ w. w ≡ filter (is_unknown tables.now.infs) found.now) }
-{
-    let mut paths = Rows::new(alloc);
-    let mut left = found;
-    while let [path, rest @ ..] = left {
-        push_unknown(alloc, tables, path, &mut paths)?;
-        left = rest;
-    }
-    Ok(paths)
-}
-
-fn unknown_of(alloc: Global, tables: &Tables<'_>, found: &Found) -> Result<Rows<Path>, WantOfMemory>
-    ensures { IfOk result (λ w. w ≡ filter (is_unknown tables.now.infs) found.now) }
-{
-    unknown(alloc, tables, found.items())
-}
-
-fn wanted_by(alloc: Global, tables: &Tables<'_>, inf: &InfDoc) -> Result<Rows<Path>, WantOfMemory>
-    ensures { IfOk result (λ w. w ≡ wanted_by tables.now inf.now) }
-{
-    match instances(alloc, tables, inf)? {
-        Some(found) => unknown_of(alloc, tables, &found),
-        None => Ok(Rows::new(alloc)),
-    }
-}
-
-/// The same as `next_wanted`, for one that has the lines of the module's own braces at hand.
-#[tactic(auto, unfolding(crate::specs::Closure::wanted), using(crate::proofs::RoundLemmas::falls))]
-pub fn next_wanted_with(
-    alloc: Global,
-    module: &Module,
-    platform: &PlatformDoc,
-    own: &[LibraryLine],
-    infs: &Rows<Shared<InfDoc>>,
-) -> Result<Rows<Path>, WantOfMemory>
-    requires known { is_known infs.now «module».now.inf ≡ true }
-    requires own { own.now ≡ own_lines «module».now platform.now.components }
-    ensures wanted { IfOk result (λ w. w ≡ wanted «module».now platform.now infs.now) }
-    ensures falls { Falls «module».now platform.now infs.now }
-{
-    let Some(inf) = known(infs.items(), &module.inf) else {
-        return Ok(Rows::new(alloc));
-    };
-    if !inf.serves.items().is_empty() {
-        return Ok(Rows::new(alloc));
-    }
-    let tables = setting_of(alloc, module, platform, own, infs.items(), inf)?;
-    wanted_by(alloc, &tables, inf)
-}
-
 /// The INF files that the choice for a module needs next: those of the instances found so far that
 /// aren't among `infs`, in first-found order. None are wanted of a library, where all are known,
 /// and where more than 1,024 instances are found.
+#[tactic(auto, using(crate::proofs::RoundLemmas::falls))]
 pub fn next_wanted(
     alloc: Global,
     module: &Module,
@@ -166,6 +77,7 @@ pub fn next_wanted(
     ensures wanted { IfOk result (λ w. w ≡ wanted «module».now platform.now infs.now) }
     ensures falls { Falls «module».now platform.now infs.now }
 {
-    let own = own_lines(module, platform.components.items());
-    next_wanted_with(alloc, module, platform, own, infs)
+    let search = InstanceSearch::new(alloc, module, platform, infs.copy(alloc)?)?;
+    let (wanted, _search) = search.wanted(alloc)?;
+    Ok(wanted)
 }

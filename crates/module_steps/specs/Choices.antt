@@ -1,5 +1,5 @@
 -- What is known of a module's libraries, round by round, in this project's own form of steps.
-use Rattle.std.specs.Prelude.{ℕ, List, [], ◌∷◌, ◌++◌, Result, Ok, Err}
+use Rattle.std.specs.Prelude.{ℕ, List, [], ◌∷◌, ◌++◌, Result, Ok}
 use Rattle.build_base.specs.declared.fault.Fault.{Fault}
 use Rattle.build_base.specs.First.{and_then}
 use Rattle.step_engine.specs.declared.talk.Answer.{Answer}

@@ -9,7 +9,7 @@ pub mod settings;
 pub mod skus;
 
 pub use asks::{choice_asks, dec_asks, inf_asks, linked_asks, package_asks};
-pub use choices::{own_inf, with_more};
+pub use choices::own_inf;
 pub use parts::{
     Described, Linked, described_at, described_from, infs_from, linked_from, linked_module,
     parts_at, parts_from,

@@ -151,10 +151,10 @@ fn push_inf(
     Ok(next)
 }
 
-/// The descriptions of some paths, of which the first stands at a place, behind those that are
-/// known, and the place behind them.
+// The descriptions of some paths, of which the first stands at a place, behind others, and the place
+// behind them.
 #[tactic(auto, unfolding(crate::specs::Parts::taken))]
-pub(crate) fn infs_behind(
+fn infs_behind(
     alloc: Global,
     known: Rows<Shared<InfDoc>>,
     given: &Given<'_, Out>,

@@ -1,6 +1,5 @@
-use Rattle.std.proofs.Common.{◌≡◌, true}
+use Rattle.std.proofs.Common.{◌≡◌}
 use Rattle.build_stages.specs.Known.{advance_at}
-use Rattle.library_choice.specs.Closure.{is_known}
 use Rattle.step_pack.specs.Keys.{key_cmp}
 use Rattle.build_rules.specs.Fits.{fits}
 use Rattle.build_rules.specs.ModuleTrees.{choice_after, most_rounds}
@@ -8,8 +7,9 @@ use Rattle.build_rules.proofs.modules.rounds.Given as goal
 
 abbrev pub invariant-loop-left : goal.invariant-loop-left
 invariant-loop-left l = record {
-  rest : advance_at key_cmp fits l.known (choice_after l.left l.«module» l.platform l.infs) ≡ advance_at key_cmp fits l.known (choice_after most_rounds l.«module» l.platform l.fn.first);
-  known : is_known l.infs l.«module».inf ≡ true;
+  rest : advance_at key_cmp fits l.known (choice_after l.left l.«module» l.platform l.search.infs) ≡ advance_at key_cmp fits l.known (choice_after most_rounds l.«module» l.platform l.fn.first);
+  user : l.search.user ≡ l.«module»;
+  platform : l.search.platform ≡ l.platform;
 }
 
 abbrev pub decreases-loop-left : goal.decreases-loop-left

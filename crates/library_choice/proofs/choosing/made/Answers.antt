@@ -4,13 +4,14 @@ use Rattle.build_base.specs.First.{or_fault}
 use Rattle.build_base.specs.declared.fault.Fault.{Fault}
 use Rattle.doc_types.specs.declared.choice.Choice.{Choice}
 use Rattle.library_choice.specs.Choices.{classes_fault, choice_of}
-use Rattle.library_choice.proofs.MadeLemmas.{FindsFor, made_some, made_none, refused_is}
+use Rattle.library_choice.specs.Fronts.{FindsFor}
+use Rattle.library_choice.proofs.MadeLemmas.{made_some, made_none, refused_is}
 use Rattle.library_choice.proofs.choosing.made.Goals as goal
 
 pub returns-in_ok-paths-in-Some-clause-value : goal.returns-in_ok-paths-in-Some-clause-value
 returns-in_ok-paths-in-Some-clause-value c =
     let s = c.args.tables.now in
-    let found : FindsFor c.args.tables.now c.args.inf.now (Some c.in-Some.found) = subst (λ (o : Option (List (List ℕ))). FindsFor c.args.tables.now c.args.inf.now o) c.in-Some.is c.in_ok-found.ensures in
+    let found : FindsFor c.args.tables.now c.args.inf.now (Some c.in-Some.found) = subst (λ (o : Option (List (List ℕ))). FindsFor c.args.tables.now c.args.inf.now o) c.in-Some.is (c.in_ok-found.ensures c.args.inf.now c.requires) in
     subst (λ (r : Result Choice Fault). Answers c.lawful_choice.result r)
     (sym (made_some c.args.user.now s c.args.inf.now c.in-Some.found found
     ∙ ap (λ (l : List (List ℕ)). or_fault (classes_fault c.args.tables.now c.args.inf.now l) (choice_of c.args.tables.now l)) (sym c.in_ok-paths-in-Some.ensures)))
@@ -18,5 +19,5 @@ returns-in_ok-paths-in-Some-clause-value c =
 
 pub returns-in-None-clause-value : goal.returns-in-None-clause-value
 returns-in-None-clause-value c =
-    let many : FindsFor c.args.tables.now c.args.inf.now None = subst (λ (o : Option (List (List ℕ))). FindsFor c.args.tables.now c.args.inf.now o) c.in-None.is c.in_ok-found.ensures in
+    let many : FindsFor c.args.tables.now c.args.inf.now None = subst (λ (o : Option (List (List ℕ))). FindsFor c.args.tables.now c.args.inf.now o) c.in-None.is (c.in_ok-found.ensures c.args.inf.now c.requires) in
     refused_is c.too_many.result _ _ (made_none c.args.user.now c.args.tables.now c.args.inf.now many) c.too_many.ensures

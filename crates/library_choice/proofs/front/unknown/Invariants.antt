@@ -1,7 +1,7 @@
 use Rattle.std.proofs.Common.{◌≡◌, ◌++◌, length}
 use Rattle.std.specs.Prelude.{filter}
 use Rattle.library_choice.specs.Closure.{is_unknown}
-use Rattle.library_choice.proofs.wanted.unknown.Given as goal
+use Rattle.library_choice.proofs.front.unknown.Given as goal
 
 abbrev pub invariant-loop-left : goal.invariant-loop-left
 invariant-loop-left l = l.paths ++ filter (is_unknown l.tables.infs) l.left ≡ filter (is_unknown l.tables.infs) l.found

@@ -1,0 +1,8 @@
+use Rattle.library_choice.proofs.search.InstanceSearch.wanted.Goals as goal
+
+pub invariant_of-search : goal.invariant_of-search
+invariant_of-search c = record {
+  own = c.self.invariant.own;
+  setting = c.self.invariant.setting;
+  front = c.in_ok-wanted.ensures.front c.self.inside.inf c.self.invariant.front;
+}

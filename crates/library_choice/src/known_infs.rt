@@ -1,0 +1,114 @@
+//! The INF files that are known, found by their paths.
+ghost use Rattle.std.specs.Prelude.{◌≡◌, ◌∷◌, ◌++◌, [], List, IfOk, OnOk};
+ghost use Rattle.std.specs.Option.{option_copied};
+ghost use Rattle.doc_types.specs.declared.module.InfDoc.{InfDoc as InfModel};
+ghost use Rattle.library_choice.specs.Closure.{known};
+ghost use Rattle.library_choice.specs.Tables.{Infs};
+
+use build_base::{Path, Rows, Same, WantOfMemory};
+use doc_types::module::InfDoc;
+use indexmap::IndexMap;
+use shared_value::Shared;
+use std::alloc::Global;
+use std::marker::Model;
+
+// Adds an INF file under its path, unless one above has it.
+fn add_inf(
+    alloc: Global,
+    inf: &Shared<InfDoc>,
+    by_path: &mut IndexMap<Path, Shared<InfDoc>>,
+) -> Result<(), WantOfMemory>
+    ensures { (above : List InfModel) → Infs above by_path.old
+        → OnOk result (Infs (above ++ inf.now ∷ []) by_path.new) }
+{
+    let path = &inf.value().at.path;
+    if by_path.contains_key(path) {
+        return Ok(());
+    }
+    let (path, inf) = (path.copy(alloc)?, inf.copy(alloc)?);
+    match by_path.insert(path, inf) {
+        Ok(_) => Ok(()),
+        Err(_) => Err(WantOfMemory),
+    }
+}
+
+fn add_infs(
+    alloc: Global,
+    infs: &[Shared<InfDoc>],
+    by_path: &mut IndexMap<Path, Shared<InfDoc>>,
+) -> Result<(), WantOfMemory>
+    ensures { (above : List InfModel) → Infs above by_path.old
+        → OnOk result (Infs (above ++ infs.now) by_path.new) }
+{
+    for inf in infs {
+        add_inf(alloc, inf, by_path)?;
+    }
+    Ok(())
+}
+
+fn append(
+    alloc: Global,
+    infs: &[Shared<InfDoc>],
+    list: &mut Rows<Shared<InfDoc>>,
+) -> Result<(), WantOfMemory>
+    ensures { OnOk result (list.new ≡ list.old ++ infs.now) }
+{
+    let mut left = infs;
+    while let [inf, rest @ ..] = left {
+        list.push(inf.copy(alloc)?)?;
+        left = rest;
+    }
+    Ok(())
+}
+
+/// INF files that are known. Of one path the first counts.
+#[derive(Drop)]
+pub struct KnownInfs {
+    list: Rows<Shared<InfDoc>>,
+    by_path: IndexMap<Path, Shared<InfDoc>>,
+}
+
+impl Model for KnownInfs {
+    ghost use Rattle.std.specs.Prelude.{List};
+    ghost use Rattle.doc_types.specs.declared.module.InfDoc.{InfDoc as InfModel};
+    ghost use Rattle.library_choice.specs.Tables.{Infs};
+
+    ghost Value = { List InfModel };
+
+    ghost view = { λ t. t.list };
+
+    ghost invariant = { λ t. Infs t.list t.by_path };
+}
+
+impl KnownInfs {
+    /// These files.
+    pub fn of(alloc: Global, list: Rows<Shared<InfDoc>>) -> Result<KnownInfs, WantOfMemory>
+        ensures { IfOk result (λ t. t ≡ list) }
+    {
+        let mut by_path = IndexMap::with_capacity(alloc, list.items().len())?;
+        add_infs(alloc, list.items(), &mut by_path)?;
+        Ok(KnownInfs { list, by_path })
+    }
+
+    /// These files behind the others.
+    pub fn with_more(
+        self,
+        alloc: Global,
+        more: &[Shared<InfDoc>],
+    ) -> Result<KnownInfs, WantOfMemory>
+        ensures { IfOk result (λ t. t ≡ self ++ more.now) }
+    {
+        let KnownInfs { list, by_path } = self;
+        let (mut list, mut by_path) = (list, by_path);
+        add_infs(alloc, more, &mut by_path)?;
+        append(alloc, more, &mut list)?;
+        Ok(KnownInfs { list, by_path })
+    }
+
+    /// The INF file of a path, where it is known.
+    pub fn get(&self, path: &Path) -> Option<&Shared<InfDoc>>
+        ensures { option_copied result ≡ known self.now path.now }
+    {
+        self.by_path.get(path)
+    }
+}
