@@ -72,7 +72,10 @@ impl<R: Runtime + AllocGlobal> Tree for DiskTree<R> {
                 if bytes.len() as u64 > limit {
                     return Ok(Got::TooLong);
                 }
-                Ok(Got::File(Text::from_vec(bytes)))
+                match Text::shared(self.rt.alloc(), bytes) {
+                    Ok(text) => Ok(Got::File(text)),
+                    Err(_) => Err(TreeFailed::WantOfMemory),
+                }
             }
             Err(e) => match e.kind() {
                 ErrorKind::NotFound

@@ -28,7 +28,7 @@ pub struct Fault {
 
 impl Same for Place {
     fn copy(&self, alloc: Global) -> Result<Place, WantOfMemory> {
-        copied!(Place, self, alloc; path, line)
+        copied!(Place, self, alloc; path; line)
     }
 
     fn same(&self, other: &Place) -> bool {
@@ -38,7 +38,7 @@ impl Same for Place {
 
 impl Same for Fault {
     fn copy(&self, alloc: Global) -> Result<Fault, WantOfMemory> {
-        copied!(Fault, self, alloc; code, place, detail)
+        copied!(Fault, self, alloc; place, detail; code)
     }
 
     fn same(&self, other: &Fault) -> bool {

@@ -30,6 +30,7 @@ mod same_image;
 mod store;
 pub mod sure_keeper;
 pub mod text;
+pub mod together;
 
 pub use book::{Book, Permit};
 pub use fault::{Fault, Place};

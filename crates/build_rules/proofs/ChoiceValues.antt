@@ -31,12 +31,12 @@ use Rattle.module_steps.specs.Choices.{alone, behind}
 use Rattle.module_steps.specs.Parts.{one, inf_at, inf_of_path, taken}
 use Rattle.module_steps.proofs.KnownLemmas.{first_known, still_known, known_behind}
 use Rattle.module_steps.proofs.TakenLemmas.{then_made}
-use Rattle.build_rules.specs.Fits.{fits}
-use Rattle.build_rules.specs.ModuleTrees.{round_stages, choice_round, choice_after, most_rounds, module_first, choice_given, choice_stages}
+use Rattle.document_rules.specs.Fits.{fits}
+use Rattle.module_rules.specs.ModuleTrees.{round_stages, choice_round, choice_after, most_rounds, module_first, choice_given, choice_stages}
 use Rattle.build_rules.specs.ModuleValues.{infs_value, chosen_by, chosen_after, choice_value}
 use Rattle.build_rules.specs.Rules.{edk, value_in}
 use Rattle.build_rules.specs.RulesBounds.{edk_is_bounded}
-use Rattle.build_rules.specs.Trees.{given_as}
+use Rattle.document_rules.specs.Trees.{given_as}
 use Rattle.build_rules.specs.Values.{inf_value, platform_value, fault_asked}
 use Rattle.build_rules.proofs.DescriptionLemmas.{described_path}
 use Rattle.build_rules.proofs.KindLemmas.{stage_run}

@@ -37,16 +37,17 @@ use Rattle.module_images.specs.Apriori.{apriori_given}
 use Rattle.module_images.specs.Asks.{line_asks, members_asks, plan_asks}
 use Rattle.module_images.specs.Files.{module_given}
 use Rattle.module_images.specs.Modules.{plan_given}
-use Rattle.build_rules.specs.AllTree.{all_asks, build_asks, report_named, all_given, all_stages, files_stages}
-use Rattle.build_rules.specs.Wanted.{wanted_of}
-use Rattle.build_rules.specs.declared.wanted.Wanted.{Wanted}
-use Rattle.build_rules.specs.Fits.{fits}
-use Rattle.build_rules.specs.ImageTrees.{flash_in, volume_at, item_at, device_at, image_by, vpd_path, sections_stages, module_stages, item_stages, file_stages, volume_stages, device_asks, regions_stages, device_from, device_stages}
-use Rattle.build_rules.specs.VpdLines.{has_vpd}
-use Rattle.build_rules.specs.Outputs.{output_folder, outputs_of}
+use Rattle.output_rules.specs.AllTree.{all_asks, build_asks, report_named, all_given, all_stages, files_stages}
+use Rattle.output_rules.specs.Wanted.{wanted_of}
+use Rattle.output_rules.specs.declared.wanted.Wanted.{Wanted}
+use Rattle.document_rules.specs.Fits.{fits}
+use Rattle.document_rules.specs.Trees.{flash_in, EdkStages, given_as, some_path, path_named, flash_named, flash_asks, flash_from, flash_given, flash_stages}
+use Rattle.image_rules.specs.ImageTrees.{volume_at, item_at, device_at, image_by, vpd_path, sections_stages, module_stages, item_stages, file_stages, volume_stages, device_asks, regions_stages, device_from, device_stages}
+use Rattle.document_rules.specs.VpdLines.{has_vpd}
+use Rattle.document_rules.specs.Folders.{output_folder}
+use Rattle.output_rules.specs.Outputs.{outputs_of}
 use Rattle.build_rules.specs.Rules.{edk, is_path_or_empty, value_in}
 use Rattle.build_rules.specs.RulesBounds.{edk_is_bounded}
-use Rattle.build_rules.specs.Trees.{EdkStages, given_as, some_path, path_named, flash_named, flash_asks, flash_from, flash_given, flash_stages}
 use Rattle.build_rules.specs.Values.{job_macros, platform_value, flash_file, flash_of_file, flash_value, answers_in, fault_asked, by_answers, if_shaped, sections_value, module_file, item_value, file_value, planned_value, volume_value, regions_value, numbered_value, device_value, files_value, wanted_value, all_value}
 use Rattle.build_rules.proofs.KindLemmas.{stage_run}
 use Rattle.build_rules.proofs.ValueLemmas.{document_run, path_some, platform_is}

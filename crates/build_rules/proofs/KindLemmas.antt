@@ -31,7 +31,7 @@ use Rattle.dec_docs.specs.Package.{package_of}
 use Rattle.inf_docs.specs.Modules.{module_of}
 use Rattle.dsc_platform.specs.Platform.{platform_of}
 use Rattle.flash_document.specs.Flash.{flash_of}
-use Rattle.build_rules.specs.Fits.{fits, kind_of, kind_at}
+use Rattle.document_rules.specs.Fits.{fits, kind_of, kind_at}
 use Rattle.doc_types.specs.declared.choice.Module.{Module}
 use Rattle.doc_types.specs.declared.module.InfDoc.{InfDoc}
 use Rattle.library_choice.specs.Choices.{choice}
@@ -43,22 +43,22 @@ use Rattle.module_steps.specs.Skus.{skus_end}
 use Rattle.image_steps.specs.Asks.{sections_below, regions_below, are_few}
 use Rattle.image_steps.specs.Files.{file_given}
 use Rattle.image_steps.specs.Volumes.{volume_given}
-use Rattle.build_rules.specs.Based.{based_given}
+use Rattle.image_rules.specs.Based.{based_given}
 use Rattle.image_steps.specs.Devices.{device_given}
 use Rattle.module_images.specs.Apriori.{apriori_given}
 use Rattle.module_images.specs.Files.{module_given}
 use Rattle.module_images.specs.Modules.{plan_given}
-use Rattle.build_rules.specs.AllTree.{folder_in, modules_in, wanted_in, report_in}
-use Rattle.build_rules.specs.ModuleTrees.{round_stages, choice_round, choice_after, most_rounds, modules_parts, setting_in, module_parts, commands_in}
-use Rattle.build_rules.specs.Outputs.{outputs_of}
-use Rattle.build_rules.specs.TextTrees.{told_modules_in, heading_in}
+use Rattle.output_rules.specs.AllTree.{folder_in, modules_in, wanted_in, report_in}
+use Rattle.module_rules.specs.ModuleTrees.{round_stages, choice_round, choice_after, most_rounds, modules_parts, setting_in, module_parts, commands_in}
+use Rattle.output_rules.specs.Outputs.{outputs_of}
+use Rattle.module_rules.specs.TextTrees.{told_modules_in, heading_in}
 use Rattle.text_steps.specs.Code.{code_given}
 use Rattle.text_steps.specs.Depex.{depex_given}
 use Rattle.text_steps.specs.Report.{values_at, report_given}
-use Rattle.build_rules.specs.Trees.{EdkStages, given_as, document_stages, root_in, macros_in, platform_in, flash_root, flash_from}
-use Rattle.build_rules.specs.ImageTrees.{flash_in, volume_at, item_at, device_at, vpd_in, item_stages}
-use Rattle.build_rules.specs.VpdTree.{arches_at, placed}
-use Rattle.build_rules.specs.VpdLines.{has_vpd}
+use Rattle.document_rules.specs.Trees.{EdkStages, given_as, document_stages, root_in, macros_in, platform_in, flash_root, flash_from, flash_in}
+use Rattle.image_rules.specs.ImageTrees.{volume_at, item_at, device_at, vpd_in, item_stages}
+use Rattle.image_rules.specs.VpdTree.{arches_at, placed}
+use Rattle.document_rules.specs.VpdLines.{has_vpd}
 use Rattle.build_rules.specs.Rules.{edk, stages_of}
 use Rattle.build_rules.specs.RulesBounds.{edk_is_bounded}
 use Rattle.build_rules.specs.Values.{answers_in, fault_asked}

@@ -1,5 +1,4 @@
 pub mod ValueLemmas
-pub mod ChoiceLemmas
 mod KindLemmas
 mod ImageValues
 mod DescriptionLemmas
@@ -8,6 +7,5 @@ mod ChoiceValues
 mod PcdValues
 mod TextLemmas
 mod VpdLemmas
-mod BasedLemmas
 pub mod AdoptLemmas
 mod OlderLemmas

@@ -29,12 +29,12 @@ use Rattle.module_steps.specs.Pcds.{pcds_given, values_given}
 use Rattle.module_steps.specs.Settings.{commands_of, setting_of}
 use Rattle.module_steps.specs.Skus.{skus_end}
 use Rattle.module_steps.proofs.TakenLemmas.{Tells, each, then_made}
-use Rattle.build_rules.specs.Fits.{fits}
-use Rattle.build_rules.specs.ModuleTrees.{linked_stages, described_stages, parts_stages, modules_parts, pcds_asks, pcds_from, pcds_first, pcds_stages, one_described, module_parts, values_asks, values_from, values_first, values_stages}
+use Rattle.document_rules.specs.Fits.{fits}
+use Rattle.module_rules.specs.ModuleTrees.{linked_stages, described_stages, parts_stages, modules_parts, pcds_asks, pcds_from, pcds_first, pcds_stages, one_described, module_parts, values_asks, values_from, values_first, values_stages}
 use Rattle.build_rules.specs.ModuleValues.{choice_value, linked_value, described_value, parts_value, modules_value, pcds_value, module_value, values_value}
 use Rattle.build_rules.specs.Rules.{edk, value_in}
 use Rattle.build_rules.specs.RulesBounds.{edk_is_bounded}
-use Rattle.build_rules.specs.Trees.{given_as}
+use Rattle.document_rules.specs.Trees.{given_as}
 use Rattle.build_rules.specs.Values.{platform_value, flash_value, fault_asked, if_shaped}
 use Rattle.build_rules.proofs.ChoiceValues.{choice_is}
 use Rattle.build_rules.proofs.ImageValues.{flash_is, given_then, step_run, then_same, when_run}

@@ -28,13 +28,13 @@ use Rattle.text_steps.specs.Asks.{told_asks, report_asks}
 use Rattle.text_steps.specs.Code.{code_given}
 use Rattle.text_steps.specs.Depex.{depex_given}
 use Rattle.text_steps.specs.Report.{values_of_out, module_report, report_at, two, report_modules, report_given, text_of}
-use Rattle.build_rules.specs.ModuleTrees.{module_parts}
+use Rattle.module_rules.specs.ModuleTrees.{module_parts}
 use Rattle.build_rules.specs.ModuleValues.{choice_value, module_value, pcds_value, values_value}
 use Rattle.build_rules.specs.Rules.{edk, value_in}
 use Rattle.build_rules.specs.RulesBounds.{edk_is_bounded}
-use Rattle.build_rules.specs.TextTrees.{code_asks, code_from, code_first, code_stages, depex_asks, depex_from, depex_first, depex_stages, heading_asks, told_stages, report_first, report_stages}
+use Rattle.module_rules.specs.TextTrees.{code_asks, code_from, code_first, code_stages, depex_asks, depex_from, depex_first, depex_stages, heading_asks, told_stages, report_first, report_stages}
 use Rattle.build_rules.specs.TextValues.{code_value, depex_value, told_value, told_text, heading_value, report_value}
-use Rattle.build_rules.specs.Trees.{given_as}
+use Rattle.document_rules.specs.Trees.{given_as}
 use Rattle.build_rules.specs.Values.{platform_value, answers_in, fault_asked}
 use Rattle.build_rules.proofs.ChoiceValues.{choice_is}
 use Rattle.build_rules.proofs.ImageValues.{given_then, last_run, step_run, then_same}

@@ -26,9 +26,9 @@ use Rattle.module_steps.specs.declared.parts.Described.{Described}
 use Rattle.module_steps.specs.declared.parts.Linked.{Linked}
 use Rattle.module_steps.specs.Parts.{inf_of_path, inf_of_out, inf_at, dec_of_out, package_at, held_package, one, taken, described, described_at, package_paths, path_count, parts, parts_at, package_count}
 use Rattle.module_steps.proofs.TakenLemmas.{faults, Tells, at_front, each, then_made, told_is}
-use Rattle.build_rules.specs.Fits.{fits}
+use Rattle.document_rules.specs.Fits.{fits}
 use Rattle.build_rules.specs.Rules.{edk, value_in}
-use Rattle.build_rules.specs.Trees.{given_as}
+use Rattle.document_rules.specs.Trees.{given_as}
 use Rattle.build_rules.specs.Values.{answers_in, fault_asked, inf_value, dec_value}
 use Rattle.build_rules.specs.ModuleValues.{infs_value, described_value, package_value, packages_value, parts_value}
 use Rattle.build_rules.proofs.DescriptionLemmas.{described_path}

@@ -31,8 +31,8 @@ use Rattle.step_pack.specs.declared.out.Out.{Out}
 use Rattle.step_pack.specs.declared.out.Out.TheVariants as out
 use Rattle.dec_docs.specs.Package.{package_of}
 use Rattle.inf_docs.specs.Modules.{module_of}
-use Rattle.build_rules.specs.Fits.{fits}
-use Rattle.build_rules.specs.Trees.{given_as, document_stages, path_named, platform_stages}
+use Rattle.document_rules.specs.Fits.{fits}
+use Rattle.document_rules.specs.Trees.{given_as, document_stages, path_named, platform_stages}
 use Rattle.build_rules.specs.Rules.{edk, value_in}
 use Rattle.build_rules.specs.RulesBounds.{edk_is_bounded}
 use Rattle.build_rules.specs.Values.{lines_in, dec_value, inf_value, job_macros, platform_value}

@@ -19,9 +19,9 @@ use Rattle.step_pack.specs.declared.out.Out.TheVariants as out
 use Rattle.build_rules.specs.ModuleValues.{pcds_value}
 use Rattle.build_rules.specs.Rules.{edk, value_in}
 use Rattle.build_rules.specs.RulesBounds.{edk_is_bounded}
-use Rattle.build_rules.specs.Trees.{given_as}
+use Rattle.document_rules.specs.Trees.{given_as}
 use Rattle.build_rules.specs.Values.{fault_asked, platform_value}
-use Rattle.build_rules.specs.VpdTree.{vpd_asks, placed, vpd_from, vpd_stages}
+use Rattle.image_rules.specs.VpdTree.{vpd_asks, placed, vpd_from, vpd_stages}
 use Rattle.build_rules.specs.VpdValues.{vpd_value}
 use Rattle.build_rules.proofs.ImageValues.{gives, step_run, both_same}
 use Rattle.build_rules.proofs.KindLemmas.{stage_run}

@@ -28,19 +28,19 @@ use Rattle.step_pack.specs.declared.key.Key.TheVariants as key
 use Rattle.std.proofs.Common.{Option, Some, None, slice_get, refl}
 use Rattle.image_steps.specs.Asks.{is_based, step_of, step_by, volume_step, source_file, source_volume, section_files, section_volumes, body_asks, source_below, sections_below, is_apriori, files_where, is_vpd, tree_asks, kind_asks, region_asks, kind_below, regions_below, are_few}
 use Rattle.text_steps.specs.Report.{values_at}
-use Rattle.build_rules.specs.VpdLines.{has_vpd}
+use Rattle.document_rules.specs.VpdLines.{has_vpd}
 use Rattle.text_steps.specs.Asks.{built_asks, build_module_asks}
 use Rattle.module_images.specs.declared.plans.ModulePlan.{ModulePlan}
 use Rattle.module_images.specs.Asks.{line_asks, member_asks, members_asks, is_path_of, source_file as filled_file, section_files as filled_files, takes_depex, plan_asks}
 use Rattle.module_images.specs.Modules.{plan_given}
-use Rattle.build_rules.specs.Trees.{platform_in}
-use Rattle.build_rules.specs.ImageTrees.{flash_in, volume_at, item_at, device_at, item_stages, file_stages, plan_stages, volume_stages, vpd_in, device_stages}
-use Rattle.build_rules.specs.VpdTree.{arches_at, vpd_stages}
-use Rattle.build_rules.specs.AllTree.{step_where, steps_from, device_step, folder_in, modules_in, wanted_in, report_in, image_asks, report_part, files_stages, all_stages}
-use Rattle.build_rules.specs.Wanted.{is_marked}
-use Rattle.build_rules.specs.declared.wanted.Wanted.{Wanted}
+use Rattle.document_rules.specs.Trees.{platform_in, flash_in}
+use Rattle.image_rules.specs.ImageTrees.{volume_at, item_at, device_at, item_stages, file_stages, plan_stages, volume_stages, vpd_in, device_stages}
+use Rattle.image_rules.specs.VpdTree.{arches_at, vpd_stages}
+use Rattle.output_rules.specs.AllTree.{step_where, steps_from, device_step, folder_in, modules_in, wanted_in, report_in, image_asks, report_part, files_stages, all_stages}
+use Rattle.output_rules.specs.Wanted.{is_marked}
+use Rattle.output_rules.specs.declared.wanted.Wanted.{Wanted}
 use Rattle.build_rules.specs.Rules.{rank_of}
-use Rattle.build_rules.specs.Fits.{fits}
+use Rattle.document_rules.specs.Fits.{fits}
 
 source_file_lower : (bound : ℕ) (s : SectionSource) → All (IsLower rank_of bound) (source_file s)
 source_file_lower bound (source.Tree path) = all_one (IsLower rank_of bound) (ask.File path) tt

@@ -21,11 +21,10 @@ use Rattle.module_steps.specs.Choices.{own_inf}
 use Rattle.module_steps.specs.Parts.{choice_at, linked_module}
 use Rattle.module_steps.specs.Skus.{skus_end}
 use Rattle.text_steps.specs.Report.{values_at}
-use Rattle.build_rules.specs.Trees.{EdkStages, platform_in}
-use Rattle.build_rules.specs.ImageTrees.{flash_in}
-use Rattle.build_rules.specs.ModuleTrees.{round_stages, choice_round, choice_after, most_rounds, choice_given, choice_stages, linked_stages, described_stages, modules_parts, setting_in, pcds_from, pcds_stages, one_described, module_parts, commands_in, values_stages}
+use Rattle.document_rules.specs.Trees.{EdkStages, platform_in, flash_in}
+use Rattle.module_rules.specs.ModuleTrees.{round_stages, choice_round, choice_after, most_rounds, choice_given, choice_stages, linked_stages, described_stages, modules_parts, setting_in, pcds_from, pcds_stages, one_described, module_parts, commands_in, values_stages}
 use Rattle.build_rules.specs.Rules.{rank_of}
-use Rattle.build_rules.specs.Fits.{fits}
+use Rattle.document_rules.specs.Fits.{fits}
 
 -- a step for each of some things
 pub parts_lower : {A : Type 0} (bound : ℕ) (step : A → Key) → ((x : A) → rank_of (step x) < bound)

@@ -24,9 +24,9 @@ use Rattle.module_steps.specs.Parts.{held_package, linked, linked_module, descri
 use Rattle.module_steps.specs.Pcds.{pcds_given, values_given}
 use Rattle.module_steps.specs.Settings.{commands_of, setting_of}
 use Rattle.module_steps.specs.Skus.{skus_end}
-use Rattle.build_rules.specs.ModuleTrees.{most_rounds}
+use Rattle.module_rules.specs.ModuleTrees.{most_rounds}
 use Rattle.build_rules.specs.Rules.{value_in}
-use Rattle.build_rules.specs.Trees.{given_as}
+use Rattle.document_rules.specs.Trees.{given_as}
 use Rattle.build_rules.specs.Values.{dec_value, inf_value, platform_value, flash_value, if_shaped}
 
 -- the descriptions of some modules, or the first fault

@@ -12,10 +12,10 @@ use Rattle.step_pack.specs.declared.key.Key.TheVariants as key
 use Rattle.step_pack.specs.declared.out.Out.{Out}
 use Rattle.step_pack.specs.declared.out.Out.TheVariants as out
 use Rattle.text_steps.specs.Depex.{older_depex_given}
-use Rattle.build_rules.specs.ModuleTrees.{module_parts}
+use Rattle.module_rules.specs.ModuleTrees.{module_parts}
 use Rattle.build_rules.specs.Rules.{stages_of}
-use Rattle.build_rules.specs.TextTrees.{depex_asks}
-use Rattle.build_rules.specs.Trees.{EdkStages, given_as}
+use Rattle.module_rules.specs.TextTrees.{depex_asks}
+use Rattle.document_rules.specs.Trees.{EdkStages, given_as}
 
 abbrev pub older_depex_from : Module → Choice → EdkStages
 older_depex_from m choice =

@@ -1,26 +1,24 @@
 -- The steps of a build as rules: what each key asks and gives, and its rank. The rule is this
 -- project's own.
-use Rattle.std.specs.Prelude.{ℕ, ◌+◌, ◌*◌, ◌==◌, ◌&&◌, Bool, true, false, if◌then◌else◌, List, [], length, Result, slice_index_or}
+use Rattle.std.specs.Prelude.{ℕ, ◌+◌, ◌*◌, ◌==◌, ◌&&◌, Bool, true, false, if◌then◌else◌, List, [], length, slice_index_or}
 use Rattle.std.specs.Option.{is_some}
 use Rattle.build_base.specs.Path.{path_field}
 use Rattle.build_base.specs.World.{World}
 use Rattle.step_engine.specs.declared.talk.Outcome.{Outcome}
-use Rattle.build_stages.specs.Gives.{Gives}
-use Rattle.build_stages.specs.Known.{Table, advance_at}
 use Rattle.build_stages.specs.Stages.{Staged, meaning_of}
-use Rattle.build_stages.specs.declared.stop.Stop.{Stop}
 use Rattle.document_stages.specs.Documents.{most_files}
 use Rattle.step_pack.specs.Keys.{key_cmp}
 use Rattle.step_pack.specs.declared.key.Key.{Key}
 use Rattle.step_pack.specs.declared.key.Key.TheVariants as key
 use Rattle.step_pack.specs.declared.out.Out.{Out}
-use Rattle.build_rules.specs.Fits.{fits}
-use Rattle.build_rules.specs.AllTree.{all_stages}
-use Rattle.build_rules.specs.ImageTrees.{file_stages, volume_stages, device_stages}
-use Rattle.build_rules.specs.ModuleTrees.{most_rounds, choice_stages, pcds_stages, values_stages}
-use Rattle.build_rules.specs.TextTrees.{code_stages, depex_stages, report_stages}
-use Rattle.build_rules.specs.VpdTree.{vpd_stages}
-use Rattle.build_rules.specs.Trees.{EdkStages, dec_stages, inf_stages, platform_stages, flash_stages}
+use Rattle.document_rules.specs.Fits.{fits}
+use Rattle.output_rules.specs.AllTree.{all_stages}
+use Rattle.image_rules.specs.ImageTrees.{file_stages, volume_stages, device_stages}
+use Rattle.module_rules.specs.ModuleTrees.{most_rounds, choice_stages, pcds_stages, values_stages}
+use Rattle.module_rules.specs.TextTrees.{code_stages, depex_stages, report_stages}
+use Rattle.image_rules.specs.VpdTree.{vpd_stages}
+pub use Rattle.document_rules.specs.Trees.{Comes}
+use Rattle.document_rules.specs.Trees.{EdkStages, dec_stages, inf_stages, platform_stages, flash_stages}
 
 abbrev pub stages_of : Key → EdkStages
 stages_of (key.Dec path) = dec_stages path
@@ -93,10 +91,6 @@ is_job fields =
 
 abbrev pub edk : Staged Key Out
 edk = record { stages = stages_of; rank = rank_of; most = most_of; fits = fits; is_job = is_job }
-
--- a step's function answers what its stages give by what is known, unless memory was wanting
-abbrev pub Comes : Table Key Out → EdkStages → Result Out (Stop Key) → Type 0
-Comes known stages r = Gives (λ out. out) r (advance_at key_cmp fits known stages)
 
 -- the value of a step in a world
 abbrev pub value_in : World → Key → Outcome Out

@@ -17,13 +17,13 @@ use Rattle.step_pack.specs.declared.out.Out.{Out}
 use Rattle.step_pack.specs.declared.out.Out.TheVariants as out
 use Rattle.dec_docs.specs.Package.{package_of}
 use Rattle.inf_docs.specs.Modules.{module_of}
-use Rattle.build_rules.specs.Fits.{fits}
+use Rattle.document_rules.specs.Fits.{fits}
 use Rattle.doc_types.specs.declared.platform.PlatformDoc.{PlatformDoc}
 use Rattle.flash_document.specs.Flash.{flash_of}
 use Rattle.build_rules.specs.ImageBounds.{file_lower, volume_lower, device_lower, vpd_lower, all_lower, file_within, volume_within, device_within, vpd_within, all_within}
 use Rattle.build_rules.specs.ModuleBounds.{choice_lower, pcds_lower, values_lower, choice_within, pcds_within, values_within}
 use Rattle.build_rules.specs.TextBounds.{code_lower, depex_lower, report_lower, code_within, depex_within, report_within}
-use Rattle.build_rules.specs.Trees.{given_as, document_stages, root_in, macros_in, platform_given, platform_in, flash_root, flash_from, flash_given}
+use Rattle.document_rules.specs.Trees.{given_as, document_stages, root_in, macros_in, platform_given, platform_in, flash_root, flash_from, flash_given}
 use Rattle.build_rules.specs.Rules.{stages_of, rank_of, most_of, edk}
 
 document_lower : {A : Type 0} (variant : A → Out) (read : Lines → Result A Fault) (bound : ℕ)

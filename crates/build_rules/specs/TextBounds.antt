@@ -11,12 +11,12 @@ use Rattle.step_pack.specs.declared.key.Key.TheVariants as key
 use Rattle.module_steps.specs.Parts.{choice_at}
 use Rattle.text_steps.specs.Asks.{told_asks}
 use Rattle.text_steps.specs.Report.{values_at}
-use Rattle.build_rules.specs.Trees.{platform_in}
-use Rattle.build_rules.specs.ModuleTrees.{module_parts}
+use Rattle.document_rules.specs.Trees.{platform_in}
+use Rattle.module_rules.specs.ModuleTrees.{module_parts}
 use Rattle.build_rules.specs.ModuleBounds.{module_lower, module_within}
-use Rattle.build_rules.specs.TextTrees.{code_stages, depex_stages, told_modules_in, heading_in, report_stages}
+use Rattle.module_rules.specs.TextTrees.{code_stages, depex_stages, told_modules_in, heading_in, report_stages}
 use Rattle.build_rules.specs.Rules.{rank_of}
-use Rattle.build_rules.specs.Fits.{fits}
+use Rattle.document_rules.specs.Fits.{fits}
 
 pub code_lower : (m : Module) → AreLower rank_of 7 (code_stages m)
 code_lower m = (

@@ -18,8 +18,8 @@ use Rattle.text_steps.specs.Depex.{depex_given}
 use Rattle.text_steps.specs.Report.{module_report, report_modules, text_of}
 use Rattle.build_rules.specs.ModuleValues.{choice_value, module_value, pcds_value, values_value}
 use Rattle.build_rules.specs.Rules.{value_in}
-use Rattle.build_rules.specs.TextTrees.{heading_by}
-use Rattle.build_rules.specs.Trees.{given_as}
+use Rattle.module_rules.specs.TextTrees.{heading_by}
+use Rattle.document_rules.specs.Trees.{given_as}
 use Rattle.build_rules.specs.Values.{platform_value}
 
 -- the texts of a module, once its values are resolved

@@ -29,7 +29,7 @@ use Rattle.doc_types.specs.declared.volume.Item.TheVariants as item
 use Rattle.doc_types.specs.declared.volume.InfLine.{InfLine}
 use Rattle.doc_types.specs.declared.volume.VolumePlan.{VolumePlan}
 use Rattle.doc_types.specs.declared.volume_head.VolumeHead.{VolumeHead}
-use Rattle.build_rules.specs.VpdLines.{has_vpd}
+use Rattle.document_rules.specs.VpdLines.{has_vpd}
 use Rattle.flash_document.specs.Flash.{flash_of}
 use Rattle.build_stages.specs.Stages.{outcome_of, meaning_of, misfit, fault_in}
 use Rattle.step_pack.specs.Keys.{key_cmp}
@@ -44,16 +44,17 @@ use Rattle.module_images.specs.Apriori.{apriori_given}
 use Rattle.module_images.specs.Asks.{line_asks, members_asks, plan_asks}
 use Rattle.module_images.specs.Files.{module_given}
 use Rattle.module_images.specs.Modules.{plan_given}
-use Rattle.build_rules.specs.AllTree.{build_asks}
-use Rattle.build_rules.specs.ImageTrees.{volume_at, item_at, device_at, image_by, vpd_path}
-use Rattle.build_rules.specs.Outputs.{output_folder, outputs_of}
-use Rattle.build_rules.specs.Wanted.{wanted_of}
-use Rattle.build_rules.specs.declared.wanted.Wanted.{Wanted}
+use Rattle.output_rules.specs.AllTree.{build_asks}
+use Rattle.image_rules.specs.ImageTrees.{volume_at, item_at, device_at, image_by, vpd_path}
+use Rattle.document_rules.specs.Folders.{output_folder}
+use Rattle.output_rules.specs.Outputs.{outputs_of}
+use Rattle.output_rules.specs.Wanted.{wanted_of}
+use Rattle.output_rules.specs.declared.wanted.Wanted.{Wanted}
 use Rattle.step_pack.specs.declared.key.Key.TheVariants as key
 use Rattle.step_pack.specs.declared.out.Out.TheVariants as out
-use Rattle.build_rules.specs.Defines.{macros_of_job}
+use Rattle.document_rules.specs.Defines.{macros_of_job}
 use Rattle.build_rules.specs.Rules.{edk, value_in}
-use Rattle.build_rules.specs.Trees.{given_as, empty_flash}
+use Rattle.document_rules.specs.Trees.{given_as, empty_flash}
 
 -- the lines of a document with these macros before its first, and these above all
 abbrev pub lines_in : World → List ℕ → List Macro → List Macro → Result Lines Fault

@@ -11,9 +11,9 @@ use Rattle.step_pack.specs.declared.key.Key.TheVariants as key
 use Rattle.step_pack.specs.declared.out.Out.TheVariants as out
 use Rattle.build_rules.specs.ModuleValues.{pcds_value}
 use Rattle.build_rules.specs.Rules.{value_in}
-use Rattle.build_rules.specs.Trees.{given_as}
+use Rattle.document_rules.specs.Trees.{given_as}
 use Rattle.build_rules.specs.Values.{platform_value}
-use Rattle.build_rules.specs.VpdTree.{placed}
+use Rattle.image_rules.specs.VpdTree.{placed}
 
 -- the image of vital product data, its map and its places
 unfoldable pub vpd_value : World → Result Vpd Fault

@@ -8,7 +8,7 @@ ghost use Rattle.step_pack.specs.Keys.{key_cmp};
 ghost use Rattle.build_rules.specs.Adopting.{AreOlder};
 ghost use Rattle.build_rules.specs.Older.{second_edition};
 ghost use Rattle.build_rules.specs.Rules.{edk};
-ghost use Rattle.build_rules.specs.Trees.{EdkStages};
+ghost use Rattle.document_rules.specs.Trees.{EdkStages};
 ghost use Rattle.step_pack.specs.declared.key.Key.{Key as KeyOf};
 ghost use Rattle.build_rules.specs.ModuleValues.{GivesChoice, GivesPcds, GivesValues};
 ghost use Rattle.build_rules.specs.TextValues.{GivesCode, GivesDepex, GivesReport};

@@ -2,21 +2,15 @@
 #![tactic(auto)]
 
 pub mod adoption;
-pub mod all;
-pub mod based;
-pub mod defines;
-pub mod documents;
-pub mod images;
 pub mod job;
 pub mod laws;
-pub mod modules;
-pub mod outputs;
 pub mod rules;
 pub mod shapes;
-pub mod texts;
-pub mod vpd;
-pub mod wanted;
 
 pub use adoption::adopt;
+pub use document_rules::{defines, documents};
+pub use image_rules::{based, images, vpd};
 pub use job::is_job;
+pub use module_rules::{modules, texts};
+pub use output_rules::{all, outputs, wanted};
 pub use rules::EdkRules;

@@ -1,13 +1,13 @@
 //! The steps of a build as rules of the engine.
-use crate::all::all;
-use crate::documents::{dec, flash, inf, platform};
-use crate::images::{based, device, file, volume};
-use crate::modules::{choice, pcds, values};
 pub use crate::shapes::EdkRules;
-use crate::texts::{code, depex, report};
-use crate::vpd::vpd;
 use build_base::{Permit, WantOfMemory};
 use build_stages::{Known, StagedRules, Stop, turn_by};
+use document_rules::documents::{dec, flash, inf, platform};
+use image_rules::images::{based, device, file, volume};
+use image_rules::vpd::vpd;
+use module_rules::modules::{choice, pcds, values};
+use module_rules::texts::{code, depex, report};
+use output_rules::all::all;
 use std::alloc::Global;
 use step_engine::{Rules, Talk, Turn};
 use step_pack::{Key, Out};

@@ -3,14 +3,13 @@ use build_base::{Guid, Rows, Same, Text, WantOfMemory, all_same, copied};
 use doc_types::choice::{Choice, Module};
 use doc_types::parts::ModuleParts;
 use doc_types::platform::{PlatformDoc, Sku};
-use doc_types::together::three;
 use doc_types::values::Values;
 use shared_value::Shared;
 use std::alloc::Global;
 
 /// For the texts of one module. `file_guid` is that of its component where this states one, else
 /// that of its INF file.
-#[derive(Debug, Drop)]
+#[derive(Drop)]
 pub struct CodeAsk {
     pub file_guid: Guid,
     pub parts: ModuleParts,
@@ -19,7 +18,7 @@ pub struct CodeAsk {
 }
 
 /// What the report tells of one module.
-#[derive(Debug, Drop)]
+#[derive(Drop)]
 pub struct ModuleReport {
     pub module: Module,
     pub choice: Choice,
@@ -28,7 +27,7 @@ pub struct ModuleReport {
 
 /// For the report of a build: `skus` are the chosen ones, `dynamic` the values of the platform's
 /// dynamic PCDs.
-#[derive(Debug, Drop)]
+#[derive(Drop)]
 pub struct ReportAsk {
     pub platform: Shared<PlatformDoc>,
     pub target: Text,
@@ -40,7 +39,7 @@ pub struct ReportAsk {
 
 impl Same for CodeAsk {
     fn copy(&self, alloc: Global) -> Result<CodeAsk, WantOfMemory> {
-        copied!(CodeAsk, self, alloc; file_guid, parts, choice, values)
+        copied!(CodeAsk, self, alloc; parts, choice, values; file_guid)
     }
 
     fn same(&self, other: &CodeAsk) -> bool {
@@ -60,16 +59,7 @@ impl Same for ModuleReport {
 
 impl Same for ReportAsk {
     fn copy(&self, alloc: Global) -> Result<ReportAsk, WantOfMemory> {
-        let (platform, target, tag) = three(&self.platform, &self.target, &self.tag, alloc)?;
-        let (skus, dynamic, modules) = three(&self.skus, &self.dynamic, &self.modules, alloc)?;
-        Ok(ReportAsk {
-            platform,
-            target,
-            tag,
-            skus,
-            dynamic,
-            modules,
-        })
+        copied!(ReportAsk, self, alloc; platform, target, tag, skus, dynamic, modules)
     }
 
     fn same(&self, other: &ReportAsk) -> bool {

@@ -2,7 +2,7 @@
 -- specification, options of `build`).
 use Rattle.std.specs.Prelude.{ℕ, Bool, true, false, List, [], ◌∷◌, Some, codes}
 use Rattle.clap.specs.Words.{App, Kinds, Row, Rule, Text, fault_of, matches_of, new_rule}
-use Rattle.clap.specs.Simple.{new_shape}
+use Rattle.clap.specs.Simple.{new_shape, with_rule}
 use Rattle.clap.specs.declared.builder.action.ArgAction.{ArgAction}
 use Rattle.clap.specs.declared.builder.action.ArgAction.TheVariants.{Set, Append}
 
@@ -42,6 +42,32 @@ build_rules =
 abbrev pub bare_app : App
 bare_app =
     record { top = record (new_shape (codes "build")) { disable_help_flag = true }; subs = [] }
+
+-- a command with the options of a group more
+abbrev pub names_app : App → App
+names_app app =
+    with_rule
+    (with_rule
+    (with_rule (with_rule app (option_of (codes "platform") 112 Set true))
+    (option_of (codes "buildtarget") 98 Set false)) (option_of (codes "tagname") 116 Set false))
+    (option_of (codes "sku-id") 120 Set false)
+
+abbrev pub files_app : App → App
+files_app app =
+    with_rule
+    (with_rule (with_rule app (short_option (codes "workers") 110 Set))
+    (option_of (codes "fdf") 102 Set false)) (option_of (codes "report-file") 121 Set false)
+
+abbrev pub images_app : App → App
+images_app app =
+    with_rule
+    (with_rule (with_rule app (option_of (codes "arch") 97 Append false))
+    (option_of (codes "rom-image") 114 Append false)) (option_of (codes "fv-image") 105 Append false)
+
+abbrev pub settings_app : App → App
+settings_app app =
+    with_rule (with_rule app (option_of (codes "define") 68 Append false))
+    (long_option (codes "pcd") Append)
 
 -- the command, of which the first word is its name
 unfoldable pub build_app : App

@@ -2,7 +2,7 @@
 ghost use Rattle.std.specs.Prelude.{◌≡◌, true, false, IfOk, MatchOption, map, string_bytes, ⊤};
 ghost use Rattle.clap.specs.Words.{app_of, rule_of, found_of, rows_of};
 ghost use Rattle.clap.specs.Simple.{with_rule};
-ghost use Rattle.build_words.specs.Command.{bare_app, build_app, is_taken, rows_in, option_of, long_option, short_option};
+ghost use Rattle.build_words.specs.Command.{bare_app, build_app, is_taken, rows_in, option_of, long_option, short_option, names_app, files_app, images_app, settings_app};
 
 use build_base::WantOfMemory;
 use clap::error::ErrorKind;
@@ -89,24 +89,56 @@ fn bare_command<'a>(alloc: Global) -> Command<'a>
     Command::new(alloc, "build").disable_help_flag(true)
 }
 
+// With the options that name the platform, the target, the tag and the SKU.
+fn with_names<'a>(alloc: Global, command: Command<'a>) -> Result<Command<'a>, AllocError>
+    ensures { IfOk result (λ c. app_of c ≡ names_app (app_of command.entry)) }
+{
+    let c1 = with_needed(alloc, command, "platform", 'p')?;
+    let c2 = with_option(alloc, c1, "buildtarget", 'b', ArgAction::Set)?;
+    let c3 = with_option(alloc, c2, "tagname", 't', ArgAction::Set)?;
+    let c4 = with_option(alloc, c3, "sku-id", 'x', ArgAction::Set)?;
+    Ok(c4)
+}
+
+// With the number of workers and the files that may be left out.
+fn with_files<'a>(alloc: Global, command: Command<'a>) -> Result<Command<'a>, AllocError>
+    ensures { IfOk result (λ c. app_of c ≡ files_app (app_of command.entry)) }
+{
+    let c1 = with_short(alloc, command, "workers", 'n', ArgAction::Set)?;
+    let c2 = with_option(alloc, c1, "fdf", 'f', ArgAction::Set)?;
+    let c3 = with_option(alloc, c2, "report-file", 'y', ArgAction::Set)?;
+    Ok(c3)
+}
+
+// With the architectures and the images, which may be repeated.
+fn with_images<'a>(alloc: Global, command: Command<'a>) -> Result<Command<'a>, AllocError>
+    ensures { IfOk result (λ c. app_of c ≡ images_app (app_of command.entry)) }
+{
+    let c1 = with_option(alloc, command, "arch", 'a', ArgAction::Append)?;
+    let c2 = with_option(alloc, c1, "rom-image", 'r', ArgAction::Append)?;
+    let c3 = with_option(alloc, c2, "fv-image", 'i', ArgAction::Append)?;
+    Ok(c3)
+}
+
+// With the macros and PCDs that are set.
+fn with_settings<'a>(alloc: Global, command: Command<'a>) -> Result<Command<'a>, AllocError>
+    ensures { IfOk result (λ c. app_of c ≡ settings_app (app_of command.entry)) }
+{
+    let c1 = with_option(alloc, command, "define", 'D', ArgAction::Append)?;
+    let c2 = with_long(alloc, c1, "pcd", ArgAction::Append)?;
+    Ok(c2)
+}
+
 /// The command, of which the first word is its name.
 pub fn build_command<'a>(alloc: Global) -> Result<Command<'a>, AllocError>
     ensures { IfOk result (λ c. app_of c ≡ build_app) }
 {
     let bare = bare_command(alloc);
-    let c1 = with_needed(alloc, bare, "platform", 'p')?;
-    let c2 = with_option(alloc, c1, "buildtarget", 'b', ArgAction::Set)?;
-    let c3 = with_option(alloc, c2, "tagname", 't', ArgAction::Set)?;
-    let c4 = with_option(alloc, c3, "sku-id", 'x', ArgAction::Set)?;
-    let c5 = with_short(alloc, c4, "workers", 'n', ArgAction::Set)?;
-    let c6 = with_option(alloc, c5, "fdf", 'f', ArgAction::Set)?;
-    let c7 = with_option(alloc, c6, "report-file", 'y', ArgAction::Set)?;
-    let c8 = with_option(alloc, c7, "arch", 'a', ArgAction::Append)?;
-    let c9 = with_option(alloc, c8, "rom-image", 'r', ArgAction::Append)?;
-    let c10 = with_option(alloc, c9, "fv-image", 'i', ArgAction::Append)?;
-    let c11 = with_option(alloc, c10, "define", 'D', ArgAction::Append)?;
-    let c12 = with_long(alloc, c11, "pcd", ArgAction::Append)?;
-    Ok(c12)
+    let named = with_names(alloc, bare)?;
+    let filed = with_files(alloc, named)?;
+    let imaged = with_images(alloc, filed)?;
+    let whole = with_settings(alloc, imaged)?;
+    Ok(whole)
 }
 
 /// What the command finds in the words, or nothing where it doesn't take them.

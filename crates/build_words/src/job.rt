@@ -4,7 +4,7 @@ use build_base::{Path, Rows, Text};
 
 /// The files that the words name: the platform's, the flash description's in place of the one that
 /// the platform names, and the report's.
-#[derive(Debug, Drop)]
+#[derive(Drop)]
 pub struct Files {
     pub platform: Path,
     pub flash: Option<Path>,
@@ -12,7 +12,7 @@ pub struct Files {
 }
 
 /// The build's target, the tool chain's tag and the SKU, where the words name them.
-#[derive(Debug, Drop)]
+#[derive(Drop)]
 pub struct Names {
     pub target: Option<Text>,
     pub tag: Option<Text>,
@@ -21,14 +21,14 @@ pub struct Names {
 
 /// The macros `NAME` or `NAME=VALUE` and the PCDs `Space.Name=Value` that the words set, in their
 /// order.
-#[derive(Debug, Drop)]
+#[derive(Drop)]
 pub struct Settings {
     pub defines: Rows<Text>,
     pub pcds: Rows<Text>,
 }
 
 /// The names of the flash devices and volumes that are wanted, as they stand in the words.
-#[derive(Debug, Drop)]
+#[derive(Drop)]
 pub struct Images {
     pub devices: Rows<Text>,
     pub volumes: Rows<Text>,
@@ -36,7 +36,6 @@ pub struct Images {
 
 /// A job. Its architectures are in upper case, each once; where the words name none, all that the
 /// platform supports are meant.
-#[derive(Debug)]
 pub struct Job {
     pub files: Files,
     pub names: Names,

@@ -5,7 +5,7 @@ ghost use Rattle.build_words.specs.Values.{AreWorkers, workers_of};
 use std::marker::Model;
 
 /// A number of workers, 1 to 64.
-#[derive(Debug, Drop)]
+#[derive(Drop)]
 pub struct Workers {
     number: u32,
 }

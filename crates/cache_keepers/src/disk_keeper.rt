@@ -9,8 +9,9 @@ use std::rt::Runtime;
 /// Keeps its text in `.edk_steps` in the current folder. What is no regular file there keeps
 /// nothing, and is never opened.
 ///
-/// A store empties the file and writes it from its front on, so that what is cut, also by the end
-/// of the process, leaves the old bytes or a prefix of the new.
+/// A store writes the new text to `.edk_steps.new`, which then takes the old text's place. So a
+/// store that is cut, also by the end of the process, leaves the old text. What it leaves beside is
+/// replaced by the next store.
 #[derive(Drop)]
 pub struct DiskKeeper<R: Runtime + AllocGlobal> {
     rt: R,
@@ -28,49 +29,54 @@ impl<R: Runtime + AllocGlobal> DiskKeeper<R> {
 
 const NAME: &str = ".edk_steps";
 
-const BLOCK: usize = 65536;
+/// Where a new text stands until it is whole.
+const NEW_NAME: &str = ".edk_steps.new";
 
 /// The most bytes of a text that is loaded; a longer one is none.
 const LIMIT: usize = 0x10_0000_0000;
 
-// All bytes of a reader, or more than the limit of them.
-fn read_bytes<R: Read + Drop>(bytes: &mut Vec<u8>, reader: &mut R) -> io::Result<()> {
-    let mut block = [0; BLOCK];
-    while bytes.len() <= LIMIT {
-        let count = reader.read(&mut block)?;
-        if count == 0 {
-            return Ok(());
-        }
-        bytes.extend_from_slice(&block[..count])?;
-    }
-    Ok(())
-}
-
+// The bytes of the text, or more than the limit of them.
 fn read_file<R: Runtime + AllocGlobal>(rt: &R) -> io::Result<Vec<u8>> {
     let found = fs::metadata(rt, NAME)?;
     if !found.is_file() {
         return Err(ErrorKind::NotFound.into());
     }
-    let mut file = fs::open(rt, NAME)?;
     let mut bytes = Vec::new(rt.alloc());
     bytes.reserve(found.len().min(LIMIT as u64) as usize)?;
-    read_bytes(&mut bytes, &mut file)?;
+    read_bytes(rt, &mut bytes)?;
     Ok(bytes)
 }
 
+fn read_bytes<R: Runtime>(rt: &R, bytes: &mut Vec<u8>) -> io::Result<()> {
+    let file = fs::open(rt, NAME)?;
+    file.take(LIMIT as u64 + 1).read_to_end(bytes)?;
+    Ok(())
+}
+
 // Whether something stands there that is no regular file.
-fn is_other<R: Runtime + AllocGlobal>(rt: &R) -> bool {
-    match fs::metadata(rt, NAME) {
+fn is_other<R: Runtime>(rt: &R, name: &str) -> bool {
+    match fs::metadata(rt, name) {
         Ok(found) => !found.is_file(),
         Err(_) => false,
     }
 }
 
-fn write_file<R: Runtime + AllocGlobal>(rt: &R, bytes: &[u8]) -> io::Result<()> {
-    if is_other(rt) {
+fn write_new<R: Runtime>(rt: &R, bytes: &[u8]) -> io::Result<()> {
+    fs::create(rt, NEW_NAME)?.write_all(bytes)?;
+    fs::rename(rt, NEW_NAME, NAME)
+}
+
+// Puts these bytes in the old text's place, or leaves that as it is.
+fn write_file<R: Runtime>(rt: &R, bytes: &[u8]) -> io::Result<()> {
+    if is_other(rt, NAME) || is_other(rt, NEW_NAME) {
         return Err(ErrorKind::AlreadyExists.into());
     }
-    fs::create(rt, NAME)?.write_all(bytes)
+    let written = write_new(rt, bytes);
+    if written.is_err() {
+        // A text that is cut only takes room on a disk that may be full.
+        let _ = fs::remove_file(rt, NEW_NAME);
+    }
+    written
 }
 
 impl<R: Runtime + AllocGlobal> Keeper for DiskKeeper<R> {

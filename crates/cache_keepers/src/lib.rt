@@ -6,6 +6,3 @@ pub mod memory_keeper;
 
 pub use disk_keeper::DiskKeeper;
 pub use memory_keeper::{KeeperFail, Left, MemoryKeeper};
-
-#[cfg(test)]
-mod tests;

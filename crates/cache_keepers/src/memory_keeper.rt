@@ -12,7 +12,7 @@ use std::alloc::Global;
 use std::marker::Model;
 
 /// What a store that fails leaves: the old bytes, nothing, or so many of the new ones.
-#[derive(Clone, Copy, Debug, PartialEq, Eq)]
+#[derive(Clone, Copy, PartialEq, Eq)]
 pub enum Left {
     Old,
     Nothing,
@@ -21,7 +21,7 @@ pub enum Left {
 
 /// A call that fails, counted from 1, and what it leaves if it is a store. A load leaves all as it
 /// is.
-#[derive(Clone, Copy, Debug)]
+#[derive(Clone, Copy)]
 pub struct KeeperFail {
     pub call: u64,
     pub left: Left,

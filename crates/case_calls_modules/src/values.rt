@@ -4,13 +4,13 @@ ghost use Rattle.pcd_resolve.specs.Platform.{SkusEnd};
 
 use crate::asking::ask_of;
 use crate::parsing::value;
+use build_base::together::three;
 use build_base::{Book, Refusal, Rows, Same, WantOfMemory};
 use case_calls_documents::rows::pcd;
 use case_calls_texts::copied;
 use case_player::{Output, Page, Stop, Wrong};
 use doc_types::asks::{ModuleAsk, PlatformAsk};
 use doc_types::parts::ModuleParts;
-use doc_types::together::three;
 use doc_types::values::{PcdRow, Values};
 use pcd_resolve::{resolve_module, resolve_platform};
 use shared_value::Shared;

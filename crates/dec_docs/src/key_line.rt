@@ -16,7 +16,7 @@ use meta_lexer::words::halves;
 use std::alloc::Global;
 
 /// A key of [Defines] that is read.
-#[derive(Clone, Copy, Debug, PartialEq, Eq)]
+#[derive(Clone, Copy, PartialEq, Eq)]
 pub enum DecKey {
     Name,
     Guid,

@@ -11,7 +11,7 @@ use meta_lexer::lookup;
 
 /// What the lines of a section declare: keys of the package, GUIDs ([Guids], [Protocols], [Ppis])
 /// or PCDs of one kind.
-#[derive(Clone, Copy, Debug, PartialEq, Eq)]
+#[derive(Clone, Copy, PartialEq, Eq)]
 pub enum DecSection {
     Defines,
     Guids,
@@ -19,7 +19,7 @@ pub enum DecSection {
 }
 
 /// A section that is entered, and the architecture for which its lines count.
-#[derive(Clone, Copy, Debug, PartialEq, Eq)]
+#[derive(Clone, Copy, PartialEq, Eq)]
 pub struct Entry {
     pub section: DecSection,
     pub arch: Arch,

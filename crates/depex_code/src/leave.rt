@@ -2,7 +2,7 @@
 
 /// Whether SOR may stand at the front of a part, and whether BEFORE or AFTER may be the whole of
 /// it.
-#[derive(Clone, Copy, Debug, PartialEq, Eq)]
+#[derive(Clone, Copy, PartialEq, Eq)]
 pub struct Leave {
     pub sor: bool,
     pub edge: bool,

@@ -11,7 +11,7 @@ use std::alloc::Global;
 use std::marker::Model;
 
 /// A name: one segment of a path, of at most 64 bytes.
-#[derive(Debug, Drop)]
+#[derive(Drop)]
 pub struct SegmentName {
     text: Text,
 }

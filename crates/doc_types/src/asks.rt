@@ -4,7 +4,6 @@ use crate::flash::FlashDoc;
 use crate::parts::ModuleParts;
 use crate::pcd::PcdSet;
 use crate::platform::PlatformDoc;
-use crate::together::three;
 use crate::values::Values;
 use build_base::{Rows, Same, Text, WantOfMemory, all_same, copied};
 use shared_value::Shared;
@@ -13,7 +12,7 @@ use std::alloc::Global;
 /// For the values of dynamic PCDs, which a platform has once: `commands` are the values that the
 /// build's words give, `skus` the SKUs that they choose, none where they leave the choice to the
 /// platform, and `arches` the architectures that are built.
-#[derive(Debug, Drop)]
+#[derive(Drop)]
 pub struct PlatformAsk {
     pub platform: Shared<PlatformDoc>,
     pub flash: Shared<FlashDoc>,
@@ -24,7 +23,7 @@ pub struct PlatformAsk {
 }
 
 /// For the values of one module. `dynamic` are those of the platform's dynamic PCDs.
-#[derive(Debug, Drop)]
+#[derive(Drop)]
 pub struct ModuleAsk {
     pub platform: Shared<PlatformDoc>,
     pub flash: Shared<FlashDoc>,
@@ -35,21 +34,7 @@ pub struct ModuleAsk {
 
 impl Same for PlatformAsk {
     fn copy(&self, alloc: Global) -> Result<PlatformAsk, WantOfMemory> {
-        let (platform, flash, commands) = three(
-            &self.platform,
-            &self.flash,
-            &self.commands,
-            alloc,
-        )?;
-        let (skus, arches, modules) = three(&self.skus, &self.arches, &self.modules, alloc)?;
-        Ok(PlatformAsk {
-            platform,
-            flash,
-            commands,
-            skus,
-            arches,
-            modules,
-        })
+        copied!(PlatformAsk, self, alloc; platform, flash, commands, skus, arches, modules)
     }
 
     fn same(&self, other: &PlatformAsk) -> bool {
@@ -59,21 +44,7 @@ impl Same for PlatformAsk {
 
 impl Same for ModuleAsk {
     fn copy(&self, alloc: Global) -> Result<ModuleAsk, WantOfMemory> {
-        let (platform, flash, commands) = three(
-            &self.platform,
-            &self.flash,
-            &self.commands,
-            alloc,
-        )?;
-        let parts = self.parts.copy(alloc)?;
-        let dynamic = self.dynamic.copy(alloc)?;
-        Ok(ModuleAsk {
-            platform,
-            flash,
-            commands,
-            parts,
-            dynamic,
-        })
+        copied!(ModuleAsk, self, alloc; platform, flash, commands, parts, dynamic)
     }
 
     fn same(&self, other: &ModuleAsk) -> bool {

@@ -4,14 +4,14 @@ use build_base::{Path, Rows, Same, Text, WantOfMemory, all_same, copied};
 use std::alloc::Global;
 
 /// A module for one architecture. `inf` is its INF file.
-#[derive(Debug, Drop)]
+#[derive(Drop)]
 pub struct Module {
     pub arch: Arch,
     pub inf: Path,
 }
 
 /// A function that a library instance has called, by the instance's INF file.
-#[derive(Debug, Drop)]
+#[derive(Drop)]
 pub struct Call {
     pub inf: Path,
     pub name: Text,
@@ -20,7 +20,7 @@ pub struct Call {
 /// The library instances of a module, in the order in which they are found, and what they have
 /// called before and after its entry point. `library`: the module is itself a library, and nothing
 /// is chosen for it.
-#[derive(Debug, Drop)]
+#[derive(Drop)]
 pub struct Choice {
     pub library: bool,
     pub instances: Rows<Path>,
@@ -30,7 +30,7 @@ pub struct Choice {
 
 impl Same for Module {
     fn copy(&self, alloc: Global) -> Result<Module, WantOfMemory> {
-        copied!(Module, self, alloc; arch, inf)
+        copied!(Module, self, alloc; inf; arch)
     }
 
     fn same(&self, other: &Module) -> bool {
@@ -50,7 +50,7 @@ impl Same for Call {
 
 impl Same for Choice {
     fn copy(&self, alloc: Global) -> Result<Choice, WantOfMemory> {
-        copied!(Choice, self, alloc; library, instances, constructors, destructors)
+        copied!(Choice, self, alloc; instances, constructors, destructors; library)
     }
 
     fn same(&self, other: &Choice) -> bool {

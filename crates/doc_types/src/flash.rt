@@ -6,7 +6,7 @@ use std::alloc::Global;
 
 /// What fills a region: nothing, bytes that the FDF file gives, a file of the tree, or the volume
 /// of a number, from 0.
-#[derive(Debug, Drop)]
+#[derive(Drop)]
 pub enum RegionKind {
     Empty,
     Bytes(Text),
@@ -15,7 +15,7 @@ pub enum RegionKind {
 }
 
 /// A region of a device: `size` bytes from `offset` on.
-#[derive(Debug, Drop)]
+#[derive(Drop)]
 pub struct Region {
     pub at: Place,
     pub offset: u64,
@@ -24,7 +24,7 @@ pub struct Region {
 }
 
 /// A flash device of `size` bytes at the address `base`. `erase` is the erase polarity, 1 or 0.
-#[derive(Debug, Drop)]
+#[derive(Drop)]
 pub struct DevicePlan {
     pub at: Place,
     pub name: Text,
@@ -36,7 +36,7 @@ pub struct DevicePlan {
 
 /// What an FDF file says. `sets` are the values that it gives to PCDs, line by line. The volumes
 /// stand in the order of their numbers.
-#[derive(Debug, Drop)]
+#[derive(Drop)]
 pub struct FlashDoc {
     pub at: Place,
     pub sets: Rows<PcdSet>,
@@ -68,7 +68,7 @@ impl Same for RegionKind {
 
 impl Same for Region {
     fn copy(&self, alloc: Global) -> Result<Region, WantOfMemory> {
-        copied!(Region, self, alloc; at, offset, size, kind)
+        copied!(Region, self, alloc; at, kind; offset, size)
     }
 
     fn same(&self, other: &Region) -> bool {
@@ -78,7 +78,7 @@ impl Same for Region {
 
 impl Same for DevicePlan {
     fn copy(&self, alloc: Global) -> Result<DevicePlan, WantOfMemory> {
-        copied!(DevicePlan, self, alloc; at, name, base, size, erase, regions)
+        copied!(DevicePlan, self, alloc; at, name, regions; base, size, erase)
     }
 
     fn same(&self, other: &DevicePlan) -> bool {

@@ -15,7 +15,6 @@ pub mod pcd;
 pub mod platform;
 pub mod standard;
 pub mod texts;
-pub mod together;
 pub mod values;
 pub mod volume;
 pub mod volume_head;

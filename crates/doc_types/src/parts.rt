@@ -7,7 +7,7 @@ use shared_value::Shared;
 use std::alloc::Global;
 
 /// A package and what its DEC file says, which all modules that name it share.
-#[derive(Debug, Drop)]
+#[derive(Drop)]
 pub struct Package {
     pub path: Path,
     pub doc: Shared<DecDoc>,
@@ -15,7 +15,7 @@ pub struct Package {
 
 /// A module, the descriptions of itself and of its library instances in first-found order, and the
 /// packages that they name. The first of `infs` is the module's own.
-#[derive(Debug, Drop)]
+#[derive(Drop)]
 pub struct ModuleParts {
     pub module: Module,
     pub infs: Rows<Shared<InfDoc>>,

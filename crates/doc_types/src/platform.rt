@@ -2,13 +2,15 @@
 use crate::arch::Arch;
 use crate::module_type::ModuleType;
 use crate::pcd::{Datum, Kind, PcdName};
-use crate::together::three;
-use build_base::{Guid, Macro, Path, Place, Rows, Same, Text, WantOfMemory, all_same, copied};
+use build_base::together::three;
+use build_base::{
+    Guid, Macro, Path, Place, Rows, Same, Text, WantOfMemory, all_same, copied, copies,
+};
 use std::alloc::Global;
 
 /// A SKU: its number, its name, and the SKU whose values it takes where it has none. DEFAULT has no
 /// parent.
-#[derive(Debug, Drop)]
+#[derive(Drop)]
 pub struct Sku {
     pub id: u64,
     pub name: Text,
@@ -17,7 +19,7 @@ pub struct Sku {
 
 /// A library class and the INF file of the library that serves it, for modules of an architecture
 /// and a type.
-#[derive(Debug, Drop)]
+#[derive(Drop)]
 pub struct LibraryLine {
     pub at: Place,
     pub arch: Arch,
@@ -28,7 +30,7 @@ pub struct LibraryLine {
 
 /// Where a PCD's value is kept at run time: by the database alone, in a variable, or in the region
 /// of vital product data. Texts stand as written; an `offset` that is none is chosen by the build.
-#[derive(Debug, Drop)]
+#[derive(Drop)]
 pub enum Store {
     Plain,
     Hii {
@@ -44,7 +46,7 @@ pub enum Store {
 }
 
 /// A line that gives a PCD its value, as written, for an architecture and a SKU.
-#[derive(Debug, Drop)]
+#[derive(Drop)]
 pub struct PcdLine {
     pub at: Place,
     pub arch: Arch,
@@ -58,7 +60,7 @@ pub struct PcdLine {
 }
 
 /// A module of the platform, and what its braces say of it alone.
-#[derive(Debug, Drop)]
+#[derive(Drop)]
 pub struct Component {
     pub at: Place,
     pub arch: Arch,
@@ -72,7 +74,7 @@ pub struct Component {
 /// written, `sku_choice` its SKUID_IDENTIFIER as written, and `flash` its FLASH_DEFINITION. Each
 /// list stands line by line, and for each line by its section's heads. `macros` are those at its
 /// end.
-#[derive(Debug, Drop)]
+#[derive(Drop)]
 pub struct PlatformDoc {
     pub at: Place,
     pub name: Text,
@@ -97,14 +99,17 @@ impl Same for Store {
                 guid,
                 offset,
                 attributes,
-            } => Ok(Store::Hii {
-                variable: variable.copy(alloc)?,
-                guid: guid.copy(alloc)?,
-                offset: *offset,
-                attributes: attributes.copy(alloc)?,
-            }),
+            } => {
+                let (variable, guid, attributes) = three(variable, guid, attributes, alloc)?;
+                Ok(Store::Hii {
+                    variable,
+                    guid,
+                    offset: *offset,
+                    attributes,
+                })
+            }
             Store::Vpd { offset, rest } => Ok(Store::Vpd {
-                offset: offset.copy(alloc)?,
+                offset: *offset,
                 rest: rest.copy(alloc)?,
             }),
         }
@@ -146,7 +151,7 @@ impl Same for Store {
 
 impl Same for Sku {
     fn copy(&self, alloc: Global) -> Result<Sku, WantOfMemory> {
-        copied!(Sku, self, alloc; id, name, parent)
+        copied!(Sku, self, alloc; name, parent; id)
     }
 
     fn same(&self, other: &Sku) -> bool {
@@ -156,7 +161,7 @@ impl Same for Sku {
 
 impl Same for LibraryLine {
     fn copy(&self, alloc: Global) -> Result<LibraryLine, WantOfMemory> {
-        copied!(LibraryLine, self, alloc; at, arch, kind, class, instance)
+        copied!(LibraryLine, self, alloc; at, class, instance; arch, kind)
     }
 
     fn same(&self, other: &LibraryLine) -> bool {
@@ -166,7 +171,7 @@ impl Same for LibraryLine {
 
 impl Same for PcdLine {
     fn copy(&self, alloc: Global) -> Result<PcdLine, WantOfMemory> {
-        copied!(PcdLine, self, alloc; at, arch, kind, sku, pcd, value, datum, max, store)
+        copied!(PcdLine, self, alloc; at, sku, pcd, value, store; arch, kind, datum, max)
     }
 
     fn same(&self, other: &PcdLine) -> bool {
@@ -176,7 +181,7 @@ impl Same for PcdLine {
 
 impl Same for Component {
     fn copy(&self, alloc: Global) -> Result<Component, WantOfMemory> {
-        copied!(Component, self, alloc; at, arch, inf, file_guid, libraries, pcds)
+        copied!(Component, self, alloc; at, inf, libraries, pcds; arch, file_guid)
     }
 
     fn same(&self, other: &Component) -> bool {
@@ -186,19 +191,14 @@ impl Same for Component {
 
 impl Same for PlatformDoc {
     fn copy(&self, alloc: Global) -> Result<PlatformDoc, WantOfMemory> {
-        let (at, name, guid) = three(&self.at, &self.name, &self.guid, alloc)?;
-        let (output, arches, sku_choice) = three(
-            &self.output,
-            &self.arches,
-            &self.sku_choice,
-            alloc,
-        )?;
-        let (flash, skus, libraries) = three(&self.flash, &self.skus, &self.libraries, alloc)?;
-        let (components, pcds, macros) = three(&self.components, &self.pcds, &self.macros, alloc)?;
+        let (at, name, output, arches, sku_choice) =
+            copies!(self, alloc; at, name, output, arches, sku_choice)?;
+        let (flash, skus, libraries, components, pcds, macros) =
+            copies!(self, alloc; flash, skus, libraries, components, pcds, macros)?;
         Ok(PlatformDoc {
             at,
             name,
-            guid,
+            guid: self.guid,
             output,
             arches,
             sku_choice,

@@ -3,7 +3,7 @@ use build_base::{Same, Text, WantOfMemory, all_same, copied};
 use std::alloc::Global;
 
 /// The bytes of a module's AutoGen.c and AutoGen.h.
-#[derive(Debug, Drop)]
+#[derive(Drop)]
 pub struct Texts {
     pub c: Text,
     pub h: Text,

@@ -4,7 +4,7 @@ use build_base::{Rows, Same, Text, WantOfMemory, all_same, copied};
 use std::alloc::Global;
 
 /// The value that a SKU has of its own.
-#[derive(Debug, Drop)]
+#[derive(Drop)]
 pub struct SkuRow {
     pub sku: Text,
     pub value: Text,
@@ -12,7 +12,7 @@ pub struct SkuRow {
 
 /// A PCD's value for one SKU: its token, the most bytes that it may have, and the rank of what
 /// stated it.
-#[derive(Debug, Drop)]
+#[derive(Drop)]
 pub struct PcdRow {
     pub pcd: PcdName,
     pub kind: Kind,
@@ -25,7 +25,7 @@ pub struct PcdRow {
 }
 
 /// Values by their PCDs' token spaces and names, and for each PCD in the order of the chosen SKUs.
-#[derive(Debug, Drop)]
+#[derive(Drop)]
 pub struct Values {
     pub rows: Rows<PcdRow>,
 }
@@ -42,7 +42,7 @@ impl Same for SkuRow {
 
 impl Same for PcdRow {
     fn copy(&self, alloc: Global) -> Result<PcdRow, WantOfMemory> {
-        copied!(PcdRow, self, alloc; pcd, kind, datum, token, max, rank, sku, value)
+        copied!(PcdRow, self, alloc; pcd, sku, value; kind, datum, token, max, rank)
     }
 
     fn same(&self, other: &PcdRow) -> bool {

@@ -5,7 +5,7 @@ use build_base::{Rows, Same, Text, WantOfMemory, all_same, copied};
 use std::alloc::Global;
 
 /// Where the value that a PCD has for a SKU stands in the image.
-#[derive(Debug, Drop)]
+#[derive(Drop)]
 pub struct VpdPlace {
     pub pcd: PcdName,
     pub sku: Text,
@@ -14,7 +14,7 @@ pub struct VpdPlace {
 }
 
 /// The bytes of the image, the text that lists what stands in it, and the places, by their offsets.
-#[derive(Debug, Drop)]
+#[derive(Drop)]
 pub struct Vpd {
     pub image: Text,
     pub map: Text,
@@ -23,7 +23,7 @@ pub struct Vpd {
 
 impl Same for VpdPlace {
     fn copy(&self, alloc: Global) -> Result<VpdPlace, WantOfMemory> {
-        copied!(VpdPlace, self, alloc; pcd, sku, offset, size)
+        copied!(VpdPlace, self, alloc; pcd, sku; offset, size)
     }
 
     fn same(&self, other: &VpdPlace) -> bool {

@@ -12,6 +12,3 @@ pub use pieces::{Piece, Taken, take_pieces};
 pub use start::piece_table;
 pub use table::{Drawing, Hand, PieceSeat, PieceStart, PieceTable, Plan};
 pub use wave::draw_wave;
-
-#[cfg(test)]
-mod tests;

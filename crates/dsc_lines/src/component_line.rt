@@ -31,7 +31,7 @@ use meta_lexer::words::{halves, same_word};
 use std::alloc::Global;
 
 /// What a line of [Components] is by its first and last bytes.
-#[derive(Clone, Copy, Debug, PartialEq, Eq)]
+#[derive(Clone, Copy, PartialEq, Eq)]
 pub enum Form {
     Closes,
     Misplaced,

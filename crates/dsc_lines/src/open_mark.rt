@@ -5,7 +5,7 @@ ghost use Rattle.dsc_lines.specs.Standing.{open_with, last_mark, said_marks};
 use crate::rows::{Begun, Part, Said, Tag};
 
 /// Whether a component's braces are open, and the tag below which the next line stands.
-#[derive(Clone, Copy, Debug, PartialEq, Eq)]
+#[derive(Clone, Copy, PartialEq, Eq)]
 pub enum Open {
     Shut,
     Untagged,

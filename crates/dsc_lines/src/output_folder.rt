@@ -7,7 +7,7 @@ use std::alloc::Global;
 use std::marker::Model;
 
 /// A folder that a document names: a path of at most 512 bytes.
-#[derive(Debug, Drop)]
+#[derive(Drop)]
 pub struct OutputFolder {
     path: Path,
 }

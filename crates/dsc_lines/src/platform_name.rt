@@ -10,7 +10,7 @@ use std::alloc::Global;
 use std::marker::Model;
 
 /// A name that can stand in a path: one segment of at most 64 bytes.
-#[derive(Debug, Drop)]
+#[derive(Drop)]
 pub struct PlatformName {
     name: SegmentName,
 }

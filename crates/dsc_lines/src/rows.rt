@@ -8,7 +8,7 @@ use doc_types::pcd::Kind;
 use doc_types::platform::{LibraryLine, PcdLine, Sku};
 
 /// The value of a key of [Defines].
-#[derive(Debug, Drop)]
+#[derive(Drop)]
 pub enum KeyValue {
     Name(PlatformName),
     Guid(Guid),
@@ -19,14 +19,14 @@ pub enum KeyValue {
 }
 
 /// A SKU, and its line.
-#[derive(Debug, Drop)]
+#[derive(Drop)]
 pub struct SkuLine {
     pub at: Place,
     pub sku: Sku,
 }
 
 /// The line of a component, with an open brace or without.
-#[derive(Debug, Drop)]
+#[derive(Drop)]
 pub struct Begun {
     pub at: Place,
     pub arch: Arch,
@@ -35,7 +35,7 @@ pub struct Begun {
 }
 
 /// What the lines below a tag say.
-#[derive(Clone, Copy, Debug, PartialEq, Eq)]
+#[derive(Clone, Copy, PartialEq, Eq)]
 pub enum Tag {
     Libraries,
     Defines,
@@ -44,7 +44,7 @@ pub enum Tag {
 }
 
 /// What a line of [Components] says.
-#[derive(Debug, Drop)]
+#[derive(Drop)]
 pub enum Part {
     Begins(Begun),
     Tagged(Tag),
@@ -55,7 +55,7 @@ pub enum Part {
 }
 
 /// What a line says.
-#[derive(Debug, Drop)]
+#[derive(Drop)]
 pub enum Said {
     Key(KeyValue),
     Sku(SkuLine),

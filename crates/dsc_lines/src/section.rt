@@ -17,7 +17,7 @@ use meta_lexer::parts::first_text;
 use std::alloc::Global;
 
 /// Where PCDs are kept at run time, which gives their lines a form.
-#[derive(Clone, Copy, Debug, PartialEq, Eq)]
+#[derive(Clone, Copy, PartialEq, Eq)]
 pub enum StoreKind {
     Plain,
     Hii,
@@ -25,7 +25,7 @@ pub enum StoreKind {
 }
 
 /// What the lines of a section say.
-#[derive(Clone, Copy, Debug, PartialEq, Eq)]
+#[derive(Clone, Copy, PartialEq, Eq)]
 pub enum Section {
     Defines,
     SkuIds,
@@ -35,7 +35,7 @@ pub enum Section {
 }
 
 /// The PCDs of a section: their kind, where they are kept, and for which architecture and SKU.
-#[derive(Debug, Drop)]
+#[derive(Drop)]
 pub struct PcdScope {
     pub kind: Kind,
     pub store: StoreKind,
@@ -44,7 +44,7 @@ pub struct PcdScope {
 }
 
 /// What a head enters.
-#[derive(Debug, Drop)]
+#[derive(Drop)]
 pub enum Scope {
     Defines,
     SkuIds,

@@ -7,3 +7,4 @@ pub mod Shape
 pub mod SkuUses
 pub mod SkuWalks
 pub mod Stating
+pub mod Making

@@ -4,6 +4,7 @@ ghost use Rattle.std.specs.List.{flat_map, list_any};
 ghost use Rattle.doc_reading.specs.Reading.{last_or, last_of};
 ghost use Rattle.dsc_platform.specs.Cutting.{is_begun, begins, same_arch, library_for, pcd_for, guid_for, made_component, component_of, built};
 
+use build_base::together::two;
 use build_base::{Guid, Rows, Same, WantOfMemory};
 use doc_types::arch::Arch;
 use doc_types::platform::{Component, LibraryLine, PcdLine};
@@ -133,17 +134,33 @@ fn guid_among(arch: Arch, rest: &[Part]) -> Option<Guid>
     found
 }
 
+// The libraries and PCDs of a component.
+fn lines_for(
+    alloc: Global,
+    arch: Arch,
+    rest: &[Part],
+) -> Result<(Rows<LibraryLine>, Rows<PcdLine>), WantOfMemory>
+    ensures { IfOk result
+        (λ lines. lines ≡ (flat_map (library_for arch) rest.now, flat_map (pcd_for arch) rest.now)) }
+{
+    let libraries = libraries_for(alloc, arch, rest)?;
+    let pcds = pcds_for(alloc, arch, rest)?;
+    Ok((libraries, pcds))
+}
+
 fn made_component(alloc: Global, rest: &[Part], begun: &Begun) -> Result<Component, WantOfMemory>
     ensures { IfOk result (λ component. component ≡ made_component rest.now begun.now) }
 {
     let file_guid = guid_among(begun.arch, rest);
+    let (at, inf) = two(&begun.at, &begun.inf, alloc)?;
+    let (libraries, pcds) = lines_for(alloc, begun.arch, rest)?;
     Ok(Component {
-        at: begun.at.copy(alloc)?,
+        at,
         arch: begun.arch,
-        inf: begun.inf.copy(alloc)?,
+        inf,
         file_guid,
-        libraries: libraries_for(alloc, begun.arch, rest)?,
-        pcds: pcds_for(alloc, begun.arch, rest)?,
+        libraries,
+        pcds,
     })
 }
 

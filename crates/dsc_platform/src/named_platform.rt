@@ -7,7 +7,7 @@ use doc_types::platform::PlatformDoc;
 use std::marker::Model;
 
 /// The document of such a platform.
-#[derive(Debug, Drop)]
+#[derive(Drop)]
 pub struct NamedPlatform {
     pub document: PlatformDoc,
 }

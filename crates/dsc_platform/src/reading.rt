@@ -10,6 +10,7 @@ ghost use Rattle.dsc_platform.specs.Shape.{HasShape};
 ghost use Rattle.dsc_lines.specs.SkuLines.{is_default};
 ghost use Rattle.dsc_lines.specs.SkuNames.{Placed};
 ghost use Rattle.dsc_platform.specs.Stating.{names_of};
+ghost use Rattle.dsc_platform.specs.Making.{needed_values, needed_keys, fields_of, joined};
 ghost use Rattle.dsc_platform.specs.Platform.{front_of, skus_of, with_required, whole_fault, document_of, platform_of};
 
 use crate::components::push_block;
@@ -20,7 +21,10 @@ use crate::sku_uses::{SkuUse, check_uses};
 use crate::sku_walks::check_loops;
 use crate::stated::{Keys, Options, Stated};
 use build_base::fault_codes::DSC_MISSING_KEY;
-use build_base::{Guid, Lines, Path, Permit, Place, Refusal, Rows, Same, Text, WantOfMemory};
+use build_base::together::two;
+use build_base::{
+    Guid, Lines, Macro, Path, Permit, Place, Refusal, Rows, Same, Text, WantOfMemory,
+};
 use doc_reading::missing::refuse_missing;
 use doc_reading::{Whole, read_whole};
 use doc_types::arch::Arch;
@@ -98,63 +102,199 @@ fn skus_of(alloc: Global, lines: &[SkuLine]) -> Result<Rows<Sku>, WantOfMemory>
     Ok(skus)
 }
 
-fn check_whole(
-    alloc: Global,
-    names: &IndexMap<Vec<u8>, usize>,
-    skus: &[SkuLine],
-    components: &[Component],
-    uses: &[SkuUse],
-) -> Result<(), Refusal>
-    ensures { Placed (names_of skus.now) names.now
-        → Checks result (whole_fault skus.now components.now uses.now) }
+fn no_name(alloc: Global, root: &Path) -> Refusal
+    ensures { Finds result (Some (missing_key DSC_MISSING_KEY root.now (codes "PLATFORM_NAME"))) }
 {
-    check_repeats(alloc, components)?;
-    check_uses(alloc, names, uses)?;
-    check_loops(alloc, names, skus)?;
-    Ok(())
+    refuse_missing(alloc, DSC_MISSING_KEY, root, b"PLATFORM_NAME".as_slice())
 }
 
-fn make_document(
-    alloc: Global,
-    lines: &Lines,
-    options: Options,
-    skus: &[SkuLine],
-    libraries: Rows<LibraryLine>,
-    pcds: Rows<PcdLine>,
-    components: Rows<Component>,
+fn no_guid(alloc: Global, root: &Path) -> Refusal
+    ensures { Finds result (Some (missing_key DSC_MISSING_KEY root.now (codes "PLATFORM_GUID"))) }
+{
+    refuse_missing(alloc, DSC_MISSING_KEY, root, b"PLATFORM_GUID".as_slice())
+}
+
+fn no_arches(alloc: Global, root: &Path) -> Refusal
+    ensures { Finds result (Some (missing_key DSC_MISSING_KEY root.now
+        (codes "SUPPORTED_ARCHITECTURES"))) }
+{
+    let key = b"SUPPORTED_ARCHITECTURES".as_slice();
+    refuse_missing(alloc, DSC_MISSING_KEY, root, key)
+}
+
+// The keys that have to be stated, and those that may be absent.
+#[derive(Drop)]
+struct Needed {
     name: PlatformName,
     guid: Guid,
     arches: Rows<Arch>,
-) -> Result<NamedPlatform, WantOfMemory>
-    ensures { IfOk result
-        (λ d. d ≡ with_required lines.now options skus.now libraries pcds components name guid
-        arches) }
+    options: Options,
+}
+
+// The keys' values, where each required one is stated.
+fn needed_values(
+    alloc: Global,
+    root: &Path,
+    name: Option<PlatformName>,
+    guid: Option<Guid>,
+    arches: Option<Rows<Arch>>,
+) -> Result<(PlatformName, Guid, Rows<Arch>), Refusal>
+    ensures { Answers result (needed_values root.now name guid arches) }
 {
+    let Some(name) = name else {
+        return Err(no_name(alloc, root));
+    };
+    let Some(guid) = guid else {
+        return Err(no_guid(alloc, root));
+    };
+    match arches {
+        Some(arches) => Ok((name, guid, arches)),
+        None => Err(no_arches(alloc, root)),
+    }
+}
+
+fn needed_keys(alloc: Global, root: &Path, keys: Keys) -> Result<Needed, Refusal>
+    ensures { Answers result (needed_keys root.now keys) }
+{
+    let Keys {
+        name,
+        guid,
+        arches,
+        options,
+    } = keys;
+    let (name, guid, arches) = needed_values(alloc, root, name, guid, arches)?;
+    Ok(Needed {
+        name,
+        guid,
+        arches,
+        options,
+    })
+}
+
+// The fields that the keys give a platform.
+#[derive(Drop)]
+struct Fields {
+    name: PlatformName,
+    guid: Guid,
+    arches: Rows<Arch>,
+    output: Path,
+    sku_choice: Text,
+    flash: Option<Path>,
+}
+
+fn fields_of(alloc: Global, needed: Needed) -> Result<Fields, WantOfMemory>
+    ensures fields { IfOk result (λ f. f ≡ fields_of needed) }
+    ensures form { IfOk result (λ f. IsPathField f.output) }
+{
+    let Needed {
+        name,
+        guid,
+        arches,
+        options,
+    } = needed;
     let Options {
         output,
         sku_choice,
         flash,
     } = options;
     let output = output_of(alloc, output, &name)?;
-    Ok(NamedPlatform {
+    let sku_choice = sku_choice_of(alloc, sku_choice)?;
+    Ok(Fields {
+        name,
+        guid,
+        arches,
+        output,
+        sku_choice,
+        flash,
+    })
+}
+
+// What the lines state below their heads, and where the names of SKUs stand.
+#[derive(Drop)]
+struct Listed {
+    skus: Rows<SkuLine>,
+    libraries: Rows<LibraryLine>,
+    pcds: Rows<PcdLine>,
+    components: Rows<Component>,
+    names: IndexMap<Vec<u8>, usize>,
+    uses: Rows<SkuUse>,
+}
+
+fn check_listed(alloc: Global, listed: &Listed) -> Result<(), Refusal>
+    ensures { Placed (names_of listed.now.skus) listed.now.names
+        → Checks result (whole_fault listed.now.skus listed.now.components listed.now.uses) }
+{
+    check_repeats(alloc, listed.components.items())?;
+    check_uses(alloc, &listed.names, listed.uses.items())?;
+    check_loops(alloc, &listed.names, listed.skus.items())?;
+    Ok(())
+}
+
+// What is made of the lines besides.
+#[derive(Drop)]
+struct Added {
+    root: Path,
+    macros: Rows<Macro>,
+    skus: Rows<Sku>,
+}
+
+fn added_of(alloc: Global, lines: &Lines, skus: &[SkuLine]) -> Result<Added, WantOfMemory>
+    ensures root { IfOk result (λ a. a.root ≡ lines.now.root) }
+    ensures macros { IfOk result (λ a. a.macros ≡ lines.now.macros) }
+    ensures skus { IfOk result (λ a. a.skus ≡ skus_of skus.now) }
+{
+    let (root, macros) = two(&lines.root, &lines.macros, alloc)?;
+    let skus = skus_of(alloc, skus)?;
+    Ok(Added { root, macros, skus })
+}
+
+fn joined(fields: Fields, listed: Listed, added: Added) -> NamedPlatform
+    requires { IsPathField fields.output }
+    ensures { result ≡ joined fields listed added }
+{
+    let Fields {
+        name,
+        guid,
+        arches,
+        output,
+        sku_choice,
+        flash,
+    } = fields;
+    let Added { root, macros, skus } = added;
+    NamedPlatform {
         document: PlatformDoc {
             at: Place {
-                path: lines.root.copy(alloc)?,
+                path: root,
                 line: 0,
             },
             output,
             name: name.into_text(),
             guid,
             arches,
-            sku_choice: sku_choice_of(alloc, sku_choice)?,
+            sku_choice,
             flash,
-            skus: skus_of(alloc, skus)?,
-            libraries,
-            components,
-            pcds,
-            macros: lines.macros.copy(alloc)?,
+            skus,
+            libraries: listed.libraries,
+            components: listed.components,
+            pcds: listed.pcds,
+            macros,
         },
-    })
+    }
+}
+
+fn make_document(
+    alloc: Global,
+    lines: &Lines,
+    needed: Needed,
+    listed: Listed,
+) -> Result<NamedPlatform, WantOfMemory>
+    ensures { IfOk result
+        (λ d. d ≡ with_required lines.now needed.options listed.skus listed.libraries listed.pcds
+        listed.components needed.name needed.guid needed.arches) }
+{
+    let fields = fields_of(alloc, needed)?;
+    let added = added_of(alloc, lines, listed.skus.items())?;
+    Ok(joined(fields, listed, added))
 }
 
 // What the lines came to, when the last block of components is made.
@@ -192,28 +332,8 @@ fn end_blocks(format: DscFormat) -> Result<Ended, WantOfMemory>
     })
 }
 
-fn no_name(alloc: Global, root: &Path) -> Refusal
-    ensures { Finds result (Some (missing_key DSC_MISSING_KEY root.now (codes "PLATFORM_NAME"))) }
-{
-    refuse_missing(alloc, DSC_MISSING_KEY, root, b"PLATFORM_NAME".as_slice())
-}
-
-fn no_guid(alloc: Global, root: &Path) -> Refusal
-    ensures { Finds result (Some (missing_key DSC_MISSING_KEY root.now (codes "PLATFORM_GUID"))) }
-{
-    refuse_missing(alloc, DSC_MISSING_KEY, root, b"PLATFORM_GUID".as_slice())
-}
-
-fn no_arches(alloc: Global, root: &Path) -> Refusal
-    ensures { Finds result (Some (missing_key DSC_MISSING_KEY root.now
-        (codes "SUPPORTED_ARCHITECTURES"))) }
-{
-    let key = b"SUPPORTED_ARCHITECTURES".as_slice();
-    refuse_missing(alloc, DSC_MISSING_KEY, root, key)
-}
-
 // The document, where each required key is stated and nothing is at fault in the whole.
-#[tactic(auto, unfolding(crate::specs::Platform::document_of))]
+#[tactic(auto, using(crate::proofs::RequiredLemmas::key_refused))]
 fn document(alloc: Global, lines: &Lines, ended: Ended) -> Result<NamedPlatform, Refusal>
     ensures { Placed (names_of ended.stated.skus) ended.names
         → Answers result (document_of lines.now ended.stated ended.components ended.uses) }
@@ -230,40 +350,19 @@ fn document(alloc: Global, lines: &Lines, ended: Ended) -> Result<NamedPlatform,
         libraries,
         pcds,
     } = stated;
-    let Keys {
-        name,
-        guid,
-        arches,
-        options,
-    } = keys;
-    let Some(name) = name else {
-        return Err(no_name(alloc, &lines.root));
-    };
-    let Some(guid) = guid else {
-        return Err(no_guid(alloc, &lines.root));
-    };
-    let Some(arches) = arches else {
-        return Err(no_arches(alloc, &lines.root));
-    };
-    check_whole(
-        alloc,
-        &names,
-        skus.items(),
-        components.items(),
-        uses.items(),
-    )?;
-    let document = make_document(
-        alloc,
-        lines,
-        options,
-        skus.items(),
+    let listed = Listed {
+        skus,
         libraries,
         pcds,
         components,
-        name,
-        guid,
-        arches,
-    )?;
+        names,
+        uses,
+    };
+    let needed = needed_keys(alloc, &lines.root, keys)?;
+    if let Err(refusal) = check_listed(alloc, &listed) {
+        return Err(refusal);
+    }
+    let document = make_document(alloc, lines, needed, listed)?;
     Ok(document)
 }
 

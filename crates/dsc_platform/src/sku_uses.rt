@@ -9,7 +9,8 @@ ghost use Rattle.dsc_lines.specs.SkuNames.{Placed};
 ghost use Rattle.dsc_platform.specs.SkuUses.{head_uses, parent_uses, row_uses, is_known, unknown, chosen_unknown, use_fault, uses_fault};
 
 use build_base::fault_codes::SKU_UNKNOWN;
-use build_base::{Place, Refusal, Rows, Same, Text, WantOfMemory, refuse};
+use build_base::together::two;
+use build_base::{Place, Refusal, Rows, Text, WantOfMemory, refuse};
 use dsc_lines::rows::{KeyValue, Said};
 use dsc_lines::section::Scope;
 use dsc_lines::sku_line::is_default;
@@ -20,7 +21,7 @@ use meta_lexer::words::same_word;
 use std::alloc::Global;
 
 /// A place that names a SKU, or, where it is SKUID_IDENTIFIER, the SKUs that are chosen.
-#[derive(Debug, Drop)]
+#[derive(Drop)]
 pub struct SkuUse {
     pub at: Place,
     pub text: Text,
@@ -37,11 +38,8 @@ fn push_use(
     ensures { OnOk result (uses.new ≡ uses.old
         ++ record { at = at.now; text = text.now; chosen = chosen } ∷ []) }
 {
-    uses.push(SkuUse {
-        at: at.copy(alloc)?,
-        text: text.copy(alloc)?,
-        chosen,
-    })?;
+    let (at, text) = two(at, text, alloc)?;
+    uses.push(SkuUse { at, text, chosen })?;
     Ok(())
 }
 

@@ -17,7 +17,7 @@ use indexmap::IndexMap;
 use std::alloc::Global;
 
 /// The last value of each key that may be absent.
-#[derive(Debug, Drop)]
+#[derive(Drop)]
 pub struct Options {
     pub output: Option<OutputFolder>,
     pub sku_choice: Option<Text>,
@@ -25,7 +25,7 @@ pub struct Options {
 }
 
 /// The last value of each key.
-#[derive(Debug, Drop)]
+#[derive(Drop)]
 pub struct Keys {
     pub name: Option<PlatformName>,
     pub guid: Option<Guid>,
@@ -34,7 +34,7 @@ pub struct Keys {
 }
 
 /// The keys, and the rows of the other sections in the order of the lines.
-#[derive(Debug, Drop)]
+#[derive(Drop)]
 pub struct Stated {
     pub keys: Keys,
     pub skus: Rows<SkuLine>,

@@ -3,7 +3,7 @@ use build_base::Path;
 use build_words::Job;
 
 /// A build, a replay of a script, a selftest with so many modules, or the listing of an image.
-#[derive(Debug, Drop)]
+#[derive(Drop)]
 pub enum Command {
     Build(Job),
     Replay(Path),

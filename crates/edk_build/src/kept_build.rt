@@ -23,9 +23,10 @@ use crate::stop::Stop;
 use build_base::{Book, Gate, Keeper, KeeperFailed, Sink, Text, Tree, WantOfMemory};
 use build_rules::adopt;
 use build_words::{Job, job_fields};
+use kept_texts::text_of;
 use std::alloc::Global;
 use std::thread::Threads;
-use step_cache::{Kept, NEWEST, pack, unpack_text};
+use step_cache::{Kept, NEWEST};
 use step_engine::{Cache, Edits};
 use step_pack::{Key, Out};
 
@@ -57,7 +58,7 @@ fn cache_in(alloc: Global, text: &Text) -> Result<Loaded, WantOfMemory>
     ensures stands { IfOk result (λ l. StandsFor (Some text.now) l.cache) }
     ensures text { IfOk result (λ l. l.is_text ≡ true → IsCacheText l.cache text.now) }
 {
-    match unpack_text(alloc, text)? {
+    match kept_texts::cache_in(alloc, text)? {
         Some(kept) => Ok(adopted(kept)),
         None => Ok(Loaded {
             cache: Cache::new(alloc),
@@ -180,7 +181,7 @@ fn emit_stored<S: Sink, K: Keeper>(
         folder: None,
         tells_status: false,
     };
-    let Ok(text) = pack(alloc, &brought.cache) else {
+    let Ok(text) = text_of(alloc, &brought.cache) else {
         return Err(Stop::WantOfMemory);
     };
     let Ok(ready) = make_ready(

@@ -80,19 +80,11 @@ fn tell_fault<S: Sink>(
 fn put_bytes(alloc: Global, path: &Path, bytes: Text, stand: Stand) -> Result<Stand, WantOfMemory>
     ensures { IfOk result (λ next. next ≡ after_edit stand path.now (Some bytes)) }
 {
-    let path = path.copy(alloc)?;
     let bytes = Shared::new(alloc, bytes)?;
-    let Stand {
-        mut edits,
-        cache,
-        builds,
-    } = stand;
-    edits.put(path, bytes)?;
-    Ok(Stand {
-        edits,
-        cache,
-        builds,
-    })
+    let path = path.copy(alloc)?;
+    let mut stand = stand;
+    stand.edits.put(path, bytes)?;
+    Ok(stand)
 }
 
 // From now on there is no file at a path.
@@ -100,17 +92,9 @@ fn drop_file(alloc: Global, path: &Path, stand: Stand) -> Result<Stand, WantOfMe
     ensures { IfOk result (λ next. next ≡ after_edit stand path.now None) }
 {
     let path = path.copy(alloc)?;
-    let Stand {
-        mut edits,
-        cache,
-        builds,
-    } = stand;
-    edits.drop_file(path)?;
-    Ok(Stand {
-        edits,
-        cache,
-        builds,
-    })
+    let mut stand = stand;
+    stand.edits.drop_file(path)?;
+    Ok(stand)
 }
 
 // The bytes that a file of the tree has become the file of a path.

@@ -17,7 +17,7 @@ const MOST_LINES: u64 = 1000;
 
 /// What a line of a script asks for: that a path gets the bytes that another one has in the tree,
 /// that there is no file at a path, or a build.
-#[derive(Debug, Drop)]
+#[derive(Drop)]
 pub enum Order {
     Put { path: Path, from: Path },
     Drop(Path),
@@ -25,7 +25,7 @@ pub enum Order {
 }
 
 /// A line of a script that isn't empty; lines count from 1.
-#[derive(Debug, Drop)]
+#[derive(Drop)]
 pub struct ScriptLine {
     pub number: u64,
     pub order: Order,

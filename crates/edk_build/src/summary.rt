@@ -45,6 +45,18 @@ fn push_back(out: &mut Vec<u8>, tells: bool, status: Status) -> Result<(), WantO
     Ok(())
 }
 
+// How many steps ran and how many were reused, in words.
+fn push_counts(out: &mut Vec<u8>, steps: u64, reused: u64) -> Result<(), WantOfMemory>
+    ensures { OnOk result (out.new.items ≡ out.old.items ++ decimal steps ++ codes " steps, "
+        ++ decimal reused ++ codes " reused") }
+{
+    push_number(out, steps)?;
+    out.extend_from_slice(b" steps, ")?;
+    push_number(out, reused)?;
+    out.extend_from_slice(b" reused")?;
+    Ok(())
+}
+
 /// How many steps ran and how many were reused.
 #[tactic(auto, unfolding(crate::specs::Emitting::summary))]
 pub fn summary(
@@ -58,10 +70,7 @@ pub fn summary(
 {
     let mut out = Vec::new(alloc);
     push_front(&mut out, &label.folder)?;
-    push_number(&mut out, steps)?;
-    out.extend_from_slice(b" steps, ")?;
-    push_number(&mut out, reused)?;
-    out.extend_from_slice(b" reused")?;
+    push_counts(&mut out, steps, reused)?;
     push_back(&mut out, label.tells_status, status)?;
     out.extend_from_slice(b"\n")?;
     Ok(Text::from_vec(out))

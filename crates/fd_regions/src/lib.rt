@@ -3,8 +3,6 @@
 
 pub mod compose;
 pub mod contents;
-#[cfg(test)]
-mod tests;
 
 use build_base::Image;
 pub use build_base::Pieces;

@@ -35,7 +35,7 @@ use std::alloc::Global;
 
 /// The kind of a rule's section by its word: of a type that takes a path, of one that takes a text
 /// too, or one that would be compressed or GUIDed.
-#[derive(Clone, Copy, Debug, PartialEq, Eq)]
+#[derive(Clone, Copy, PartialEq, Eq)]
 pub enum RuleKind {
     Plain(u8),
     Worded(u8),

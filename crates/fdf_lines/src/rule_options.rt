@@ -11,7 +11,7 @@ use meta_lexer::numbers::number;
 use meta_lexer::words::same_word;
 
 /// A word that states an option of a rule's section.
-#[derive(Clone, Copy, Debug, PartialEq, Eq)]
+#[derive(Clone, Copy, PartialEq, Eq)]
 pub enum RuleOption {
     Optional,
     Aligned,
@@ -19,7 +19,7 @@ pub enum RuleOption {
 }
 
 /// The options of a rule's section.
-#[derive(Clone, Copy, Debug, PartialEq, Eq)]
+#[derive(Clone, Copy, PartialEq, Eq)]
 pub struct RuleOptions {
     pub optional: bool,
     pub align: Align,

@@ -17,7 +17,7 @@ use meta_lexer::words::is_identifier;
 use std::alloc::Global;
 
 /// A section that is entered.
-#[derive(Clone, Copy, Debug, PartialEq, Eq)]
+#[derive(Clone, Copy, PartialEq, Eq)]
 pub enum FlashSection {
     Defines,
     Device,
@@ -27,7 +27,7 @@ pub enum FlashSection {
 
 /// What a head stands for: a scope that is entered, a section that is read past, a section with
 /// qualifiers that may not stand there, such a rule, or no section that there is.
-#[derive(Debug, Drop)]
+#[derive(Drop)]
 pub enum HeadMeaning {
     Enters(Scope),
     Passed,

@@ -39,7 +39,7 @@ use std::alloc::Global;
 
 /// What stands behind the kind of a section: a path, a text or a path, the name of a volume, a GUID
 /// and a path, or nothing that is taken. A number is the section's type.
-#[derive(Clone, Copy, Debug, PartialEq, Eq)]
+#[derive(Clone, Copy, PartialEq, Eq)]
 pub enum SectionWord {
     Plain(u8),
     Worded(u8),

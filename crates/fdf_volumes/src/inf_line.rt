@@ -26,7 +26,7 @@ use meta_lexer::words::is_identifier;
 use std::alloc::Global;
 
 /// A word that states an option of a module's statement.
-#[derive(Clone, Copy, Debug, PartialEq, Eq)]
+#[derive(Clone, Copy, PartialEq, Eq)]
 pub enum InfOption {
     RuleOverride,
     Use,
@@ -35,7 +35,7 @@ pub enum InfOption {
 }
 
 /// The options of a module's statement, as they are written.
-#[derive(Debug, Drop)]
+#[derive(Drop)]
 pub struct InfOptions {
     pub template: Option<Text>,
     pub arch: Option<Text>,

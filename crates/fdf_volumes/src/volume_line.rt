@@ -32,7 +32,7 @@ use meta_lexer::lookup;
 use std::alloc::Global;
 
 /// What a line of a volume is by its first word or byte.
-#[derive(Clone, Copy, Debug, PartialEq, Eq)]
+#[derive(Clone, Copy, PartialEq, Eq)]
 pub enum Statement {
     Apriori,
     Inf,

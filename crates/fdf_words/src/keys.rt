@@ -13,7 +13,7 @@ use meta_lexer::token::is_word_byte;
 use meta_lexer::words::same_word;
 
 /// What a key of a device states: a number, or what fills a region.
-#[derive(Clone, Copy, Debug, PartialEq, Eq)]
+#[derive(Clone, Copy, PartialEq, Eq)]
 pub enum DeviceWord {
     Number(DeviceKey),
     Volume,
@@ -22,7 +22,7 @@ pub enum DeviceWord {
 }
 
 /// What a key of a volume states. `Attribute` has the attribute's bits in the volume's header.
-#[derive(Clone, Copy, Debug, PartialEq, Eq)]
+#[derive(Clone, Copy, PartialEq, Eq)]
 pub enum VolumeWord {
     Number(VolumeKey),
     NameGuid,

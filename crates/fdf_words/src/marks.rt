@@ -1,7 +1,7 @@
 //! What stands open below some lines.
 
 /// What the body of a file has so far: nothing, sections, or the path of the whole.
-#[derive(Clone, Copy, Debug, PartialEq, Eq)]
+#[derive(Clone, Copy, PartialEq, Eq)]
 pub enum Body {
     Nothing,
     Sections,
@@ -9,7 +9,7 @@ pub enum Body {
 }
 
 /// Which braces are open.
-#[derive(Clone, Copy, Debug, PartialEq, Eq)]
+#[derive(Clone, Copy, PartialEq, Eq)]
 pub enum Open {
     Shut,
     InApriori,
@@ -18,7 +18,7 @@ pub enum Open {
 }
 
 /// Whether a region waits for what fills it: none, one without its PCDs, or one with them.
-#[derive(Clone, Copy, Debug, PartialEq, Eq)]
+#[derive(Clone, Copy, PartialEq, Eq)]
 pub enum Waiting {
     NoRegion,
     Started,
@@ -27,7 +27,7 @@ pub enum Waiting {
 
 /// What the lines above leave: open braces, a region, whether a device's BlockSize waits for its
 /// NumBlocks and a rule for its file.
-#[derive(Clone, Copy, Debug, PartialEq, Eq)]
+#[derive(Clone, Copy, PartialEq, Eq)]
 pub struct Marks {
     pub braces: Open,
     pub waiting: Waiting,

@@ -20,7 +20,7 @@ use std::alloc::Global;
 
 /// How a key's number is written: any number, a polarity, or one with a PCD, of which a size has a
 /// limit.
-#[derive(Clone, Copy, Debug, PartialEq, Eq)]
+#[derive(Clone, Copy, PartialEq, Eq)]
 pub enum NumberForm {
     Plain,
     Polarity,
@@ -29,7 +29,7 @@ pub enum NumberForm {
 }
 
 /// A number, and the PCD that takes it.
-#[derive(Debug, Drop)]
+#[derive(Drop)]
 pub struct Numbered {
     pub number: u64,
     pub pcd: Option<PcdName>,

@@ -9,7 +9,7 @@ use doc_types::volume::{Align, InfLine, Member, SectionPlan};
 use std::alloc::Global;
 
 /// The modules for which a rule is. `name` is what the head has behind `Rule`, as it is written.
-#[derive(Debug, Drop)]
+#[derive(Drop)]
 pub struct RuleScope {
     pub arch: Arch,
     pub module_type: ModuleType,
@@ -18,7 +18,7 @@ pub struct RuleScope {
 }
 
 /// What a head enters: [Defines], a device, a volume or a rule.
-#[derive(Debug, Drop)]
+#[derive(Drop)]
 pub enum Scope {
     Settings,
     Device(Text),
@@ -27,7 +27,7 @@ pub enum Scope {
 }
 
 /// A key of a device whose value is a number.
-#[derive(Clone, Copy, Debug, PartialEq, Eq)]
+#[derive(Clone, Copy, PartialEq, Eq)]
 pub enum DeviceKey {
     BaseAddress,
     Size,
@@ -37,7 +37,7 @@ pub enum DeviceKey {
 }
 
 /// A key of a device with its number, and the PCD that takes it.
-#[derive(Debug, Drop)]
+#[derive(Drop)]
 pub struct DeviceNumber {
     pub at: Place,
     pub key: DeviceKey,
@@ -46,7 +46,7 @@ pub struct DeviceNumber {
 }
 
 /// The line `Offset|Size` of a region.
-#[derive(Debug, Drop)]
+#[derive(Drop)]
 pub struct RegionStart {
     pub at: Place,
     pub offset: u64,
@@ -54,7 +54,7 @@ pub struct RegionStart {
 }
 
 /// The PCDs that take a region's address and its size.
-#[derive(Debug, Drop)]
+#[derive(Drop)]
 pub struct RegionPcds {
     pub at: Place,
     pub first: PcdName,
@@ -62,7 +62,7 @@ pub struct RegionPcds {
 }
 
 /// What fills a region: the volume of a name, a file of the tree, or bytes.
-#[derive(Debug, Drop)]
+#[derive(Drop)]
 pub enum Content {
     Volume(Text),
     Tree(Path),
@@ -70,14 +70,14 @@ pub enum Content {
 }
 
 /// The line that says what fills a region.
-#[derive(Debug, Drop)]
+#[derive(Drop)]
 pub struct RegionContent {
     pub at: Place,
     pub content: Content,
 }
 
 /// A key of a volume whose value is a number. An alignment is in bytes.
-#[derive(Clone, Copy, Debug, PartialEq, Eq)]
+#[derive(Clone, Copy, PartialEq, Eq)]
 pub enum VolumeKey {
     BlockSize,
     NumBlocks,
@@ -87,7 +87,7 @@ pub enum VolumeKey {
 }
 
 /// What a key of a volume states. `bits` are those of an attribute in the volume's header.
-#[derive(Debug, Drop)]
+#[derive(Drop)]
 pub enum VolumeSetting {
     Number { key: VolumeKey, number: u64 },
     Attribute { bits: u32, on: bool },
@@ -97,14 +97,14 @@ pub enum VolumeSetting {
 }
 
 /// The first line of an a priori file, of PEI or else of DXE.
-#[derive(Debug, Drop)]
+#[derive(Drop)]
 pub struct AprioriHead {
     pub at: Place,
     pub pei: bool,
 }
 
 /// The first line of a file. A rule's file has no name.
-#[derive(Debug, Drop)]
+#[derive(Drop)]
 pub struct FileHead {
     pub at: Place,
     pub file_type: u8,
@@ -115,7 +115,7 @@ pub struct FileHead {
 }
 
 /// What a section holds: a file of the tree, the volume of a name, or a text, without its quotes.
-#[derive(Debug, Drop)]
+#[derive(Drop)]
 pub enum SectionBody {
     Tree(Path),
     Volume(Text),
@@ -123,7 +123,7 @@ pub enum SectionBody {
 }
 
 /// A section of a file. `kind` is its type (UEFI PI specification, volume 3, section 2.1.5.1).
-#[derive(Debug, Drop)]
+#[derive(Drop)]
 pub struct SectionLine {
     pub at: Place,
     pub kind: u8,
@@ -134,7 +134,7 @@ pub struct SectionLine {
 
 /// What a line says below one head. A member stands in the braces of an a priori file, a section
 /// and a whole body in those of a file.
-#[derive(Debug, Drop)]
+#[derive(Drop)]
 pub enum Row {
     Passed,
     Set(PcdSet),
@@ -156,7 +156,7 @@ pub enum Row {
 
 /// What a line came to: heads, with their place and the scopes that they enter, or the rows that it
 /// gives, one for each scope.
-#[derive(Debug, Drop)]
+#[derive(Drop)]
 pub enum LineRead {
     Heads { at: Place, scopes: Rows<Scope> },
     Body(Rows<Row>),
@@ -166,7 +166,7 @@ impl RuleScope {
     fn copy(&self, alloc: Global) -> Result<RuleScope, WantOfMemory>
         ensures { IfOk result (λ r. r ≡ self.now) }
     {
-        copied!(RuleScope, self, alloc; arch, module_type, template, name)
+        copied!(RuleScope, self, alloc; template, name; arch, module_type)
     }
 }
 

@@ -10,7 +10,7 @@ use meta_lexer::lookup;
 use meta_lexer::numbers::number;
 
 /// A word that states an option of a file.
-#[derive(Clone, Copy, Debug, PartialEq, Eq)]
+#[derive(Clone, Copy, PartialEq, Eq)]
 pub enum FileOption {
     Fixed,
     Checksum,
@@ -18,7 +18,7 @@ pub enum FileOption {
 }
 
 /// The options of a file.
-#[derive(Clone, Copy, Debug, PartialEq, Eq)]
+#[derive(Clone, Copy, PartialEq, Eq)]
 pub struct Options {
     pub fixed: bool,
     pub checksum: bool,

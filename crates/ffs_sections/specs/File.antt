@@ -1,6 +1,6 @@
 -- Firmware files: a header of 24 bytes, of a large file of 32, and a body (UEFI PI specification,
 -- volume 3, section 3.2.3).
-use Rattle.std.specs.Prelude.{ℕ, ◌+◌, ◌-◌, ◌%◌, ◌≤◌, ◌==◌, ◌&&◌, Bool, nat_lt, if◌then◌else◌, List, [], ◌∷◌, ◌++◌, length, max, fold, slice_index, Result, Ok, Err}
+use Rattle.std.specs.Prelude.{ℕ, ◌+◌, ◌-◌, ◌%◌, ◌≤◌, ◌==◌, ◌&&◌, Bool, nat_lt, if◌then◌else◌, List, [], ◌∷◌, ◌++◌, length, max, fold, slice_index, Option, None, Some, Result, Ok, Err}
 use Rattle.byteorder.specs.Endian.{little_bytes}
 use Rattle.build_base.specs.First.{and_then}
 use Rattle.build_base.specs.declared.fault.Fault.{Fault}
@@ -94,6 +94,13 @@ image_of plan body =
       align = slice_index alignments (plan_step plan);
       bytes = file_bytes plan body;
     }
+
+-- the fault of a file that is too long for its file system, by the length of its body
+abbrev pub size_fault : ImagePlan → ℕ → Option Fault
+size_fault plan count =
+    let size = file_size plan.ffs3 count in
+    if nat_lt (file_limit plan.ffs3) size then Some (sized IMAGE_FILE_TOO_LONG plan.at size)
+    else None
 
 -- a file that is too long for its file system is a fault
 abbrev pub file_sized : ImagePlan → List ℕ → Result FileImage Fault

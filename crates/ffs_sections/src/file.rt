@@ -1,10 +1,10 @@
 //! Files: a header and a body.
-ghost use Rattle.std.specs.Prelude.{◌≡◌, ◌≤◌, ◌<◌, ◌^◌, [], length, IfOk, if◌then◌else◌};
+ghost use Rattle.std.specs.Prelude.{◌≡◌, ◌≤◌, ◌<◌, ◌^◌, [], length, IfOk, OnOk, if◌then◌else◌};
 ghost use Rattle.build_base.specs.First.{and_then};
-ghost use Rattle.build_base.specs.Answer.{Answers};
+ghost use Rattle.build_base.specs.Answer.{Answers, Checks};
 ghost use Rattle.ffs_sections.specs.Sections.{HaveGuids, with_parts};
 ghost use Rattle.ffs_sections.specs.Standard.{FFS_FIXED_CHECKSUM};
-ghost use Rattle.ffs_sections.specs.File.{greatest, body_align, plan_step, attributes_of, plan_head, file_bytes, file_sized, file_size, file_limit, file_of, is_large_file, head_len, head_at, IsFileImage};
+ghost use Rattle.ffs_sections.specs.File.{greatest, body_align, plan_step, attributes_of, plan_head, file_bytes, file_sized, file_size, file_limit, file_of, is_large_file, head_len, head_at, image_of, size_fault, IsFileImage};
 ghost use Rattle.ffs_sections.specs.Sums.{zero_byte};
 
 use crate::alignment::{is_align, step_align, step_bits, step_of};
@@ -16,7 +16,7 @@ use crate::standard::{
 };
 use crate::sums::body_sum;
 use build_base::fault_codes::{ALIGNMENT_REFUSED, IMAGE_FILE_TOO_LONG};
-use build_base::{Permit, Refusal, Same, Text, WantOfMemory};
+use build_base::{Image, Permit, Refusal, RunWriter, Same, Text, WantOfMemory};
 use doc_types::image::{Body, FileImage, ImagePlan, Part};
 use std::alloc::Global;
 
@@ -142,15 +142,26 @@ fn shaped(
     Ok(text)
 }
 
-fn image(alloc: Global, plan: &ImagePlan, body: &[u8]) -> Result<FileImage, Refusal>
-    ensures value { Answers result (file_sized plan.now body.now) }
-    ensures shape { IfOk result IsFileImage }
+// Whether a file whose body has so many bytes fits into its file system.
+#[tactic(auto, unfolding(crate::specs::File::size_fault))]
+fn check_size(alloc: Global, plan: &ImagePlan, count: u64) -> Result<(), Refusal>
+    requires { count < 2 ^ 63 }
+    ensures fault { Checks result (size_fault plan.now count) }
+    ensures fits { OnOk result (file_size plan.now.ffs3 count ≤ file_limit plan.now.ffs3) }
 {
-    let count = body.len() as u64;
     let size = head_len(is_large_file(plan.ffs3, count)) + count;
     if size > file_limit(plan.ffs3) {
         return Err(Refusal::Bad(sized(alloc, IMAGE_FILE_TOO_LONG, &plan.at, size)?));
     }
+    Ok(())
+}
+
+// The file of a plan whose body is known to fit, so no more bytes are made than it may have.
+fn image(alloc: Global, plan: &ImagePlan, body: &[u8]) -> Result<FileImage, WantOfMemory>
+    requires fits { file_size plan.now.ffs3 (length body.now) ≤ file_limit plan.now.ffs3 }
+    ensures value { IfOk result (λ file. file ≡ image_of plan.now body.now) }
+    ensures shape { IfOk result IsFileImage }
+{
     let step = step_of(body_align(plan.align, &plan.body));
     Ok(FileImage {
         at: plan.at.copy(alloc)?,
@@ -160,15 +171,51 @@ fn image(alloc: Global, plan: &ImagePlan, body: &[u8]) -> Result<FileImage, Refu
     })
 }
 
+fn whole_image(alloc: Global, plan: &ImagePlan, body: &[u8]) -> Result<FileImage, Refusal>
+    ensures value { Answers result (file_sized plan.now body.now) }
+    ensures shape { IfOk result IsFileImage }
+{
+    check_size(alloc, plan, body.len() as u64)?;
+    let file = image(alloc, plan, body)?;
+    Ok(file)
+}
+
+// The bytes of a body.
+fn body_bytes(alloc: Global, body: &Image) -> Result<Vec<u8>, WantOfMemory>
+    ensures { IfOk result (λ bytes. bytes.items ≡ body.now) }
+{
+    let mut out = Vec::new(alloc);
+    let mut pieces = body.pieces();
+    while let Some(piece) = pieces.next() {
+        out.extend_from_slice(piece)?;
+    }
+    Ok(out)
+}
+
+// The file of a plan whose body is made of runs. Its size is looked at before its bytes are made.
+fn runs_image(alloc: Global, plan: &ImagePlan, body: &Image) -> Result<FileImage, Refusal>
+    ensures value { Answers result (file_sized plan.now body.now) }
+    ensures shape { IfOk result IsFileImage }
+{
+    let count = body.length();
+    if count >= 0x8000_0000_0000_0000 {
+        return Err(Refusal::WantOfMemory);
+    }
+    check_size(alloc, plan, count)?;
+    let bytes = body_bytes(alloc, body)?;
+    let file = image(alloc, plan, bytes.as_slice())?;
+    Ok(file)
+}
+
 // The file of a plan whose body is these sections.
 fn sections_image(alloc: Global, plan: &ImagePlan, parts: &[Part]) -> Result<FileImage, Refusal>
     ensures value { Answers result
         (and_then (with_parts plan.now.ffs3 plan.now.at [] parts.now) (file_sized plan.now)) }
     ensures shape { IfOk result IsFileImage }
 {
-    let mut out = Vec::new(alloc);
+    let mut out = RunWriter::new(alloc, 0);
     match add_parts(alloc, &mut out, plan.ffs3, &plan.at, parts) {
-        Ok(()) => image(alloc, plan, out.as_slice()),
+        Ok(()) => runs_image(alloc, plan, &Image::of_runs(out.finish())),
         Err(refusal) => Err(refusal),
     }
 }
@@ -186,7 +233,7 @@ pub fn file_of(alloc: Global, permit: Permit, plan: &ImagePlan) -> Result<FileIm
         return Err(Refusal::Bad(sized(alloc, ALIGNMENT_REFUSED, &plan.at, plan.align as u64)?));
     }
     match &plan.body {
-        Body::Whole(bytes) => image(alloc, plan, bytes.bytes()),
+        Body::Whole(bytes) => whole_image(alloc, plan, bytes.bytes()),
         Body::Sections(parts) => sections_image(alloc, plan, parts.items()),
     }
 }

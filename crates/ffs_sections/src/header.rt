@@ -10,7 +10,7 @@ use std::alloc::Global;
 
 /// The fields of a header, but for its name and its own checksum. `check` is the file checksum,
 /// `attributes` are those of a file that isn't large, `size` counts the header and the body.
-#[derive(Debug, Drop)]
+#[derive(Drop)]
 pub struct Head {
     pub check: u8,
     pub kind: u8,

@@ -8,8 +8,6 @@ pub mod header;
 pub mod sections;
 pub mod standard;
 pub mod sums;
-#[cfg(test)]
-mod tests;
 
 pub use file::file_of;
 pub use sections::have_guids;

@@ -8,9 +8,8 @@ ghost use Rattle.ffs_sections.specs.Sections.{guid_bytes, is_large, content_at, 
 use crate::alignment::{is_align, pad};
 use crate::faults::sized;
 use crate::standard::{FFS3_LIMIT, SECTION_LIMIT};
-use build_base::bytes::fill;
 use build_base::fault_codes::{ALIGNMENT_REFUSED, SECTION_TOO_LONG};
-use build_base::{Guid, Place, Refusal, WantOfMemory};
+use build_base::{Guid, Place, Refusal, RunWriter, Same, Text, WantOfMemory};
 use doc_types::image::{Body, Part};
 use doc_types::standard::{EFI_SECTION_FREEFORM_SUBTYPE_GUID, EFI_SECTION_RAW};
 use std::alloc::Global;
@@ -94,71 +93,83 @@ fn check_part(
     Ok(size)
 }
 
-// Appends the size and the kind of a section.
+// The size and the kind of a section.
 #[tactic(auto, unfolding(crate::specs::Sections::section_head))]
-fn put_section_head(out: &mut Vec<u8>, large: bool, kind: u8, size: u32) -> Result<(), WantOfMemory>
-    ensures { OnOk result (out.new.items ≡ out.old.items ++ section_head large kind size) }
+fn section_head(alloc: Global, large: bool, kind: u8, size: u32) -> Result<Text, WantOfMemory>
+    ensures { IfOk result (λ t. t ≡ section_head large kind size) }
 {
-    let bytes = size.to_le_bytes();
+    let [first, second, third, fourth] = size.to_le_bytes();
     if large {
-        out.extend_from_slice(&[0xFF, 0xFF, 0xFF, kind])?;
-        out.extend_from_slice(&bytes)?;
-        return Ok(());
+        let head = [0xFF, 0xFF, 0xFF, kind, first, second, third, fourth];
+        Text::of(alloc, head.as_slice())
+    } else {
+        Text::of(alloc, [first, second, third, kind].as_slice())
     }
-    out.extend_from_slice(&[bytes[0], bytes[1], bytes[2], kind])?;
-    Ok(())
 }
 
 // Appends a RAW section of zeros, or nothing where the size is 0.
 #[tactic(auto, unfolding(crate::specs::Sections::section_bytes))]
-fn pad_section(out: &mut Vec<u8>, size: u64) -> Result<(), WantOfMemory>
+fn pad_section(alloc: Global, out: &mut RunWriter, size: u64) -> Result<(), WantOfMemory>
     requires four { size % 4 ≡ 0 }
     requires small { size < 2 ^ 24 }
-    ensures { OnOk result (out.new.items ≡ out.old.items ++ pad_section size) }
+    requires zeros { out.old.free ≡ 0 }
+    ensures bytes { OnOk result (out.new.bytes ≡ out.old.bytes ++ pad_section size) }
+    ensures zeros { OnOk result (out.new.free ≡ 0) }
 {
     if size == 0 {
         return Ok(());
     }
-    put_section_head(out, false, EFI_SECTION_RAW, size as u32)?;
-    fill(out, size - 4, 0)
+    out.put(section_head(alloc, false, EFI_SECTION_RAW, size as u32)?)?;
+    out.fill(size - 4)
 }
 
-// Appends a section.
-#[tactic(auto, unfolding(crate::specs::Sections::section_bytes))]
-fn section(
-    out: &mut Vec<u8>,
-    ffs3: bool,
-    kind: u8,
-    guid: &Option<Guid>,
-    content: &[u8],
-) -> Result<(), WantOfMemory>
-    requires { length content.now < 2 ^ 29 }
-    ensures { OnOk result (out.new.items ≡ out.old.items
-        ++ section_bytes ffs3 kind guid.now content.now) }
+fn guid_text(alloc: Global, guid: &Option<Guid>) -> Result<Text, WantOfMemory>
+    ensures { IfOk result (λ t. t ≡ guid_bytes guid.now) }
 {
-    let count = content.len() as u64;
-    let size = (content_at(ffs3, guid, count) + count) as u32;
-    put_section_head(out, is_large(ffs3, guid, count), kind, size)?;
-    if let Some(guid) = guid {
-        out.extend_from_slice(&guid.0)?;
+    match guid {
+        Some(guid) => Text::of(alloc, &guid.0),
+        None => Text::of(alloc, &[]),
     }
-    out.extend_from_slice(content)?;
-    Ok(())
+}
+
+// Appends a section. Its content is shared.
+#[tactic(auto, unfolding(crate::specs::Sections::section_bytes))]
+fn section(alloc: Global, out: &mut RunWriter, ffs3: bool, part: &Part) -> Result<(), WantOfMemory>
+    requires { length part.now.bytes < 2 ^ 29 }
+    ensures bytes { OnOk result (out.new.bytes ≡ out.old.bytes
+        ++ section_bytes ffs3 part.now.kind part.now.guid part.now.bytes) }
+    ensures free { OnOk result (out.new.free ≡ out.old.free) }
+{
+    let count = part.bytes.bytes().len() as u64;
+    let size = (content_at(ffs3, &part.guid, count) + count) as u32;
+    let large = is_large(ffs3, &part.guid, count);
+    out.put(section_head(alloc, large, part.kind, size)?)?;
+    out.put(guid_text(alloc, &part.guid)?)?;
+    out.put(part.bytes.copy(alloc)?)
 }
 
 // Appends a section behind a pad of this size.
 #[tactic(auto, unfolding(crate::specs::Sections::with_part))]
-fn put_part(out: &mut Vec<u8>, ffs3: bool, part: &Part, pad: u64) -> Result<(), WantOfMemory>
-    requires pad { part_pad ffs3 (vec_len out.old) part.now ≡ Some pad }
+fn put_part(
+    alloc: Global,
+    out: &mut RunWriter,
+    ffs3: bool,
+    part: &Part,
+    pad: u64,
+) -> Result<(), WantOfMemory>
+    requires pad { part_pad ffs3 (length out.old.bytes) part.now ≡ Some pad }
     requires four { pad % 4 ≡ 0 }
     requires small { pad < 2 ^ 24 }
     requires short { length part.now.bytes < 2 ^ 29 }
-    ensures { OnOk result (out.new.items ≡ with_part ffs3 out.old.items part.now) }
+    requires below { length out.old.bytes < 2 ^ 63 }
+    requires zeros { out.old.free ≡ 0 }
+    ensures bytes { OnOk result (out.new.bytes ≡ with_part ffs3 out.old.bytes part.now) }
+    ensures zeros { OnOk result (out.new.free ≡ 0) }
 {
-    let at = out.len() as u64;
-    fill(out, (at + 3) / 4 * 4 - at, 0)?;
-    pad_section(out, pad)?;
-    section(out, ffs3, part.kind, &part.guid, part.bytes.bytes())
+    let at = out.length();
+    out.fill((at + 3) / 4 * 4 - at)?;
+    pad_section(alloc, out, pad)?;
+    section(alloc, out, ffs3, part)
 }
 
 /// Whether a GUID stands in the SUBTYPE_GUID sections and in no other.
@@ -184,18 +195,21 @@ fn all_guids(parts: &[Part]) -> bool
 }
 
 /// Appends sections to a body, each behind the pad that it needs, in a file of FFS3 or of FFS2.
-pub fn add_parts(
+/// Their contents are shared and their pads are runs, so no byte of them is made here.
+pub(crate) fn add_parts(
     alloc: Global,
-    out: &mut Vec<u8>,
+    out: &mut RunWriter,
     ffs3: bool,
     place: &Place,
     parts: &[Part],
 ) -> Result<(), Refusal>
-    ensures { Grows result out.new.items (with_parts ffs3 place.now out.old.items parts.now) }
+    requires { out.old.free ≡ 0 }
+    ensures { Grows result out.new.bytes (with_parts ffs3 place.now out.old.bytes parts.now) }
 {
     for part in parts {
-        if let Err(refusal) = add_part(alloc, out, ffs3, place, part) {
-            return Err(refusal);
+        match add_part(alloc, out, ffs3, place, part) {
+            Ok(()) => (),
+            Err(refusal) => return Err(refusal),
         }
     }
     Ok(())
@@ -203,16 +217,22 @@ pub fn add_parts(
 
 fn add_part(
     alloc: Global,
-    out: &mut Vec<u8>,
+    out: &mut RunWriter,
     ffs3: bool,
     place: &Place,
     part: &Part,
 ) -> Result<(), Refusal>
-    ensures { Grows result out.new.items
-        (unless (part_fault ffs3 place.now (length out.old.items) part.now)
-        (with_part ffs3 out.old.items part.now)) }
+    requires { out.old.free ≡ 0 }
+    ensures value { Grows result out.new.bytes
+        (unless (part_fault ffs3 place.now (length out.old.bytes) part.now)
+        (with_part ffs3 out.old.bytes part.now)) }
+    ensures zeros { OnOk result (out.new.free ≡ 0) }
 {
-    let pad = check_part(alloc, ffs3, place, out.len() as u64, part)?;
-    put_part(out, ffs3, part, pad)?;
+    let at = out.length();
+    if at >= 0x8000_0000_0000_0000 {
+        return Err(Refusal::WantOfMemory);
+    }
+    let pad = check_part(alloc, ffs3, place, at, part)?;
+    put_part(alloc, out, ffs3, part, pad)?;
     Ok(())
 }

@@ -9,9 +9,9 @@ pub mod Names
 pub mod Whole
 pub mod Held
 pub mod Document
-pub mod Rules
+pub use Rattle.rule_choice.specs.Rules
 pub mod Looping
-pub mod Modules
+pub use Rattle.rule_choice.specs.Modules
 pub mod Tables
 pub mod Flash
 pub mod Shape

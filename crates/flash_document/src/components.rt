@@ -10,7 +10,7 @@ use std::alloc::Global;
 
 /// What is kept of a volume: the turn at which the walk came to it, the earliest turn to which it
 /// leads back, and the number of its set.
-#[derive(Clone, Copy, Debug)]
+#[derive(Clone, Copy)]
 struct Visit {
     turn: usize,
     back: usize,
@@ -18,7 +18,7 @@ struct Visit {
 }
 
 /// A volume, and how many of those that it holds were looked at.
-#[derive(Clone, Copy, Debug)]
+#[derive(Clone, Copy)]
 struct Frame {
     volume: usize,
     at: usize,

@@ -7,7 +7,7 @@ use fdf_words::rows::{Content, FileHead, RegionContent, SectionBody, SectionLine
 use std::alloc::Global;
 
 /// A region of a device and what fills it.
-#[derive(Debug, Drop)]
+#[derive(Drop)]
 pub struct StatedRegion {
     pub at: Place,
     pub offset: u64,
@@ -17,7 +17,7 @@ pub struct StatedRegion {
 
 /// A device. `blocks` are the products of its pairs of BlockSize and NumBlocks, `first_block` the
 /// size of the first pair.
-#[derive(Debug, Drop)]
+#[derive(Drop)]
 pub struct StatedDevice {
     pub at: Place,
     pub name: Text,
@@ -30,7 +30,7 @@ pub struct StatedDevice {
 }
 
 /// A file of a volume, whose sections name volumes.
-#[derive(Debug, Drop)]
+#[derive(Drop)]
 pub struct StatedFile {
     pub head: FileHead,
     pub whole: Option<Path>,
@@ -38,7 +38,7 @@ pub struct StatedFile {
 }
 
 /// A statement of a volume.
-#[derive(Debug, Drop)]
+#[derive(Drop)]
 pub enum StatedItem {
     Apriori {
         at: Place,
@@ -50,7 +50,7 @@ pub enum StatedItem {
 }
 
 /// A volume. `flags` are the attributes that it states.
-#[derive(Debug, Drop)]
+#[derive(Drop)]
 pub struct StatedVolume {
     pub at: Place,
     pub name: Text,
@@ -67,14 +67,14 @@ pub struct StatedVolume {
 }
 
 /// A rule, and its name as it is written.
-#[derive(Debug, Drop)]
+#[derive(Drop)]
 pub struct StatedRule {
     pub name: Text,
     pub rule: RuleDoc,
 }
 
 /// What a section states below one head.
-#[derive(Debug, Drop)]
+#[derive(Drop)]
 pub enum Stated {
     Settings,
     Device(StatedDevice),
@@ -109,7 +109,7 @@ pub fn region_content_copy(
 pub fn head_copy(head: &FileHead, alloc: Global) -> Result<FileHead, WantOfMemory>
     ensures { IfOk result (λ h. h ≡ head.now) }
 {
-    copied!(FileHead, head, alloc; at, file_type, guid, fixed, checksum, align)
+    copied!(FileHead, head, alloc; at; file_type, guid, fixed, checksum, align)
 }
 
 fn body_copy(body: &SectionBody, alloc: Global) -> Result<SectionBody, WantOfMemory>

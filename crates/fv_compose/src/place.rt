@@ -9,7 +9,7 @@ pub(crate) const LEAST_PAD: u128 = 24;
 
 /// Where a file starts, counted from the volume's start, and the size of the pad file before it, 0
 /// where there is none.
-#[derive(Clone, Copy, Debug, PartialEq, Eq)]
+#[derive(Clone, Copy, PartialEq, Eq)]
 pub struct Placed {
     pub pad: u64,
     pub file: u64,

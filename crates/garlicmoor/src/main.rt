@@ -2,17 +2,19 @@
 //! build.
 #![tactic(auto)]
 
-ghost use Rattle.std.specs.Prelude.{◌≡◌, ◌⊎◌, None, map, string_bytes, IsSome};
+ghost use Rattle.std.specs.Prelude.{◌≡◌, ◌⊎◌, None, map, option_map, string_bytes, IsSome};
 ghost use Rattle.edk_build.specs.Statuses.{OnUsage, OnBuild};
 ghost use Rattle.edk_build.specs.Commands.{command_of};
 ghost use Rattle.edk_build.specs.History.{IsUsage};
+ghost use Rattle.garlicmoor.specs.Told.{status_text, exit_status};
 
 use build_base::Book;
 use build_base::disk_sink::DiskSink;
 use build_base::disk_tree::DiskTree;
 use build_base::open_gate::OpenGate;
 use cache_keepers::DiskKeeper;
-use edk_build::{Status, run};
+use edk_build::Status;
+use edk_front::run;
 use std::process::ExitCode;
 use std::rt::Runtime;
 use std::thread::Threads;
@@ -65,13 +67,22 @@ fn tell<H: Runtime>(rt: &H, text: &str) {
 }
 
 // What goes to standard error at the end, where the run itself told nothing there.
-fn text_of(status: Status) -> Option<&'static str> {
+fn text_of(status: Status) -> Option<&'static str>
+    ensures { option_map (λ text. text.now) result ≡ status_text status }
+{
     match status {
         Status::ReadFault => Some("read fault"),
         Status::WriteFault => Some("write fault"),
         Status::WantOfMemory => Some("want of memory"),
         Status::Done | Status::FileFault | Status::Usage => None,
     }
+}
+
+// The exit status.
+fn number_of(status: Status) -> u8
+    ensures { result ≡ exit_status status }
+{
+    status as u8
 }
 
 fn main(rt: HostRuntime) -> ExitCode {
@@ -88,8 +99,5 @@ fn main(rt: HostRuntime) -> ExitCode {
     if let Some(text) = text_of(status) {
         tell(&rt, text);
     }
-    ExitCode::from(status as u8)
+    ExitCode::from(number_of(status))
 }
-
-#[cfg(test)]
-mod tests;

@@ -13,7 +13,7 @@ use crate::contents::{image_text, refuse_file, section_content, volume_content, 
 use build_base::fault_codes::{
     ALIGNMENTS_DIFFER, HEADER_TOO_LONG, NOT_PE, SUBSYSTEM_TOO_LARGE, TOO_MANY_SECTIONS, TRUNCATED,
 };
-use build_base::{Guid, Image, Path, Refusal, Rows, Text, WantOfMemory};
+use build_base::{Guid, Image, Path, Refusal, Rows, Same, Text, WantOfMemory};
 use build_stages::{Given, Stop};
 use doc_types::flash::FlashDoc;
 use doc_types::image::Part;
@@ -103,12 +103,13 @@ pub fn pe_fault(alloc: Global, path: &Path, file: &[u8], fault: PeFault) -> Refu
     }
 }
 
-fn as_is(alloc: Global, bytes: &[u8]) -> Result<Shaped, WantOfMemory>
+// The bytes of a file, which are shared.
+fn as_is(alloc: Global, bytes: &Text) -> Result<Shaped, WantOfMemory>
     ensures { IfOk result (λ s. s ≡ as_is bytes.now) }
 {
     Ok(Shaped {
         shift: 0,
-        bytes: Text::of(alloc, bytes)?,
+        bytes: bytes.copy(alloc)?,
     })
 }
 
@@ -144,11 +145,11 @@ fn te_shaped(alloc: Global, path: &Path, file: &[u8]) -> Result<Shaped, Refusal>
 }
 
 /// The content of a section of this kind that is made of a file: of a TE section its TE image.
-pub fn file_shaped(alloc: Global, kind: u8, path: &Path, file: &[u8]) -> Result<Shaped, Refusal>
+pub fn file_shaped(alloc: Global, kind: u8, path: &Path, file: &Text) -> Result<Shaped, Refusal>
     ensures { Answers result (file_shaped kind path.now file.now) }
 {
     if kind == EFI_SECTION_TE {
-        return te_shaped(alloc, path, file);
+        return te_shaped(alloc, path, file.bytes());
     }
     Ok(as_is(alloc, file)?)
 }
@@ -164,7 +165,7 @@ fn file_content(
         (content_at given.now place 0 section.now (SectionSource.Tree path.now)) }
 {
     let bytes = section_content(alloc, given, place, &section.at, path)?;
-    Ok(file_shaped(alloc, section.kind, path, bytes.bytes())?)
+    Ok(file_shaped(alloc, section.kind, path, bytes)?)
 }
 
 fn words_content(alloc: Global, section: &SectionPlan, text: &Text) -> Result<Shaped, WantOfMemory>

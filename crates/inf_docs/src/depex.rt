@@ -16,7 +16,7 @@ use meta_lexer::parts::words;
 use std::alloc::Global;
 
 /// The section at hand: its head's place, what its heads say, and the terms of its lines so far.
-#[derive(Debug, Drop)]
+#[derive(Drop)]
 pub struct OpenSection {
     pub at: Place,
     pub scopes: Rows<Scope>,

@@ -5,7 +5,7 @@ ghost use Rattle.inf_docs.specs.Keys.{key_named};
 use meta_lexer::lookup;
 
 /// A key of [Defines] that is read.
-#[derive(Clone, Copy, Debug, PartialEq, Eq)]
+#[derive(Clone, Copy, PartialEq, Eq)]
 pub enum ModuleKey {
     BaseName,
     FileGuid,

@@ -5,7 +5,7 @@ use doc_types::module::{Named, Served, UsedPcd};
 use doc_types::module_type::ModuleType;
 
 /// The value of a key, a name, a path, a PCD, or the terms of a line of [Depex].
-#[derive(Debug, Drop)]
+#[derive(Drop)]
 pub enum Row {
     BaseName(Text),
     FileGuid(Guid),

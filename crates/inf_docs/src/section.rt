@@ -12,7 +12,7 @@ use meta_lexer::lookup;
 
 /// What the lines of a section state: keys of the module, paths of packages, names of library
 /// classes or of GUIDs, PCDs, or the terms of a dependency expression.
-#[derive(Clone, Copy, Debug, PartialEq, Eq)]
+#[derive(Clone, Copy, PartialEq, Eq)]
 pub enum SectionKind {
     Defines,
     Packages,
@@ -23,7 +23,7 @@ pub enum SectionKind {
 }
 
 /// A section that is entered, and the architecture and type of modules for which its lines count.
-#[derive(Clone, Copy, Debug, PartialEq, Eq)]
+#[derive(Clone, Copy, PartialEq, Eq)]
 pub struct Scope {
     pub kind: SectionKind,
     pub arch: Arch,

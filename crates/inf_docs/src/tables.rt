@@ -9,7 +9,7 @@ use doc_types::module_type::ModuleType;
 use std::alloc::Global;
 
 /// The last value of each key that holds once, and the lists.
-#[derive(Debug, Drop)]
+#[derive(Drop)]
 pub struct ModuleTables {
     pub base_name: Option<Text>,
     pub file_guid: Option<Guid>,

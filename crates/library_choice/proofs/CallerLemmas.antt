@@ -5,7 +5,7 @@ use Rattle.std.specs.List.{All, cons_option}
 use Rattle.std.specs.Cmp.Lexicographic.{pointwise, same_text}
 use Rattle.std.proofs.lemmas.List.Elements.{All-cons}
 use Rattle.doc_types.specs.declared.module.InfDoc.{InfDoc}
-use Rattle.library_choice.specs.declared.caller.Caller.{Caller}
+use Rattle.library_calls.specs.declared.caller.Caller.{Caller}
 use Rattle.library_choice.specs.Choices.{has_call, caller_of, caller_in, callers}
 use Rattle.library_choice.specs.Closure.{known, same_path}
 use Rattle.library_choice.specs.Found.{is_in}

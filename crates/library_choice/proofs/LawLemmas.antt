@@ -10,7 +10,7 @@ use Rattle.library_choice.specs.Lines.{Setting}
 use Rattle.library_choice.specs.Reaching.{IsWhole}
 use Rattle.library_choice.specs.Search.{Finds}
 use Rattle.library_choice.proofs.CallerLemmas.{callers_within}
-use Rattle.library_choice.proofs.OrderLaws.{call_order_least}
+use Rattle.library_calls.proofs.OrderLaws.{call_order_least}
 use Rattle.library_choice.proofs.SortableLemmas.{sortable, places-ascend}
 
 pub lawful : (s : Setting) (inf : InfDoc) (found : List (List ℕ)) → Finds same_path (next s) (filter_map (instance_of s) inf.classes) (nulls s) (Some found) → IsLawful s inf

@@ -1,7 +1,7 @@
 -- To what one leads.
 use Rattle.std.proofs.Common.{◌≡◌, ◌∙◌, ◌||◌, ℕ, Bool, true, false, cond, List, [], ◌∷◌, ◌++◌, map, refl, sym, ap, subst, arith}
 use Rattle.std.proofs.lemmas.List.Folds.{list_any-append}
-use Rattle.library_choice.specs.declared.caller.Caller.{Caller}
+use Rattle.library_calls.specs.declared.caller.Caller.{Caller}
 use Rattle.library_choice.specs.Choices.{leads}
 use Rattle.library_choice.specs.Closure.{next, same_path}
 use Rattle.library_choice.specs.Found.{is_in, put, add, ends}

@@ -8,8 +8,6 @@ pub mod LawLemmas
 pub mod LedLemmas
 pub mod MadeLemmas
 pub mod MoreLemmas
-pub mod OrderLaws
-pub mod OrderLemmas
 pub mod PathLemmas
 pub mod ReachLemmas
 pub mod RoundLemmas
@@ -17,5 +15,4 @@ pub mod SaturationLemmas
 pub mod SearchLemmas
 pub mod SortableLemmas
 pub mod TableLemmas
-pub mod TurnLemmas
 pub mod WalkLemmas

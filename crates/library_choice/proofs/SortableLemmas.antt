@@ -6,16 +6,16 @@ use Rattle.std.proofs.lemmas.Bool.{cases_lt, eqb-true}
 use Rattle.std.proofs.lemmas.List.FromFn.{get_or-range_with_len, length-range_with_len}
 use Rattle.std.proofs.lemmas.List.{get_or-map, get_or_past, length-map}
 use Rattle.std.proofs.lemmas.Option.{slice_get-get_or}
-use Rattle.library_choice.specs.declared.caller.Caller.{Caller}
+use Rattle.library_calls.specs.declared.caller.Caller.{Caller}
 use Rattle.library_choice.specs.Choices.{leads, reach, before, places, is_looped, caller_fault, looped, loop_fault}
 use Rattle.library_choice.specs.Closure.{next, same_path}
 use Rattle.library_choice.specs.Found.{is_in, add, ends}
 use Rattle.library_choice.specs.Lines.{Setting}
-use Rattle.library_choice.specs.Order.{IsIn, Sortable}
+use Rattle.library_calls.specs.Order.{IsIn, Sortable}
 use Rattle.library_choice.specs.Reaching.{IsWithin}
 use Rattle.library_choice.proofs.InsideLemmas.{led-few}
 use Rattle.library_choice.proofs.LedLemmas.{in-add}
-use Rattle.library_choice.proofs.OrderLemmas.{place_of, none_of, in-front, in-later}
+use Rattle.library_calls.proofs.OrderLemmas.{place_of, none_of, in-front, in-later}
 use Rattle.library_choice.proofs.PathLemmas.{path_same}
 use Rattle.library_choice.proofs.ReachLemmas.{onward}
 use Rattle.library_choice.proofs.SaturationLemmas.{saturated}

@@ -1,7 +1,7 @@
 -- What is chosen for a module: its instances, and the constructors and destructors that they have
 -- called (EDK II Build specification, library constructors and destructors).
-use Rattle.std.specs.Prelude.{ℕ, Bool, true, false, ◌&&◌, ◌||◌, ◌==◌, not, nat_eq, if◌then◌else◌, List, [], ◌∷◌, ◌++◌, length, map, reverse, find, Option, Some, None, Result, Ok, Err, codes, slice_get, slice_index_or}
-use Rattle.std.specs.List.{filter_map, flat_map, list_any, range_with_len}
+use Rattle.std.specs.Prelude.{ℕ, Bool, true, false, ◌&&◌, ◌||◌, ◌==◌, not, nat_eq, if◌then◌else◌, List, [], ◌∷◌, ◌++◌, length, map, Option, Some, None, Result, Ok, Err, codes}
+use Rattle.std.specs.List.{filter_map, list_any}
 use Rattle.std.specs.Cmp.Lexicographic.{pointwise}
 use Rattle.build_base.specs.First.{or_else, or_fault}
 use Rattle.build_base.specs.FaultText.{fault_of}
@@ -18,13 +18,14 @@ use Rattle.doc_types.specs.declared.module_type.ModuleType.{ModuleType}
 use Rattle.doc_types.specs.declared.module_type.ModuleType.TheVariants.{UserDefined, HostApplication}
 use Rattle.doc_types.specs.declared.platform.LibraryLine.{LibraryLine}
 use Rattle.doc_types.specs.declared.platform.PlatformDoc.{PlatformDoc}
-use Rattle.library_choice.specs.declared.caller.Caller.{Caller}
-use Rattle.library_choice.specs.declared.user.User.{User}
+use Rattle.library_calls.specs.declared.caller.Caller.{Caller}
+unfoldable pub use Rattle.library_calls.specs.Calls.{before, loop_fault, choice_in, choice_by}
+pub use Rattle.library_calls.specs.Calls.{places, is_looped, caller_fault, looped, constructors_in, destructors_in, constructors_at, destructors_at}
+use Rattle.line_ranks.specs.declared.user.User.{User}
 use Rattle.library_choice.specs.Closure.{known, classes_of, next, instances, are_few, setting_of, is_library, same_path}
 use Rattle.library_choice.specs.Found.{is_in, ends}
 use Rattle.library_choice.specs.Lines.{covers, same_type, chosen_line, Setting}
-use Rattle.library_choice.specs.Order.{call_order}
-use Rattle.build_base.specs.FaultCodes.{CLASS_NOT_SERVED, CLASS_UNRESOLVED, CONSTRUCTOR_LOOP, TOO_MANY_INSTANCES, TYPE_NOT_SERVED}
+use Rattle.build_base.specs.FaultCodes.{CLASS_NOT_SERVED, CLASS_UNRESOLVED, TOO_MANY_INSTANCES, TYPE_NOT_SERVED}
 
 -- modules of these types may use a library of every type
 abbrev pub is_free : ModuleType → Bool
@@ -105,56 +106,6 @@ leads s y x = is_in same_path (ends (next s) (next s y) 1025) x
 -- row y says of each x whether y leads to it
 unfoldable pub reach : Setting → List Caller → List (List Bool)
 reach s cs = map (λ (y : Caller). map (λ (x : Caller). leads s y.inf x.inf) cs) cs
-
--- x is another than y, and y leads to it
-unfoldable pub before : List (List Bool) → ℕ → ℕ → Bool
-before rows x y = not (x == y) && slice_index_or (slice_index_or rows y []) x false
-
-abbrev pub places : List Caller → List ℕ
-places cs = range_with_len 0 (length cs)
-
-abbrev pub is_looped : List (List Bool) → List ℕ → ℕ → Bool
-is_looped rows all x = list_any (λ y. before rows x y && before rows y x) all
-
-abbrev pub caller_fault : Option Caller → Option Fault
-caller_fault None = None
-caller_fault (Some caller) = Some (fault_of CONSTRUCTOR_LOOP caller.at caller.inf)
-
-abbrev pub looped : List Caller → Option ℕ → Option Fault
-looped cs None = None
-looped cs (Some x) = caller_fault (slice_get cs x)
-
--- the first that must come before one that must come before it
-unfoldable pub loop_fault : List (List Bool) → List Caller → Option Fault
-loop_fault rows cs = looped cs (find (is_looped rows (places cs)) (places cs))
-
-abbrev pub constructors_in : Option Caller → List Call
-constructors_in None = []
-constructors_in (Some caller) = caller.constructors
-
-abbrev pub destructors_in : Option Caller → List Call
-destructors_in None = []
-destructors_in (Some caller) = caller.destructors
-
-abbrev pub constructors_at : List Caller → ℕ → List Call
-constructors_at cs x = constructors_in (slice_get cs x)
-
-abbrev pub destructors_at : List Caller → ℕ → List Call
-destructors_at cs x = destructors_in (slice_get cs x)
-
--- destructors run in the reverse order
-unfoldable pub choice_in : List (List ℕ) → List Caller → List ℕ → Choice
-choice_in found cs order =
-    record {
-      library = false;
-      instances = found;
-      constructors = flat_map (constructors_at cs) order;
-      destructors = reverse (flat_map (destructors_at cs) order);
-    }
-
-unfoldable pub choice_by : List (List ℕ) → List Caller → List (List Bool) → Result Choice Fault
-choice_by found cs rows =
-    or_fault (loop_fault rows cs) (Ok (choice_in found cs (call_order (before rows) (places cs))))
 
 unfoldable pub choice_of : Setting → List (List ℕ) → Result Choice Fault
 choice_of s found = choice_by found (callers s.infs found) (reach s (callers s.infs found))

@@ -10,7 +10,7 @@ use Rattle.doc_types.specs.declared.module.Named.{Named}
 use Rattle.doc_types.specs.declared.platform.Component.{Component}
 use Rattle.doc_types.specs.declared.platform.LibraryLine.{LibraryLine}
 use Rattle.doc_types.specs.declared.platform.PlatformDoc.{PlatformDoc}
-use Rattle.library_choice.specs.declared.user.User.{User}
+use Rattle.line_ranks.specs.declared.user.User.{User}
 use Rattle.library_choice.specs.Found.{found_in}
 use Rattle.library_choice.specs.Lines.{covers, applies, chosen_line, Setting}
 

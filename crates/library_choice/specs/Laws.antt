@@ -5,13 +5,13 @@ use Rattle.doc_types.specs.declared.choice.Module.{Module}
 use Rattle.doc_types.specs.declared.module.InfDoc.{InfDoc}
 use Rattle.doc_types.specs.declared.platform.PlatformDoc.{PlatformDoc}
 use Rattle.doc_types.specs.declared.platform.LibraryLine.{LibraryLine}
-use Rattle.library_choice.specs.declared.user.User.{User}
+use Rattle.line_ranks.specs.declared.user.User.{User}
 use Rattle.build_base.specs.Best.{best, Greatest}
 use Rattle.library_choice.specs.Choices.{callers, reach, before, places, loop_fault}
 use Rattle.library_choice.specs.Closure.{same_path, known, instance_of, next, nulls, instances, are_few, is_library, setting_of}
 use Rattle.library_choice.specs.Found.{IsFound}
 use Rattle.library_choice.specs.Lines.{Setting, weight}
-use Rattle.library_choice.specs.Order.{IsCallOrder, call_order}
+use Rattle.library_calls.specs.Order.{IsCallOrder, call_order}
 
 -- calls that don't need each other come in the least order that respects what must come before what
 abbrev pub IsLeastOrder : Setting → List (List ℕ) → Type 0

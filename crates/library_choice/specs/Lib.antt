@@ -4,7 +4,7 @@ pub mod Found
 pub mod Fronts
 pub mod Laws
 pub mod Lines
-pub mod Order
+pub use Rattle.library_calls.specs.Order
 pub mod Reaching
 pub mod Rounds
 pub mod Search

@@ -1,31 +1,10 @@
--- What tables of places tell.
-use Rattle.std.specs.Prelude.{◌≡◌, ℕ, Bool, false, nat_lt, nat_eq, List, Option, Some, None, slice_get}
-use Rattle.std.specs.Cmp.Lexicographic.{pointwise}
+-- What a table of INF files tells.
+use Rattle.std.specs.Prelude.{◌≡◌, ℕ, List}
 use Rattle.std.specs.HashMap.{HashMap, get}
 use Rattle.doc_types.specs.declared.module.InfDoc.{InfDoc}
-use Rattle.doc_types.specs.declared.platform.LibraryLine.{LibraryLine}
-use Rattle.library_choice.specs.declared.user.User.{User}
-use Rattle.build_base.specs.Best.{best}
 use Rattle.library_choice.specs.Closure.{known}
-use Rattle.library_choice.specs.Lines.{rank, weight}
-
-abbrev pub same_key : List ℕ → List ℕ → Bool
-same_key = pointwise nat_eq
-
-abbrev pub picked : {X : Type 0} → List X → Option ℕ → Option X
-picked xs None = None
-picked xs (Some place) = slice_get xs place
-
--- a table gives for each class the place of its line among those above
-abbrev pub Lines : {S : Type 0} → User → Bool → List LibraryLine → List LibraryLine
-    → HashMap (List ℕ) ℕ S → Type 0
-Lines user own lines above table =
-    (key : List ℕ) → picked lines (get same_key table key) ≡ best (weight user own key) above
+pub use Rattle.line_ranks.specs.Places.{same_key, picked, Lines, outweighs}
 
 -- a table gives for each path the first INF file of it
 abbrev pub Infs : {S : Type 0} → List InfDoc → HashMap (List ℕ) InfDoc S → Type 0
 Infs infs table = (key : List ℕ) → get same_key table key ≡ known infs key
-
-abbrev pub outweighs : User → Bool → ℕ → Option LibraryLine → Bool
-outweighs user own weight None = false
-outweighs user own weight (Some held) = nat_lt weight (rank user own held)

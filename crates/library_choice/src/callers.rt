@@ -4,11 +4,11 @@ ghost use Rattle.std.specs.List.{filter_map};
 ghost use Rattle.std.specs.Option.{option_copied};
 ghost use Rattle.library_choice.specs.Choices.{has_call, first_place, call_of, caller_of, caller_in, callers};
 
-use crate::caller::Caller;
 use crate::tables::Tables;
 use build_base::{Path, Place, Rows, Same, WantOfMemory};
 use doc_types::choice::Call;
 use doc_types::module::{InfDoc, Named};
+use library_calls::Caller;
 use std::alloc::Global;
 
 fn has_call(inf: &InfDoc) -> bool

@@ -1,11 +1,10 @@
 //! The choice for a module.
-ghost use Rattle.std.specs.Prelude.{◌≡◌, ◌++◌, [], true, reverse, IfOk, OnOk, Some, codes};
-ghost use Rattle.std.specs.List.{filter_map, flat_map};
-ghost use Rattle.std.specs.Option.{option_copied};
-ghost use Rattle.build_base.specs.Answer.{Answers, Checks, Finds as Faulty};
+ghost use Rattle.std.specs.Prelude.{◌≡◌, [], true, IfOk, OnOk, Some, codes};
+ghost use Rattle.std.specs.List.{filter_map};
+ghost use Rattle.build_base.specs.Answer.{Answers, Finds as Faulty};
 ghost use Rattle.build_base.specs.FaultText.{fault_of};
 ghost use Rattle.build_base.specs.First.{or_fault};
-ghost use Rattle.library_choice.specs.Choices.{caller_fault, loop_fault, looped, constructors_at, destructors_at, choice_in, choice_by, choice_of, classes_fault, made, empty_choice, choice};
+ghost use Rattle.library_choice.specs.Choices.{choice_of, classes_fault, made, empty_choice, choice};
 ghost use Rattle.library_choice.specs.Closure.{same_path, is_known, instance_of, next, nulls, wanted};
 ghost use Rattle.library_choice.specs.Fronts.{IsFrontOf};
 ghost use Rattle.library_choice.specs.Laws.{IsLawful, AreLawful};
@@ -13,147 +12,20 @@ ghost use Rattle.library_choice.specs.Reaching.{IsWhole};
 ghost use Rattle.library_choice.specs.Search.{Finds};
 ghost use Rattle.build_base.specs.FaultCodes.{TOO_MANY_INSTANCES};
 
-use crate::caller::Caller;
 use crate::callers::callers;
 use crate::front::{Front, instances_behind};
-use crate::order::{call_order, first_looped, places};
 use crate::reach::reach;
 use crate::search::InstanceSearch;
 use crate::serving::check_all;
 use crate::tables::Tables;
-use build_base::fault_codes::{CONSTRUCTOR_LOOP, TOO_MANY_INSTANCES};
+use build_base::fault_codes::TOO_MANY_INSTANCES;
 use build_base::{Path, Permit, Place, Refusal, Rows, Same, WantOfMemory, refuse};
-use doc_types::choice::{Call, Choice, Module};
+use doc_types::choice::{Choice, Module};
 use doc_types::module::InfDoc;
 use doc_types::platform::PlatformDoc;
+use library_calls::choice_by;
 use shared_value::Shared;
 use std::alloc::Global;
-
-fn push_calls(alloc: Global, calls: &[Call], out: &mut Vec<Call>) -> Result<(), WantOfMemory>
-    ensures { OnOk result (out.new.items ≡ out.old.items ++ calls.now) }
-{
-    let mut left = calls;
-    while let [call, rest @ ..] = left {
-        let call = call.copy(alloc)?;
-        if out.push(call).is_err() {
-            return Err(WantOfMemory);
-        }
-        left = rest;
-    }
-    Ok(())
-}
-
-fn constructors_at(callers: &[Caller], place: usize) -> &[Call]
-    ensures { result.now ≡ constructors_at callers.now place }
-{
-    match callers.get(place) {
-        Some(caller) => caller.constructors.items(),
-        None => &[],
-    }
-}
-
-fn destructors_at(callers: &[Caller], place: usize) -> &[Call]
-    ensures { result.now ≡ destructors_at callers.now place }
-{
-    match callers.get(place) {
-        Some(caller) => caller.destructors.items(),
-        None => &[],
-    }
-}
-
-fn constructors(
-    alloc: Global,
-    callers: &[Caller],
-    order: &[usize],
-) -> Result<Vec<Call>, WantOfMemory>
-    ensures { IfOk result (λ calls. calls.items
-        ≡ flat_map (constructors_at callers.now) order.now) }
-{
-    let mut calls = Vec::new(alloc);
-    let mut left = order;
-    while let [place, rest @ ..] = left {
-        push_calls(alloc, constructors_at(callers, *place), &mut calls)?;
-        left = rest;
-    }
-    Ok(calls)
-}
-
-fn destructors(
-    alloc: Global,
-    callers: &[Caller],
-    order: &[usize],
-) -> Result<Vec<Call>, WantOfMemory>
-    ensures { IfOk result (λ calls. calls.items ≡ flat_map (destructors_at callers.now) order.now) }
-{
-    let mut calls = Vec::new(alloc);
-    let mut left = order;
-    while let [place, rest @ ..] = left {
-        push_calls(alloc, destructors_at(callers, *place), &mut calls)?;
-        left = rest;
-    }
-    Ok(calls)
-}
-
-fn reversed(alloc: Global, callers: &[Caller], order: &[usize]) -> Result<Vec<Call>, WantOfMemory>
-    ensures { IfOk result (λ calls. calls.items
-        ≡ reverse (flat_map (destructors_at callers.now) order.now)) }
-{
-    let mut calls = destructors(alloc, callers, order)?;
-    calls.reverse();
-    Ok(calls)
-}
-
-#[tactic(auto, unfolding(crate::specs::Choices::choice_in))]
-fn choice_in(
-    alloc: Global,
-    found: Rows<Path>,
-    callers: &[Caller],
-    order: &[usize],
-) -> Result<Choice, WantOfMemory>
-    ensures { IfOk result (λ c. c ≡ choice_in found callers.now order.now) }
-{
-    let constructors = constructors(alloc, callers, order)?;
-    let destructors = reversed(alloc, callers, order)?;
-    Ok(Choice {
-        library: false,
-        instances: found,
-        constructors: Rows::from_vec(constructors),
-        destructors: Rows::from_vec(destructors),
-    })
-}
-
-fn check_caller(alloc: Global, caller: Option<&Caller>) -> Result<(), Refusal>
-    ensures { Checks result (caller_fault (option_copied caller.entry)) }
-{
-    match caller {
-        None => Ok(()),
-        Some(caller) => Err(refuse(alloc, CONSTRUCTOR_LOOP, &caller.at, caller.inf.bytes())),
-    }
-}
-
-fn check_looped(alloc: Global, callers: &[Caller], place: Option<usize>) -> Result<(), Refusal>
-    ensures { Checks result (looped callers.now place) }
-{
-    match place {
-        None => Ok(()),
-        Some(place) => check_caller(alloc, callers.get(place)),
-    }
-}
-
-#[tactic(auto, unfolding(crate::specs::Choices::loop_fault, crate::specs::Choices::choice_by))]
-fn choice_by(
-    alloc: Global,
-    found: Rows<Path>,
-    callers: &[Caller],
-    rows: &[Rows<bool>],
-) -> Result<Choice, Refusal>
-    ensures { Answers result (choice_by found callers.now rows.now) }
-{
-    let all = places(alloc, callers.len())?;
-    check_looped(alloc, callers, first_looped(rows, all.items()))?;
-    let order = call_order(alloc, rows, all.items())?;
-    Ok(choice_in(alloc, found, callers, order.items())?)
-}
 
 #[tactic(auto, unfolding(crate::specs::Choices::choice_of))]
 fn choice_of(alloc: Global, tables: &Tables<'_>, found: Rows<Path>) -> Result<Choice, Refusal>

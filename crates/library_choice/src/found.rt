@@ -10,9 +10,15 @@ use std::alloc::Global;
 use std::marker::Model;
 
 /// Paths, each once, in the order in which they were put.
-#[derive(Drop)]
 pub struct Found {
     paths: IndexSet<Path>,
+}
+
+// Written out, so that a caller that lets them go has one call here.
+impl Drop for Found {
+    fn drop(self) {
+        let Found { paths: _paths } = self;
+    }
 }
 
 impl Model for Found {

@@ -62,10 +62,19 @@ fn append(
 }
 
 /// INF files that are known. Of one path the first counts.
-#[derive(Drop)]
 pub struct KnownInfs {
     list: Rows<Shared<InfDoc>>,
     by_path: IndexMap<Path, Shared<InfDoc>>,
+}
+
+// Written out, so that a caller that lets them go has one call here.
+impl Drop for KnownInfs {
+    fn drop(self) {
+        let KnownInfs {
+            list: _list,
+            by_path: _by_path,
+        } = self;
+    }
 }
 
 impl Model for KnownInfs {

@@ -2,7 +2,6 @@
 //! called (EDK II DSC, INF and Build specifications).
 #![tactic(auto)]
 
-mod caller;
 mod callers;
 mod choosing;
 mod closure;
@@ -10,17 +9,14 @@ mod found;
 mod front;
 mod known_infs;
 mod laws;
-mod lines;
-mod order;
 mod reach;
 mod search;
 mod serving;
 mod tables;
-mod user;
 mod wanted;
 
 pub use choosing::choose;
 pub use laws::{instances_stand_by_walks, lines_hold_by_rank};
-pub use lines::type_covers;
+pub use line_ranks::type_covers;
 pub use search::InstanceSearch;
 pub use wanted::{is_known, next_wanted};

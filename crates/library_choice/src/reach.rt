@@ -1,17 +1,17 @@
 //! Which instances lead to which by their classes.
 ghost use Rattle.std.specs.Prelude.{◌≡◌, IfOk, OnOk, map};
 ghost use Rattle.std.specs.List.{All};
-ghost use Rattle.library_choice.specs.declared.caller.Caller.{Caller as CallerRow};
+ghost use Rattle.library_calls.specs.declared.caller.Caller.{Caller as CallerRow};
 ghost use Rattle.library_choice.specs.Closure.{same_path, next};
 ghost use Rattle.library_choice.specs.Choices.{leads, reach};
 ghost use Rattle.library_choice.specs.Found.{add, is_in};
 ghost use Rattle.library_choice.specs.Reaching.{IsWithin, LedTo};
 
-use crate::caller::Caller;
 use crate::closure::{pass, put_classes};
 use crate::found::Found;
 use crate::tables::Tables;
 use build_base::{Path, Rows, WantOfMemory};
+use library_calls::Caller;
 use std::alloc::Global;
 
 // Puts the instances one step on from a path.

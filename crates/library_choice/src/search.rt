@@ -10,25 +10,37 @@ use crate::choosing::{empty_choice, made};
 use crate::front::{Front, begin, wanted_behind};
 use crate::known_infs::KnownInfs;
 use crate::tables::Tables;
-use crate::user::User;
 use crate::wanted::own_lines;
 use build_base::{Path, Permit, Refusal, Rows, Same, WantOfMemory};
 use doc_types::choice::{Choice, Module};
 use doc_types::module::InfDoc;
 use doc_types::platform::PlatformDoc;
+use line_ranks::User;
 use shared_value::Shared;
 use std::alloc::Global;
 use std::marker::Model;
 
 /// What is found of a module's instances. A round goes on from the first instance whose INF file
 /// the rounds before it didn't know.
-#[derive(Drop)]
 pub struct InstanceSearch<'a> {
     user: &'a Module,
     platform: &'a PlatformDoc,
     inf: Shared<InfDoc>,
     tables: Tables<'a>,
     front: Front,
+}
+
+// Written out, so that a caller that lets a search go has one call here.
+impl Drop for InstanceSearch<'_> {
+    fn drop(self) {
+        let InstanceSearch {
+            user: _user,
+            platform: _platform,
+            inf: _inf,
+            tables: _tables,
+            front: _front,
+        } = self;
+    }
 }
 
 impl<'a> Model for InstanceSearch<'a> {
@@ -173,10 +185,10 @@ impl<'a> InstanceSearch<'a> {
         }
         let InstanceSearch {
             user,
+            platform: _platform,
             inf,
             tables,
             front,
-            ..
         } = self;
         made(alloc, user, &tables, inf.value(), front)
     }

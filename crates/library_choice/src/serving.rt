@@ -8,14 +8,13 @@ ghost use Rattle.library_choice.specs.Choices.{is_free, takes, names, served_fau
 ghost use Rattle.library_choice.specs.Lines.{same_type};
 ghost use Rattle.meta_lexer.specs.Faults.{first_fault};
 
-use crate::lines::{covers, same_type};
 use crate::tables::Tables;
-use crate::user::User;
 use build_base::fault_codes::{CLASS_NOT_SERVED, CLASS_UNRESOLVED, TYPE_NOT_SERVED};
 use build_base::{Path, Refusal, refuse};
 use doc_types::module::{InfDoc, Named, Served};
 use doc_types::module_type::ModuleType;
 use doc_types::platform::LibraryLine;
+use line_ranks::{User, covers, same_type};
 use std::alloc::Global;
 
 fn is_free(kind: ModuleType) -> bool

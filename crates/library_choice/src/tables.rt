@@ -1,90 +1,20 @@
 //! Look-ups of lines by class and of INF files by path.
-ghost use Rattle.std.specs.Prelude.{◌≡◌, ◌<◌, ◌+◌, ◌∷◌, ◌++◌, [], nat_eq, codes, take, length, IfOk, OnOk};
+ghost use Rattle.std.specs.Prelude.{◌≡◌, ◌∷◌, ◌++◌, [], nat_eq, codes, IfOk, OnOk};
 ghost use Rattle.std.specs.Cmp.Lexicographic.{pointwise};
-ghost use Rattle.std.specs.HashMap.{get};
 ghost use Rattle.std.specs.List.{filter_map};
 ghost use Rattle.std.specs.Option.{option_copied};
 ghost use Rattle.library_choice.specs.Closure.{known, instance_of, null_of, nulls};
 ghost use Rattle.library_choice.specs.Lines.{chosen_line};
-ghost use Rattle.library_choice.specs.Tables.{Lines, outweighs, picked};
 
 use crate::known_infs::KnownInfs;
-use crate::lines::{applies, covers, rank};
-use crate::user::User;
 use build_base::{Path, Rows, Same, Text, WantOfMemory};
 use doc_types::module::{InfDoc, Named};
 use doc_types::platform::LibraryLine;
 use indexmap::IndexMap;
+use line_ranks::{User, applies, covers, line_places, picked};
 use shared_value::Shared;
 use std::alloc::Global;
-use std::hash::Hash;
 use std::marker::Model;
-
-fn picked<'a, K: Hash + Eq, T>(
-    items: &'a [T],
-    places: &IndexMap<K, usize>,
-    key: &K,
-) -> Option<&'a T>
-    ensures { option_copied result ≡ picked items.now (get K.eq places.now key.now) }
-{
-    match places.get(key) {
-        Some(place) => items.get(*place),
-        None => None,
-    }
-}
-
-fn outweighs(user: User, own: bool, weight: u8, held: Option<&LibraryLine>) -> bool
-    ensures { result ≡ outweighs user own weight (option_copied held.entry) }
-{
-    match held {
-        None => false,
-        Some(held) => weight < rank(user, own, held),
-    }
-}
-
-// Adds a line under its class, unless it doesn't hold or one above goes before it.
-fn add_line(
-    alloc: Global,
-    user: User,
-    own: bool,
-    lines: &[LibraryLine],
-    place: usize,
-    places: &mut IndexMap<Text, usize>,
-) -> Result<(), WantOfMemory>
-    requires { place < length lines.now }
-    ensures { Lines user own lines.now (take place lines.now) places.old →
-        OnOk result (Lines user own lines.now (take (place + 1) lines.now) places.new) }
-{
-    let line = &lines[place];
-    let weight = rank(user, own, line);
-    if weight == 0 {
-        return Ok(());
-    }
-    if outweighs(user, own, weight, picked(lines, places, &line.class)) {
-        return Ok(());
-    }
-    let class = line.class.copy(alloc)?;
-    match places.insert(class, place) {
-        Ok(_) => Ok(()),
-        Err(_) => Err(WantOfMemory),
-    }
-}
-
-// For each class the place of the line that holds.
-fn line_places(
-    alloc: Global,
-    user: User,
-    own: bool,
-    lines: &[LibraryLine],
-) -> Result<IndexMap<Text, usize>, WantOfMemory>
-    ensures { IfOk result (Lines user own lines.now lines.now) }
-{
-    let mut places = IndexMap::with_capacity(alloc, lines.len())?;
-    for place in 0..lines.len() {
-        add_line(alloc, user, own, lines, place, &mut places)?;
-    }
-    Ok(places)
-}
 
 fn is_null(class: &[u8]) -> bool
     ensures { result ≡ pointwise nat_eq class.now (codes "NULL") }
@@ -151,7 +81,6 @@ fn nulls(
 }
 
 /// What a choice is made from, with tables over it.
-#[derive(Drop)]
 pub struct Tables<'a> {
     user: User,
     sections: &'a [LibraryLine],
@@ -162,12 +91,27 @@ pub struct Tables<'a> {
     infs: KnownInfs,
 }
 
+// Written out, so that a caller that lets tables go has one call here.
+impl Drop for Tables<'_> {
+    fn drop(self) {
+        let Tables {
+            user: _user,
+            sections: _sections,
+            own: _own,
+            section_places: _section_places,
+            own_places: _own_places,
+            nulls: _nulls,
+            infs: _infs,
+        } = self;
+    }
+}
+
 impl<'a> Model for Tables<'a> {
     ghost use Rattle.std.specs.Prelude.{true, false, ◌≡◌, ◌++◌};
     ghost use Rattle.std.specs.List.{filter_map};
     ghost use Rattle.library_choice.specs.Closure.{null_of};
     ghost use Rattle.library_choice.specs.Lines.{Setting};
-    ghost use Rattle.library_choice.specs.Tables.{Lines};
+    ghost use Rattle.line_ranks.specs.Places.{Lines};
 
     ghost Value = { Setting };
 

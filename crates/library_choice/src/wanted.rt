@@ -4,12 +4,12 @@ ghost use Rattle.std.specs.Option.{option_copied};
 ghost use Rattle.library_choice.specs.Closure.{known, is_known, is_component, libraries_of, own_lines, wanted};
 ghost use Rattle.library_choice.specs.Rounds.{Falls};
 
-use crate::lines::covers;
 use crate::search::InstanceSearch;
 use build_base::{Path, Rows, Same, WantOfMemory};
 use doc_types::choice::Module;
 use doc_types::module::InfDoc;
 use doc_types::platform::{Component, LibraryLine, PlatformDoc};
+use line_ranks::covers;
 use shared_value::Shared;
 use std::alloc::Global;
 

@@ -10,7 +10,7 @@ use meta_lexer::token::word_size;
 use meta_lexer::words::{halves, is_identifier, same_word};
 
 /// What a line does to the conditionals. A line that acts is any but their directives.
-#[derive(Clone, Copy, Debug, PartialEq, Eq)]
+#[derive(Clone, Copy, PartialEq, Eq)]
 pub enum Kind {
     Act,
     If,

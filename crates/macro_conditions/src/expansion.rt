@@ -32,7 +32,7 @@ use std::alloc::Global;
 const OPEN_FILES: u32 = 32;
 
 /// The lines of a document, or the one path whose answer is wanted next.
-#[derive(Debug, Drop)]
+#[derive(Drop)]
 pub enum Turned {
     Need(Rows<Path>),
     Whole(Lines),

@@ -26,7 +26,7 @@ use meta_lexer::{LexRefusal, Span, Token, TokenKind, lookup, number, tokens};
 use std::alloc::Global;
 
 /// The value of an expression.
-#[derive(Debug, Drop)]
+#[derive(Drop)]
 pub enum Value {
     Number(u64),
     Word(Text),

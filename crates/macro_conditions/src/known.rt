@@ -9,7 +9,7 @@ use build_base::{Got, Path, Same, Text, WantOfMemory};
 use std::alloc::Global;
 
 /// What a read of a path gave.
-#[derive(Debug, Drop)]
+#[derive(Drop)]
 pub struct Known {
     pub path: Path,
     pub got: Got,

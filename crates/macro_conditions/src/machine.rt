@@ -10,7 +10,7 @@ use crate::operator::{BinaryOperator, PrefixOperator};
 use std::alloc::{AllocError, Global};
 
 /// What waits for an operand.
-#[derive(Clone, Copy, Debug)]
+#[derive(Clone, Copy)]
 pub enum Waiting<'a> {
     Group,
     Front(PrefixOperator),

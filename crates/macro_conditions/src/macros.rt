@@ -11,7 +11,7 @@ use meta_lexer::words::is_identifier;
 use std::alloc::Global;
 
 /// What stands in a text for the use of a macro that isn't defined: the use as written, or `0`.
-#[derive(Clone, Copy, Debug, PartialEq, Eq)]
+#[derive(Clone, Copy, PartialEq, Eq)]
 pub enum Undefined {
     Kept,
     Zero,

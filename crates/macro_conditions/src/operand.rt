@@ -9,7 +9,7 @@ use build_base::fault_codes::{VALUE_RANGE, ZERO_DIVISOR};
 
 /// A text, a number, the code of the fault that comes first, or that a text stands in the place of
 /// a number.
-#[derive(Clone, Copy, Debug)]
+#[derive(Clone, Copy)]
 pub enum Operand<'a> {
     Word(&'a [u8]),
     Number(u64),
@@ -18,7 +18,7 @@ pub enum Operand<'a> {
 }
 
 /// A term of an expression. An unknown mark belongs to none.
-#[derive(Clone, Copy, Debug)]
+#[derive(Clone, Copy)]
 pub enum Term<'a> {
     Value(Operand<'a>),
     Binary(BinaryOperator),

@@ -4,7 +4,7 @@ ghost use Rattle.std.specs.Prelude.{◌≡◌};
 ghost use Rattle.macro_conditions.specs.Values.{level, takes_texts};
 
 /// An operator with two operands.
-#[derive(Clone, Copy, Debug, PartialEq, Eq)]
+#[derive(Clone, Copy, PartialEq, Eq)]
 pub enum BinaryOperator {
     Or,
     And,
@@ -27,14 +27,14 @@ pub enum BinaryOperator {
 }
 
 /// An operator before its operand: logical not, and the complement of all bits.
-#[derive(Clone, Copy, Debug, PartialEq, Eq)]
+#[derive(Clone, Copy, PartialEq, Eq)]
 pub enum PrefixOperator {
     Not,
     Flip,
 }
 
 /// What a word of expressions stands for: a number, or an operator.
-#[derive(Clone, Copy, Debug, PartialEq, Eq)]
+#[derive(Clone, Copy, PartialEq, Eq)]
 pub enum Keyword {
     Number(u64),
     Binary(BinaryOperator),

@@ -20,7 +20,7 @@ use Rattle.doc_types.specs.declared.volume.Member.{Member}
 use Rattle.doc_types.specs.declared.volume.Member.TheVariants as member
 use Rattle.doc_types.specs.declared.volume_head.VolumeHead.{VolumeHead}
 use Rattle.ffs_sections.specs.File.{file_of}
-use Rattle.flash_document.specs.Modules.{inf_arch}
+use Rattle.rule_choice.specs.Modules.{inf_arch}
 use Rattle.module_steps.specs.Parts.{inf_at, taken}
 use Rattle.module_images.specs.Modules.{platform_at, arches_at}
 use Rattle.module_images.specs.Names.{module_guid}

@@ -22,8 +22,8 @@ use Rattle.doc_types.specs.declared.volume.RuleDoc.{RuleDoc}
 use Rattle.doc_types.specs.declared.volume.SectionPlan.{SectionPlan}
 use Rattle.doc_types.specs.declared.volume.SectionSource.{SectionSource}
 use Rattle.doc_types.specs.declared.volume.SectionSource.TheVariants as source
-use Rattle.flash_document.specs.Modules.{inf_arch}
-use Rattle.flash_document.specs.Rules.{rule_of}
+use Rattle.rule_choice.specs.Modules.{inf_arch}
+use Rattle.rule_choice.specs.Rules.{rule_of}
 use Rattle.module_images.specs.declared.plans.ModulePlan.{ModulePlan}
 use Rattle.module_images.specs.Names.{module_folder, module_guid, rule_names, filled, own_depex}
 use Rattle.build_base.specs.FaultCodes.{BAD_PATH, RULE_LINE_REFUSED}

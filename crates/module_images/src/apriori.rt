@@ -18,8 +18,8 @@ use doc_types::standard::{EFI_FV_FILETYPE_FREEFORM, EFI_SECTION_RAW};
 use doc_types::volume::{InfLine, Member};
 use doc_types::volume_head::VolumeHead;
 use ffs_sections::file_of;
-use flash_document::inf_arch;
 use module_steps::parts::inf_at;
+use rule_choice::inf_arch;
 use std::alloc::Global;
 use step_pack::{Key, Out};
 

@@ -5,6 +5,7 @@ ghost use Rattle.build_base.specs.Answer.{Answers, Checks};
 ghost use Rattle.build_base.specs.First.{all_ok};
 ghost use Rattle.build_stages.specs.Gives.{GivesIn};
 ghost use Rattle.meta_lexer.specs.Faults.{first_fault};
+ghost use Rattle.module_images.specs.Names.{rule_names};
 ghost use Rattle.module_images.specs.Plans.{rule_found, rule_for, refused_source, refused_section, stated_text, template_filled, source_filled, with_source, section_filled, sections_filled, file_by, plan_with, plan_named, plan_by, module_of, module_plan};
 
 use crate::names::{filled, module_folder, module_guid, own_depex, rule_names};
@@ -20,7 +21,7 @@ use doc_types::module_type::ModuleType;
 use doc_types::platform::PlatformDoc;
 use doc_types::standard::{EFI_SECTION_USER_INTERFACE, EFI_SECTION_VERSION};
 use doc_types::volume::{FilePlan, InfLine, RuleDoc, SectionPlan, SectionSource};
-use flash_document::{inf_arch, rule_of};
+use rule_choice::{inf_arch, rule_of};
 use std::alloc::Global;
 use step_pack::Key;
 
@@ -202,6 +203,43 @@ fn file_by(
     })
 }
 
+// The sections of a rule with the names of a module of this GUID filled in.
+fn sections_named(
+    alloc: Global,
+    line: &InfLine,
+    name: Guid,
+    folder: &Text,
+    inf: &InfDoc,
+    sections: &[SectionPlan],
+) -> Result<Rows<SectionPlan>, Stop<Key>>
+    ensures { GivesIn (λ plans. plans) result
+        (sections_filled line.now (rule_names name folder.now inf.now) sections.now) }
+{
+    let names = rule_names(alloc, &name, folder, inf)?;
+    sections_filled(alloc, line, names.items(), sections)
+}
+
+fn plan_with(
+    alloc: Global,
+    line: &InfLine,
+    module: Module,
+    name: Guid,
+    depex: Text,
+    file: &FilePlan,
+    sections: Rows<SectionPlan>,
+) -> Result<ModulePlan, WantOfMemory>
+    ensures { IfOk result
+        (λ plan. plan_with line.now «module» name depex file.now sections ≡ Ok plan) }
+{
+    let file = file_by(alloc, line, file, sections)?;
+    Ok(ModulePlan {
+        module,
+        name,
+        depex,
+        file,
+    })
+}
+
 // The file by the rule's file, of a module of this GUID whose outputs stand in this folder.
 #[tactic(auto, unfolding(crate::specs::Plans::plan_named))]
 fn plan_named(
@@ -216,16 +254,9 @@ fn plan_named(
     ensures { GivesIn (λ plan. plan) result
         (plan_named line.now «module» name folder.now inf.now file.now) }
 {
-    let names = rule_names(alloc, &name, folder, inf)?;
-    let sections = sections_filled(alloc, line, names.items(), file.sections.items())?;
+    let sections = sections_named(alloc, line, name, folder, inf, file.sections.items())?;
     let depex = own_depex(alloc, folder, inf)?;
-    let file = file_by(alloc, line, file, sections)?;
-    Ok(ModulePlan {
-        module,
-        name,
-        depex,
-        file,
-    })
+    Ok(plan_with(alloc, line, module, name, depex, file, sections)?)
 }
 
 #[tactic(auto, unfolding(crate::specs::Plans::plan_by))]

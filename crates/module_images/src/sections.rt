@@ -209,13 +209,13 @@ fn file_part(
     alloc: Global,
     section: &SectionPlan,
     path: &Path,
-    bytes: &[u8],
+    file: &Text,
 ) -> Result<Part, Stop<Key>>
-    ensures value { GivesIn (λ part. part) result (file_part section.now path.now bytes.now) }
+    ensures value { GivesIn (λ part. part) result (file_part section.now path.now file.now) }
     ensures guid { IfOk result HasGuid }
 {
-    let content = file_shaped(alloc, section.kind, path, bytes)?;
-    let align = content_align(alloc, section.kind, path, bytes, section.align)?;
+    let content = file_shaped(alloc, section.kind, path, file)?;
+    let align = content_align(alloc, section.kind, path, file.bytes(), section.align)?;
     part_of(section, align, content)
 }
 
@@ -253,7 +253,7 @@ fn got_part(
 {
     match given.file(file)? {
         Answer::Bytes(bytes) => {
-            let part = file_part(alloc, section, path, bytes.value().bytes())?;
+            let part = file_part(alloc, section, path, bytes.value())?;
             Ok(Some(part))
         }
         Answer::Absent => Ok(absent_part(alloc, section, path)?),

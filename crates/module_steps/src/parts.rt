@@ -14,6 +14,7 @@ ghost use Rattle.pcd_resolve.specs.Listing.{packages_in};
 ghost use Rattle.module_steps.specs.Parts.{choice_of_out, choice_at, inf_of_out, inf_at, dec_of_out, held_package, package_at, infs_from, packages_from, linked_module, linked_from, package_paths, Steps, Stopped, described_at, described_from, parts_at, parts_from};
 
 use build_base::path::path_field;
+use build_base::together::three;
 use build_base::{Path, Rows, Same, Text, WantOfMemory};
 use build_stages::{Given, Stop};
 use doc_types::arch::Arch;
@@ -238,6 +239,16 @@ fn push_paths(alloc: Global, out: &mut Rows<Path>, paths: &[Path]) -> Result<(),
     Ok(())
 }
 
+// The paths of a module's own description and of its instances'.
+fn linked_paths(alloc: Global, module: &Module, choice: &Choice) -> Result<Rows<Path>, WantOfMemory>
+    ensures { IfOk result (λ paths. paths ≡ «module».now.inf ∷ choice.now.instances) }
+{
+    let mut paths = Rows::new(alloc);
+    paths.push(module.inf.copy(alloc)?)?;
+    push_paths(alloc, &mut paths, choice.instances.items())?;
+    Ok(paths)
+}
+
 /// A module with the paths of its own description and of its instances'.
 pub fn linked_module(
     alloc: Global,
@@ -246,11 +257,10 @@ pub fn linked_module(
 ) -> Result<Linked, WantOfMemory>
     ensures { IfOk result (λ held. held ≡ linked_module «module».now choice.now) }
 {
-    let mut paths = Rows::new(alloc);
-    paths.push(module.inf.copy(alloc)?)?;
-    push_paths(alloc, &mut paths, choice.instances.items())?;
+    let module_copy = module.copy(alloc)?;
+    let paths = linked_paths(alloc, module, choice)?;
     Ok(Linked {
-        module: module.copy(alloc)?,
+        module: module_copy,
         paths,
     })
 }
@@ -399,10 +409,11 @@ pub fn parts_at(
 fn described_again(alloc: Global, held: &Described) -> Result<Described, WantOfMemory>
     ensures { IfOk result (λ again. again ≡ held.now) }
 {
+    let (module, infs, packages) = three(&held.module, &held.infs, &held.packages, alloc)?;
     Ok(Described {
-        module: held.module.copy(alloc)?,
-        infs: held.infs.copy(alloc)?,
-        packages: held.packages.copy(alloc)?,
+        module,
+        infs,
+        packages,
     })
 }
 

@@ -5,13 +5,13 @@ ghost use Rattle.pcd_resolve.specs.Platform.{SkusEnd};
 ghost use Rattle.module_steps.specs.Pcds.{platform_ask, pcds_given, module_ask, values_given};
 
 use crate::settings::Setting;
-use build_base::{Permit, Refusal, Rows, Same, WantOfMemory};
+use build_base::together::{three, two};
+use build_base::{Permit, Refusal, Rows, WantOfMemory};
 use doc_types::asks::{ModuleAsk, PlatformAsk};
 use doc_types::flash::FlashDoc;
 use doc_types::parts::ModuleParts;
 use doc_types::pcd::PcdSet;
 use doc_types::platform::PlatformDoc;
-use doc_types::together::three;
 use doc_types::values::Values;
 use pcd_resolve::{resolve_module, resolve_platform};
 use shared_value::Shared;
@@ -26,10 +26,11 @@ fn platform_ask(
 ) -> Result<PlatformAsk, WantOfMemory>
     ensures { IfOk result (λ ask. ask ≡ platform_ask platform.now flash.now setting.now modules) }
 {
+    let (platform, flash) = two(platform, flash, alloc)?;
     let (commands, skus, arches) = three(&setting.commands, &setting.skus, &setting.arches, alloc)?;
     Ok(PlatformAsk {
-        platform: platform.copy(alloc)?,
-        flash: flash.copy(alloc)?,
+        platform,
+        flash,
         commands,
         skus,
         arches,
@@ -64,12 +65,13 @@ fn module_ask(
     ensures { IfOk result
         (λ ask. ask ≡ module_ask platform.now flash.now commands dynamic.now parts) }
 {
+    let (platform, flash, dynamic) = three(platform, flash, dynamic, alloc)?;
     Ok(ModuleAsk {
-        platform: platform.copy(alloc)?,
-        flash: flash.copy(alloc)?,
+        platform,
+        flash,
         commands,
         parts,
-        dynamic: dynamic.copy(alloc)?,
+        dynamic,
     })
 }
 

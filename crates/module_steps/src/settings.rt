@@ -1,9 +1,9 @@
 //! The modules of a build, and what the words say of its PCDs.
-ghost use Rattle.std.specs.Prelude.{◌≡◌, ◌<◌, ◌==◌, ◌++◌, ◌&&◌, [], ◌∷◌, length, map, fold, IfOk, OnOk, IfSome, if◌then◌else◌, None};
+ghost use Rattle.std.specs.Prelude.{◌≡◌, ◌<◌, ◌==◌, ◌++◌, ◌&&◌, [], ◌∷◌, ◌+◌, length, take, drop, map, fold, IfOk, OnOk, Ok, IfSome, if◌then◌else◌, None};
 ghost use Rattle.std.specs.List.{position, slice_split, flat_map};
 ghost use Rattle.std.specs.Option.{option_copied};
 ghost use Rattle.build_base.specs.Answer.{Checks};
-ghost use Rattle.build_base.specs.First.{all_ok};
+ghost use Rattle.build_base.specs.First.{all_ok, or_fault};
 ghost use Rattle.meta_lexer.specs.Faults.{first_fault};
 ghost use Rattle.build_stages.specs.Gives.{GivesIn};
 ghost use Rattle.build_stages.specs.Known.{shown};
@@ -239,6 +239,32 @@ fn byte_at(text: &[u8], wanted: u8) -> Option<usize>
     text.iter().position(|byte| *byte == wanted)
 }
 
+// The name `Space.Name` with its dot at a place.
+fn name_at(alloc: Global, pcd: &[u8], dot: usize) -> Result<PcdName, WantOfMemory>
+    requires { dot < length pcd.now }
+    ensures { IfOk result
+        (λ name. name ≡ record { space = take dot pcd.now; name = drop (dot + 1) pcd.now }) }
+{
+    let space = Text::of(alloc, &pcd[..dot])?;
+    let name = Text::of(alloc, &pcd[dot + 1..])?;
+    Ok(PcdName { space, name })
+}
+
+// The value that the words give a PCD of this name.
+fn set_to(alloc: Global, at: &Place, pcd: PcdName, value: &[u8]) -> Result<PcdSet, WantOfMemory>
+    ensures { IfOk result
+        (λ set. set ≡ record { at = at.now; rank = 1; pcd = pcd; value = value.now }) }
+{
+    let at = at.copy(alloc)?;
+    let value = Text::of(alloc, value)?;
+    Ok(PcdSet {
+        at,
+        rank: 1,
+        pcd,
+        value,
+    })
+}
+
 fn set_named(alloc: Global, at: &Place, pcd: &[u8], value: &[u8]) -> Result<PcdSet, Stop<Key>>
     ensures { GivesIn (λ set. set) result
         (set_named at.now pcd.now value.now (position (λ byte. byte == 46) pcd.now)) }
@@ -246,16 +272,8 @@ fn set_named(alloc: Global, at: &Place, pcd: &[u8], value: &[u8]) -> Result<PcdS
     let Some(dot) = byte_at(pcd, b'.') else {
         return Err(Stop::Misfit);
     };
-    let pcd = PcdName {
-        space: Text::of(alloc, &pcd[..dot])?,
-        name: Text::of(alloc, &pcd[dot + 1..])?,
-    };
-    Ok(PcdSet {
-        at: at.copy(alloc)?,
-        rank: 1,
-        pcd,
-        value: Text::of(alloc, value)?,
-    })
+    let pcd = name_at(alloc, pcd, dot)?;
+    Ok(set_to(alloc, at, pcd, value)?)
 }
 
 // The value that a text `Space.Name=Value` gives a PCD.
@@ -333,6 +351,40 @@ fn setting_by(
     })
 }
 
+// The same by the architectures of the words.
+fn setting_built(
+    alloc: Global,
+    platform: &PlatformDoc,
+    skus: Rows<Text>,
+    commands: Rows<PcdSet>,
+    named: &[Arch],
+) -> Result<Setting, WantOfMemory>
+    ensures { IfOk result (λ s. s
+        ≡ setting_by platform.now skus commands (built_arches named.now platform.now.arches)) }
+{
+    let built = built_arches(alloc, named, platform.arches.items())?;
+    setting_by(alloc, platform, skus, commands, built)
+}
+
+// The same once the words are checked.
+fn setting_checked(
+    alloc: Global,
+    platform: &PlatformDoc,
+    texts: &[Text],
+    named: &[Arch],
+    sku: &[u8],
+    commands: Rows<PcdSet>,
+) -> Result<Setting, Stop<Key>>
+    ensures { GivesIn (λ s. s) result
+        (or_fault (words_checked platform.now (named_skus sku.now) texts.now)
+        (Ok (setting_by platform.now (named_skus sku.now) commands
+        (built_arches named.now platform.now.arches)))) }
+{
+    let skus = named_skus(alloc, sku)?;
+    words_checked(alloc, platform, skus.items(), texts)?;
+    Ok(setting_built(alloc, platform, skus, commands, named)?)
+}
+
 /// What the words settle: their architectures, their SKU and the values that they give PCDs. Faults
 /// 229 of the SKU and then 232 of an architecture.
 #[tactic(auto, unfolding(crate::specs::Settings::setting_of))]
@@ -348,8 +400,5 @@ pub fn setting_of(
     let texts = listed(alloc, arches)?;
     let named = arches_in(alloc, texts.items())?;
     let commands = commands_of(alloc, &platform.at, pcds)?;
-    let skus = named_skus(alloc, sku)?;
-    words_checked(alloc, platform, skus.items(), texts.items())?;
-    let built = built_arches(alloc, named.items(), platform.arches.items())?;
-    Ok(setting_by(alloc, platform, skus, commands, built)?)
+    setting_checked(alloc, platform, texts.items(), named.items(), sku, commands)
 }

@@ -1,6 +1,6 @@
 //! What steps give.
-ghost use Rattle.std.specs.Prelude.{◌≡◌, ◌++◌};
-ghost use Rattle.packed_values.specs.Form.{IsPut, IsRead, IsUnread};
+ghost use Rattle.std.specs.Prelude.{◌≡◌, ◌<◌, ◌≤◌, ◌++◌, ◌∷◌, IfOk};
+ghost use Rattle.packed_values.specs.Form.{Takes, IsPut, IsRead, IsUnread};
 ghost use Rattle.packed_outcomes.specs.Out.{out_form, output_form};
 
 use crate::key::KeyForm;
@@ -32,6 +32,84 @@ impl Packed for OutputForm {
     #[tactic(auto, unfolding(crate::specs::Out::output_form), using(packed_values::proofs::WhereLemmas::unread_by))]
     fn take(alloc: Global, input: &mut Input) -> Result<Option<Output>, WantOfMemory> {
         all_taken!(Output, alloc, input; path: Path, from: KeyForm, part: u8)
+    }
+}
+
+// What stands behind the tag of documents, libraries, values or texts.
+#[tactic(auto, unfolding(crate::specs::Out::out_form, packed_values::specs::Arms::tagged_form, packed_values::specs::Arms::arm, packed_values::specs::Arms::last_arm, packed_values::specs::Plain::byte_form))]
+fn take_told(alloc: Global, input: &mut Input, tag: u8) -> Result<Option<Out>, WantOfMemory>
+    requires { tag < 7 }
+    ensures { IfOk result (λ r. Takes out_form (tag ∷ input.old) r input.new) }
+{
+    match tag {
+        0 => match <Shared<DecDocForm>>::take(alloc, input)? {
+            None => Ok(None),
+            Some(document) => Ok(Some(Out::Dec(document))),
+        },
+        1 => match <Shared<InfDocForm>>::take(alloc, input)? {
+            None => Ok(None),
+            Some(document) => Ok(Some(Out::Inf(document))),
+        },
+        2 => match <Shared<PlatformDocForm>>::take(alloc, input)? {
+            None => Ok(None),
+            Some(document) => Ok(Some(Out::Platform(document))),
+        },
+        3 => match <Shared<FlashDocForm>>::take(alloc, input)? {
+            None => Ok(None),
+            Some(document) => Ok(Some(Out::Flash(document))),
+        },
+        4 => match ChoiceForm::take(alloc, input)? {
+            None => Ok(None),
+            Some(choice) => Ok(Some(Out::Choice(choice))),
+        },
+        5 => match <Shared<ValuesForm>>::take(alloc, input)? {
+            None => Ok(None),
+            Some(values) => Ok(Some(Out::Values(values))),
+        },
+        6 => match <Option<TextsForm> as Packed>::take(alloc, input)? {
+            None => Ok(None),
+            Some(texts) => Ok(Some(Out::Code(texts))),
+        },
+        _ => Ok(None),
+    }
+}
+
+// What stands behind any other tag.
+#[tactic(auto, unfolding(crate::specs::Out::out_form, packed_values::specs::Arms::tagged_form, packed_values::specs::Arms::arm, packed_values::specs::Arms::last_arm, packed_values::specs::Plain::byte_form))]
+fn take_made(alloc: Global, input: &mut Input, tag: u8) -> Result<Option<Out>, WantOfMemory>
+    requires { 7 ≤ tag }
+    ensures { IfOk result (λ r. Takes out_form (tag ∷ input.old) r input.new) }
+{
+    match tag {
+        7 => match Text::take(alloc, input)? {
+            None => Ok(None),
+            Some(bytes) => Ok(Some(Out::Depex(bytes))),
+        },
+        8 => match FileImageForm::take(alloc, input)? {
+            None => Ok(None),
+            Some(file) => Ok(Some(Out::File(file))),
+        },
+        9 => match Image::take(alloc, input)? {
+            None => Ok(None),
+            Some(image) => Ok(Some(Out::Volume(image))),
+        },
+        10 => match Image::take(alloc, input)? {
+            None => Ok(None),
+            Some(image) => Ok(Some(Out::Device(image))),
+        },
+        11 => match Text::take(alloc, input)? {
+            None => Ok(None),
+            Some(text) => Ok(Some(Out::Report(text))),
+        },
+        12 => match <Rows<OutputForm>>::take(alloc, input)? {
+            None => Ok(None),
+            Some(outputs) => Ok(Some(Out::All(outputs))),
+        },
+        13 => match VpdForm::take(alloc, input)? {
+            None => Ok(None),
+            Some(image) => Ok(Some(Out::Vpd(image))),
+        },
+        _ => Ok(None),
     }
 }
 
@@ -108,63 +186,9 @@ impl Packed for OutForm {
     #[tactic(auto, unfolding(crate::specs::Out::out_form, packed_values::specs::Arms::tagged_form, packed_values::specs::Arms::arm, packed_values::specs::Arms::last_arm, packed_values::specs::Plain::byte_form))]
     fn take(alloc: Global, input: &mut Input) -> Result<Option<Out>, WantOfMemory> {
         match input.byte() {
-            Some(0) => match <Shared<DecDocForm>>::take(alloc, input)? {
-                None => Ok(None),
-                Some(document) => Ok(Some(Out::Dec(document))),
-            },
-            Some(1) => match <Shared<InfDocForm>>::take(alloc, input)? {
-                None => Ok(None),
-                Some(document) => Ok(Some(Out::Inf(document))),
-            },
-            Some(2) => match <Shared<PlatformDocForm>>::take(alloc, input)? {
-                None => Ok(None),
-                Some(document) => Ok(Some(Out::Platform(document))),
-            },
-            Some(3) => match <Shared<FlashDocForm>>::take(alloc, input)? {
-                None => Ok(None),
-                Some(document) => Ok(Some(Out::Flash(document))),
-            },
-            Some(4) => match ChoiceForm::take(alloc, input)? {
-                None => Ok(None),
-                Some(choice) => Ok(Some(Out::Choice(choice))),
-            },
-            Some(5) => match <Shared<ValuesForm>>::take(alloc, input)? {
-                None => Ok(None),
-                Some(values) => Ok(Some(Out::Values(values))),
-            },
-            Some(6) => match <Option<TextsForm> as Packed>::take(alloc, input)? {
-                None => Ok(None),
-                Some(texts) => Ok(Some(Out::Code(texts))),
-            },
-            Some(7) => match Text::take(alloc, input)? {
-                None => Ok(None),
-                Some(bytes) => Ok(Some(Out::Depex(bytes))),
-            },
-            Some(8) => match FileImageForm::take(alloc, input)? {
-                None => Ok(None),
-                Some(file) => Ok(Some(Out::File(file))),
-            },
-            Some(9) => match Image::take(alloc, input)? {
-                None => Ok(None),
-                Some(image) => Ok(Some(Out::Volume(image))),
-            },
-            Some(10) => match Image::take(alloc, input)? {
-                None => Ok(None),
-                Some(image) => Ok(Some(Out::Device(image))),
-            },
-            Some(11) => match Text::take(alloc, input)? {
-                None => Ok(None),
-                Some(text) => Ok(Some(Out::Report(text))),
-            },
-            Some(12) => match <Rows<OutputForm>>::take(alloc, input)? {
-                None => Ok(None),
-                Some(outputs) => Ok(Some(Out::All(outputs))),
-            },
-            Some(13) => match VpdForm::take(alloc, input)? {
-                None => Ok(None),
-                Some(image) => Ok(Some(Out::Vpd(image))),
-            },
-            _ => Ok(None),
+            None => Ok(None),
+            Some(tag) if tag < 7 => take_told(alloc, input, tag),
+            Some(tag) => take_made(alloc, input, tag),
         }
     }
 }

@@ -4,8 +4,8 @@ use Rattle.std.specs.List.{list_any}
 use Rattle.doc_types.specs.declared.pcd.Datum.{Datum}
 use Rattle.doc_types.specs.declared.pcd.Datum.TheVariants.{U8, U16, U32, U64, Boolean, Void}
 use Rattle.doc_types.specs.declared.pcd.Kind.{Kind}
-use Rattle.pcd_resolve.specs.Names.{same_datum}
-use Rattle.pcd_resolve.specs.Listing.{Use, Stated, applies}
+use Rattle.pcd_ranks.specs.Names.{same_datum}
+use Rattle.pcd_ranks.specs.Listing.{Use, Stated, applies}
 use Rattle.pcd_resolve.specs.Faults.{is_other, is_against}
 
 same_is : (d e : Datum) → same_datum d e ≡ true → d ≡ e

@@ -11,7 +11,7 @@ use Rattle.doc_types.specs.declared.parts.ModuleParts.{ModuleParts}
 use Rattle.doc_types.specs.declared.pcd.Kind.{Kind}
 use Rattle.pcd_resolve.specs.declared.sought.Sought.{Sought}
 use Rattle.pcd_resolve.specs.Kinds.{head_of}
-use Rattle.pcd_resolve.specs.Listing.{declared_in}
+use Rattle.pcd_ranks.specs.Listing.{declared_in}
 use Rattle.pcd_resolve.specs.Marks.{is_kept}
 use Rattle.pcd_resolve.specs.Platform.{declaration_among}
 use Rattle.pcd_resolve.specs.Sought.{Quest, begun, found, front_if, is_open, kind_at, look, look_each, misses, of_some, open_names, sought_view}

@@ -9,8 +9,8 @@ use Rattle.std.specs.Cmp.Lexicographic.{slice_cmp}
 use Rattle.std.specs.Ordering.{nat_cmp}
 use Rattle.build_base.proofs.Steps.{head_drop}
 use Rattle.doc_types.specs.declared.parts.ModuleParts.{ModuleParts}
-use Rattle.pcd_resolve.specs.Listing.{Use, uses_of_module}
-use Rattle.pcd_resolve.specs.Names.{dotted}
+use Rattle.pcd_ranks.specs.Listing.{Use, uses_of_module}
+use Rattle.pcd_ranks.specs.Names.{dotted}
 use Rattle.pcd_resolve.specs.Rows.{with_names}
 
 with_both : (names : List (List ℕ)) (us vs : List Use) → with_names names (us ++ vs) ≡ with_names (with_names names us) vs

@@ -12,8 +12,8 @@ use Rattle.doc_types.specs.declared.package.DecPcd.{DecPcd}
 use Rattle.doc_types.specs.declared.pcd.Datum.{Datum}
 use Rattle.doc_types.specs.declared.pcd.Datum.TheVariants.{U8, U16, U32, U64, Boolean, Void}
 use Rattle.doc_types.specs.declared.pcd.Kind.{Kind}
-use Rattle.pcd_resolve.specs.Names.{dotted, same_kind, same_datum, is_dynamic}
-use Rattle.pcd_resolve.specs.Listing.{Use, Stated, applies}
+use Rattle.pcd_ranks.specs.Names.{dotted, same_kind, same_datum, is_dynamic}
+use Rattle.pcd_ranks.specs.Listing.{Use, Stated, applies}
 use Rattle.pcd_resolve.specs.Kinds.{asked_kind, has_kind, Claim, claims, kind_of, declaration}
 use Rattle.build_base.specs.FaultCodes.{DATUM_CONFLICT, DYNAMIC_IN_COMPONENT, KIND_ASKED, KIND_CONFLICT, NOT_DECLARED, SKU_ON_FIXED}
 

@@ -10,8 +10,8 @@ use Rattle.doc_types.specs.declared.pcd.Asked.{Asked}
 use Rattle.doc_types.specs.declared.pcd.Asked.TheVariants.{Fixed, Feature, Patch, Any, Ex}
 use Rattle.doc_types.specs.declared.pcd.Kind.{Kind}
 use Rattle.doc_types.specs.declared.pcd.Kind.TheVariants.{FixedAtBuild, PatchableInModule, FeatureFlag, Dynamic, DynamicEx}
-use Rattle.pcd_resolve.specs.Names.{same_kind}
-use Rattle.pcd_resolve.specs.Listing.{Use, Stated}
+use Rattle.pcd_ranks.specs.Names.{same_kind}
+use Rattle.pcd_ranks.specs.Listing.{Use, Stated}
 
 -- the kind for which a section of an INF asks; [Pcd] asks for any
 abbrev pub asked_kind : Asked → Option Kind

@@ -27,11 +27,11 @@ use Rattle.doc_types.specs.declared.values.SkuRow.{SkuRow}
 use Rattle.doc_types.specs.declared.values.Values.{Values}
 use Rattle.doc_types.specs.SkuWalks.{EndsAtDefault}
 use Rattle.pcd_values.specs.Skus.{value_within}
-use Rattle.pcd_resolve.specs.Names.{serves, is_common, is_void, is_dynamic}
-use Rattle.pcd_resolve.specs.Listing.{Use, Stated, uses_in, uses_of, stated_in, stated_for, declared_in}
+use Rattle.pcd_ranks.specs.Names.{serves, is_common, is_void, is_dynamic}
+use Rattle.pcd_ranks.specs.Listing.{Use, Stated, uses_in, uses_of, stated_in, stated_for, declared_in}
 use Rattle.pcd_resolve.specs.Kinds.{of_kind, head_of}
 use Rattle.pcd_resolve.specs.Faults.{checked_kind}
-use Rattle.pcd_resolve.specs.Assignments.{Assignment, by_declaration, by_line, by_set, sets_of, value_from}
+use Rattle.pcd_ranks.specs.Assignments.{Assignment, by_declaration, by_line, by_set, sets_of, value_from}
 use Rattle.pcd_resolve.specs.Rows.{row_of, names_of, all_rows, joined}
 use Rattle.build_base.specs.FaultCodes.{BAD_VALUE, SKU_UNKNOWN}
 

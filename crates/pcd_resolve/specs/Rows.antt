@@ -16,11 +16,11 @@ use Rattle.doc_types.specs.declared.pcd.PcdSet.{PcdSet}
 use Rattle.doc_types.specs.declared.values.PcdRow.{PcdRow}
 use Rattle.doc_types.specs.declared.values.Values.{Values}
 use Rattle.pcd_values.specs.Parsing.{width, parsed}
-use Rattle.pcd_resolve.specs.Names.{dotted, is_void, is_dynamic}
-use Rattle.pcd_resolve.specs.Listing.{Use, Stated, uses_of_module, uses_of, stated_in, stated_for, declared_in}
+use Rattle.pcd_ranks.specs.Names.{dotted, is_void, is_dynamic}
+use Rattle.pcd_ranks.specs.Listing.{Use, Stated, uses_of_module, uses_of, stated_in, stated_for, declared_in}
 use Rattle.pcd_resolve.specs.Kinds.{declaration}
 use Rattle.pcd_resolve.specs.Faults.{checked_kind}
-use Rattle.pcd_resolve.specs.Assignments.{Assignment, assignments, sets_of, value_from, max_from}
+use Rattle.pcd_ranks.specs.Assignments.{Assignment, assignments, sets_of, value_from, max_from}
 use Rattle.build_base.specs.FaultCodes.{DOES_NOT_FIT}
 
 -- the maximum of a VOID* where one is stated, else its length

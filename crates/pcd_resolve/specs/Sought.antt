@@ -8,7 +8,7 @@ use Rattle.doc_types.specs.declared.parts.ModuleParts.{ModuleParts}
 use Rattle.doc_types.specs.declared.pcd.Kind.{Kind}
 use Rattle.pcd_resolve.specs.declared.sought.Sought.{Sought}
 use Rattle.pcd_resolve.specs.Kinds.{claims, head_of, kind_of, of_kind}
-use Rattle.pcd_resolve.specs.Listing.{declared_in, stated_for, stated_in, uses_in, uses_of}
+use Rattle.pcd_ranks.specs.Listing.{declared_in, stated_for, stated_in, uses_in, uses_of}
 
 -- A PCD of modules: its kind, and of the lines by which the modules' packages declare it the first
 -- one of the kind and the first one.

@@ -8,9 +8,9 @@ use Rattle.doc_types.specs.declared.values.PcdRow.{PcdRow}
 use Rattle.pcd_resolve.specs.declared.packages.ModuleTables.{ModuleTables}
 use Rattle.pcd_resolve.specs.Groups.{GroupedAt}
 use Rattle.pcd_resolve.specs.Marks.{is_kept}
-use Rattle.pcd_resolve.specs.Names.{dotted}
-use Rattle.pcd_resolve.specs.Listing.{Declared, Use, Stated, arch_of, package_lines, packages_in}
-use Rattle.pcd_resolve.specs.Views.{declared_view}
+use Rattle.pcd_ranks.specs.Names.{dotted}
+use Rattle.pcd_ranks.specs.Listing.{Declared, Use, Stated, arch_of, package_lines, packages_in}
+use Rattle.pcd_ranks.specs.Views.{declared_view}
 
 abbrev pub stated_name : Stated → List ℕ
 stated_name stated = dotted stated.line.pcd

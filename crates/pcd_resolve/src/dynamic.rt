@@ -8,14 +8,11 @@ ghost use Rattle.meta_lexer.specs.Numbers.{number_of};
 ghost use Rattle.std.specs.List.{All};
 ghost use Rattle.pcd_values.specs.Skus.{WalkEnds, value_within};
 ghost use Rattle.pcd_resolve.specs.Rows.{all_rows};
-ghost use Rattle.pcd_resolve.specs.Assignments.{by_line};
+ghost use Rattle.pcd_ranks.specs.Assignments.{by_line};
 ghost use Rattle.pcd_resolve.specs.Platform.{too_great, bad_rest, rest_fault, vpd_fault, default_for, sku_assignments, named_if, valued, source, row_by_source, dynamic_rows};
-ghost use Rattle.pcd_resolve.specs.Assignments.{value_from};
-ghost use Rattle.pcd_resolve.specs.Views.{stated_view, given_view};
+ghost use Rattle.pcd_ranks.specs.Assignments.{value_from};
+ghost use Rattle.pcd_ranks.specs.Views.{stated_view, given_view};
 
-use crate::assign::{Given, by_declaration, by_line, put, put_sets, value_from};
-use crate::listing::StatedLine;
-use crate::names::is_void;
 use crate::resolve::append;
 use crate::rows::row_of;
 use build_base::fault_codes::BAD_VALUE;
@@ -25,6 +22,9 @@ use doc_types::pcd::{Datum, Kind, PcdSet};
 use doc_types::platform::{Sku, Store};
 use doc_types::values::{PcdRow, SkuRow};
 use meta_lexer::numbers::number;
+use pcd_ranks::assign::{Given, by_declaration, by_line, put, put_sets, value_from};
+use pcd_ranks::listing::StatedLine;
+use pcd_ranks::names::is_void;
 use pcd_values::sku_value;
 use std::alloc::Global;
 

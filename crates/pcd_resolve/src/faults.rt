@@ -6,18 +6,18 @@ ghost use Rattle.build_base.specs.FaultText.{fault_of};
 ghost use Rattle.meta_lexer.specs.Faults.{first_fault};
 ghost use Rattle.pcd_resolve.specs.Kinds.{claims, claim_of, kind_given, declaration};
 ghost use Rattle.pcd_resolve.specs.Faults.{not_declared, datum_text, datum_differs, is_other, is_against, asks_other, datum_conflict, dynamic_in_component, sku_on_fixed, kind_conflict, kind_asked, kind_faults, pcd_fault, checked_kind};
-ghost use Rattle.pcd_resolve.specs.Names.{dotted};
-ghost use Rattle.pcd_resolve.specs.Views.{use_view, stated_view};
+ghost use Rattle.pcd_ranks.specs.Names.{dotted};
+ghost use Rattle.pcd_ranks.specs.Views.{use_view, stated_view};
 
 use crate::kinds::{asked_kind, declaration, has_kind, kind_given, kind_of};
-use crate::listing::{StatedLine, UseLine, applies};
-use crate::names::{dotted, is_dynamic, same_datum, same_kind};
 use build_base::fault_codes::{
     DATUM_CONFLICT, DYNAMIC_IN_COMPONENT, KIND_ASKED, KIND_CONFLICT, NOT_DECLARED, SKU_ON_FIXED,
 };
 use build_base::{Place, Refusal, refuse};
 use doc_types::package::DecPcd;
 use doc_types::pcd::{Datum, Kind, PcdName};
+use pcd_ranks::listing::{StatedLine, UseLine, applies};
+use pcd_ranks::names::{dotted, is_dynamic, same_datum, same_kind};
 use std::alloc::Global;
 
 #[tactic(auto, unfolding(crate::specs::Faults::not_declared))]

@@ -2,12 +2,12 @@
 ghost use Rattle.std.specs.Prelude.{◌≡◌, map, option_copied};
 ghost use Rattle.std.specs.List.{flat_map};
 ghost use Rattle.pcd_resolve.specs.Kinds.{asked_kind, has_kind, first_kind, kind_given, claim_of, claims, kind_of, of_kind, head_of, declaration};
-ghost use Rattle.pcd_resolve.specs.Views.{use_view, stated_view};
+ghost use Rattle.pcd_ranks.specs.Views.{use_view, stated_view};
 
-use crate::listing::{StatedLine, UseLine};
-use crate::names::same_kind;
 use doc_types::package::DecPcd;
 use doc_types::pcd::{Asked, Kind};
+use pcd_ranks::listing::{StatedLine, UseLine};
+use pcd_ranks::names::same_kind;
 
 /// The kind for which a section of an INF asks.
 pub fn asked_kind(asked: Asked) -> Option<Kind>

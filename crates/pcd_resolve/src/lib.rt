@@ -1,14 +1,11 @@
 //! Kinds and values of the PCDs of a platform and of its modules (EDK II build specification).
 #![tactic(auto)]
 
-pub mod assign;
 pub mod dynamic;
 pub mod faults;
 pub mod groups;
 pub mod kinds;
-pub mod listing;
 pub mod marks;
-pub mod names;
 pub mod packages;
 pub mod platform;
 pub mod resolve;
@@ -20,5 +17,6 @@ pub mod tables;
 pub mod used;
 pub mod uses;
 
+pub use pcd_ranks::{assign, listing, names};
 pub use platform::resolve_platform;
 pub use resolve::resolve_module;

@@ -2,18 +2,18 @@
 //! module, would cost far more than the lines that the module asks for: so the names that are asked
 //! for are marked, and a line without a mark is passed by.
 ghost use Rattle.std.specs.Prelude.{◌≡◌, ◌<◌, ◌++◌, codes, fold, length, map, slice_get, OnOk, IfOk};
-ghost use Rattle.pcd_resolve.specs.Listing.{uses_of_module};
+ghost use Rattle.pcd_ranks.specs.Listing.{uses_of_module};
 ghost use Rattle.pcd_resolve.specs.Marks.{is_kept, mark_of, place_of, step, with_mark, with_marks};
-ghost use Rattle.pcd_resolve.specs.Names.{dotted};
+ghost use Rattle.pcd_ranks.specs.Names.{dotted};
 ghost use Rattle.pcd_resolve.specs.Tables.{use_name, AllKept};
-ghost use Rattle.pcd_resolve.specs.Views.{at_view};
+ghost use Rattle.pcd_ranks.specs.Views.{at_view};
 
-use crate::listing::UseAt;
-use crate::names::dotted;
 use crate::uses::uses_of_module;
 use build_base::WantOfMemory;
 use doc_types::parts::ModuleParts;
 use doc_types::pcd::PcdName;
+use pcd_ranks::listing::UseAt;
+use pcd_ranks::names::dotted;
 use std::alloc::Global;
 
 fn place_from(start: usize, bytes: &[u8]) -> usize
@@ -101,7 +101,7 @@ pub fn mark_names(marks: &mut Vec<bool>, names: &[Vec<u8>])
     }
 }
 
-#[tactic(auto, unfolding(crate::specs::Listing::use_of))]
+#[tactic(auto, unfolding(pcd_ranks::specs::Listing::use_of))]
 fn mark_use(
     alloc: Global,
     marks: &mut Vec<bool>,

@@ -2,15 +2,13 @@
 ghost use Rattle.std.specs.Prelude.{◌≡◌, ◌++◌, ◌∷◌, [], true, map, filter, fold, IfOk, OnOk};
 ghost use Rattle.std.specs.List.{flat_map, list_any};
 ghost use Rattle.std.specs.Str.{bytes_eq};
-ghost use Rattle.pcd_resolve.specs.Listing.{by_packages, declared_in, declared_for, is_from, of_package, package_lines, packages_in, packages_of, put_once};
+ghost use Rattle.pcd_ranks.specs.Listing.{by_packages, declared_in, declared_for, is_from, of_package, package_lines, packages_in, packages_of, put_once};
 ghost use Rattle.pcd_resolve.specs.Marks.{is_kept};
-ghost use Rattle.pcd_resolve.specs.Names.{serves};
+ghost use Rattle.pcd_ranks.specs.Names.{serves};
 ghost use Rattle.pcd_resolve.specs.Tables.{declared_name, IsTabled};
-ghost use Rattle.pcd_resolve.specs.Views.{declared_view};
+ghost use Rattle.pcd_ranks.specs.Views.{declared_view};
 
 use crate::groups::group;
-use crate::listing::DeclaredLine;
-use crate::names::serves;
 use crate::tables::declared_by_name;
 use build_base::WantOfMemory;
 use doc_types::arch::Arch;
@@ -18,17 +16,30 @@ use doc_types::module::{InfDoc, Named};
 use doc_types::package::DecPcd;
 use doc_types::parts::ModuleParts;
 use indexmap::IndexMap;
+use pcd_ranks::listing::DeclaredLine;
+use pcd_ranks::names::serves;
 use shared_value::Shared;
 use std::alloc::Global;
 
 /// A module, the packages that its INFs name for its architecture, each once, and the lines of its
 /// packages by the names of their PCDs, where these are marked.
-#[derive(Drop)]
 pub struct ModuleTables<'a> {
     pub parts: &'a ModuleParts,
     pub packages: Vec<&'a [u8]>,
     pub marks: Vec<bool>,
     pub declared: IndexMap<Vec<u8>, Vec<DeclaredLine<'a>>>,
+}
+
+// Written out, so that a caller that lets tables go has one call here.
+impl Drop for ModuleTables<'_> {
+    fn drop(self) {
+        let ModuleTables {
+            parts: _parts,
+            packages: _packages,
+            marks: _marks,
+            declared: _declared,
+        } = self;
+    }
 }
 
 fn put_named<'a>(
@@ -63,7 +74,7 @@ fn put_names<'a>(
     Ok(())
 }
 
-#[tactic(auto, unfolding(crate::specs::Listing::packages_of))]
+#[tactic(auto, unfolding(pcd_ranks::specs::Listing::packages_of))]
 fn put_packages<'a>(
     arch: Arch,
     inf: &'a InfDoc,
@@ -139,7 +150,7 @@ fn put_each_once<'a>(paths: &mut Vec<&'a [u8]>, more: &[&'a [u8]]) -> Result<(),
 }
 
 /// The packages that some INFs name for an architecture, each at its first place.
-#[tactic(auto, unfolding(crate::specs::Listing::packages_in))]
+#[tactic(auto, unfolding(pcd_ranks::specs::Listing::packages_in))]
 pub fn packages_in<'a>(
     alloc: Global,
     arch: Arch,
@@ -153,7 +164,7 @@ pub fn packages_in<'a>(
     Ok(paths)
 }
 
-#[tactic(auto, unfolding(crate::specs::Listing::is_from))]
+#[tactic(auto, unfolding(pcd_ranks::specs::Listing::is_from))]
 fn is_from(arch: Arch, path: &[u8], declared: &DeclaredLine<'_>) -> bool
     ensures { result ≡ is_from arch path.now (declared_view declared.now) }
 {
@@ -184,7 +195,7 @@ fn put_package<'a>(
 }
 
 // Of some lines those of some packages, package by package.
-#[tactic(auto, unfolding(crate::specs::Listing::by_packages))]
+#[tactic(auto, unfolding(pcd_ranks::specs::Listing::by_packages))]
 fn by_packages<'a>(
     alloc: Global,
     arch: Arch,
@@ -222,7 +233,7 @@ pub fn tables_of<'a>(
 }
 
 /// The lines by which the packages of a module's INFs declare a PCD.
-#[tactic(auto, unfolding(crate::specs::Listing::declared_in))]
+#[tactic(auto, unfolding(pcd_ranks::specs::Listing::declared_in))]
 pub fn declared_in<'a>(
     alloc: Global,
     tables: &ModuleTables<'a>,
@@ -242,7 +253,7 @@ pub fn declared_in<'a>(
 }
 
 /// The lines by which the packages of one INF do.
-#[tactic(auto, unfolding(crate::specs::Listing::declared_for))]
+#[tactic(auto, unfolding(pcd_ranks::specs::Listing::declared_for))]
 pub fn declared_for<'a>(
     alloc: Global,
     tables: &ModuleTables<'a>,

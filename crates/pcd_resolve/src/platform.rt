@@ -4,19 +4,17 @@ ghost use Rattle.std.specs.List.{All, list_any};
 ghost use Rattle.build_base.specs.Answer.{Answers, Checks};
 ghost use Rattle.pcd_values.specs.Skus.{WalkEnds};
 ghost use Rattle.pcd_resolve.specs.Groups.{Grouped};
-ghost use Rattle.pcd_resolve.specs.Listing.{stated_in, uses_in};
-ghost use Rattle.pcd_resolve.specs.Names.{serves};
+ghost use Rattle.pcd_ranks.specs.Listing.{stated_in, uses_in};
+ghost use Rattle.pcd_ranks.specs.Names.{serves};
 ghost use Rattle.pcd_resolve.specs.Platform.{SkusEnd, chosen, counts, is_chosen, platform_sets, platform_values, rows_at, rows_by, wanted, words_fault};
 ghost use Rattle.pcd_resolve.specs.Rows.{all_rows, names_of};
 ghost use Rattle.pcd_resolve.specs.Sought.{found, sought_view};
 ghost use Rattle.pcd_resolve.specs.Tables.{set_name, stated_name, use_name};
-ghost use Rattle.pcd_resolve.specs.Views.{stated_view, use_view};
+ghost use Rattle.pcd_ranks.specs.Views.{stated_view, use_view};
 
 use crate::dynamic::dynamic_rows;
 use crate::faults::pcd_faults;
 use crate::groups::group;
-use crate::listing::{StatedLine, UseLine};
-use crate::names::{is_common, is_dynamic, serves};
 use crate::resolve::append;
 use crate::skus::{chosen, is_all, skus_known};
 use crate::sorted::names_of_modules;
@@ -31,6 +29,8 @@ use doc_types::platform::Sku;
 use doc_types::values::{PcdRow, Values};
 use indexmap::IndexMap;
 use meta_lexer::parts::field_texts;
+use pcd_ranks::listing::{StatedLine, UseLine};
+use pcd_ranks::names::{is_common, is_dynamic, serves};
 use std::alloc::Global;
 
 fn serves_one(line: Arch, arches: &[Arch]) -> bool
@@ -209,6 +209,49 @@ fn chosen_of<'a>(alloc: Global, ask: &'a PlatformAsk) -> Result<Vec<&'a Sku>, Wa
     )
 }
 
+// The rows of the PCDs of these names, by the tables of what names them.
+fn rows_by_tables<'a>(
+    alloc: Global,
+    ask: &'a PlatformAsk,
+    names: &[Vec<u8>],
+    picked: &[&'a Sku],
+    uses: &IndexMap<Vec<u8>, Vec<UseLine<'a>>>,
+    lines: &IndexMap<Vec<u8>, Vec<StatedLine<'a>>>,
+    sets: &IndexMap<Vec<u8>, Vec<&'a PcdSet>>,
+) -> Result<Rows<PcdRow>, Refusal>
+    requires picked { map (λ s. s.now) picked.now ≡ chosen ask.now }
+    requires walks { All (λ s. WalkEnds ask.now.platform.skus s.now.name) picked.now }
+    requires uses { Grouped use_view use_name (uses_in ask.now.modules) uses.now }
+    requires lines { Grouped stated_view stated_name (stated_in ask.now.platform) lines.now }
+    requires sets { Grouped (λ s. s.now) set_name (platform_sets ask.now) sets.now }
+    ensures { Answers result
+        (all_rows (map (rows_at ask.now (uses_in ask.now.modules) (stated_in ask.now.platform))
+        (map (λ n. n.items) names.now))) }
+{
+    let all = sought_of(alloc, ask, names, uses, lines)?;
+    all_rows(alloc, ask, all.as_slice(), picked, uses, lines, sets)
+}
+
+// The same, by the tables of the platform's lines and of what is set.
+fn rows_by_uses<'a>(
+    alloc: Global,
+    ask: &'a PlatformAsk,
+    names: &[Vec<u8>],
+    picked: &[&'a Sku],
+    uses: &IndexMap<Vec<u8>, Vec<UseLine<'a>>>,
+) -> Result<Rows<PcdRow>, Refusal>
+    requires picked { map (λ s. s.now) picked.now ≡ chosen ask.now }
+    requires walks { All (λ s. WalkEnds ask.now.platform.skus s.now.name) picked.now }
+    requires uses { Grouped use_view use_name (uses_in ask.now.modules) uses.now }
+    ensures { Answers result
+        (all_rows (map (rows_at ask.now (uses_in ask.now.modules) (stated_in ask.now.platform))
+        (map (λ n. n.items) names.now))) }
+{
+    let lines = all_lines(alloc, ask.platform.value())?;
+    let sets = sets_of_ask(alloc, ask)?;
+    rows_by_tables(alloc, ask, names, picked, uses, &lines, &sets)
+}
+
 // The rows of the PCDs that modules use.
 fn rows_of_modules<'a>(
     alloc: Global,
@@ -223,10 +266,7 @@ fn rows_of_modules<'a>(
 {
     let names = names_of_modules(alloc, ask.modules.items())?;
     let uses = all_uses_by_name(alloc, ask.modules.items())?;
-    let lines = all_lines(alloc, ask.platform.value())?;
-    let sets = sets_of_ask(alloc, ask)?;
-    let all = sought_of(alloc, ask, names.as_slice(), &uses, &lines)?;
-    all_rows(alloc, ask, all.as_slice(), picked, &uses, &lines, &sets)
+    rows_by_uses(alloc, ask, names.as_slice(), picked, &uses)
 }
 
 fn values_of(alloc: Global, ask: &PlatformAsk) -> Result<Rows<PcdRow>, Refusal>

@@ -2,14 +2,13 @@
 ghost use Rattle.std.specs.Prelude.{◌≡◌, ◌++◌, true, map, IfOk, OnOk};
 ghost use Rattle.build_base.specs.Answer.{Answers};
 ghost use Rattle.pcd_resolve.specs.Groups.{Grouped, GroupedAt};
-ghost use Rattle.pcd_resolve.specs.Listing.{stated_in, uses_of_module};
+ghost use Rattle.pcd_ranks.specs.Listing.{stated_in, uses_of_module};
 ghost use Rattle.pcd_resolve.specs.Marks.{is_kept};
 ghost use Rattle.pcd_resolve.specs.Rows.{all_rows, module_values, names_of, rows_in, sets_in};
 ghost use Rattle.pcd_resolve.specs.Tables.{AllKept, IsTabled, row_name, set_name, stated_name, use_name};
-ghost use Rattle.pcd_resolve.specs.Views.{stated_view, use_view};
+ghost use Rattle.pcd_ranks.specs.Views.{stated_view, use_view};
 
 use crate::groups::group;
-use crate::listing::{StatedLine, UseLine};
 use crate::marks::marks_of;
 use crate::packages::{ModuleTables, declared_in, tables_of};
 use crate::rows::rows_of;
@@ -21,6 +20,7 @@ use doc_types::asks::ModuleAsk;
 use doc_types::pcd::PcdSet;
 use doc_types::values::{PcdRow, Values};
 use indexmap::IndexMap;
+use pcd_ranks::listing::{StatedLine, UseLine};
 use std::alloc::Global;
 
 #[tactic(auto, unfolding(crate::specs::Rows::rows_in))]
@@ -122,6 +122,31 @@ fn sets_of_ask<'a>(
     )
 }
 
+// The rows by the tables of the uses and of the platform's lines.
+fn rows_by_lines<'a>(
+    alloc: Global,
+    ask: &'a ModuleAsk,
+    names: &[Vec<u8>],
+    tables: &ModuleTables<'a>,
+    uses: &IndexMap<Vec<u8>, Vec<UseLine<'a>>>,
+    lines: &IndexMap<Vec<u8>, Vec<StatedLine<'a>>>,
+) -> Result<Rows<PcdRow>, Refusal>
+    requires tabled { IsTabled tables.now }
+    requires parts { tables.now.parts.now ≡ ask.now.parts }
+    requires uses { Grouped use_view use_name (uses_of_module ask.now.parts) uses.now }
+    requires lines { GroupedAt tables.now.marks.items stated_view stated_name
+        (stated_in ask.now.platform) lines.now }
+    requires kept { AllKept tables.now.marks.items (map (λ n. n.items) names.now) }
+    ensures { Answers result
+        (all_rows (map (rows_in ask.now (uses_of_module ask.now.parts) (stated_in ask.now.platform))
+        (map (λ n. n.items) names.now))) }
+{
+    let marks = tables.marks.as_slice();
+    let sets = sets_of_ask(alloc, marks, ask)?;
+    let dynamic = rows_by_name(alloc, marks, ask.dynamic.value().rows.items())?;
+    all_rows(alloc, ask, names, tables, uses, lines, &sets, &dynamic)
+}
+
 fn rows_by_tables<'a>(
     alloc: Global,
     ask: &'a ModuleAsk,
@@ -137,11 +162,27 @@ fn rows_by_tables<'a>(
         (all_rows (map (rows_in ask.now (uses_of_module ask.now.parts) (stated_in ask.now.platform))
         (map (λ n. n.items) names.now))) }
 {
-    let marks = tables.marks.as_slice();
-    let lines = lines_by_name(alloc, marks, ask.platform.value())?;
-    let sets = sets_of_ask(alloc, marks, ask)?;
-    let dynamic = rows_by_name(alloc, marks, ask.dynamic.value().rows.items())?;
-    all_rows(alloc, ask, names, tables, uses, &lines, &sets, &dynamic)
+    let lines = lines_by_name(alloc, tables.marks.as_slice(), ask.platform.value())?;
+    rows_by_lines(alloc, ask, names, tables, uses, &lines)
+}
+
+// The rows of the PCDs of these names, by the tables of the module.
+fn rows_by_names<'a>(
+    alloc: Global,
+    ask: &'a ModuleAsk,
+    names: &[Vec<u8>],
+    tables: &ModuleTables<'a>,
+) -> Result<Rows<PcdRow>, Refusal>
+    requires tabled { IsTabled tables.now }
+    requires parts { tables.now.parts.now ≡ ask.now.parts }
+    requires uses { AllKept tables.now.marks.items (map use_name (uses_of_module ask.now.parts)) }
+    requires kept { AllKept tables.now.marks.items (map (λ n. n.items) names.now) }
+    ensures { Answers result
+        (all_rows (map (rows_in ask.now (uses_of_module ask.now.parts) (stated_in ask.now.platform))
+        (map (λ n. n.items) names.now))) }
+{
+    let uses = uses_by_name(alloc, tables)?;
+    rows_by_tables(alloc, ask, names, tables, &uses)
 }
 
 fn values_of(alloc: Global, ask: &ModuleAsk) -> Result<Rows<PcdRow>, Refusal>
@@ -152,8 +193,7 @@ fn values_of(alloc: Global, ask: &ModuleAsk) -> Result<Rows<PcdRow>, Refusal>
     let names = names_of_module(alloc, &ask.parts)?;
     let marks = marks_of(alloc, &ask.parts, names.as_slice())?;
     let tables = tables_of(alloc, &ask.parts, marks)?;
-    let uses = uses_by_name(alloc, &tables)?;
-    rows_by_tables(alloc, ask, names.as_slice(), &tables, &uses)
+    rows_by_names(alloc, ask, names.as_slice(), &tables)
 }
 
 /// The values of a module, PCD by PCD in the order of their names, or the first fault: NotDeclared,

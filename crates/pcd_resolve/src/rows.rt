@@ -2,22 +2,22 @@
 ghost use Rattle.std.specs.Prelude.{◌≡◌, ◌≤◌, map, length, IfOk, Some, codes, option_copied};
 ghost use Rattle.std.specs.Option.{option_map};
 ghost use Rattle.build_base.specs.Answer.{Answers};
-ghost use Rattle.pcd_resolve.specs.Assignments.{Assignment, value_from};
+ghost use Rattle.pcd_ranks.specs.Assignments.{Assignment, value_from};
 ghost use Rattle.pcd_resolve.specs.Kinds.{declaration};
 ghost use Rattle.pcd_resolve.specs.Rows.{stated_max, maximum, row, row_of, fixed_row, rows_by_kind, rows_of};
-ghost use Rattle.pcd_resolve.specs.Views.{given_view, stated_view, use_view};
+ghost use Rattle.pcd_ranks.specs.Views.{given_view, stated_view, use_view};
 
-use crate::assign::{Given, assignments, max_from, value_from};
 use crate::faults::checked_kind;
 use crate::kinds::declaration;
-use crate::listing::{StatedLine, UseLine};
-use crate::names::{is_dynamic, is_void};
 use build_base::fault_codes::DOES_NOT_FIT;
 use build_base::{Refusal, Rows, Same, Text, WantOfMemory, refuse};
 use doc_types::choice::Module;
 use doc_types::package::DecPcd;
 use doc_types::pcd::{Datum, Kind, PcdSet};
 use doc_types::values::PcdRow;
+use pcd_ranks::assign::{Given, assignments, max_from, value_from};
+use pcd_ranks::listing::{StatedLine, UseLine};
+use pcd_ranks::names::{is_dynamic, is_void};
 use pcd_values::parse::{parse_value, width};
 use std::alloc::Global;
 

@@ -5,16 +5,16 @@ ghost use Rattle.std.specs.Cmp.Lexicographic.{slice_cmp};
 ghost use Rattle.std.specs.List.{flat_map};
 ghost use Rattle.std.specs.Ordering.{nat_cmp};
 ghost use Rattle.pcd_resolve.specs.Groups.{by_bytes};
-ghost use Rattle.pcd_resolve.specs.Listing.{uses_in, uses_of_module};
+ghost use Rattle.pcd_ranks.specs.Listing.{uses_in, uses_of_module};
 ghost use Rattle.pcd_resolve.specs.Rows.{names_of, with_names};
 ghost use Rattle.pcd_resolve.specs.Tables.{use_name};
-ghost use Rattle.pcd_resolve.specs.Views.{at_view};
+ghost use Rattle.pcd_ranks.specs.Views.{at_view};
 
-use crate::listing::UseAt;
-use crate::names::dotted;
 use crate::uses::uses_of_module;
 use build_base::WantOfMemory;
 use doc_types::parts::ModuleParts;
+use pcd_ranks::listing::UseAt;
+use pcd_ranks::names::dotted;
 use std::alloc::Global;
 use std::collections::BTreeSet;
 
@@ -35,7 +35,7 @@ fn put_name(names: &mut BTreeSet<Vec<u8>>, name: Vec<u8>) -> Result<(), WantOfMe
     Ok(())
 }
 
-#[tactic(auto, unfolding(crate::specs::Listing::use_of))]
+#[tactic(auto, unfolding(pcd_ranks::specs::Listing::use_of))]
 fn put_use(
     alloc: Global,
     names: &mut BTreeSet<Vec<u8>>,
@@ -116,7 +116,7 @@ pub fn names_of_module(alloc: Global, parts: &ModuleParts) -> Result<Vec<Vec<u8>
 }
 
 /// The names of the uses of modules in ascending order, each once.
-#[tactic(auto, unfolding(crate::specs::Rows::names_of, crate::specs::Listing::uses_in))]
+#[tactic(auto, unfolding(crate::specs::Rows::names_of, pcd_ranks::specs::Listing::uses_in))]
 pub fn names_of_modules(
     alloc: Global,
     modules: &[ModuleParts],

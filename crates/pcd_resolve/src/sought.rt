@@ -6,16 +6,15 @@ ghost use Rattle.std.specs.List.{All, list_any};
 ghost use Rattle.build_base.specs.First.{or_else};
 ghost use Rattle.doc_types.specs.declared.asks.PlatformAsk.{PlatformAsk as Ask};
 ghost use Rattle.pcd_resolve.specs.Groups.{Grouped};
-ghost use Rattle.pcd_resolve.specs.Listing.{stated_in, uses_in};
+ghost use Rattle.pcd_ranks.specs.Listing.{stated_in, uses_in};
 ghost use Rattle.pcd_resolve.specs.Marks.{is_kept, with_marks};
 ghost use Rattle.pcd_resolve.specs.Platform.{declaration_among};
 ghost use Rattle.pcd_resolve.specs.Sought.{begun, found, front_if, is_open, look, look_each, of_some, open_names, sought_view, widen};
 ghost use Rattle.pcd_resolve.specs.Tables.{IsTabled, stated_name, use_name};
-ghost use Rattle.pcd_resolve.specs.Views.{stated_view, use_view};
+ghost use Rattle.pcd_ranks.specs.Views.{stated_view, use_view};
 
 use crate::groups::group;
 use crate::kinds::{first_of_kind, head_of, kind_of};
-use crate::listing::{StatedLine, UseLine};
 use crate::marks::{mark, no_marks};
 use crate::packages::{ModuleTables, declared_in, tables_of};
 use build_base::WantOfMemory;
@@ -24,6 +23,7 @@ use doc_types::package::DecPcd;
 use doc_types::parts::ModuleParts;
 use doc_types::pcd::Kind;
 use indexmap::IndexMap;
+use pcd_ranks::listing::{StatedLine, UseLine};
 use std::alloc::Global;
 
 /// A PCD of modules: its kind, and of the lines by which the modules' packages declare it the first

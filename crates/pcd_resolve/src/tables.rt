@@ -6,14 +6,12 @@ ghost use Rattle.doc_types.specs.declared.platform.Component.{Component as Home}
 ghost use Rattle.doc_types.specs.declared.pcd.PcdSet.{PcdSet as Set};
 ghost use Rattle.doc_types.specs.declared.values.PcdRow.{PcdRow as Row};
 ghost use Rattle.pcd_resolve.specs.Groups.{Grouped, GroupedAt};
-ghost use Rattle.pcd_resolve.specs.Listing.{Declared, Stated, line_from, package_lines, stated_in};
+ghost use Rattle.pcd_ranks.specs.Listing.{Declared, Stated, line_from, package_lines, stated_in};
 ghost use Rattle.pcd_resolve.specs.Tables.{declared_name, stated_name, set_name, row_name, at_home};
-ghost use Rattle.pcd_resolve.specs.Views.{declared_view, stated_view};
+ghost use Rattle.pcd_ranks.specs.Views.{declared_view, stated_view};
 
 use crate::groups::add;
-use crate::listing::{DeclaredLine, StatedLine};
 use crate::marks::is_pcd_kept;
-use crate::names::dotted;
 use build_base::{Path, WantOfMemory};
 use doc_types::package::DecPcd;
 use doc_types::parts::Package;
@@ -21,6 +19,8 @@ use doc_types::pcd::PcdSet;
 use doc_types::platform::{Component, PcdLine, PlatformDoc};
 use doc_types::values::PcdRow;
 use indexmap::IndexMap;
+use pcd_ranks::listing::{DeclaredLine, StatedLine};
+use pcd_ranks::names::dotted;
 use std::alloc::Global;
 
 fn add_line<'a>(
@@ -230,7 +230,7 @@ fn add_packages<'a>(
 }
 
 /// The lines of packages by the names of their PCDs, where these are marked.
-#[tactic(auto, unfolding(crate::specs::Listing::package_lines))]
+#[tactic(auto, unfolding(pcd_ranks::specs::Listing::package_lines))]
 pub fn declared_by_name<'a>(
     alloc: Global,
     marks: &[bool],
@@ -262,7 +262,7 @@ fn lines_of<'a>(
 }
 
 /// The platform's lines by their names, where these are marked.
-#[tactic(auto, unfolding(crate::specs::Listing::stated_in))]
+#[tactic(auto, unfolding(pcd_ranks::specs::Listing::stated_in))]
 pub fn lines_by_name<'a>(
     alloc: Global,
     marks: &[bool],

@@ -2,23 +2,23 @@
 ghost use Rattle.std.specs.Prelude.{◌≡◌, ◌++◌, ◌∷◌, [], true, List, map, IfOk, OnOk};
 ghost use Rattle.std.specs.List.{flat_map};
 ghost use Rattle.pcd_resolve.specs.Groups.{Grouped};
-ghost use Rattle.pcd_resolve.specs.Listing.{Use, uses_in, uses_of_module};
+ghost use Rattle.pcd_ranks.specs.Listing.{Use, uses_in, uses_of_module};
 ghost use Rattle.pcd_resolve.specs.Marks.{is_kept};
 ghost use Rattle.pcd_resolve.specs.Tables.{AllKept, IsTabled, use_name};
-ghost use Rattle.pcd_resolve.specs.Views.{at_view, use_view};
+ghost use Rattle.pcd_ranks.specs.Views.{at_view, use_view};
 
 use crate::groups::add;
-use crate::listing::{UseAt, UseLine};
 use crate::marks::marks_of;
-use crate::names::dotted;
 use crate::packages::{ModuleTables, declared_for, declared_in, tables_of};
 use crate::uses::uses_of_module;
 use build_base::WantOfMemory;
 use doc_types::parts::ModuleParts;
 use indexmap::IndexMap;
+use pcd_ranks::listing::{UseAt, UseLine};
+use pcd_ranks::names::dotted;
 use std::alloc::Global;
 
-#[tactic(auto, unfolding(crate::specs::Listing::use_of))]
+#[tactic(auto, unfolding(pcd_ranks::specs::Listing::use_of))]
 fn use_of<'a>(
     alloc: Global,
     tables: &ModuleTables<'a>,
@@ -40,7 +40,7 @@ fn use_of<'a>(
     })
 }
 
-#[tactic(auto, unfolding(crate::specs::Listing::use_of))]
+#[tactic(auto, unfolding(pcd_ranks::specs::Listing::use_of))]
 fn name_of(
     alloc: Global,
     tables: &ModuleTables<'_>,

@@ -1,15 +1,15 @@
 //! The uses of PCDs by modules.
 ghost use Rattle.std.specs.Prelude.{◌≡◌, ◌++◌, ◌∷◌, [], map, filter, IfOk, OnOk};
 ghost use Rattle.std.specs.List.{flat_map};
-ghost use Rattle.pcd_resolve.specs.Listing.{arch_of, use_of, uses_by, uses_of_module};
-ghost use Rattle.pcd_resolve.specs.Names.{serves};
-ghost use Rattle.pcd_resolve.specs.Views.{at_view};
+ghost use Rattle.pcd_ranks.specs.Listing.{arch_of, use_of, uses_by, uses_of_module};
+ghost use Rattle.pcd_ranks.specs.Names.{serves};
+ghost use Rattle.pcd_ranks.specs.Views.{at_view};
 
-use crate::listing::UseAt;
-use crate::names::serves;
 use build_base::WantOfMemory;
 use doc_types::module::{InfDoc, UsedPcd};
 use doc_types::parts::ModuleParts;
+use pcd_ranks::listing::UseAt;
+use pcd_ranks::names::serves;
 use shared_value::Shared;
 use std::alloc::Global;
 
@@ -49,7 +49,7 @@ fn put_lines<'a>(
     Ok(())
 }
 
-#[tactic(auto, unfolding(crate::specs::Listing::uses_by))]
+#[tactic(auto, unfolding(pcd_ranks::specs::Listing::uses_by))]
 fn put_inf<'a>(
     parts: &'a ModuleParts,
     inf: &'a InfDoc,
@@ -77,7 +77,7 @@ fn put_infs<'a>(
 }
 
 /// The lines of a module's INFs that name a PCD for its architecture, INF by INF.
-#[tactic(auto, unfolding(crate::specs::Listing::uses_of_module))]
+#[tactic(auto, unfolding(pcd_ranks::specs::Listing::uses_of_module))]
 pub fn uses_of_module<'a>(
     alloc: Global,
     parts: &'a ModuleParts,

@@ -3,6 +3,7 @@ use Rattle.std.proofs.Common.{ap₂, ◌&&◌, Bool, ◌≡◌, ◌∙◌, ◌++
 use Rattle.std.specs.Int.{bytes_low_first}
 use Rattle.std.proofs.lemmas.Bool.{leb-true}
 use Rattle.std.proofs.lemmas.List.{take-append-drop, drop-append-le}
+use Rattle.cache_heads.proofs.HeadLemmas.{length_head}
 use Rattle.packed_values.specs.Form.{IsSpelling}
 use Rattle.packed_values.specs.Parts.{and_right, pair_form, rows_form}
 use Rattle.packed_values.specs.Plain.{number_form, number_unique, text_form}
@@ -15,10 +16,6 @@ use Rattle.step_cache.specs.Checking.{IsCacheOf}
 use Rattle.step_cache.specs.Numbered.{numbered_form, pooled_form, pooled_with}
 use Rattle.step_cache.specs.declared.numbered.Numbered.{Numbered}
 use Rattle.step_cache.specs.declared.numbered.Pooled.{Pooled}
-
-pub length_head : (e n : ℕ) → length (head_of e n) ≡ 20
-unfolding number_form
-length_head e n = refl
 
 -- what is written behind a pool and room for a head
 module _ (before items : List ℕ) (pool : List (List ℕ)) (entries : List Numbered) (behind : drop 20 before ≡ (rows_form text_form).spelling pool)

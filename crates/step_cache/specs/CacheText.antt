@@ -2,9 +2,9 @@
 -- eight, the pool of the packed answers and results, and the entries in ascending order of their
 -- keys' packed forms, with numbers of the pool in place of answers and results. The rule is this
 -- project's own.
-use Rattle.std.specs.Prelude.{◌≡◌, ◌++◌, ◌+◌, ◌^◌, ◌&&◌, ℕ, Bool, true, List, [], ◌∷◌, length, map, slice_index_or, codes, nat_lt, nat_le}
+use Rattle.std.specs.Prelude.{◌≡◌, ◌++◌, ◌^◌, ◌&&◌, ℕ, Bool, true, List, [], ◌∷◌, length, map, nat_lt}
 use Rattle.std.specs.List.{list_all, flat_map}
-use Rattle.packed_values.specs.Plain.{number_form}
+pub use Rattle.cache_heads.specs.Heads.{newest, oldest, is_edition, head_of, edition_in}
 use Rattle.packed_outcomes.specs.Talk.{answer_form, outcome_form}
 use Rattle.step_engine.specs.Caches.{AreInOrder}
 use Rattle.step_engine.specs.declared.talk.Batch.{Batch}
@@ -58,25 +58,6 @@ pooled entries = record {
 
 abbrev pub body_of : List (Entry Key Out) → List ℕ
 body_of entries = pooled_form.spelling (pooled entries)
-
--- the edition of the texts that are written, and the oldest of those that are read
-abbrev pub newest : ℕ
-newest = 5
-
-abbrev pub oldest : ℕ
-oldest = 2
-
-abbrev pub is_edition : ℕ → Bool
-is_edition edition = nat_le oldest edition && nat_le edition newest
-
--- what stands before a body of so many bytes
-abbrev pub head_of : ℕ → ℕ → List ℕ
-head_of edition count = codes "EDKSTEPS" ++ (number_form 4).spelling edition
-    ++ (number_form 8).spelling (20 + count)
-
--- the edition that a head states, if one that is read
-abbrev pub edition_in : List ℕ → ℕ
-edition_in bytes = slice_index_or bytes 8 0
 
 unfoldable pub cache_text : ℕ → List (Entry Key Out) → List ℕ
 cache_text edition entries = head_of edition (length (body_of entries)) ++ body_of entries

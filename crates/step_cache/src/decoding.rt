@@ -1,8 +1,8 @@
 //! Entries from their numbers.
-ghost use Rattle.std.specs.Prelude.{◌≡◌, IfOk};
+ghost use Rattle.std.specs.Prelude.{◌≡◌, Some, IfOk};
 ghost use Rattle.std.specs.List.{AllZip};
 ghost use Rattle.packed_outcomes.specs.Talk.{answer_form, outcome_form};
-ghost use Rattle.step_cache.specs.Decoding.{IsDecoded, AreDecoded, value_at, all_some, pair_at, batch_at, entry_at};
+ghost use Rattle.step_cache.specs.Decoding.{IsDecoded, AreDecoded, value_at, all_some, pair_at, batch_at, entry_with, entry_at};
 
 use crate::numbered::{Asked, Numbered, Pooled};
 use build_base::{Rows, Same, Text, WantOfMemory};
@@ -135,6 +135,24 @@ fn batches_at(
     Ok(Some(batches))
 }
 
+// The entry of a key, with its batches and what it was given.
+fn entry_of(
+    alloc: Global,
+    key: &Key,
+    batches: Rows<Batch<Key, Out>>,
+    given: Outcome<Out>,
+) -> Result<Entry<Key, Out>, WantOfMemory>
+    ensures { IfOk result (λ entry. Some entry ≡ entry_with key.now (Some batches) (Some given)) }
+{
+    let key = key.copy(alloc)?;
+    let talk = Shared::new(alloc, Talk { batches })?;
+    Ok(Entry {
+        key,
+        talk,
+        result: given,
+    })
+}
+
 fn entry_at(
     alloc: Global,
     decoded: &Decoded,
@@ -146,13 +164,10 @@ fn entry_at(
         None => return Ok(None),
         Some(batches) => batches,
     };
-    let result = match value_at(alloc, decoded.outcomes.items(), number.result)? {
-        None => return Ok(None),
-        Some(result) => result,
-    };
-    let talk = Shared::new(alloc, Talk { batches })?;
-    let key = number.key.copy(alloc)?;
-    Ok(Some(Entry { key, talk, result }))
+    match value_at(alloc, decoded.outcomes.items(), number.result)? {
+        None => Ok(None),
+        Some(given) => Ok(Some(entry_of(alloc, &number.key, batches, given)?)),
+    }
 }
 
 #[tactic(auto, using(crate::proofs::GivenLemmas::one_more, crate::proofs::GivenLemmas::one_less))]

@@ -7,8 +7,8 @@ ghost use Rattle.step_cache.specs.Places.{digest, texts_at, IsPlaced, IsPool, Is
 ghost use Rattle.step_cache.specs.Pools.{has_text, with_text, number_in};
 
 use crate::places::{Span, digest, find, note};
-use crate::text::{HEAD, before, behind};
 use build_base::{Rows, WantOfMemory};
+use cache_heads::{HEAD, before, behind};
 use indexmap::IndexMap;
 use packed_values::Packed;
 use std::alloc::Global;

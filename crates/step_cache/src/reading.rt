@@ -1,7 +1,8 @@
 //! A cache from its text.
 ghost use Rattle.std.specs.Prelude.{◌≡◌, ◌≤◌, ◌^◌, true, false, List, ℕ, length, nat_lt, take, drop, IfOk, MatchOption};
 ghost use Rattle.step_cache.specs.CacheText.{head_of, is_edition, IsNoText, IsNoTextOf, IsTextOf};
-ghost use Rattle.step_cache.specs.Checking.{ascend, IsCacheOf};
+ghost use Rattle.step_cache.specs.Checking.{are_used, ascend, IsCacheOf};
+ghost use Rattle.step_cache.specs.Decoding.{AreDecoded};
 ghost use Rattle.step_engine.specs.Caches.{AreInOrder};
 ghost use Rattle.step_engine.specs.declared.talk.Entry.{Entry as EntryOf};
 ghost use Rattle.step_pack.specs.Keys.{key_cmp};
@@ -10,10 +11,11 @@ ghost use Rattle.step_pack.specs.declared.out.Out.{Out as OutOf};
 
 use crate::agreeing::agreeing;
 use crate::checking::{are_used, ascend};
-use crate::decoding::{decoded_of, entries_in};
+use crate::decoding::{Decoded, decoded_of, entries_in};
 use crate::numbered::Pooled;
-use crate::text::{HEAD, edition_in, fits, is_edition, is_head, parts_of};
+use crate::text::{fits, parts_of};
 use build_base::{Same, Text, WantOfMemory};
+use cache_heads::{HEAD, edition_in, is_edition, is_head};
 use std::alloc::Global;
 use step_engine::{Cache, Entry};
 use step_pack::{Key, Out};
@@ -47,8 +49,30 @@ fn ascending_cache(
     Ok(None)
 }
 
+// The cache of parts whose texts are used, by what those stand for.
+#[tactic(auto, using(crate::proofs::PartLemmas::not_read, crate::proofs::PartLemmas::not_ascending, crate::proofs::PartLemmas::is_cache_of))]
+fn decoded_cache(
+    alloc: Global,
+    decoded: &Decoded,
+    parts: &Pooled,
+) -> Result<Option<Cache<Key, Out>>, WantOfMemory>
+    requires used { are_used parts.now ≡ true }
+    requires decoded { AreDecoded parts.now.pool decoded.now.answers decoded.now.outcomes }
+    ensures { IfOk result (λ r. MatchOption r ((entries : List (EntryOf KeyOf OutOf)) → IsCacheOf
+        parts.now entries → ⊥) (λ entries. IsCacheOf parts.now entries)) }
+{
+    let entries = match entries_in(alloc, decoded, parts)? {
+        None => return Ok(None),
+        Some(entries) => entries,
+    };
+    match ascending_cache(alloc, entries.items())? {
+        None => Ok(None),
+        Some(cache) => Ok(Some(agreeing(alloc, decoded, parts, cache)?)),
+    }
+}
+
 // The cache whose parts these are; nothing exactly where they are those of none.
-#[tactic(auto, using(crate::proofs::PartLemmas::not_used, crate::proofs::PartLemmas::not_read, crate::proofs::PartLemmas::not_ascending, crate::proofs::PartLemmas::is_cache_of))]
+#[tactic(auto, using(crate::proofs::PartLemmas::not_used))]
 fn cache_of(alloc: Global, parts: &Pooled) -> Result<Option<Cache<Key, Out>>, WantOfMemory>
     ensures { IfOk result (λ r. MatchOption r ((entries : List (EntryOf KeyOf OutOf)) → IsCacheOf
         parts.now entries → ⊥) (λ entries. IsCacheOf parts.now entries)) }
@@ -57,14 +81,7 @@ fn cache_of(alloc: Global, parts: &Pooled) -> Result<Option<Cache<Key, Out>>, Wa
         return Ok(None);
     }
     let decoded = decoded_of(alloc, parts)?;
-    let entries = match entries_in(alloc, &decoded, parts)? {
-        None => return Ok(None),
-        Some(entries) => entries,
-    };
-    match ascending_cache(alloc, entries.items())? {
-        None => Ok(None),
-        Some(cache) => Ok(Some(agreeing(alloc, &decoded, parts, cache)?)),
-    }
+    decoded_cache(alloc, &decoded, parts)
 }
 
 /// A cache, and the edition of the text that it was read from.

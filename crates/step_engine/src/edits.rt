@@ -11,7 +11,7 @@ use std::alloc::Global;
 use std::marker::Model;
 
 /// What stands at a path in place of what a tree has there: bytes, or none.
-#[derive(Debug, Drop)]
+#[derive(Drop)]
 pub struct Edit {
     pub path: Path,
     pub bytes: Option<Shared<Text>>,
@@ -19,7 +19,7 @@ pub struct Edit {
 
 /// Edits of a workspace in their order, seen as the list of them. Of those of one path the last
 /// counts.
-#[derive(Debug, Drop)]
+#[derive(Drop)]
 pub struct Edits {
     rows: Rows<Edit>,
 }

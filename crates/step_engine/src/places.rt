@@ -10,7 +10,7 @@ use std::marker::Model;
 
 /// Where a key stands: its old entry is checked, its step runs, or its entry is made, and has this
 /// number.
-#[derive(Clone, Copy, Debug)]
+#[derive(Clone, Copy)]
 pub enum Place {
     Checking,
     Running,

@@ -16,7 +16,7 @@ use std::hash::{Hash, Hasher};
 
 /// A step of a build. `File(v, i)` is item i of volume v, `Based(v)` is volume v moved to its base;
 /// volumes, items and devices count from 0.
-#[derive(Debug, Drop)]
+#[derive(Drop)]
 pub enum Key {
     Dec(Path),
     Inf(Path),

@@ -15,7 +15,7 @@ use std::alloc::Global;
 
 /// A file of the build, and the step that gives its bytes. `part` is 1 for the second of two texts,
 /// the header or the map, else 0.
-#[derive(Debug, Drop)]
+#[derive(Drop)]
 pub struct Output {
     pub path: Path,
     pub from: Key,
@@ -24,7 +24,7 @@ pub struct Output {
 
 /// What a step gives, by the kind of its key. What many steps read is shared. `PlatformPcds` gives
 /// `Values` too, and `Based` gives a `Volume`.
-#[derive(Debug, Drop)]
+#[derive(Drop)]
 pub enum Out {
     Dec(Shared<DecDoc>),
     Inf(Shared<InfDoc>),
@@ -44,7 +44,7 @@ pub enum Out {
 
 impl Same for Output {
     fn copy(&self, alloc: Global) -> Result<Output, WantOfMemory> {
-        copied!(Output, self, alloc; path, from, part)
+        copied!(Output, self, alloc; path, from; part)
     }
 
     fn same(&self, other: &Output) -> bool {

@@ -1,10 +1,13 @@
 //! The texts of a module.
 ghost use Rattle.std.specs.Prelude.{◌≡◌, find, IfOk};
 ghost use Rattle.std.specs.Option.{option_copied};
+ghost use Rattle.build_base.specs.Answer.{Answers};
 ghost use Rattle.build_stages.specs.Gives.{GivesIn};
+ghost use Rattle.build_texts.specs.Code.{code_texts};
 ghost use Rattle.text_steps.specs.Code.{is_component, stated_guid, own_guid, file_guid, code_ask, code_given};
 
-use build_base::{Guid, Permit, Same, WantOfMemory};
+use build_base::together::two;
+use build_base::{Guid, Permit, Refusal, WantOfMemory};
 use build_stages::Stop;
 use build_texts::{CodeAsk, code_texts};
 use doc_types::choice::{Choice, Module};
@@ -75,12 +78,28 @@ fn code_ask(
 ) -> Result<CodeAsk, WantOfMemory>
     ensures { IfOk result (λ ask. ask ≡ code_ask file_guid parts choice.now values.now) }
 {
+    let (choice, values) = two(choice, values, alloc)?;
     Ok(CodeAsk {
         file_guid,
         parts,
-        choice: choice.copy(alloc)?,
-        values: values.copy(alloc)?,
+        choice,
+        values,
     })
+}
+
+// The texts of a module whose file has this GUID.
+fn code_by(
+    alloc: Global,
+    permit: Permit,
+    file_guid: Guid,
+    choice: &Choice,
+    values: &Shared<Values>,
+    parts: ModuleParts,
+) -> Result<Texts, Refusal>
+    ensures { Answers result (code_texts (code_ask file_guid parts choice.now values.now)) }
+{
+    let ask = code_ask(alloc, file_guid, parts, choice, values)?;
+    code_texts(alloc, permit, &ask)
 }
 
 /// AutoGen.c and AutoGen.h of a module, nothing for a library.
@@ -100,6 +119,5 @@ pub fn code_given(
         return Ok(None);
     }
     let guid = file_guid(platform, &parts)?;
-    let ask = code_ask(alloc, guid, parts, choice, values)?;
-    Ok(Some(code_texts(alloc, permit, &ask)?))
+    Ok(Some(code_by(alloc, permit, guid, choice, values, parts)?))
 }

@@ -6,8 +6,9 @@ ghost use Rattle.build_texts.specs.declared.asks.ModuleReport.{ModuleReport as R
 ghost use Rattle.module_steps.specs.Parts.{Steps, Stopped};
 ghost use Rattle.module_steps.specs.Settings.{named_skus};
 ghost use Rattle.pcd_resolve.specs.Platform.{is_chosen, wanted};
-ghost use Rattle.text_steps.specs.Report.{report_modules, report_skus, heading_of, values_of_out, values_at, module_report, report_at, reports_from, report_ask, report_given};
+ghost use Rattle.text_steps.specs.Report.{report_modules, report_skus, heading_of, values_of_out, values_at, module_report, report_at, reports_from, report_ask, text_of, report_given};
 
+use build_base::together::{three, two};
 use build_base::{Rows, Same, Text, WantOfMemory};
 use build_stages::{Given, Stop};
 use build_texts::{ModuleReport, ReportAsk, report_text};
@@ -132,10 +133,11 @@ fn module_report(
 ) -> Result<ModuleReport, WantOfMemory>
     ensures { IfOk result (λ report. module_report «module».now choice.now values.now ≡ Ok report) }
 {
+    let (module, choice, values) = three(module, choice, values, alloc)?;
     Ok(ModuleReport {
-        module: module.copy(alloc)?,
-        choice: choice.copy(alloc)?,
-        values: values.copy(alloc)?,
+        module,
+        choice,
+        values,
     })
 }
 
@@ -202,15 +204,30 @@ fn report_ask(
 ) -> Result<ReportAsk, WantOfMemory>
     ensures { IfOk result (λ ask. ask ≡ report_ask platform.now heading dynamic.now modules) }
 {
+    let (platform, dynamic) = two(platform, dynamic, alloc)?;
     let Heading { target, tag, skus } = heading;
     Ok(ReportAsk {
-        platform: platform.copy(alloc)?,
+        platform,
         target,
         tag,
         skus,
-        dynamic: dynamic.copy(alloc)?,
+        dynamic,
         modules,
     })
+}
+
+// The report of these modules.
+fn report_by(
+    alloc: Global,
+    platform: &Shared<PlatformDoc>,
+    heading: Heading,
+    dynamic: &Shared<Values>,
+    modules: Rows<ModuleReport>,
+) -> Result<Text, WantOfMemory>
+    ensures { IfOk result (λ text. Ok text ≡ text_of platform.now heading dynamic.now modules) }
+{
+    let ask = report_ask(alloc, platform, heading, dynamic, modules)?;
+    report_text(alloc, &ask)
 }
 
 /// The report, by the answers of the steps that it asks.
@@ -227,6 +244,5 @@ pub fn report_given(
 {
     let dynamic = values_at(given, 0)?;
     let reports = reports_from(alloc, given, modules)?;
-    let ask = report_ask(alloc, platform, heading, dynamic, reports)?;
-    Ok(report_text(alloc, &ask)?)
+    Ok(report_by(alloc, platform, heading, dynamic, reports)?)
 }

@@ -4,7 +4,7 @@ use thiserror::Error;
 
 /// A volume: its length in bytes, whether its file system is FFS3 and not FFS2, its files in order,
 /// pad files among them, and how many bytes are free behind them.
-#[derive(Debug, Drop)]
+#[derive(Drop)]
 pub struct VolumeList {
     pub length: u64,
     pub ffs3: bool,
@@ -14,7 +14,7 @@ pub struct VolumeList {
 
 /// A file: where it stands in its volume, its name and its type. `size` counts its header. A file
 /// whose body isn't a list of sections has none.
-#[derive(Debug, Drop)]
+#[derive(Drop)]
 pub struct Listed {
     pub place: u64,
     pub guid: Guid,
@@ -24,7 +24,7 @@ pub struct Listed {
 }
 
 /// A section. `size` counts its header, and `start` is the place of its content in the volume.
-#[derive(Debug, Drop)]
+#[derive(Drop)]
 pub struct ListedSection {
     pub kind: u8,
     pub size: u64,

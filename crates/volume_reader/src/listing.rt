@@ -25,7 +25,7 @@ use std::alloc::Global;
 const NESTED: u32 = 7;
 
 /// A volume at a place of an image.
-#[derive(Debug, Drop)]
+#[derive(Drop)]
 pub(crate) struct FoundVolume {
     pub place: u64,
     pub list: VolumeList,

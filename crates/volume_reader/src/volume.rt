@@ -14,7 +14,7 @@ use build_base::{Rows, WantOfMemory};
 use std::alloc::Global;
 
 /// Files in order, and how many bytes are free behind them.
-#[derive(Debug, Drop)]
+#[derive(Drop)]
 pub(crate) struct Held {
     pub files: Rows<Listed>,
     pub free: u64,

@@ -6,7 +6,7 @@ use doc_types::values::Values;
 use shared_value::Shared;
 
 /// The platform, the values of its dynamic PCDs, and the architectures that are built.
-#[derive(Debug, Drop)]
+#[derive(Drop)]
 pub struct VpdAsk {
     pub platform: Shared<PlatformDoc>,
     pub values: Shared<Values>,

@@ -1,7 +1,9 @@
 -- Answers side by side with what they answer.
-use Rattle.std.proofs.Common.{◌≡◌, ℕ, List, [], ◌∷◌, ◌++◌, subst, take, drop}
+use Rattle.std.proofs.Common.{◌≡◌, ℕ, List, [], ◌∷◌, ◌++◌, sym, subst, take, drop, Result, Ok, Err}
+use Rattle.std.specs.Prelude.{IfOk}
 use Rattle.std.specs.List.{AllZip}
 use Rattle.std.proofs.lemmas.List.{take-append-drop}
+use Rattle.wave_pool.specs.Wave.{Both}
 
 pub zip_append : {A B : Type 0} (R : A → B → Type 0) (xs us : List A) (ys vs : List B) → AllZip R xs ys → AllZip R us vs → AllZip R (xs ++ us) (ys ++ vs)
 zip_append R [] us [] vs a b = b
@@ -16,3 +18,11 @@ pub zip_halves : {A B : Type 0} (R : A → B → Type 0) (xs low high : List A) 
 zip_halves {A} {B} R xs low high n ys vs l h a b =
     let e : low ++ high ≡ xs = rw (l, h) (take-append-drop n xs) in
     subst (λ (zs : List A). AllZip R zs (ys ++ vs)) e (zip_append R low high ys vs a b)
+
+pub both_halves : {A B Y E : Type 0} (R : A → B → Type 0) (of : Y → List B) (xs low high : List A) (n : ℕ) (first second result : Result Y E) → low ≡ take n xs → high ≡ drop n xs
+    → IfOk first (λ y. AllZip R low (of y)) → IfOk second (λ y. AllZip R high (of y)) → IfOk result (λ all. Both of first second (of all)) → IfOk result (λ all. AllZip R xs (of all))
+both_halves R of xs low high n first second (Err e) l h a b both = tt
+both_halves R of xs low high n first second (Ok all) l h a b both =
+    let p = subst (λ r. IfOk r (λ y. AllZip R low (of y))) both.2 a in
+    let q = subst (λ r. IfOk r (λ y. AllZip R high (of y))) both.3 b in
+    subst (λ zs. AllZip R xs zs) (sym both.4) (zip_halves R xs low high n (of both.0) (of both.1) l h p q)

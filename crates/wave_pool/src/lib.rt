@@ -1,9 +1,9 @@
 //! Waves of pieces of work on threads, whose results stand in the wave's order.
 #![tactic(auto)]
 
-ghost use Rattle.std.specs.Prelude.{◌≡◌, ◌+◌, ◌<◌, ◌≤◌, ◌^◌, ℕ, IfOk, length, vec_len};
+ghost use Rattle.std.specs.Prelude.{◌≡◌, ◌+◌, ◌<◌, ◌≤◌, ◌^◌, ℕ, IfOk, OnOk, length, vec_len};
 ghost use Rattle.std.specs.Thread.{IsSync, IsSend};
-ghost use Rattle.wave_pool.specs.Wave.{AreCallable, AreAnswers};
+ghost use Rattle.wave_pool.specs.Wave.{AreCallable, AreAnswers, Both, WorkedOn};
 
 use build_base::outside::Gate;
 use build_base::text::WantOfMemory;
@@ -85,8 +85,18 @@ fn halves<
             (λ results. AreAnswers F.post work.entry.now high.items results.items) }
     { halves(rt, alloc, high, theirs, gate, wave, next, pieces, work) };
     let (a, b) = join(rt, front, back);
-    let mut all = a?;
-    let mut rest = b?;
+    appended(a, b)
+}
+
+// The results of both, where both have any.
+fn appended<T: Drop>(
+    first: Result<Vec<T>, WantOfMemory>,
+    second: Result<Vec<T>, WantOfMemory>,
+) -> Result<Vec<T>, WantOfMemory>
+    ensures { IfOk result (λ all. Both (λ results. results.items) first second all.items) }
+{
+    let mut all = first?;
+    let mut rest = second?;
     if all.append(&mut rest).is_err() {
         return Err(WantOfMemory);
     }
@@ -111,14 +121,24 @@ fn in_order<I: Drop, R: Drop, G: Gate, F: Fn(I) -> Result<R, WantOfMemory>>(
     let mut piece = first;
     for item in items {
         gate.enter(wave, piece, pieces);
-        let result = work(item)?;
-        if results.push(result).is_err() {
-            return Err(WantOfMemory);
-        }
+        work_on(&mut results, item, work)?;
         piece = piece.saturating_add(1);
     }
     Ok(results)
 }
 
-#[cfg(test)]
-mod tests;
+// Works on an item, and puts the result behind the others.
+fn work_on<I, R: Drop, F: Fn(I) -> Result<R, WantOfMemory>>(
+    results: &mut Vec<R>,
+    item: I,
+    work: &F,
+) -> Result<(), WantOfMemory>
+    requires { F.pre work.now item }
+    ensures { OnOk result (WorkedOn F.post work.now item results.old.items results.new.items) }
+{
+    let result = work(item)?;
+    if results.push(result).is_err() {
+        return Err(WantOfMemory);
+    }
+    Ok(())
+}

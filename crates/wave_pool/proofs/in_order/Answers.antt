@@ -5,4 +5,5 @@ use Rattle.wave_pool.proofs.in_order.Goals as goal
 
 pub loop-item-preserved : goal.loop-item-preserved
 loop-item-preserved g c =
-    rw (c.push.ensures.items, c.if-is_err.ensures.negation) (zip_push (λ i r. goal.F-post g c.args.work.now i (Ok r)) _ _ _ _ c.loop-item.invariant (rw c.in_ok-result.was at c.work.ensures))
+    let more = c.in_ok-work_on.ensures in
+    rw more.1 (zip_push (λ i r. goal.F-post g c.args.work.now i (Ok r)) _ _ _ _ c.loop-item.invariant more.2)

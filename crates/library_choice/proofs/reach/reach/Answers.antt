@@ -1,6 +1,6 @@
 use Rattle.std.proofs.Common.{◌∙◌, ◌++◌, ◌∷◌, [], Bool, List, map, ap, sym}
 use Rattle.build_base.proofs.Steps.{map-passed}
-use Rattle.library_choice.specs.declared.caller.Caller.{Caller}
+use Rattle.library_calls.specs.declared.caller.Caller.{Caller}
 use Rattle.library_choice.specs.Choices.{leads}
 use Rattle.library_choice.proofs.reach.reach.Goals as goal
 

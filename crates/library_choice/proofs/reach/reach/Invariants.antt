@@ -1,5 +1,5 @@
 use Rattle.std.proofs.Common.{◌≡◌, map, take}
-use Rattle.library_choice.specs.declared.caller.Caller.{Caller}
+use Rattle.library_calls.specs.declared.caller.Caller.{Caller}
 use Rattle.library_choice.specs.Choices.{leads}
 use Rattle.library_choice.proofs.reach.reach.Given as goal
 

@@ -1,5 +1,5 @@
 use Rattle.std.proofs.Common.{◌≡◌, map, take}
-use Rattle.library_choice.specs.declared.caller.Caller.{Caller}
+use Rattle.library_calls.specs.declared.caller.Caller.{Caller}
 use Rattle.library_choice.specs.Closure.{same_path}
 use Rattle.library_choice.specs.Found.{is_in}
 use Rattle.library_choice.proofs.reach.row_in.Given as goal

@@ -1,6 +1,6 @@
 use Rattle.std.proofs.Common.{◌≡◌, map, drop}
 use Rattle.meta_lexer.specs.Faults.{first_fault}
-use Rattle.pcd_resolve.specs.Views.{stated_view, use_view}
+use Rattle.pcd_ranks.specs.Views.{stated_view, use_view}
 use Rattle.pcd_resolve.specs.Faults.{datum_conflict}
 use Rattle.pcd_resolve.proofs.faults.datums_fit.Given as goal
 

@@ -1,6 +1,6 @@
 use Rattle.std.proofs.Common.{◌≡◌, map, drop}
 use Rattle.std.specs.List.{list_any}
-use Rattle.pcd_resolve.specs.Views.{stated_view, use_view}
+use Rattle.pcd_ranks.specs.Views.{stated_view, use_view}
 use Rattle.pcd_resolve.specs.Faults.{is_against}
 use Rattle.pcd_resolve.proofs.faults.is_against_one.Given as goal
 

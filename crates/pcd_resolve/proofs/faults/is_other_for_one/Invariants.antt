@@ -1,6 +1,6 @@
 use Rattle.std.proofs.Common.{◌≡◌, map, drop}
 use Rattle.std.specs.List.{list_any}
-use Rattle.pcd_resolve.specs.Views.{use_view}
+use Rattle.pcd_ranks.specs.Views.{use_view}
 use Rattle.pcd_resolve.specs.Faults.{is_other}
 use Rattle.pcd_resolve.proofs.faults.is_other_for_one.Given as goal
 

@@ -1,6 +1,6 @@
 use Rattle.std.proofs.Common.{ℕ, List, map}
 use Rattle.std.specs.Global.{Vec}
-use Rattle.pcd_resolve.specs.Listing.{uses_of_module}
+use Rattle.pcd_ranks.specs.Listing.{uses_of_module}
 use Rattle.pcd_resolve.specs.Tables.{use_name}
 use Rattle.pcd_resolve.proofs.MarkLemmas.{first_kept, last_kept}
 use Rattle.pcd_resolve.proofs.marks.marks_of.Goals as goal

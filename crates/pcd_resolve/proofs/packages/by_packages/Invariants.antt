@@ -1,7 +1,7 @@
 use Rattle.std.proofs.Common.{◌≡◌, map, take}
 use Rattle.std.specs.List.{flat_map}
-use Rattle.pcd_resolve.specs.Listing.{of_package}
-use Rattle.pcd_resolve.specs.Views.{declared_view}
+use Rattle.pcd_ranks.specs.Listing.{of_package}
+use Rattle.pcd_ranks.specs.Views.{declared_view}
 use Rattle.pcd_resolve.proofs.packages.by_packages.Given as goal
 
 abbrev pub invariant-loop-path : goal.invariant-loop-path

@@ -1,6 +1,6 @@
 use Rattle.std.proofs.Common.{◌≡◌, map, take}
 use Rattle.std.specs.List.{flat_map}
-use Rattle.pcd_resolve.specs.Listing.{packages_of}
+use Rattle.pcd_ranks.specs.Listing.{packages_of}
 use Rattle.pcd_resolve.proofs.packages.named_in.Given as goal
 
 abbrev pub invariant-loop-inf : goal.invariant-loop-inf

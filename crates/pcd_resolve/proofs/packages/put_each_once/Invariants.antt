@@ -1,6 +1,6 @@
 use Rattle.std.proofs.Common.{◌≡◌, map, drop}
 use Rattle.std.specs.Prelude.{fold}
-use Rattle.pcd_resolve.specs.Listing.{put_once}
+use Rattle.pcd_ranks.specs.Listing.{put_once}
 use Rattle.pcd_resolve.proofs.packages.put_each_once.Given as goal
 
 abbrev pub invariant-loop-path : goal.invariant-loop-path

@@ -1,6 +1,6 @@
 use Rattle.std.proofs.Common.{◌≡◌, ◌++◌, map, take}
 use Rattle.std.specs.Prelude.{filter}
-use Rattle.pcd_resolve.specs.Names.{serves}
+use Rattle.pcd_ranks.specs.Names.{serves}
 use Rattle.pcd_resolve.proofs.packages.put_names.Given as goal
 
 abbrev pub invariant-loop-named : goal.invariant-loop-named

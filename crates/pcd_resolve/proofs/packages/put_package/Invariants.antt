@@ -1,6 +1,6 @@
 use Rattle.std.proofs.Common.{◌≡◌, ◌++◌, map, take}
-use Rattle.pcd_resolve.specs.Listing.{of_package}
-use Rattle.pcd_resolve.specs.Views.{declared_view}
+use Rattle.pcd_ranks.specs.Listing.{of_package}
+use Rattle.pcd_ranks.specs.Views.{declared_view}
 use Rattle.pcd_resolve.proofs.packages.put_package.Given as goal
 
 abbrev pub invariant-loop-declared : goal.invariant-loop-declared

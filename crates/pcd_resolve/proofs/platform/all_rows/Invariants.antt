@@ -1,6 +1,6 @@
 use Rattle.std.proofs.Common.{◌≡◌, map, drop}
 use Rattle.build_base.specs.First.{with_front}
-use Rattle.pcd_resolve.specs.Listing.{uses_in, stated_in}
+use Rattle.pcd_ranks.specs.Listing.{uses_in, stated_in}
 use Rattle.pcd_resolve.specs.Platform.{rows_at}
 use Rattle.pcd_resolve.specs.Rows.{all_rows}
 use Rattle.pcd_resolve.proofs.platform.all_rows.Given as goal

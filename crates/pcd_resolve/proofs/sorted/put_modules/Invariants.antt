@@ -1,6 +1,6 @@
 use Rattle.std.proofs.Common.{◌≡◌, map, drop}
 use Rattle.std.specs.List.{flat_map}
-use Rattle.pcd_resolve.specs.Listing.{uses_of_module}
+use Rattle.pcd_ranks.specs.Listing.{uses_of_module}
 use Rattle.pcd_resolve.specs.Rows.{with_names}
 use Rattle.pcd_resolve.proofs.sorted.put_modules.Given as goal
 

@@ -1,6 +1,6 @@
 use Rattle.std.proofs.Common.{◌≡◌, map, drop}
 use Rattle.pcd_resolve.specs.Rows.{with_names}
-use Rattle.pcd_resolve.specs.Views.{at_view}
+use Rattle.pcd_ranks.specs.Views.{at_view}
 use Rattle.pcd_resolve.proofs.sorted.put_uses.Given as goal
 
 abbrev pub invariant-loop-at : goal.invariant-loop-at

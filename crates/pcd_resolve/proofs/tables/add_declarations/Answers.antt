@@ -1,6 +1,6 @@
-use Rattle.pcd_resolve.specs.Listing.{line_from}
+use Rattle.pcd_ranks.specs.Listing.{line_from}
 use Rattle.pcd_resolve.specs.Tables.{declared_name}
-use Rattle.pcd_resolve.specs.Views.{declared_view}
+use Rattle.pcd_ranks.specs.Views.{declared_view}
 use Rattle.pcd_resolve.proofs.GroupLemmas.{kept_by_one}
 use Rattle.pcd_resolve.proofs.tables.add_declarations.Goals as goal
 

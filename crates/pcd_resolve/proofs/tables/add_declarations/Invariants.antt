@@ -1,8 +1,8 @@
 use Rattle.std.proofs.Common.{◌++◌, List, map, take}
 use Rattle.pcd_resolve.specs.Groups.{GroupedAt}
-use Rattle.pcd_resolve.specs.Listing.{Declared, line_from}
+use Rattle.pcd_ranks.specs.Listing.{Declared, line_from}
 use Rattle.pcd_resolve.specs.Tables.{declared_name}
-use Rattle.pcd_resolve.specs.Views.{declared_view}
+use Rattle.pcd_ranks.specs.Views.{declared_view}
 use Rattle.pcd_resolve.proofs.tables.add_declarations.Given as goal
 
 abbrev pub invariant-loop-line : goal.invariant-loop-line

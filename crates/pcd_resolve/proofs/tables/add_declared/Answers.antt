@@ -1,6 +1,6 @@
 use Rattle.std.proofs.Common.{◌∙◌, sym}
 use Rattle.pcd_resolve.specs.Tables.{declared_name}
-use Rattle.pcd_resolve.specs.Views.{declared_view}
+use Rattle.pcd_ranks.specs.Views.{declared_view}
 use Rattle.pcd_resolve.proofs.GroupLemmas.{kept_more, kept_passed}
 use Rattle.pcd_resolve.proofs.tables.add_declared.Goals as goal
 

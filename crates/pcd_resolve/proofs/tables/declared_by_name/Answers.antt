@@ -1,7 +1,7 @@
 use Rattle.std.proofs.Common.{[]}
-use Rattle.pcd_resolve.specs.Listing.{package_lines}
+use Rattle.pcd_ranks.specs.Listing.{package_lines}
 use Rattle.pcd_resolve.specs.Tables.{declared_name}
-use Rattle.pcd_resolve.specs.Views.{declared_view}
+use Rattle.pcd_ranks.specs.Views.{declared_view}
 use Rattle.pcd_resolve.proofs.GroupLemmas.{kept_none}
 use Rattle.pcd_resolve.proofs.tables.declared_by_name.Goals as goal
 

@@ -1,6 +1,6 @@
 use Rattle.std.proofs.Common.{ap, ◌∙◌, ◌++◌, map}
 use Rattle.pcd_resolve.specs.Tables.{use_name}
-use Rattle.pcd_resolve.specs.Views.{at_view, use_view}
+use Rattle.pcd_ranks.specs.Views.{at_view, use_view}
 use Rattle.pcd_resolve.proofs.GroupLemmas.{regrouped}
 use Rattle.pcd_resolve.proofs.used.add_module.Goals as goal
 

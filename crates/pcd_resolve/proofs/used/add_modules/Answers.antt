@@ -1,6 +1,6 @@
-use Rattle.pcd_resolve.specs.Listing.{uses_of_module}
+use Rattle.pcd_ranks.specs.Listing.{uses_of_module}
 use Rattle.pcd_resolve.specs.Tables.{use_name}
-use Rattle.pcd_resolve.specs.Views.{use_view}
+use Rattle.pcd_ranks.specs.Views.{use_view}
 use Rattle.pcd_resolve.proofs.GroupLemmas.{grown_by_some}
 use Rattle.pcd_resolve.proofs.used.add_modules.Goals as goal
 

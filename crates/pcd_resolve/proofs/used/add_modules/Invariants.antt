@@ -1,9 +1,9 @@
 use Rattle.std.proofs.Common.{◌++◌, List, take}
 use Rattle.std.specs.List.{flat_map}
 use Rattle.pcd_resolve.specs.Groups.{Grouped}
-use Rattle.pcd_resolve.specs.Listing.{Use, uses_of_module}
+use Rattle.pcd_ranks.specs.Listing.{Use, uses_of_module}
 use Rattle.pcd_resolve.specs.Tables.{use_name}
-use Rattle.pcd_resolve.specs.Views.{use_view}
+use Rattle.pcd_ranks.specs.Views.{use_view}
 use Rattle.pcd_resolve.proofs.used.add_modules.Given as goal
 
 abbrev pub invariant-loop-parts : goal.invariant-loop-parts

@@ -1,7 +1,7 @@
 use Rattle.std.proofs.Common.{ap, ◌++◌}
-use Rattle.pcd_resolve.specs.Listing.{uses_of_module}
+use Rattle.pcd_ranks.specs.Listing.{uses_of_module}
 use Rattle.pcd_resolve.specs.Tables.{use_name}
-use Rattle.pcd_resolve.specs.Views.{use_view}
+use Rattle.pcd_ranks.specs.Views.{use_view}
 use Rattle.pcd_resolve.proofs.GroupLemmas.{regrouped}
 use Rattle.pcd_resolve.proofs.used.add_parts.Goals as goal
 

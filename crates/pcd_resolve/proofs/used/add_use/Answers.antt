@@ -1,5 +1,5 @@
 use Rattle.pcd_resolve.specs.Tables.{use_name}
-use Rattle.pcd_resolve.specs.Views.{use_view}
+use Rattle.pcd_ranks.specs.Views.{use_view}
 use Rattle.std.proofs.Common.{ap, ◌++◌, ◌∷◌, []}
 use Rattle.pcd_resolve.proofs.GroupLemmas.{grouped_more, regrouped, named_so}
 use Rattle.pcd_resolve.proofs.used.add_use.Goals as goal

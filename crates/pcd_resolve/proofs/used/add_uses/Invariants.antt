@@ -1,8 +1,8 @@
 use Rattle.std.proofs.Common.{◌++◌, List, map, take}
 use Rattle.pcd_resolve.specs.Groups.{Grouped}
-use Rattle.pcd_resolve.specs.Listing.{Use}
+use Rattle.pcd_ranks.specs.Listing.{Use}
 use Rattle.pcd_resolve.specs.Tables.{use_name}
-use Rattle.pcd_resolve.specs.Views.{at_view, use_view}
+use Rattle.pcd_ranks.specs.Views.{at_view, use_view}
 use Rattle.pcd_resolve.proofs.used.add_uses.Given as goal
 
 abbrev pub invariant-loop-at : goal.invariant-loop-at

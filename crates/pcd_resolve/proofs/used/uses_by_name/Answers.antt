@@ -1,6 +1,6 @@
 use Rattle.std.proofs.Common.{[]}
 use Rattle.pcd_resolve.specs.Tables.{use_name}
-use Rattle.pcd_resolve.specs.Views.{use_view}
+use Rattle.pcd_ranks.specs.Views.{use_view}
 use Rattle.pcd_resolve.proofs.GroupLemmas.{grouped_none}
 use Rattle.pcd_resolve.proofs.used.uses_by_name.Goals as goal
 

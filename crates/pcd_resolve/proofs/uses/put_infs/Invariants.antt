@@ -1,7 +1,7 @@
 use Rattle.std.proofs.Common.{◌≡◌, ◌++◌, map, take}
 use Rattle.std.specs.List.{flat_map}
-use Rattle.pcd_resolve.specs.Listing.{uses_by}
-use Rattle.pcd_resolve.specs.Views.{at_view}
+use Rattle.pcd_ranks.specs.Listing.{uses_by}
+use Rattle.pcd_ranks.specs.Views.{at_view}
 use Rattle.pcd_resolve.proofs.uses.put_infs.Given as goal
 
 abbrev pub invariant-loop-inf : goal.invariant-loop-inf

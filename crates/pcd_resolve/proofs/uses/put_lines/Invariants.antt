@@ -1,8 +1,8 @@
 use Rattle.std.proofs.Common.{◌≡◌, ◌++◌, map, take}
 use Rattle.std.specs.Prelude.{filter}
-use Rattle.pcd_resolve.specs.Listing.{arch_of, use_of}
-use Rattle.pcd_resolve.specs.Names.{serves}
-use Rattle.pcd_resolve.specs.Views.{at_view}
+use Rattle.pcd_ranks.specs.Listing.{arch_of, use_of}
+use Rattle.pcd_ranks.specs.Names.{serves}
+use Rattle.pcd_ranks.specs.Views.{at_view}
 use Rattle.pcd_resolve.proofs.uses.put_lines.Given as goal
 
 abbrev pub invariant-loop-line : goal.invariant-loop-line

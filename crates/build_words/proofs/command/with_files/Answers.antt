@@ -1,0 +1,12 @@
+use Rattle.std.proofs.Common.{◌∙◌, ap, codes, false}
+use Rattle.clap.specs.Words.{App}
+use Rattle.clap.specs.Simple.{with_rule}
+use Rattle.clap.specs.declared.builder.action.ArgAction.TheVariants.{Set}
+use Rattle.build_words.specs.Command.{option_of, short_option}
+use Rattle.build_words.proofs.command.with_files.Goals as goal
+
+pub returns : goal.returns
+returns c =
+    let e1 = c.in_ok-c1.ensures in
+    let e2 = c.in_ok-c2.ensures ∙ ap (λ (a : App). with_rule a (option_of (codes "fdf") 102 Set false)) e1 in
+    c.in_ok-c3.ensures ∙ ap (λ (a : App). with_rule a (option_of (codes "report-file") 121 Set false)) e2

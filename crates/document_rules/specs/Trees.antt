@@ -1,0 +1,134 @@
+-- What the step of each key asks, and what comes of the answers, stage by stage; the rule is this
+-- project's own. What the lines of a document come to is told by the EDK II DSC, FDF, DEC and INF
+-- specifications.
+use Rattle.std.specs.Prelude.{List, [], ◌∷◌, ℕ, ◌==◌, length, Option, Some, None, Result, Ok, Err, if◌then◌else◌}
+use Rattle.build_base.specs.First.{and_then}
+use Rattle.build_base.specs.Path.{path_field}
+use Rattle.build_base.specs.declared.lines.Macro.{Macro}
+use Rattle.step_engine.specs.declared.talk.Ask.{Ask}
+use Rattle.step_engine.specs.declared.talk.Ask.TheVariants as ask
+use Rattle.step_engine.specs.declared.talk.Answer.{Answer}
+use Rattle.dsc_platform.specs.Platform.{platform_of}
+use Rattle.build_stages.specs.Writing.{attempt, field_at, part_at}
+use Rattle.document_rules.specs.Defines.{macros_of_job}
+use Rattle.build_base.specs.declared.fault.Fault.{Fault}
+use Rattle.build_base.specs.declared.lines.Lines.{Lines}
+use Rattle.dec_docs.specs.Package.{package_of}
+use Rattle.inf_docs.specs.Modules.{module_of}
+use Rattle.flash_document.specs.Flash.{flash_of}
+use Rattle.doc_types.specs.declared.flash.FlashDoc.{FlashDoc}
+use Rattle.doc_types.specs.declared.platform.PlatformDoc.{PlatformDoc}
+use Rattle.build_stages.specs.Stages.{Stages, end, stage, bind, misfit}
+use Rattle.document_stages.specs.Documents.{lines_of}
+use Rattle.build_stages.specs.Gives.{Gives}
+use Rattle.build_stages.specs.Known.{Table, advance_at}
+use Rattle.build_stages.specs.declared.stop.Stop.{Stop}
+use Rattle.step_pack.specs.Keys.{key_cmp}
+use Rattle.document_rules.specs.Fits.{fits}
+use Rattle.step_pack.specs.declared.key.Key.{Key}
+use Rattle.step_pack.specs.declared.key.Key.TheVariants as key
+use Rattle.step_pack.specs.declared.out.Out.{Out}
+use Rattle.step_pack.specs.declared.out.Out.TheVariants as out
+
+abbrev pub EdkStages : Type 0
+EdkStages = Stages Key Out Out
+
+-- a step's function answers what its stages give by what is known, unless memory was wanting
+abbrev pub Comes : Table Key Out → EdkStages → Result Out (Stop Key) → Type 0
+Comes known stages r = Gives (λ out. out) r (advance_at key_cmp fits known stages)
+
+-- a result as what a step gives
+abbrev pub given_as : {A : Type 0} → (A → Out) → Result A Fault → Result Out Fault
+given_as variant (Ok x) = Ok (variant x)
+given_as variant (Err fault) = Err fault
+
+-- a document that is read by a definition; it starts with some macros, and others hold above all
+abbrev pub document_stages : {A : Type 0} → (A → Out) → (Lines → Result A Fault) → List Macro
+    → List Macro → List ℕ → EdkStages
+document_stages variant read macros fixed path =
+    bind (lines_of path macros fixed) (λ lines. end (given_as variant (read lines)))
+
+abbrev pub dec_stages : List ℕ → EdkStages
+dec_stages path = document_stages out.Dec package_of [] [] path
+
+abbrev pub inf_stages : List ℕ → EdkStages
+inf_stages path = document_stages out.Inf module_of [] [] path
+
+-- the path that a field names; no world has a field that names none
+abbrev pub path_named : Option (List ℕ) → Result (List ℕ) Fault
+path_named (Some path) = Ok path
+path_named None = Err misfit
+
+abbrev pub root_in : List (Answer Out) → Result (List ℕ) Fault
+root_in given = and_then (field_at given 0) (λ text. path_named (path_field text))
+
+-- the macros of the target, the tool chain's tag and the words, which stand behind the first answer
+abbrev pub macros_in : List (Answer Out) → Result (List Macro) Fault
+macros_in given =
+    and_then (field_at given 1) (λ target.
+    and_then (field_at given 2) (λ tag.
+    and_then (field_at given 3) (λ texts. Ok (macros_of_job target tag texts))))
+
+-- the platform's path, the target, the tag and the macros
+abbrev pub platform_asks : List (Ask Key)
+platform_asks = ask.Field 0 ∷ ask.Field 2 ∷ ask.Field 3 ∷ ask.Field 5 ∷ []
+
+abbrev pub platform_given : List (Answer Out) → EdkStages
+platform_given given =
+    attempt (root_in given) (λ path.
+    attempt (macros_in given) (λ fixed. document_stages out.Platform platform_of [] fixed path))
+
+abbrev pub platform_stages : EdkStages
+platform_stages = stage platform_asks platform_given
+
+abbrev pub platform_of_out : Out → Result PlatformDoc Fault
+platform_of_out (out.Platform document) = Ok document
+platform_of_out _ = Err misfit
+
+-- the platform that stands at a place among answers
+abbrev pub platform_in : List (Answer Out) → ℕ → Result PlatformDoc Fault
+platform_in given i = and_then (part_at given i) platform_of_out
+
+abbrev pub flash_of_out : Out → Result FlashDoc Fault
+flash_of_out (out.Flash document) = Ok document
+flash_of_out _ = Err misfit
+
+-- the flash description that stands at a place among answers
+abbrev pub flash_in : List (Answer Out) → ℕ → Result FlashDoc Fault
+flash_in given i = and_then (part_at given i) flash_of_out
+
+-- the platform, the macros as above behind it, and the file of the flash description
+abbrev pub flash_asks : List (Ask Key)
+flash_asks = ask.Part key.Platform ∷ ask.Field 2 ∷ ask.Field 3 ∷ ask.Field 5 ∷ ask.Field 7 ∷ []
+
+abbrev pub some_path : Result (List ℕ) Fault → Result (Option (List ℕ)) Fault
+some_path (Ok path) = Ok (Some path)
+some_path (Err fault) = Err fault
+
+-- the file that a field names, or else the platform, if any
+unfoldable pub flash_named : Option (List ℕ) → List ℕ → Result (Option (List ℕ)) Fault
+flash_named stated text = if length text == 0 then Ok stated
+    else some_path (path_named (path_field text))
+
+abbrev pub flash_root : PlatformDoc → List (Answer Out) → Result (Option (List ℕ)) Fault
+flash_root platform given = and_then (field_at given 4) (flash_named platform.flash)
+
+-- the flash description of a platform that has none
+abbrev pub empty_flash : PlatformDoc → FlashDoc
+empty_flash platform =
+    record { at = platform.at; sets = []; devices = []; volumes = []; rule_list = [] }
+
+-- it starts with the platform's macros
+abbrev pub flash_from : PlatformDoc → List Macro → Option (List ℕ) → EdkStages
+flash_from platform fixed (Some path) =
+    document_stages out.Flash flash_of platform.macros fixed path
+flash_from platform fixed None = end (Ok (out.Flash (empty_flash platform)))
+
+abbrev pub flash_given : List (Answer Out) → EdkStages
+flash_given given =
+    attempt (platform_in given 0) (λ platform.
+    attempt (macros_in given) (λ fixed.
+    attempt (flash_root platform given) (λ root. flash_from platform fixed root)))
+
+abbrev pub flash_stages : EdkStages
+flash_stages = stage flash_asks flash_given

@@ -1,0 +1,320 @@
+//! The steps that read documents.
+ghost use Rattle.std.specs.Prelude.{◌≡◌, [], IfOk};
+ghost use Rattle.build_base.specs.Answer.{Answers};
+ghost use Rattle.dec_docs.specs.Package.{package_of};
+ghost use Rattle.dsc_platform.specs.Platform.{platform_of};
+ghost use Rattle.flash_document.specs.Flash.{flash_of};
+ghost use Rattle.inf_docs.specs.Modules.{module_of};
+ghost use Rattle.step_pack.specs.declared.out.Out.TheVariants as out;
+ghost use Rattle.document_rules.specs.Trees.{Comes, document_stages, dec_stages, inf_stages, platform_given, platform_stages, root_in, macros_in, platform_of_out, platform_in, flash_of_out, flash_in, flash_named, flash_root, empty_flash, flash_from, flash_given, flash_stages};
+ghost use Rattle.build_stages.specs.Gives.{GivesIn};
+
+use crate::answers::EdkAnswers;
+use crate::defines::macros_of_job;
+use build_base::path::path_field;
+use build_base::{Lines, Macro, Path, Permit, Refusal, Rows, Same, WantOfMemory};
+use build_stages::{Given, Known, Stop, gather};
+use dec_docs::read_dec;
+use doc_types::flash::FlashDoc;
+use doc_types::module::InfDoc;
+use doc_types::package::DecDoc;
+use doc_types::platform::PlatformDoc;
+use document_stages::lines_of;
+use dsc_platform::read_platform;
+use flash_document::read_flash;
+use inf_docs::read_inf;
+use shared_value::Shared;
+use std::alloc::Global;
+use step_engine::Ask;
+use step_pack::{Key, Out};
+
+fn package_of(alloc: Global, permit: Permit, lines: &Lines) -> Result<Shared<DecDoc>, Refusal>
+    ensures { Answers result (package_of lines.now) }
+{
+    let document = read_dec(alloc, permit, lines)?;
+    Ok(Shared::new(alloc, document)?)
+}
+
+fn module_of(alloc: Global, permit: Permit, lines: &Lines) -> Result<Shared<InfDoc>, Refusal>
+    ensures { Answers result (module_of lines.now) }
+{
+    let document = read_inf(alloc, permit, lines)?;
+    Ok(Shared::new(alloc, document)?)
+}
+
+fn platform_of(alloc: Global, permit: Permit, lines: &Lines) -> Result<Shared<PlatformDoc>, Refusal>
+    ensures { Answers result (platform_of lines.now) }
+{
+    let document = read_platform(alloc, permit, lines)?;
+    Ok(Shared::new(alloc, document)?)
+}
+
+fn flash_of(alloc: Global, permit: Permit, lines: &Lines) -> Result<Shared<FlashDoc>, Refusal>
+    ensures { Answers result (flash_of lines.now) }
+{
+    let document = read_flash(alloc, permit, lines)?;
+    Ok(Shared::new(alloc, document)?)
+}
+
+/// The declarations of a package.
+#[tactic(auto, using(build_stages::specs::Bounds::advance_bind))]
+pub fn dec(
+    alloc: Global,
+    known: &Known<'_, Key, Out>,
+    path: &Path,
+    permit: Permit,
+) -> Result<Out, Stop<Key>>
+    ensures { Comes known.now (dec_stages path.now) result }
+{
+    let none = Rows::new(alloc);
+    let (lines, permit) = lines_of(alloc, &EdkAnswers, known, path, &none, &none, permit)?;
+    Ok(Out::Dec(package_of(alloc, permit, &lines)?))
+}
+
+/// The description of a module.
+#[tactic(auto, using(build_stages::specs::Bounds::advance_bind))]
+pub fn inf(
+    alloc: Global,
+    known: &Known<'_, Key, Out>,
+    path: &Path,
+    permit: Permit,
+) -> Result<Out, Stop<Key>>
+    ensures { Comes known.now (inf_stages path.now) result }
+{
+    let none = Rows::new(alloc);
+    let (lines, permit) = lines_of(alloc, &EdkAnswers, known, path, &none, &none, permit)?;
+    Ok(Out::Inf(module_of(alloc, permit, &lines)?))
+}
+
+// The file that the first answer names.
+fn root(alloc: Global, given: &Given<'_, Out>) -> Result<Path, Stop<Key>>
+    ensures { GivesIn (λ path. path) result (root_in given.now) }
+{
+    let text = given.field(0)?;
+    match path_field(alloc, text.bytes())? {
+        Some(path) => Ok(path),
+        None => Err(Stop::Misfit),
+    }
+}
+
+// The macros of the three fields behind the first answer.
+fn job_macros(alloc: Global, given: &Given<'_, Out>) -> Result<Rows<Macro>, Stop<Key>>
+    ensures { GivesIn (λ macros. macros) result (macros_in given.now) }
+{
+    let target = given.field(1)?;
+    let tag = given.field(2)?;
+    let texts = given.field(3)?;
+    Ok(macros_of_job(alloc, target.bytes(), tag.bytes(), texts.bytes())?)
+}
+
+// The platform's description in a file, by the macros that hold above all.
+#[tactic(auto, using(build_stages::specs::Bounds::advance_bind))]
+fn platform_from(
+    alloc: Global,
+    known: &Known<'_, Key, Out>,
+    path: &Path,
+    fixed: &Rows<Macro>,
+    permit: Permit,
+) -> Result<Out, Stop<Key>>
+    ensures { Comes known.now (document_stages out.Platform platform_of [] fixed.now path.now)
+        result }
+{
+    let none = Rows::new(alloc);
+    let (lines, permit) = lines_of(alloc, &EdkAnswers, known, path, &none, fixed, permit)?;
+    Ok(Out::Platform(platform_of(alloc, permit, &lines)?))
+}
+
+// The same, by the answers of the fields.
+fn platform_given(
+    alloc: Global,
+    known: &Known<'_, Key, Out>,
+    given: &Given<'_, Out>,
+    permit: Permit,
+) -> Result<Out, Stop<Key>>
+    ensures { Comes known.now (platform_given given.now) result }
+{
+    let path = root(alloc, given)?;
+    let fixed = job_macros(alloc, given)?;
+    platform_from(alloc, known, &path, &fixed, permit)
+}
+
+/// The platform's description.
+pub fn platform(
+    alloc: Global,
+    known: &Known<'_, Key, Out>,
+    permit: Permit,
+) -> Result<Out, Stop<Key>>
+    ensures { Comes known.now platform_stages result }
+{
+    let asks = [Ask::Field(0), Ask::Field(2), Ask::Field(3), Ask::Field(5)];
+    let (given, permit) = gather(alloc, &EdkAnswers, known, &asks, permit)?;
+    platform_given(alloc, known, &given, permit)
+}
+
+fn platform_of_out(out: &Out) -> Result<&Shared<PlatformDoc>, Stop<Key>>
+    ensures { GivesIn (λ document. document.now) result (platform_of_out out.now) }
+{
+    match out {
+        Out::Platform(document) => Ok(document),
+        _ => Err(Stop::Misfit),
+    }
+}
+
+/// The platform that stands at a place among answers, as it is shared.
+pub fn shared_platform<'a>(
+    given: &Given<'a, Out>,
+    place: usize,
+) -> Result<&'a Shared<PlatformDoc>, Stop<Key>>
+    ensures { GivesIn (λ document. document.now) result (platform_in given.now place) }
+{
+    platform_of_out(given.part(place)?)
+}
+
+/// The platform that stands at a place among answers.
+pub fn platform_in<'a>(given: &Given<'a, Out>, place: usize) -> Result<&'a PlatformDoc, Stop<Key>>
+    ensures { GivesIn (λ document. document.now) result (platform_in given.now place) }
+{
+    Ok(shared_platform(given, place)?.value())
+}
+
+fn flash_of_out(out: &Out) -> Result<&Shared<FlashDoc>, Stop<Key>>
+    ensures { GivesIn (λ document. document.now) result (flash_of_out out.now) }
+{
+    match out {
+        Out::Flash(document) => Ok(document),
+        _ => Err(Stop::Misfit),
+    }
+}
+
+/// The flash description that stands at a place among answers, as it is shared.
+pub fn shared_flash<'a>(
+    given: &Given<'a, Out>,
+    place: usize,
+) -> Result<&'a Shared<FlashDoc>, Stop<Key>>
+    ensures { GivesIn (λ document. document.now) result (flash_in given.now place) }
+{
+    flash_of_out(given.part(place)?)
+}
+
+/// The flash description that stands at a place among answers.
+pub fn flash_in<'a>(given: &Given<'a, Out>, place: usize) -> Result<&'a FlashDoc, Stop<Key>>
+    ensures { GivesIn (λ document. document.now) result (flash_in given.now place) }
+{
+    Ok(shared_flash(given, place)?.value())
+}
+
+fn stated(alloc: Global, path: &Option<Path>) -> Result<Option<Path>, WantOfMemory>
+    ensures { IfOk result (λ copy. copy ≡ path.now) }
+{
+    match path {
+        Some(path) => Ok(Some(path.copy(alloc)?)),
+        None => Ok(None),
+    }
+}
+
+/// The file that a text names, or where it is empty the one that is stated, if any.
+#[tactic(auto, unfolding(crate::specs::Trees::flash_named))]
+pub fn flash_named(
+    alloc: Global,
+    path: &Option<Path>,
+    text: &[u8],
+) -> Result<Option<Path>, Stop<Key>>
+    ensures { GivesIn (λ root. root) result (flash_named path.now text.now) }
+{
+    if text.is_empty() {
+        return Ok(stated(alloc, path)?);
+    }
+    match path_field(alloc, text)? {
+        Some(path) => Ok(Some(path)),
+        None => Err(Stop::Misfit),
+    }
+}
+
+fn flash_root(
+    alloc: Global,
+    platform: &PlatformDoc,
+    given: &Given<'_, Out>,
+) -> Result<Option<Path>, Stop<Key>>
+    ensures { GivesIn (λ root. root) result (flash_root platform.now given.now) }
+{
+    let text = given.field(4)?;
+    flash_named(alloc, &platform.flash, text.bytes())
+}
+
+fn empty_flash(alloc: Global, platform: &PlatformDoc) -> Result<Shared<FlashDoc>, WantOfMemory>
+    ensures { IfOk result (λ flash. flash ≡ empty_flash platform.now) }
+{
+    let at = platform.at.copy(alloc)?;
+    let flash = FlashDoc {
+        at,
+        sets: Rows::new(alloc),
+        devices: Rows::new(alloc),
+        volumes: Rows::new(alloc),
+        rule_list: Rows::new(alloc),
+    };
+    Shared::new(alloc, flash)
+}
+
+// The flash description of a file.
+#[tactic(auto, using(build_stages::specs::Bounds::advance_bind))]
+fn flash_at(
+    alloc: Global,
+    known: &Known<'_, Key, Out>,
+    macros: &Rows<Macro>,
+    fixed: &Rows<Macro>,
+    path: &Path,
+    permit: Permit,
+) -> Result<Out, Stop<Key>>
+    ensures { Comes known.now (document_stages out.Flash flash_of macros.now fixed.now path.now)
+        result }
+{
+    let (lines, permit) = lines_of(alloc, &EdkAnswers, known, path, macros, fixed, permit)?;
+    Ok(Out::Flash(flash_of(alloc, permit, &lines)?))
+}
+
+// The flash description of a file, or that of a platform that has none.
+fn flash_from(
+    alloc: Global,
+    known: &Known<'_, Key, Out>,
+    platform: &PlatformDoc,
+    fixed: &Rows<Macro>,
+    root: &Option<Path>,
+    permit: Permit,
+) -> Result<Out, Stop<Key>>
+    ensures { Comes known.now (flash_from platform.now fixed.now root.now) result }
+{
+    match root {
+        Some(path) => flash_at(alloc, known, &platform.macros, fixed, path, permit),
+        None => Ok(Out::Flash(empty_flash(alloc, platform)?)),
+    }
+}
+
+// The same, by the answers of the platform and of the fields.
+fn flash_given(
+    alloc: Global,
+    known: &Known<'_, Key, Out>,
+    given: &Given<'_, Out>,
+    permit: Permit,
+) -> Result<Out, Stop<Key>>
+    ensures { Comes known.now (flash_given given.now) result }
+{
+    let platform = platform_in(given, 0)?;
+    let fixed = job_macros(alloc, given)?;
+    let root = flash_root(alloc, platform, given)?;
+    flash_from(alloc, known, platform, &fixed, &root, permit)
+}
+
+/// The flash description.
+pub fn flash(alloc: Global, known: &Known<'_, Key, Out>, permit: Permit) -> Result<Out, Stop<Key>>
+    ensures { Comes known.now flash_stages result }
+{
+    let asks = [
+        Ask::Part(Key::Platform),
+        Ask::Field(2),
+        Ask::Field(3),
+        Ask::Field(5),
+        Ask::Field(7),
+    ];
+    let (given, permit) = gather(alloc, &EdkAnswers, known, &asks, permit)?;
+    flash_given(alloc, known, &given, permit)
+}

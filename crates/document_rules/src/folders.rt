@@ -1,0 +1,54 @@
+//! Where the files of a build stand.
+ghost use Rattle.std.specs.Prelude.{◌≡◌, ◌++◌, codes, IfOk};
+ghost use Rattle.build_stages.specs.Gives.{GivesIn};
+ghost use Rattle.document_rules.specs.Defines.{or_default};
+ghost use Rattle.document_rules.specs.Folders.{path_below, output_folder};
+
+use crate::defines::or_default;
+use build_base::path::path_field;
+use build_base::{Path, WantOfMemory};
+use build_stages::Stop;
+use std::alloc::Global;
+use step_pack::Key;
+
+/// The most bytes that the path of an output may have.
+const LONGEST: usize = 2048;
+
+/// The path of a file in a folder.
+#[tactic(auto, unfolding(crate::specs::Folders::path_below))]
+pub fn path_below(alloc: Global, folder: &Path, rest: &[u8]) -> Result<Path, Stop<Key>>
+    ensures { GivesIn (λ path. path) result (path_below folder.now rest.now) }
+{
+    match path_field(alloc, rest)? {
+        Some(rest) => {
+            if folder.bytes().len() + 1 + rest.bytes().len() <= LONGEST {
+                return Ok(folder.join(alloc, &rest)?);
+            }
+            Err(Stop::Misfit)
+        }
+        None => Err(Stop::Misfit),
+    }
+}
+
+fn folder_name(alloc: Global, target: &[u8], tag: &[u8]) -> Result<Vec<u8>, WantOfMemory>
+    ensures { IfOk result (λ name. name.items ≡ or_default target.now (codes "DEBUG") ++ codes "_"
+        ++ or_default tag.now (codes "GCC")) }
+{
+    let mut name = Vec::from_slice(alloc, or_default(target, b"DEBUG".as_slice()))?;
+    name.extend_from_slice(b"_")?;
+    name.extend_from_slice(or_default(tag, b"GCC".as_slice()))?;
+    Ok(name)
+}
+
+/// The folder of all outputs: the stated one, and in it that of the target and the tool chain.
+pub fn output_folder(
+    alloc: Global,
+    output: &Path,
+    target: &[u8],
+    tag: &[u8],
+) -> Result<Path, Stop<Key>>
+    ensures { GivesIn (λ path. path) result (output_folder output.now target.now tag.now) }
+{
+    let name = folder_name(alloc, target, tag)?;
+    path_below(alloc, output, name.as_slice())
+}

@@ -1,9 +1,0 @@
-use Rattle.std.proofs.Common.{◌≡◌, length}
-use Rattle.flash_document.specs.Modules.{other_arch}
-use Rattle.flash_document.proofs.modules.other_arch.Given as goal
-
-abbrev pub invariant-loop-left : goal.invariant-loop-left
-invariant-loop-left l = other_arch l.arch l.left ≡ other_arch l.arch l.arches
-
-abbrev pub decreases-loop-left : goal.decreases-loop-left
-decreases-loop-left l = length l.left

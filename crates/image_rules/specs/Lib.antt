@@ -1,0 +1,3 @@
+pub mod Based
+pub mod ImageTrees
+pub mod VpdTree

@@ -1,0 +1,43 @@
+-- What the step of the image of vital product data asks, and what comes of the answers; the rule is
+-- this project's own.
+use Rattle.std.specs.Prelude.{List, [], ◌∷◌, Result}
+use Rattle.build_base.specs.First.{and_then}
+use Rattle.build_base.specs.declared.fault.Fault.{Fault}
+use Rattle.step_engine.specs.declared.talk.Ask.{Ask}
+use Rattle.step_engine.specs.declared.talk.Ask.TheVariants as ask
+use Rattle.step_engine.specs.declared.talk.Answer.{Answer}
+use Rattle.build_stages.specs.Stages.{end, stage}
+use Rattle.build_stages.specs.Writing.{attempt, field_at}
+use Rattle.doc_types.specs.declared.arch.Arch.{Arch}
+use Rattle.doc_types.specs.declared.platform.PlatformDoc.{PlatformDoc}
+use Rattle.doc_types.specs.declared.values.Values.{Values}
+use Rattle.doc_types.specs.declared.vpd.Vpd.{Vpd}
+use Rattle.step_pack.specs.declared.key.Key.{Key}
+use Rattle.step_pack.specs.declared.key.Key.TheVariants as key
+use Rattle.step_pack.specs.declared.out.Out.{Out}
+use Rattle.step_pack.specs.declared.out.Out.TheVariants as out
+use Rattle.module_steps.specs.Settings.{arches_built}
+use Rattle.text_steps.specs.Report.{values_at}
+use Rattle.vpd_image.specs.Vpd.{vpd_of}
+use Rattle.document_rules.specs.Trees.{EdkStages, given_as, platform_in}
+
+-- the platform, the rows of dynamic PCDs, and the architectures
+abbrev pub vpd_asks : List (Ask Key)
+vpd_asks = ask.Part key.Platform ∷ ask.Part key.PlatformPcds ∷ ask.Field 1 ∷ []
+
+abbrev pub placed : PlatformDoc → Values → List Arch → Result Vpd Fault
+placed platform values arches =
+    vpd_of (record { platform = platform; values = values; arches = arches })
+
+abbrev pub arches_at : PlatformDoc → List (Answer Out) → Result (List Arch) Fault
+arches_at platform given = and_then (field_at given 2) (arches_built platform)
+
+abbrev pub vpd_from : List (Answer Out) → EdkStages
+vpd_from given =
+    attempt (platform_in given 0) (λ platform.
+    attempt (values_at given 1) (λ values.
+    attempt (arches_at platform given)
+    (λ arches. end (given_as out.Vpd (placed platform values arches)))))
+
+abbrev pub vpd_stages : EdkStages
+vpd_stages = stage vpd_asks vpd_from

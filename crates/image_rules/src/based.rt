@@ -1,0 +1,69 @@
+//! A volume that is moved to its base, by the answers of its step.
+ghost use Rattle.std.specs.Prelude.{◌≡◌, true};
+ghost use Rattle.build_base.specs.Answer.{AnswersAs};
+ghost use Rattle.build_stages.specs.Gives.{GivesIn};
+ghost use Rattle.fv_compose.specs.Files.{AreAligned};
+ghost use Rattle.fv_compose.specs.Volume.{HasShape};
+ghost use Rattle.image_rebase.specs.Rebase.{IsBased, rebased};
+ghost use Rattle.image_steps.specs.Asks.{is_based};
+ghost use Rattle.image_rules.specs.Based.{moved, based_given};
+
+use build_base::{Image, Permit, Refusal, Rows};
+use build_stages::{Given, Stop};
+use doc_types::image::FileImage;
+use doc_types::volume_head::VolumeHead;
+use image_rebase::rebase_volume;
+use image_steps::volumes::{are_stated, head_fits, images};
+use image_steps::{is_based, volume_given};
+use std::alloc::Global;
+use step_pack::{Key, Out};
+
+fn image(
+    alloc: Global,
+    permit: Permit,
+    head: &VolumeHead,
+    files: &Rows<FileImage>,
+) -> Result<Image, Refusal>
+    requires shape { HasShape head.now }
+    requires based { IsBased head.now }
+    requires aligned { AreAligned files.now }
+    ensures { AnswersAs (λ image. image) result (rebased head.now files.now) }
+{
+    match rebase_volume(alloc, permit, head, files) {
+        Ok(runs) => Ok(Image::of_runs(runs)),
+        Err(refusal) => Err(refusal),
+    }
+}
+
+#[tactic(auto, unfolding(crate::specs::Based::moved), using(image_steps::proofs::VolumeLemmas::head_shape, image_steps::proofs::VolumeLemmas::files_shape, crate::proofs::BasedLemmas::is_based_head))]
+fn moved(
+    alloc: Global,
+    permit: Permit,
+    head: &VolumeHead,
+    files: &Rows<FileImage>,
+) -> Result<Image, Stop<Key>>
+    requires { is_based head.now ≡ true }
+    ensures { GivesIn (λ image. image) result (moved head.now files.now) }
+{
+    if head_fits(head) && are_stated(files.items()) {
+        return Ok(image(alloc, permit, head, files)?);
+    }
+    Err(Stop::Misfit)
+}
+
+/// The volume of a head, whose files the answers are, moved to its base where it is to be.
+#[tactic(auto, unfolding(crate::specs::Based::based_given))]
+pub fn based_given(
+    alloc: Global,
+    permit: Permit,
+    head: &VolumeHead,
+    given: &Given<'_, Out>,
+) -> Result<Image, Stop<Key>>
+    ensures { GivesIn (λ image. image) result (based_given head.now given.now) }
+{
+    if is_based(head) {
+        let files = images(alloc, given)?;
+        return moved(alloc, permit, head, &files);
+    }
+    volume_given(alloc, permit, head, given)
+}

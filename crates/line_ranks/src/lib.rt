@@ -1,0 +1,11 @@
+//! The lines of [LibraryClasses] that hold for a module: of each class the greatest by rank (EDK II
+//! DSC specification).
+#![tactic(auto)]
+
+mod lines;
+mod places;
+mod user;
+
+pub use lines::{applies, covers, rank, same_type, type_covers};
+pub use places::{line_places, picked};
+pub use user::User;

@@ -1,0 +1,80 @@
+//! The line that holds for each class.
+ghost use Rattle.std.specs.Prelude.{◌≡◌, ◌<◌, ◌+◌, take, length, IfOk, OnOk};
+ghost use Rattle.std.specs.HashMap.{get};
+ghost use Rattle.std.specs.Option.{option_copied};
+ghost use Rattle.line_ranks.specs.Places.{Lines, outweighs, picked};
+
+use crate::lines::rank;
+use crate::user::User;
+use build_base::{Same, Text, WantOfMemory};
+use doc_types::platform::LibraryLine;
+use indexmap::IndexMap;
+use std::alloc::Global;
+use std::hash::Hash;
+
+/// The item at the place that a table has for a key.
+pub fn picked<'a, K: Hash + Eq, T>(
+    items: &'a [T],
+    places: &IndexMap<K, usize>,
+    key: &K,
+) -> Option<&'a T>
+    ensures { option_copied result ≡ picked items.now (get K.eq places.now key.now) }
+{
+    match places.get(key) {
+        Some(place) => items.get(*place),
+        None => None,
+    }
+}
+
+fn outweighs(user: User, own: bool, weight: u8, held: Option<&LibraryLine>) -> bool
+    ensures { result ≡ outweighs user own weight (option_copied held.entry) }
+{
+    match held {
+        None => false,
+        Some(held) => weight < rank(user, own, held),
+    }
+}
+
+// Adds a line under its class, unless it doesn't hold or one above goes before it.
+fn add_line(
+    alloc: Global,
+    user: User,
+    own: bool,
+    lines: &[LibraryLine],
+    place: usize,
+    places: &mut IndexMap<Text, usize>,
+) -> Result<(), WantOfMemory>
+    requires { place < length lines.now }
+    ensures { Lines user own lines.now (take place lines.now) places.old →
+        OnOk result (Lines user own lines.now (take (place + 1) lines.now) places.new) }
+{
+    let line = &lines[place];
+    let weight = rank(user, own, line);
+    if weight == 0 {
+        return Ok(());
+    }
+    if outweighs(user, own, weight, picked(lines, places, &line.class)) {
+        return Ok(());
+    }
+    let class = line.class.copy(alloc)?;
+    match places.insert(class, place) {
+        Ok(_) => Ok(()),
+        Err(_) => Err(WantOfMemory),
+    }
+}
+
+/// For each class the place of the line that holds.
+pub fn line_places(
+    alloc: Global,
+    user: User,
+    own: bool,
+    lines: &[LibraryLine],
+) -> Result<IndexMap<Text, usize>, WantOfMemory>
+    ensures { IfOk result (Lines user own lines.now lines.now) }
+{
+    let mut places = IndexMap::with_capacity(alloc, lines.len())?;
+    for place in 0..lines.len() {
+        add_line(alloc, user, own, lines, place, &mut places)?;
+    }
+    Ok(places)
+}

@@ -1,0 +1,2 @@
+pub mod ModuleTrees
+pub mod TextTrees

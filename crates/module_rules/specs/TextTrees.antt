@@ -1,0 +1,101 @@
+-- What the steps of texts, dependency expressions and the report ask, stage by stage, and what
+-- comes of the answers; the rule is this project's own. What they give is told by the EDK II Build
+-- specification and the UEFI PI specification.
+use Rattle.std.specs.Prelude.{ℕ, List, [], ◌∷◌, Result, Ok}
+use Rattle.build_base.specs.First.{and_then}
+use Rattle.build_base.specs.declared.fault.Fault.{Fault}
+use Rattle.step_engine.specs.declared.talk.Ask.{Ask}
+use Rattle.step_engine.specs.declared.talk.Ask.TheVariants as ask
+use Rattle.step_engine.specs.declared.talk.Answer.{Answer}
+use Rattle.doc_types.specs.declared.choice.Choice.{Choice}
+use Rattle.doc_types.specs.declared.choice.Module.{Module}
+use Rattle.doc_types.specs.declared.platform.PlatformDoc.{PlatformDoc}
+use Rattle.doc_types.specs.declared.values.Values.{Values}
+use Rattle.build_stages.specs.Stages.{end, stage, bind}
+use Rattle.build_stages.specs.Writing.{attempt, field_at}
+use Rattle.step_pack.specs.declared.key.Key.{Key}
+use Rattle.step_pack.specs.declared.key.Key.TheVariants as key
+use Rattle.step_pack.specs.declared.out.Out.{Out}
+use Rattle.step_pack.specs.declared.out.Out.TheVariants as out
+use Rattle.module_steps.specs.Parts.{choice_at}
+use Rattle.text_steps.specs.declared.report.Heading.{Heading}
+use Rattle.text_steps.specs.Asks.{report_asks}
+use Rattle.text_steps.specs.Code.{code_given}
+use Rattle.text_steps.specs.Depex.{depex_given}
+use Rattle.text_steps.specs.Report.{values_at, report_modules, heading_of, report_given}
+use Rattle.document_rules.specs.Defines.{target_of, tag_of}
+use Rattle.module_rules.specs.ModuleTrees.{module_parts}
+use Rattle.document_rules.specs.Trees.{EdkStages, given_as, platform_in}
+
+-- The texts of a module.
+
+-- the platform, the module's libraries and its values
+abbrev pub code_asks : Module → List (Ask Key)
+code_asks m = ask.Part key.Platform ∷ ask.Part (key.Choice m) ∷ ask.Part (key.Values m) ∷ []
+
+abbrev pub code_from : Module → PlatformDoc → Choice → Values → EdkStages
+code_from m platform choice values =
+    bind (module_parts m choice)
+    (λ parts. end (given_as out.Code (code_given platform choice values parts)))
+
+abbrev pub code_first : Module → List (Answer Out) → EdkStages
+code_first m given =
+    attempt (platform_in given 0) (λ platform.
+    attempt (choice_at given 1) (λ choice.
+    attempt (values_at given 2) (λ values. code_from m platform choice values)))
+
+abbrev pub code_stages : Module → EdkStages
+code_stages m = stage (code_asks m) (code_first m)
+
+-- The dependency expression of a module.
+
+abbrev pub depex_asks : Module → List (Ask Key)
+depex_asks m = ask.Part (key.Choice m) ∷ []
+
+abbrev pub depex_from : Module → Choice → EdkStages
+depex_from m choice =
+    bind (module_parts m choice) (λ parts. end (given_as out.Depex (depex_given choice parts)))
+
+abbrev pub depex_first : Module → List (Answer Out) → EdkStages
+depex_first m given = attempt (choice_at given 0) (λ choice. depex_from m choice)
+
+abbrev pub depex_stages : Module → EdkStages
+depex_stages m = stage (depex_asks m) (depex_first m)
+
+-- The report.
+
+-- the platform, the architectures, the target, the tag and the SKU
+abbrev pub heading_asks : List (Ask Key)
+heading_asks =
+    ask.Part key.Platform ∷ ask.Field 1 ∷ ask.Field 2 ∷ ask.Field 3 ∷ ask.Field 4 ∷ []
+
+abbrev pub told_modules_in : PlatformDoc → List (Answer Out) → Result (List Module) Fault
+told_modules_in platform given = and_then (field_at given 1) (report_modules platform)
+
+-- what stands at the report's head, where a target or a tag that isn't stated has its default
+abbrev pub heading_by : PlatformDoc → List ℕ → List ℕ → List ℕ → Heading
+heading_by platform target tag sku =
+    heading_of platform (target_of target).value (tag_of tag).value sku
+
+abbrev pub heading_in : PlatformDoc → List (Answer Out) → Result Heading Fault
+heading_in platform given =
+    and_then (field_at given 2) (λ target.
+    and_then (field_at given 3) (λ tag.
+    and_then (field_at given 4) (λ sku. Ok (heading_by platform target tag sku))))
+
+abbrev pub told_stages : PlatformDoc → Heading → List Module → EdkStages
+told_stages platform heading modules =
+    stage (report_asks modules)
+    (λ given. end (given_as out.Report (report_given platform heading modules given)))
+
+-- the check of the words' architectures comes before the modules are asked for
+abbrev pub told_in : PlatformDoc → List (Answer Out) → EdkStages
+told_in platform given =
+    attempt (told_modules_in platform given) (λ modules.
+    attempt (heading_in platform given) (λ heading. told_stages platform heading modules))
+
+abbrev pub report_first : List (Answer Out) → EdkStages
+report_first given = attempt (platform_in given 0) (λ platform. told_in platform given)
+
+abbrev pub report_stages : EdkStages
+report_stages = stage heading_asks report_first

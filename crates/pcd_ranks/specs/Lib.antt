@@ -1,0 +1,4 @@
+pub mod Names
+pub mod Listing
+pub mod Assignments
+pub mod Views
