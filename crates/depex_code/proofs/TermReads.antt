@@ -130,10 +130,13 @@ unfolding read
 good-read ts [] s g = subst (λ l. Good l s) (sym (append-nil ts)) g
 good-read ts (k ∷ more) s g = subst (λ l. Good l (read trees (step trees s k) more)) (append_assoc ts (k ∷ []) more) (good-read (ts ++ k ∷ []) more (step trees s k) (good-step ts s k g))
 
+held-is : (a b : Tree) → holding [] a ≡ holding [] b → a ≡ b
+held-is a b e = cc
+
 pub sound : (tokens : List Token) (v : Tree) → read trees (wanting []) tokens ≡ holding [] v → StandsFor tokens (Some v)
 sound tokens v e =
     let g : Good tokens (holding [] v) = subst (λ s. Good tokens s) e (good-read [] tokens (wanting []) refl) in
-    (g.1, record { spelled = g.3 ∙ ap (λ l. l ++ spelling g.1) g.2; binds = g.4 }, g.5)
+    (g.1, record { spelled = g.3 ∙ ap (λ l. l ++ spelling g.1) g.2; binds = g.4 }, g.5, λ u i. held-is (meaning u) v (sym (complete tokens u i) ∙ e))
 
 ended-stands : (tokens : List Token) (s : State Tree) → read trees (wanting []) tokens ≡ s → StandsFor tokens (ended s)
 ended-stands tokens (holding [] v) e = sound tokens v e

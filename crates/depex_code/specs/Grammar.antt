@@ -79,9 +79,10 @@ pub record IsTerm (tokens : List Token) (t : Term) : Type 0 where
   pub spelled : tokens ≡ spelling t
   pub binds : Binds t
 
--- the tree that the terms stand for, or none
+-- The tree that the terms stand for, or none. However the terms are read, they mean that tree.
 abbrev pub StandsFor : List Token → Option Tree → Type 0
-StandsFor tokens (Some v) = (t : Term) × IsTerm tokens t × (meaning t ≡ v)
+StandsFor tokens (Some v) =
+    (t : Term) × IsTerm tokens t × (meaning t ≡ v) × ((u : Term) → IsTerm tokens u → meaning u ≡ v)
 StandsFor tokens None = (t : Term) → IsTerm tokens t → ⊥
 
 -- an expression begins with these terms

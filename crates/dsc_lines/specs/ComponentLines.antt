@@ -186,3 +186,9 @@ component_faults line standing = standing_faults line standing (form_of line.tex
 
 unfoldable pub component_part : Taken → Arch → Open → Option Part
 component_part line arch standing = standing_part line arch standing (form_of line.text)
+
+-- below `<Defines>` and `<BuildOptions>` lines are read past; elsewhere each line gives a row
+abbrev pub Tells : Open → Type 0
+Tells (state.Tagged Defines) = ⊥
+Tells (state.Tagged Passed) = ⊥
+Tells standing = Unit {0}

@@ -37,3 +37,9 @@ line_faults names standing line scope = scope_faults names standing line scope
 
 unfoldable pub line_row : Open → Taken → Scope → Option Said
 line_row standing line scope = scope_row standing line scope
+
+-- a section of which each line that is read gives a row
+abbrev pub Lists : Scope → Type 0
+Lists Defines = ⊥
+Lists (Components arch) = ⊥
+Lists scope = Unit {0}

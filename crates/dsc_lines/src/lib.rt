@@ -6,6 +6,7 @@ pub mod arches;
 pub mod component_line;
 pub mod form;
 pub mod key_line;
+pub mod laws;
 pub mod library_line;
 pub mod lines;
 pub mod open_mark;

@@ -33,6 +33,7 @@ pub fn start(at: u128, align: u32, head: u32) -> u128
     requires alignment { IsAlignment align }
     requires head { IsHead head }
     ensures value { result ≡ start_of at align head }
+    ensures least { IsLeast (IsStart at align head) result }
     ensures after { up 8 at ≤ result }
     ensures near { result < at + 2 ^ 25 }
 {

@@ -1,5 +1,5 @@
 -- The value of a text is that of a tree.
-use Rattle.std.proofs.Common.{◌≡◌, ℕ, Bool, true, false, cond, List, [], Option, Some, None, Result, Ok, Err, inl, inr, refl, sym, ◌∙◌, subst}
+use Rattle.std.proofs.Common.{◌≡◌, ℕ, Bool, true, false, cond, List, [], Option, Some, None, Result, Ok, Err, inl, inr, refl, sym, ap, ◌∙◌, subst}
 use Rattle.build_base.specs.declared.fault.Place.{Place}
 use Rattle.build_base.specs.declared.refusal.Refusal.{Refusal}
 use Rattle.build_base.specs.declared.refusal.Refusal.TheVariants.{Bad, WantOfMemory}
@@ -10,7 +10,7 @@ use Rattle.meta_lexer.specs.Fields.{ends_quoted, open_quote}
 use Rattle.meta_lexer.specs.Tokens.{tokens_of, tokens_after}
 use Rattle.macro_conditions.specs.declared.expression.Value.{Value}
 use Rattle.macro_conditions.specs.Values.{Outcome, word, number, faulty, ill}
-use Rattle.macro_conditions.specs.ExpressionTree.{value_of, IsNoExpression}
+use Rattle.macro_conditions.specs.ExpressionTree.{Tree, IsTree, value_of, IsNoExpression}
 use Rattle.macro_conditions.specs.ExpressionMachine.{wanting, run}
 use Rattle.macro_conditions.specs.Expressions.{symbols_of, answered, value_of_tokens, value_of_text, IsValueOf, IsMeaningOf}
 use Rattle.macro_conditions.proofs.ExpressionComplete.{complete}
@@ -39,6 +39,15 @@ quoted_by text false e = value_by text e (run (Some (wanting [])) (symbols_of te
 pub value_is : (text : List ℕ) → IsValueOf text (value_of_text text)
 unfolding value_of_text tokens_of
 value_is text = quoted_by text (ends_quoted text) refl
+
+-- each tree of the text has the value that the text comes to
+answered_by : (text : List ℕ) (b : Bool) → b ≡ false → value_of_tokens text (cond b (Err (open_quote text)) (Ok (tokens_after 0 0 text))) ≡ answered (run (Some (wanting [])) (symbols_of text))
+answered_by text true e = absurd (cc)
+answered_by text false e = refl
+
+pub tree_has_value : (text : List ℕ) (t : Tree) → ends_quoted text ≡ false → IsTree (symbols_of text) t → value_of_text text ≡ answered (Some (value_of t))
+unfolding value_of_text tokens_of
+tree_has_value text t e is = answered_by text (ends_quoted text) e ∙ ap answered (complete (symbols_of text) t is)
 
 -- a value that was found
 pub meaning_of : (text : List ℕ) (r : Result Value ℕ) → r ≡ value_of_text text → IsValueOf text r

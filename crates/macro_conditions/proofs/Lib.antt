@@ -8,6 +8,8 @@ pub mod StackIsTree
 pub mod TreeKeeps
 pub mod TreeRelated
 pub mod TreeWritten
+pub mod TreeStands
+pub mod TreeIsOne
 pub mod SourceLemmas
 pub mod TableLemmas
 pub mod FrameEnds

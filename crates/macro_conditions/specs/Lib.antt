@@ -7,6 +7,7 @@ pub mod ExpressionState
 pub mod Expressions
 pub mod Directives
 pub mod LineTree
+pub mod TreesOfLines
 pub mod LineMeaning
 pub mod LineStack
 pub mod Sources
