@@ -1,6 +1,8 @@
 -- Keys are opened.
 use Rattle.std.proofs.Common.{◌≡◌, ◌++◌, List, [], ◌∷◌, Option, Some, None, refl, sym, ◌∙◌, subst, Contains, inl, inr, MatchOption}
 use Rattle.std.proofs.lemmas.List.Elements.{All-contains}
+use Rattle.std.specs.Borrow.{Bor}
+use Rattle.std.specs.Option.{IfSome, option_copied}
 use Rattle.step_engine.specs.Build.{Setting}
 use Rattle.step_engine.specs.Engine.{State, state}
 use Rattle.step_engine.proofs.Steps.{running_none, checking_none}
@@ -17,6 +19,11 @@ use Rattle.step_engine.proofs.Going.{going_checking, going_granted}
 use Rattle.step_engine.proofs.Acting.{act_none, kept_of, finds_placed, finds_checked}
 use Rattle.step_engine.proofs.Listing.{list_none, list_noted}
 use Rattle.step_engine.proofs.TakingLemmas.{list_put}
+
+-- the entry that is checked is the kept one
+pub kept_entry : {K O : Type 0} (old : List (Entry K O)) (k : K) (kept : Option (Bor (Entry K O))) (e : Entry K O) → IfSome kept (λ b. Contains old b.now × (b.now.key ≡ k)) → IfSome kept (λ b. (d : Entry K O) → Contains old d → d.key ≡ k → d ≡ b.now) → Some e ≡ option_copied kept → (e.key ≡ k) × Contains old e × ((d : Entry K O) → Contains old d → d.key ≡ k → d ≡ e)
+kept_entry old k None e has only is = absurd cc
+kept_entry old k (Some b) e has only is = let same : e ≡ b.now = cc in rw same (has.1, has.0, only)
 
 idle_none : {K : Type 0} (t : Known K) (k : K) → t k ≡ None → IsStarted (t k) → ⊥
 idle_none t k e (inl h) = absurd (let a : None ≡ Some Running = sym e ∙ h in cc)

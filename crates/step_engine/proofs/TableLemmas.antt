@@ -1,6 +1,6 @@
 -- What is noted of keys, and what that leaves of the table.
 use Rattle.std.proofs.Common.{◌≡◌, ℕ, zero, suc, ◌<◌, ◌++◌, ◌⊎◌, List, [], ◌∷◌, Option, Some, None, Bool, true, false, cond, refl, sym, ap, ◌∙◌, subst, Contains, inl, inr, length, slice_get, get_or, Result, Ok, Err, is_err, OnOk}
-use Rattle.std.proofs.lemmas.Option.{slice_get_within, get_or_from_slice_get, slice_get_read}
+use Rattle.std.proofs.lemmas.Option.{slice_get_within, get_or_from_slice_get}
 use Rattle.std.proofs.lemmas.List.Elements.{Contains-push_cases, Contains-push, Contains-append_left}
 use Rattle.std.specs.BTreeMap.{is_at}
 use Rattle.std.specs.Map.{lookup}
@@ -122,10 +122,10 @@ on_ok (Ok x) P e h = h
 on_ok (Err x) P e h = absurd (cc)
 
 -- the entry that stands at the number of a key has its outcome
-pub found : {K O : Type 0} (t : Known K) (fresh xs : List (Entry K O)) (k : K) (i : ℕ) (e : Entry K O) → Finds t fresh → t k ≡ Some (Done i) → xs ≡ fresh → i < length xs → e ≡ get_or xs i e → IsEntryOf k e.result fresh
-found {K} {O} t fresh xs k i e finds here same l g =
+pub found : {K O : Type 0} (t : Known K) (fresh xs : List (Entry K O)) (k : K) (i : ℕ) (e : Entry K O) → Finds t fresh → t k ≡ Some (Done i) → xs ≡ fresh → Some e ≡ slice_get xs i → IsEntryOf k e.result fresh
+found {K} {O} t fresh xs k i e finds here same at =
     let f = finds k i here in
-    let a : slice_get fresh i ≡ Some e = subst (λ (ys : List (Entry K O)). slice_get ys i ≡ Some e) same (slice_get_read xs (length xs) i e refl l g) in
+    let a : slice_get fresh i ≡ Some e = subst (λ (ys : List (Entry K O)). slice_get ys i ≡ Some e) same (sym at) in
     let b : Some f.0 ≡ Some e = sym f.1 ∙ a in
     let c : f.0 ≡ e = cc in
     (f.0, get_in fresh i f.0 f.1, f.2, ap (λ (d : Entry K O). d.result) c)

@@ -24,8 +24,10 @@ use build_base::outside::Tree;
 use build_base::rows::Rows;
 use build_base::same::Same;
 use build_base::text::{Text, WantOfMemory};
+use entry_checks::all_right;
 use shared_value::Shared;
 use std::alloc::Global;
+use step_records::keep_pair;
 
 // The text of a field, which is empty where there is none.
 fn field(alloc: Global, job: &Rows<Text>, number: u8) -> Result<Shared<Text>, WantOfMemory>
@@ -49,25 +51,6 @@ pub fn is_lower<R: Rules>(rules: &R, key: &R::Key, ask: &Ask<R::Key>) -> bool
         Ask::Part(part) => rules.rank(part) < rules.rank(key),
         _ => true,
     }
-}
-
-// Whether all answers so far are right, of which the last one is `same`.
-fn both(right: bool, same: bool) -> bool
-    ensures yes { same ≡ true → result ≡ right }
-    ensures no { same ≡ false → result ≡ false }
-{
-    right && same
-}
-
-// Adds an ask with its answer.
-fn add_pair<K: Drop, O: Drop>(
-    pairs: &mut Rows<Pair<K, O>>,
-    ask: Ask<K>,
-    answer: Answer<O>,
-) -> Result<(), WantOfMemory>
-    ensures { OnOk result (pairs.new ≡ pairs.old ++ (record { ask = ask; answer = answer }) ∷ []) }
-{
-    pairs.push(Pair { ask, answer })
 }
 
 // The right answer to an ask of a key, where it has one by now.
@@ -164,7 +147,7 @@ pub fn answers<R: Rules, T: Tree>(
             return Ok(None);
         };
         let ask = ask.copy(alloc)?;
-        add_pair(&mut pairs, ask, answer)?;
+        keep_pair(&mut pairs, Pair { ask, answer })?;
     }
     Ok(Some(pairs))
 }
@@ -318,7 +301,7 @@ pub fn check_batch<R: Rules, T: Tree>(
         let Some(same) = found else {
             return Ok(None);
         };
-        right = both(right, same);
+        right = all_right(right, same);
     }
     Ok(Some(right))
 }

@@ -14,6 +14,7 @@ use build_base::book::Book;
 use build_base::rows::Rows;
 use build_base::same::Same;
 use build_base::text::WantOfMemory;
+use entry_checks::entry_to_check;
 use std::alloc::Global;
 
 // A key that is met for the first time: its old entry is checked, or its step runs.
@@ -34,9 +35,9 @@ fn open<K: StepKey, O: Same + Drop>(
     let None = places.get(key) else {
         return Ok(None);
     };
-    match old.get(key) {
+    let kept = old.get(key);
+    match entry_to_check(alloc, kept)? {
         Some(entry) => {
-            let entry = entry.copy(alloc)?;
             let noted = key.copy(alloc)?;
             places.note(noted, Place::Checking)?;
             Ok(Some(Item::Check(Check { entry, batch: 0 })))

@@ -14,6 +14,7 @@ use build_base::rows::Rows;
 use build_base::same::Same;
 use build_base::text::WantOfMemory;
 use std::alloc::Global;
+use step_records::made_at;
 
 /// The permit of a key, which runs from now on.
 pub fn grant<K: StepKey>(
@@ -121,7 +122,7 @@ pub fn result_of<'a, K: StepKey, O: Drop>(
     ensures { IfSome result (λ r. IsEntryOf key.now r.now fresh.now.items) }
 {
     match places.get(key) {
-        Some(Place::Done(number)) => match fresh.get(number) {
+        Some(Place::Done(number)) => match made_at(fresh, number) {
             Some(entry) => Some(&entry.result),
             None => None,
         },

@@ -20,8 +20,8 @@ returns-in_default-clause-ok g c = still_then _ _ _ _ _ _ _ _ c.loop-ask.invaria
 pub returns-in_err-ask-clause-adds : goal.returns-in_err-ask-clause-adds
 returns-in_err-ask-clause-adds g c = way_adds _ _ _ _ _ _ _ _ c.loop-ask.invariant.way c.answer.ensures.adds
 
-pub returns-in_err-add_pair-clause-adds : goal.returns-in_err-add_pair-clause-adds
-returns-in_err-add_pair-clause-adds g c = way_adds _ _ _ _ _ _ _ _ c.loop-ask.invariant.way c.answer.ensures.adds
+pub returns-in_err-keep_pair-clause-adds : goal.returns-in_err-keep_pair-clause-adds
+returns-in_err-keep_pair-clause-adds g c = way_adds _ _ _ _ _ _ _ _ c.loop-ask.invariant.way c.answer.ensures.adds
 
 pub loop-ask-preserved : goal.loop-ask-preserved
 loop-ask-preserved g c =
@@ -29,7 +29,7 @@ loop-ask-preserved g c =
     let way = c.loop-ask.invariant.way in record {
       held = c.answer.ensures.held ∙ c.loop-ask.invariant.held;
       way = way_more _ _ _ _ _ _ _ _ way _ _ d.moves d.kept (ap (over c.args.edits.now) c.answer.ensures.held) c.in_ok-found.ensures.count;
-      here = rw (c.in_ok-add_pair.ensures, c.in_ok-ask.ensures) (answering_more _ _ _ _ _ _ _ _ c.loop-ask.invariant.here c.loop-ask-test.true c.ask-item.is d.moves.grows (λ w i. d.right w (here_on _ _ _ _ _ _ _ way w i)) d.small d.parts);
+      here = rw (c.in_ok-keep_pair.ensures, c.in_ok-ask.ensures) (answering_more _ _ _ _ _ _ _ _ c.loop-ask.invariant.here c.loop-ask-test.true c.ask-item.is d.moves.grows (λ w i. d.right w (here_on _ _ _ _ _ _ _ way w i)) d.small d.parts);
     }
 
 pub returns-clause-ok : goal.returns-clause-ok

@@ -42,7 +42,7 @@ loop-pair-preserved g c =
     let way = c.loop-pair.invariant.way in record {
       held = c.check_pair.ensures.held ∙ c.loop-pair.invariant.held;
       way = way_more _ _ _ _ _ _ _ _ way _ _ d.moves d.kept (ap (over c.args.edits.now) c.check_pair.ensures.held) c.in_ok-found.ensures.count;
-      here = checking_batch_step _ c.args.key.now _ _ (state c.args.fresh.now.items (knowledge g.R.Key.Ord.cmp c.args.learned.now) [] (g.T.Tree.reads c.args.tree.now)) _ _ _ _ _ _ _ c.loop-pair.invariant.here c.loop-pair-test.true c.pair-item.is d.moves.grows (λ w i. d.right w (here_on _ _ _ _ _ _ _ way w i)) d.parts h.2 c.both-right.ensures.yes c.both-right.ensures.no;
+      here = checking_batch_step _ c.args.key.now _ _ (state c.args.fresh.now.items (knowledge g.R.Key.Ord.cmp c.args.learned.now) [] (g.T.Tree.reads c.args.tree.now)) _ _ _ _ _ _ _ c.loop-pair.invariant.here c.loop-pair-test.true c.pair-item.is d.moves.grows (λ w i. d.right w (here_on _ _ _ _ _ _ _ way w i)) d.parts h.2 c.all_right-right.ensures.yes c.all_right-right.ensures.no;
     }
 
 pub returns-clause-ok : goal.returns-clause-ok

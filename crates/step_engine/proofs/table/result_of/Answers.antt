@@ -4,6 +4,4 @@ use Rattle.step_engine.proofs.TableLemmas.{found}
 use Rattle.step_engine.proofs.table.result_of.Goals as goal
 
 pub returns-in-Some : goal.returns-in-Some
-returns-in-Some g c =
-    let a = c.in-Some.ensures.lookup in
-    found _ _ _ _ _ c.in-Some.entry.now c.requires (sym c.get.ensures ∙ (c.in-Some-Done.is ∙ ap Some c.in-Some-Done.field-0-is)) c.deref.ensures.value a.3.0 a.1
+returns-in-Some g c = found _ _ _ _ _ c.in-Some.entry.now c.requires (sym c.get.ensures ∙ (c.in-Some-Done.is ∙ ap Some c.in-Some-Done.field-0-is)) c.deref.ensures.value c.in-Some.ensures
