@@ -19,6 +19,7 @@ pub fn call(page: &mut Page, files: &[Output], name: &str, path: &str) -> Result
         "number" => texts::call_number(page, files, path)?,
         "fields" => texts::call_fields(page, files, path)?,
         "tokens" => texts::call_tokens(page, files, path)?,
+        "heads" => texts::call_heads(page, files, path)?,
         _ => return call_on_lines(page, files, name, path),
     }
     Ok(true)

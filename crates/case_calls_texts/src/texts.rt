@@ -1,11 +1,11 @@
-//! Calls of what reads one line: expressions, numbers, fields and tokens.
+//! Calls of what reads one line: expressions, numbers, fields, tokens and section heads.
 
 use crate::lines::place_of;
 use build_base::{Rows, Text};
 use case_player::{Output, Page, Stop, Wrong, file_of};
 use macro_conditions::{Value, evaluate};
 use meta_lexer::parts::field_texts;
-use meta_lexer::{LexRefusal, Token, TokenKind, number, tokens};
+use meta_lexer::{Head, LexRefusal, Token, TokenKind, number, section_head, tokens};
 
 // A number, or a text between quotes.
 fn tell_value(page: &mut Page, value: &Value) -> Result<(), Stop> {
@@ -89,6 +89,31 @@ pub fn call_tokens(page: &mut Page, files: &[Output], path: &str) -> Result<(), 
         Ok(found) => tell_tokens(page, found.as_slice()),
         Err(LexRefusal::Bad { code, start, .. }) => {
             let text = format!(in page.alloc(); "{code} {start}\n")?;
+            page.fail(text.as_bytes());
+        }
+        Err(LexRefusal::WantOfMemory) => return Err(Stop::Wrong(Wrong::WantOfMemory)),
+    }
+    Ok(())
+}
+
+fn tell_heads(page: &mut Page, heads: &[Head]) {
+    for head in heads {
+        page.put(b"head\n");
+        for part in head.parts.items() {
+            page.row(b" part", part.bytes());
+        }
+    }
+}
+
+/// The heads of a file's one line, a line for each part; `none` where the line is no head; or the
+/// code of its fault and where that ends.
+pub fn call_heads(page: &mut Page, files: &[Output], path: &str) -> Result<(), Stop> {
+    let text = file_of(files, path)?.trim_ascii();
+    match section_head(page.alloc(), text) {
+        Ok(Some(heads)) => tell_heads(page, heads.items()),
+        Ok(None) => page.put(b"none\n"),
+        Err(LexRefusal::Bad { code, end, .. }) => {
+            let text = format!(in page.alloc(); "{code} {end}\n")?;
             page.fail(text.as_bytes());
         }
         Err(LexRefusal::WantOfMemory) => return Err(Stop::Wrong(Wrong::WantOfMemory)),

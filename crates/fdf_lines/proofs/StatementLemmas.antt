@@ -21,6 +21,8 @@ use Rattle.doc_types.specs.Pcds.{pcd_name_of}
 use Rattle.doc_types.specs.declared.pcd.PcdName.{PcdName}
 use Rattle.doc_types.specs.declared.volume.Align.{Align}
 use Rattle.doc_types.specs.declared.volume.InfLine.{InfLine}
+use Rattle.doc_types.specs.declared.volume.SectionSource.{SectionSource}
+use Rattle.doc_types.specs.declared.volume.SectionSource.TheVariants.{Words}
 use Rattle.fdf_volumes.specs.declared.body.SectionWord.{SectionWord}
 use Rattle.fdf_volumes.specs.declared.body.SectionWord.TheVariants as section_word_
 use Rattle.fdf_volumes.specs.declared.inf_line.InfOptions.{InfOptions}
@@ -143,13 +145,15 @@ device_states line = device_either line (key_pair line.text)
 
 -- those of a rule
 
-rule_path : (line : Taken) (kind : ℕ) (p : Option (RuleOptions × List ℕ)) → states (rule.path_row line kind p) ≡ false
-rule_path line kind None = refl
-rule_path line kind (Some p) = refl
+rule_numbered : (line : Taken) (kind : ℕ) (options : RuleOptions) (source : SectionSource) (number : Result ℕ Fault) → states (rule.numbered_row line kind options source number) ≡ false
+rule_numbered line kind options source (Ok number) = refl
+rule_numbered line kind options source (Err fault) = refl
 
-rule_text : (line : Taken) (kind : ℕ) (words : List ℕ) (p : Option (RuleOptions × List ℕ)) → states (rule.text_row line kind words p) ≡ false
-rule_text line kind words None = refl
-rule_text line kind words (Some p) = refl
+rule_path : (line : Taken) (kind : ℕ) (p : RuleOptions × List ℕ × List ℕ) → states (rule.path_row line kind p) ≡ false
+rule_path line kind p = rule_numbered line kind p.0 (rule.path_source line p.2) (rule.number_in line p.0 p.1)
+
+rule_text : (line : Taken) (kind : ℕ) (words : List ℕ) (p : RuleOptions × List ℕ × List ℕ) → states (rule.text_row line kind words p) ≡ false
+rule_text line kind words p = rule_numbered line kind p.0 (Words words) (rule.number_in line p.0 p.1)
 
 rule_quoted : (line : Taken) (kind : ℕ) (p : Option (List ℕ × List ℕ)) → states (rule.quoted_row line kind p) ≡ false
 rule_quoted line kind None = refl

@@ -1,3 +1,4 @@
+pub mod RuleNumbers
 pub mod Rules
 pub mod Sections
 pub mod Counts

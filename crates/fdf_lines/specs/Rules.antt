@@ -1,6 +1,6 @@
 -- The lines of a rule (EDK II FDF specification, section 3.8).
-use Rattle.std.specs.Prelude.{ℕ, ◌-◌, Bool, true, false, ◌&&◌, ◌||◌, not, nat_le, nat_eq, ◌==◌, if◌then◌else◌, List, [], ◌∷◌, length, take, Option, Some, None, codes}
-use Rattle.std.specs.List.{list_any, starts_with}
+use Rattle.std.specs.Prelude.{ℕ, ◌-◌, Bool, true, false, ◌&&◌, ◌||◌, not, nat_eq, ◌==◌, if◌then◌else◌, List, [], ◌∷◌, length, take, Option, Some, None, Result, Ok, Err, codes}
+use Rattle.std.specs.List.{list_all, list_any, starts_with}
 use Rattle.std.specs.Option.{option_map, option_and_then}
 use Rattle.build_base.specs.FaultText.{fault_of}
 use Rattle.build_base.specs.declared.fault.Fault.{Fault}
@@ -8,8 +8,9 @@ use Rattle.build_base.specs.declared.lines.Taken.{Taken}
 use Rattle.macro_conditions.specs.Macros.{same_text}
 use Rattle.macro_conditions.specs.Sources.{without_workspace}
 use Rattle.meta_lexer.specs.Lookup.{lookup}
-use Rattle.meta_lexer.specs.Numbers.{number_of}
+use Rattle.meta_lexer.specs.Lines.{is_blank}
 use Rattle.meta_lexer.specs.Words.{same_word}
+use Rattle.doc_reading.specs.Least.{fault_in, least_of}
 use Rattle.doc_types.specs.Standard.{EFI_SECTION_DXE_DEPEX, EFI_SECTION_FIRMWARE_VOLUME_IMAGE, EFI_SECTION_MM_DEPEX, EFI_SECTION_PE32, EFI_SECTION_PEI_DEPEX, EFI_SECTION_RAW, EFI_SECTION_TE, EFI_SECTION_USER_INTERFACE, EFI_SECTION_VERSION}
 use Rattle.doc_types.specs.declared.volume.Align.{Align}
 use Rattle.doc_types.specs.declared.volume.Align.TheVariants.{Unset, Auto, Bytes}
@@ -22,6 +23,7 @@ use Rattle.fdf_lines.specs.declared.rule_options.RuleOption.TheVariants as optio
 use Rattle.fdf_lines.specs.declared.rule_options.RuleOptions.{RuleOptions}
 use Rattle.fdf_lines.specs.declared.rule_line.RuleKind.{RuleKind}
 use Rattle.fdf_lines.specs.declared.rule_line.RuleKind.TheVariants as kind_
+use Rattle.fdf_lines.specs.RuleNumbers.{stated_number}
 use Rattle.fdf_words.specs.declared.marks.Marks.{Marks}
 use Rattle.fdf_words.specs.declared.marks.Open.{Open}
 use Rattle.fdf_words.specs.declared.marks.Open.TheVariants.{InRule}
@@ -73,62 +75,55 @@ unfoldable pub rule_align : List ℕ → Option Align
 rule_align word = if same_word word (codes "Auto") then Some Auto
     else option_map Bytes (alignment_of word)
 
-abbrev pub within_word : Option ℕ → Option ℕ
-within_word (Some n) = if nat_le n 65535 then Some n else None
-within_word None = None
-
--- a build number of at most 16 bits; that of the build is 0
-unfoldable pub build_number : List ℕ → Option ℕ
-build_number word = if same_text word (codes "$(BUILD_NUMBER)") then Some 0
-    else within_word (number_of word)
-
 abbrev pub is_unset : Align → Bool
 is_unset Unset = true
 is_unset Auto = false
 is_unset (Bytes n) = false
 
-abbrev pub with_optional : RuleOptions → List ℕ → Option (RuleOptions × List ℕ)
-with_optional options rest = if options.optional then None
-    else Some (record options { optional = true }, rest)
+abbrev pub with_optional : RuleOptions → RuleOptions
+with_optional options =
+    record options { optional = true; wrong = options.wrong || options.optional }
 
-abbrev pub with_rule_align : RuleOptions → List ℕ → Option Align → Option (RuleOptions × List ℕ)
-with_rule_align options rest (Some align) =
-    if is_unset options.align then Some (record options { align = align }, rest) else None
-with_rule_align options rest None = None
+abbrev pub with_rule_align : RuleOptions → Option Align → RuleOptions
+with_rule_align options (Some align) = if is_unset options.align
+    then record options { align = align } else record options { wrong = true }
+with_rule_align options None = record options { wrong = true }
 
-abbrev pub put_number : RuleOptions → List ℕ → ℕ → Option ℕ → Option (RuleOptions × List ℕ)
-put_number options rest number None = Some (record options { number = Some number }, rest)
-put_number options rest number (Some old) = None
+abbrev pub with_number : RuleOptions → RuleOptions
+with_number options =
+    record options { numbered = true; wrong = options.wrong || options.numbered }
 
-abbrev pub with_number : RuleOptions → List ℕ → Option ℕ → Option (RuleOptions × List ℕ)
-with_number options rest (Some number) = put_number options rest number options.number
-with_number options rest None = None
+-- of two numbers the first
+abbrev pub first_number : RuleOptions → List ℕ → List ℕ → List ℕ
+first_number options number word = if options.numbered then number else word
 
 -- an option; another text begins the path
-abbrev pub with_rule_option : RuleOptions → List ℕ → Option RuleOption → Option (List ℕ)
-    → Option (RuleOptions × List ℕ)
-with_rule_option options text (Some option.Optional) value = with_optional options (after_word text)
-with_rule_option options text (Some option.Aligned) (Some value) =
-    with_rule_align options (after_word value) (rule_align (word_of value))
-with_rule_option options text (Some option.BuildNumber) (Some value) =
-    with_number options (after_word value) (build_number (word_of value))
-with_rule_option options text (Some option.Aligned) None = Some (options, text)
-with_rule_option options text (Some option.BuildNumber) None = Some (options, text)
-with_rule_option options text None value = Some (options, text)
+abbrev pub with_rule_option : RuleOptions → List ℕ → List ℕ → Option RuleOption → Option (List ℕ)
+    → RuleOptions × List ℕ × List ℕ
+with_rule_option options number text (Some option.Optional) value =
+    (with_optional options, number, after_word text)
+with_rule_option options number text (Some option.Aligned) (Some value) =
+    (with_rule_align options (rule_align (word_of value)), number, after_word value)
+with_rule_option options number text (Some option.BuildNumber) (Some value) =
+    (with_number options, first_number options number (word_of value), after_word value)
+with_rule_option options number text (Some option.Aligned) None = (options, number, text)
+with_rule_option options number text (Some option.BuildNumber) None = (options, number, text)
+with_rule_option options number text None value = (options, number, text)
 
-unfoldable pub next_rule : RuleOptions → List ℕ → Option (RuleOptions × List ℕ)
-next_rule options text = with_rule_option options text (rule_option (word_of text))
+unfoldable pub next_rule : RuleOptions → List ℕ → List ℕ → RuleOptions × List ℕ × List ℕ
+next_rule options number text = with_rule_option options number text (rule_option (word_of text))
     (after_equals (after_word text))
 
-abbrev pub and_rule : Option (RuleOptions × List ℕ) → Option (RuleOptions × List ℕ)
-and_rule = option_and_then (λ p. next_rule p.0 p.1)
+abbrev pub and_rule : RuleOptions × List ℕ × List ℕ → RuleOptions × List ℕ × List ℕ
+and_rule p = next_rule p.0 p.1 p.2
 
 abbrev pub no_rule_options : RuleOptions
-no_rule_options = record { optional = false; align = Unset; number = None }
+no_rule_options = record { optional = false; align = Unset; numbered = false; wrong = false }
 
--- the options, and what stands behind them; a fourth option stands there twice
-unfoldable pub rule_parts : List ℕ → Option (RuleOptions × List ℕ)
-rule_parts text = and_rule (and_rule (and_rule (next_rule no_rule_options text)))
+-- the options, the build number as it is written, and what stands behind them; a fourth option
+-- stands there twice
+unfoldable pub rule_parts : List ℕ → RuleOptions × List ℕ × List ℕ
+rule_parts text = and_rule (and_rule (and_rule (next_rule no_rule_options [] text)))
 
 -- the kinds of sections of a rule; the compressed and the GUIDed ones are refused
 abbrev pub rule_kinds : List (List ℕ × RuleKind)
@@ -146,51 +141,62 @@ rule_kinds =
 unfoldable pub rule_kind : List ℕ → Option RuleKind
 rule_kind word = lookup rule_kinds word
 
-abbrev pub number_or_zero : Option ℕ → ℕ
-number_or_zero (Some number) = number
-number_or_zero None = 0
-
-abbrev pub made_plan : Taken → ℕ → RuleOptions → SectionSource → Row
-made_plan line kind options source =
+abbrev pub made_plan : Taken → ℕ → RuleOptions → ℕ → SectionSource → Row
+made_plan line kind options number source =
     row.RuleSection
     (record {
       at = line.at;
       kind = kind;
       optional = options.optional;
       align = options.align;
-      number = number_or_zero options.number;
+      number = number;
       guid = None;
       source = source;
     })
 
--- `|.ext`, which may stand but not be used
+abbrev pub numbered_row : Taken → ℕ → RuleOptions → SectionSource → Result ℕ Fault → Option Row
+numbered_row line kind options source (Ok number) =
+    Some (made_plan line kind options number source)
+numbered_row line kind options source (Err fault) = None
+
+-- the number that the options state
+abbrev pub number_in : Taken → RuleOptions → List ℕ → Result ℕ Fault
+number_in line options number = stated_number line options.numbered number
+
+-- `|.ext`, one word, which may stand but not be used
 unfoldable pub is_extension : List ℕ → Bool
-is_extension text = starts_with nat_eq text (codes "|.")
+is_extension text = starts_with nat_eq text (codes "|.") && list_all (λ b. not (is_blank b)) text
 
 -- a path behind two words, which are the same
-abbrev pub path_faults : Taken → Bool → Option (RuleOptions × List ℕ) → List (Option Fault)
-path_faults line same (Some p) =
-    if is_extension p.1 then other_macro line line.text ∷ []
-    else if same && not (length p.1 == 0) then other_around line p.1 ∷ []
-    else no_rule_faults line
-path_faults line same None = no_rule_faults line
+abbrev pub path_fault : Taken → Bool → RuleOptions → List ℕ → Option Fault
+path_fault line same options path =
+    if options.wrong then least_of (no_rule_faults line)
+    else if is_extension path then other_macro line line.text
+    else if same && not (length path == 0) then other_around line path
+    else least_of (no_rule_faults line)
 
-abbrev pub path_row : Taken → ℕ → Option (RuleOptions × List ℕ) → Option Row
-path_row line kind (Some p) =
-    Some
-    (made_plan line kind p.0 (if is_extension p.1 then Refused line.text
-    else Template (without_workspace p.1)))
-path_row line kind None = None
+abbrev pub path_faults : Taken → Bool → RuleOptions × List ℕ × List ℕ → List (Option Fault)
+path_faults line same p = fault_in (number_in line p.0 p.1) ∷ path_fault line same p.0 p.2 ∷ []
 
--- a text behind STRING
-abbrev pub text_faults : Taken → Option (RuleOptions × List ℕ) → List (Option Fault)
-text_faults line (Some p) = if length p.1 == 0 then other_macro line line.text ∷ []
-    else no_rule_faults line
-text_faults line None = no_rule_faults line
+abbrev pub path_source : Taken → List ℕ → SectionSource
+path_source line path = if is_extension path then Refused line.text
+    else Template (without_workspace path)
 
-abbrev pub text_row : Taken → ℕ → List ℕ → Option (RuleOptions × List ℕ) → Option Row
-text_row line kind words (Some p) = Some (made_plan line kind p.0 (Words words))
-text_row line kind words None = None
+abbrev pub path_row : Taken → ℕ → RuleOptions × List ℕ × List ℕ → Option Row
+path_row line kind p = numbered_row line kind p.0 (path_source line p.2) (number_in line p.0 p.1)
+
+-- a text behind STRING, and nothing behind its options
+abbrev pub text_fault : Taken → RuleOptions → List ℕ → Option Fault
+text_fault line options rest =
+    if options.wrong then least_of (no_rule_faults line)
+    else if length rest == 0 then other_macro line line.text
+    else least_of (no_rule_faults line)
+
+abbrev pub text_faults : Taken → RuleOptions × List ℕ × List ℕ → List (Option Fault)
+text_faults line p = fault_in (number_in line p.0 p.1) ∷ text_fault line p.0 p.2 ∷ []
+
+abbrev pub text_row : Taken → ℕ → List ℕ → RuleOptions × List ℕ × List ℕ → Option Row
+text_row line kind words p = numbered_row line kind p.0 (Words words) (number_in line p.0 p.1)
 
 abbrev pub quoted_faults : Taken → Option (List ℕ × List ℕ) → List (Option Fault)
 quoted_faults line (Some p) = text_faults line (rule_parts p.1)

@@ -4,6 +4,7 @@
 pub mod counts;
 pub mod flash_lines;
 pub mod rule_line;
+pub mod rule_number;
 pub mod rule_options;
 pub mod section;
 pub mod standing;

@@ -1,7 +1,8 @@
 //! The lines of a rule.
-ghost use Rattle.std.specs.Prelude.{◌≡◌, ◌∷◌, [], Some, IfOk};
-ghost use Rattle.macro_conditions.specs.Sources.{without_workspace};
-ghost use Rattle.doc_types.specs.declared.volume.SectionSource.TheVariants.{Template, Refused};
+ghost use Rattle.std.specs.Prelude.{◌≡◌, ◌∷◌, [], not, Some, IfOk};
+ghost use Rattle.doc_types.specs.declared.volume.SectionSource.TheVariants.{Words};
+ghost use Rattle.meta_lexer.specs.Lines.{is_blank};
+ghost use Rattle.std.specs.List.{list_all};
 ghost use Rattle.std.specs.Option.{option_map};
 ghost use Rattle.build_base.specs.Answer.{Answers, Checks, Finds};
 ghost use Rattle.build_base.specs.FaultText.{fault_of};
@@ -9,13 +10,14 @@ ghost use Rattle.doc_reading.specs.Gathering.{judged};
 ghost use Rattle.doc_reading.specs.Least.{least_of};
 ghost use Rattle.fdf_volumes.specs.Statements.{file_parts};
 ghost use Rattle.fdf_words.specs.Words.{word_of, after_word};
-ghost use Rattle.fdf_lines.specs.Rules.{begins_name, is_other, holds_other, rule_parts, other_macro, other_around, no_rule_faults, rule_kind, number_or_zero, made_plan, is_extension, path_faults, path_row, text_faults, text_row, quoted_faults, quoted_row, stated_words, is_string, plain_faults, plain_row, worded_faults, worded_row, kind_faults, kind_row, inner_faults, inner_row, named_faults, named_row, is_file, outer_faults, outer_row, rule_faults, rule_row};
+ghost use Rattle.fdf_lines.specs.Rules.{begins_name, is_other, holds_other, rule_parts, other_macro, other_around, no_rule_faults, rule_kind, made_plan, is_extension, path_fault, path_source, path_faults, path_row, text_fault, text_faults, text_row, quoted_faults, quoted_row, stated_words, is_string, plain_faults, plain_row, worded_faults, worded_row, kind_faults, kind_row, inner_faults, inner_row, named_faults, named_row, is_file, outer_faults, outer_row, rule_faults, rule_row};
 ghost use Rattle.build_base.specs.FaultCodes.{COMPRESSED_REFUSED};
 
+use crate::rule_number::stated_number;
 use crate::rule_options::{RuleOptions, rule_parts};
 use build_base::fault_codes::{BAD_RULE, COMPRESSED_REFUSED, UNDEFINED_MACRO};
 use build_base::{Refusal, Same, Taken, Text, WantOfMemory, refuse};
-use doc_reading::least_check::least_refusal;
+use doc_reading::least_check::{least_of_one, least_refusal, with_check};
 use doc_types::standard::{
     EFI_SECTION_DXE_DEPEX, EFI_SECTION_FIRMWARE_VOLUME_IMAGE, EFI_SECTION_MM_DEPEX,
     EFI_SECTION_PE32, EFI_SECTION_PEI_DEPEX, EFI_SECTION_RAW, EFI_SECTION_TE,
@@ -136,68 +138,89 @@ fn rule_kind(word: &[u8]) -> Option<RuleKind>
     lookup(&RULE_KINDS, word)
 }
 
-fn number_or_zero(number: Option<u16>) -> u16
-    ensures { result ≡ number_or_zero number }
-{
-    match number {
-        Some(number) => number,
-        None => 0,
-    }
-}
-
 fn made_plan(
     alloc: Global,
     line: &Taken,
     kind: u8,
     options: RuleOptions,
+    number: u16,
     source: SectionSource,
 ) -> Result<Row, WantOfMemory>
-    ensures { IfOk result (λ row. row ≡ made_plan line.now kind options source) }
+    ensures { IfOk result (λ row. row ≡ made_plan line.now kind options number source) }
 {
     Ok(Row::RuleSection(SectionPlan {
         at: line.at.copy(alloc)?,
         kind,
         optional: options.optional,
         align: options.align,
-        number: number_or_zero(options.number),
+        number,
         guid: None,
         source,
     }))
+}
+
+fn is_blank(byte: u8) -> bool
+    ensures { result ≡ is_blank byte }
+{
+    byte == b'\t' || byte == b' '
+}
+
+fn has_no_blank(text: &[u8]) -> bool
+    ensures { result ≡ list_all (λ b. not (is_blank b)) text.now }
+{
+    text.iter().all(|byte| !is_blank(*byte))
 }
 
 #[tactic(auto, unfolding(crate::specs::Rules::is_extension))]
 fn is_extension(text: &[u8]) -> bool
     ensures { result ≡ is_extension text.now }
 {
-    text.starts_with(b"|.")
+    text.starts_with(b"|.") && has_no_blank(text)
 }
 
-fn extension(alloc: Global, line: &Taken, kind: u8, options: RuleOptions) -> Result<Row, Refusal>
-    ensures { Answers result
-        (judged (other_macro line.now line.now.text ∷ [])
-        (made_plan line.now kind options (Refused line.now.text))) }
+fn check_path(
+    alloc: Global,
+    line: &Taken,
+    same: bool,
+    options: RuleOptions,
+    path: &[u8],
+) -> Result<(), Refusal>
+    ensures { Checks result (path_fault line.now same options path.now) }
 {
-    check_macros(alloc, line, line.text.bytes())?;
-    let source = SectionSource::Refused(line.text.copy(alloc)?);
-    let row = made_plan(alloc, line, kind, options, source)?;
-    Ok(row)
+    if options.wrong {
+        return Err(no_rule(alloc, line));
+    }
+    if is_extension(path) {
+        return check_macros(alloc, line, line.text.bytes());
+    }
+    if same && !path.is_empty() {
+        return check_around(alloc, line, path);
+    }
+    Err(no_rule(alloc, line))
 }
 
-fn template(
+fn path_source(alloc: Global, line: &Taken, path: &[u8]) -> Result<SectionSource, WantOfMemory>
+    ensures { IfOk result (λ source. source ≡ path_source line.now path.now) }
+{
+    if is_extension(path) {
+        return Ok(SectionSource::Refused(line.text.copy(alloc)?));
+    }
+    Ok(SectionSource::Template(Text::of(alloc, without_workspace(path))?))
+}
+
+fn path_plan(
     alloc: Global,
     line: &Taken,
     kind: u8,
     options: RuleOptions,
+    number: u16,
     path: &[u8],
-) -> Result<Row, Refusal>
-    ensures { Answers result
-        (judged (other_around line.now path.now ∷ [])
-        (made_plan line.now kind options (Template (without_workspace path.now)))) }
+) -> Result<Row, WantOfMemory>
+    ensures { IfOk result
+        (λ row. row ≡ made_plan line.now kind options number (path_source line.now path.now)) }
 {
-    check_around(alloc, line, path)?;
-    let source = SectionSource::Template(Text::of(alloc, without_workspace(path))?);
-    let row = made_plan(alloc, line, kind, options, source)?;
-    Ok(row)
+    let source = path_source(alloc, line, path)?;
+    made_plan(alloc, line, kind, options, number, source)
 }
 
 fn path_line(
@@ -211,18 +234,46 @@ fn path_line(
         (judged (path_faults line.now same (rule_parts text.now))
         (path_row line.now kind (rule_parts text.now))) }
 {
-    let Some((options, path)) = rule_parts(text) else {
-        return Err(no_rule(alloc, line));
-    };
-    if is_extension(path) {
-        let row = extension(alloc, line, kind, options)?;
-        return Ok(Some(row));
+    let (options, word, path) = rule_parts(text);
+    match stated_number(alloc, line, options.numbered, word) {
+        Ok(number) => {
+            least_of_one(check_path(alloc, line, same, options, path))?;
+            let row = path_plan(alloc, line, kind, options, number, path)?;
+            Ok(Some(row))
+        }
+        Err(Refusal::WantOfMemory) => Err(Refusal::WantOfMemory),
+        Err(refusal) => Err(with_check(
+            refusal,
+            least_of_one(check_path(alloc, line, same, options, path)),
+        )),
     }
-    if same && !path.is_empty() {
-        let row = template(alloc, line, kind, options, path)?;
-        return Ok(Some(row));
+}
+
+fn check_text(alloc: Global, line: &Taken, options: RuleOptions, rest: &[u8]) -> Result<(), Refusal>
+    ensures { Checks result (text_fault line.now options rest.now) }
+{
+    if options.wrong {
+        return Err(no_rule(alloc, line));
+    }
+    if rest.is_empty() {
+        return check_macros(alloc, line, line.text.bytes());
     }
     Err(no_rule(alloc, line))
+}
+
+fn text_plan(
+    alloc: Global,
+    line: &Taken,
+    kind: u8,
+    options: RuleOptions,
+    number: u16,
+    words: &[u8],
+) -> Result<Row, WantOfMemory>
+    ensures { IfOk result
+        (λ row. row ≡ made_plan line.now kind options number (Words words.now)) }
+{
+    let source = SectionSource::Words(Text::of(alloc, words)?);
+    made_plan(alloc, line, kind, options, number, source)
 }
 
 fn text_line(
@@ -236,16 +287,19 @@ fn text_line(
         (judged (text_faults line.now (rule_parts rest.now))
         (text_row line.now kind words.now (rule_parts rest.now))) }
 {
-    let Some((options, rest)) = rule_parts(rest) else {
-        return Err(no_rule(alloc, line));
-    };
-    if !rest.is_empty() {
-        return Err(no_rule(alloc, line));
+    let (options, word, rest) = rule_parts(rest);
+    match stated_number(alloc, line, options.numbered, word) {
+        Ok(number) => {
+            least_of_one(check_text(alloc, line, options, rest))?;
+            let row = text_plan(alloc, line, kind, options, number, words)?;
+            Ok(Some(row))
+        }
+        Err(Refusal::WantOfMemory) => Err(Refusal::WantOfMemory),
+        Err(refusal) => Err(with_check(
+            refusal,
+            least_of_one(check_text(alloc, line, options, rest)),
+        )),
     }
-    check_macros(alloc, line, line.text.bytes())?;
-    let source = SectionSource::Words(Text::of(alloc, words)?);
-    let row = made_plan(alloc, line, kind, options, source)?;
-    Ok(Some(row))
 }
 
 #[tactic(auto, unfolding(crate::specs::Rules::stated_words))]

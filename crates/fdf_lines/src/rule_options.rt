@@ -1,13 +1,11 @@
 //! The options of a rule's sections.
 ghost use Rattle.std.specs.Prelude.{◌≡◌};
-ghost use Rattle.std.specs.Option.{option_map};
 ghost use Rattle.fdf_words.specs.Words.{after_word, after_equals};
-ghost use Rattle.fdf_lines.specs.Rules.{rule_option, rule_align, within_word, build_number, with_optional, with_rule_align, put_number, with_number, with_rule_option, next_rule, rule_parts};
+ghost use Rattle.fdf_lines.specs.Rules.{rule_option, rule_align, with_optional, with_rule_align, with_number, first_number, with_rule_option, next_rule, rule_parts};
 
 use doc_types::volume::Align;
 use fdf_words::words::{after_equals, alignment_of, first_word};
 use meta_lexer::lookup;
-use meta_lexer::numbers::number;
 use meta_lexer::words::same_word;
 
 /// A word that states an option of a rule's section.
@@ -18,12 +16,14 @@ pub enum RuleOption {
     BuildNumber,
 }
 
-/// The options of a rule's section.
+/// The options of a rule's section: whether a build number is stated, and whether an option stands
+/// twice or isn't of its form.
 #[derive(Clone, Copy, PartialEq, Eq)]
 pub struct RuleOptions {
     pub optional: bool,
     pub align: Align,
-    pub number: Option<u16>,
+    pub numbered: bool,
+    pub wrong: bool,
 }
 
 const RULE_OPTIONS: [(&[u8], RuleOption); 3] = [
@@ -52,135 +52,119 @@ fn rule_align(word: &[u8]) -> Option<Align>
     }
 }
 
-fn within_word(number: Option<u64>) -> Option<u16>
-    ensures { result ≡ within_word number }
+fn with_optional(options: RuleOptions) -> RuleOptions
+    ensures { result ≡ with_optional options }
 {
-    match number {
-        Some(number) => {
-            if number <= 65535 {
-                Some(number as u16)
-            } else {
-                None
-            }
-        }
-        None => None,
+    RuleOptions {
+        optional: true,
+        align: options.align,
+        numbered: options.numbered,
+        wrong: options.wrong || options.optional,
     }
 }
 
-#[tactic(auto, unfolding(crate::specs::Rules::build_number))]
-fn build_number(word: &[u8]) -> Option<u16>
-    ensures { result ≡ build_number word.now }
+fn with_wrong(options: RuleOptions) -> RuleOptions
+    ensures { result ≡ record options { wrong = Rattle.std.specs.Prelude.true } }
 {
-    if word == b"$(BUILD_NUMBER)".as_slice() {
-        return Some(0);
+    RuleOptions {
+        optional: options.optional,
+        align: options.align,
+        numbered: options.numbered,
+        wrong: true,
     }
-    within_word(number(word))
 }
 
-fn with_optional(options: RuleOptions, rest: &[u8]) -> Option<(RuleOptions, &[u8])>
-    ensures { option_map (λ p. (p.0, p.1.now)) result ≡ with_optional options rest.now }
+fn with_rule_align(options: RuleOptions, align: Option<Align>) -> RuleOptions
+    ensures { result ≡ with_rule_align options align }
 {
-    if options.optional {
-        return None;
-    }
-    Some((
-        RuleOptions {
-            optional: true,
-            align: options.align,
-            number: options.number,
-        },
-        rest,
-    ))
-}
-
-fn with_rule_align(
-    options: RuleOptions,
-    rest: &[u8],
-    align: Option<Align>,
-) -> Option<(RuleOptions, &[u8])>
-    ensures { option_map (λ p. (p.0, p.1.now)) result ≡ with_rule_align options rest.now align }
-{
-    let align = align?;
+    let Some(align) = align else {
+        return with_wrong(options);
+    };
     match options.align {
-        Align::Unset => Some((
-            RuleOptions {
-                optional: options.optional,
-                align,
-                number: options.number,
-            },
-            rest,
-        )),
-        Align::Auto | Align::Bytes(_) => None,
+        Align::Unset => RuleOptions {
+            optional: options.optional,
+            align,
+            numbered: options.numbered,
+            wrong: options.wrong,
+        },
+        Align::Auto | Align::Bytes(_) => with_wrong(options),
     }
 }
 
-fn with_number(
-    options: RuleOptions,
-    rest: &[u8],
-    number: Option<u16>,
-) -> Option<(RuleOptions, &[u8])>
-    ensures { option_map (λ p. (p.0, p.1.now)) result ≡ with_number options rest.now number }
+fn with_number(options: RuleOptions) -> RuleOptions
+    ensures { result ≡ with_number options }
 {
-    let number = number?;
-    match options.number {
-        Some(_) => None,
-        None => Some((
-            RuleOptions {
-                optional: options.optional,
-                align: options.align,
-                number: Some(number),
-            },
-            rest,
-        )),
+    RuleOptions {
+        optional: options.optional,
+        align: options.align,
+        numbered: true,
+        wrong: options.wrong || options.numbered,
     }
+}
+
+fn first_number<'a>(options: RuleOptions, number: &'a [u8], word: &'a [u8]) -> &'a [u8]
+    ensures { result.now ≡ first_number options number.now word.now }
+{
+    if options.numbered { number } else { word }
 }
 
 fn with_rule_option<'a>(
     options: RuleOptions,
+    number: &'a [u8],
     text: &'a [u8],
     rest: &'a [u8],
     option: Option<RuleOption>,
-) -> Option<(RuleOptions, &'a [u8])>
+) -> (RuleOptions, &'a [u8], &'a [u8])
     requires { rest.now ≡ after_word text.now }
-    ensures { option_map (λ p. (p.0, p.1.now)) result
-        ≡ with_rule_option options text.now option (after_equals rest.now) }
+    ensures { (result.0, result.1.now, result.2.now)
+        ≡ with_rule_option options number.now text.now option (after_equals rest.now) }
 {
     match (option, after_equals(rest)) {
-        (Some(RuleOption::Optional), _) => with_optional(options, rest),
+        (Some(RuleOption::Optional), _) => (with_optional(options), number, rest),
         (Some(RuleOption::Aligned), Some(value)) => {
             let (word, rest) = first_word(value);
-            with_rule_align(options, rest, rule_align(word))
+            (with_rule_align(options, rule_align(word)), number, rest)
         }
         (Some(RuleOption::BuildNumber), Some(value)) => {
             let (word, rest) = first_word(value);
-            with_number(options, rest, build_number(word))
+            (
+                with_number(options),
+                first_number(options, number, word),
+                rest,
+            )
         }
-        (Some(RuleOption::Aligned), None) => Some((options, text)),
-        (Some(RuleOption::BuildNumber), None) => Some((options, text)),
-        (None, _) => Some((options, text)),
+        (Some(RuleOption::Aligned), None) => (options, number, text),
+        (Some(RuleOption::BuildNumber), None) => (options, number, text),
+        (None, _) => (options, number, text),
     }
 }
 
 #[tactic(auto, unfolding(crate::specs::Rules::next_rule))]
-fn next_rule(options: RuleOptions, text: &[u8]) -> Option<(RuleOptions, &[u8])>
-    ensures { option_map (λ p. (p.0, p.1.now)) result ≡ next_rule options text.now }
+fn next_rule<'a>(
+    options: RuleOptions,
+    number: &'a [u8],
+    text: &'a [u8],
+) -> (RuleOptions, &'a [u8], &'a [u8])
+    ensures { (result.0, result.1.now, result.2.now) ≡ next_rule options number.now text.now }
 {
     let (word, rest) = first_word(text);
-    with_rule_option(options, text, rest, rule_option(word))
+    with_rule_option(options, number, text, rest, rule_option(word))
 }
 
-/// The options of a section in any order, each at most once, and what stands behind them.
+/// The options of a section in any order, the build number as it is written, and what stands behind
+/// them. Of two build numbers the first is given.
 #[tactic(auto, unfolding(crate::specs::Rules::rule_parts))]
-pub fn rule_parts(text: &[u8]) -> Option<(RuleOptions, &[u8])>
-    ensures { option_map (λ p. (p.0, p.1.now)) result ≡ rule_parts text.now }
+pub fn rule_parts(text: &[u8]) -> (RuleOptions, &[u8], &[u8])
+    ensures { (result.0, result.1.now, result.2.now) ≡ rule_parts text.now }
 {
     let none = RuleOptions {
         optional: false,
         align: Align::Unset,
-        number: None,
+        numbered: false,
+        wrong: false,
     };
-    let (options, text) = next_rule(none, text)?;
-    let (options, text) = next_rule(options, text)?;
-    let (options, text) = next_rule(options, text)?;
-    next_rule(options, text)
+    let (options, number, text) = next_rule(none, &text[..0], text);
+    let (options, number, text) = next_rule(options, number, text);
+    let (options, number, text) = next_rule(options, number, text);
+    next_rule(options, number, text)
 }

@@ -28,10 +28,14 @@ made_set line rank (Some pcd) value =
     Some (Set (record { at = line.at; rank = rank; pcd = pcd; value = value }))
 made_set line rank None value = None
 
+-- of a line without `=` what follows the word, or where nothing does the word
+abbrev pub told_of : Taken → List ℕ → List ℕ
+told_of line text = if length text == 0 then line.text else text
+
 abbrev pub halves_faults : Taken → List ℕ → Option (List ℕ × List ℕ) → List (Option Fault)
 halves_faults line text (Some p) = parts_faults line p.0 p.1
-halves_faults line text None = undefined_macro line.at text ∷ Some (fault_of BAD_KEY line.at text)
-    ∷ []
+halves_faults line text None =
+    undefined_macro line.at text ∷ Some (fault_of BAD_KEY line.at (told_of line text)) ∷ []
 
 abbrev pub halves_row : Taken → ℕ → Option (List ℕ × List ℕ) → Option Row
 halves_row line rank (Some p) = made_set line rank (pcd_name_of p.0) p.1

@@ -3,7 +3,7 @@ ghost use Rattle.std.specs.Prelude.{◌≡◌, IfOk};
 ghost use Rattle.build_base.specs.Answer.{Answers, Checks};
 ghost use Rattle.doc_reading.specs.Gathering.{judged};
 ghost use Rattle.doc_types.specs.Pcds.{pcd_name_of};
-ghost use Rattle.fdf_words.specs.SetLines.{parts_fault, parts_faults, made_set, set_faults, set_row};
+ghost use Rattle.fdf_words.specs.SetLines.{parts_fault, parts_faults, made_set, told_of, set_faults, set_row};
 
 use crate::number::no_key;
 use crate::rows::Row;
@@ -77,6 +77,16 @@ fn parts_row(
     Ok(row)
 }
 
+fn told_of<'a>(line: &'a Taken, text: &'a [u8]) -> &'a [u8]
+    ensures { result.now ≡ told_of line.now text.now }
+{
+    if text.is_empty() {
+        line.text.bytes()
+    } else {
+        text
+    }
+}
+
 /// The value that a line gives to a PCD.
 #[tactic(auto, unfolding(crate::specs::SetLines::set_faults, crate::specs::SetLines::set_row))]
 pub fn set_line(alloc: Global, line: &Taken, rank: u8) -> Result<Option<Row>, Refusal>
@@ -85,6 +95,6 @@ pub fn set_line(alloc: Global, line: &Taken, rank: u8) -> Result<Option<Row>, Re
     let (_, rest) = first_word(line.text.bytes());
     match halves(b'=', rest) {
         Some((name, value)) => parts_row(alloc, line, rank, name, value),
-        None => Err(no_key(alloc, line, rest, rest)),
+        None => Err(no_key(alloc, line, told_of(line, rest), rest)),
     }
 }

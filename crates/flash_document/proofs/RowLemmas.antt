@@ -358,17 +358,25 @@ rule_unnamed (rule_kind_.Plain kind) = not (kind == EFI_SECTION_FREEFORM_SUBTYPE
 rule_unnamed (rule_kind_.Worded kind) = not (kind == EFI_SECTION_FREEFORM_SUBTYPE_GUID)
 rule_unnamed rule_kind_.Compressed = true
 
-rule_path_fits : (line : Taken) (kind : ℕ) (o : Option (RuleOptions × List ℕ)) → not (kind == EFI_SECTION_FREEFORM_SUBTYPE_GUID) ≡ true → IfSome (rule.path_row line kind o) RowFits
-rule_path_fits line kind (Some p) h =
-    elim (rule.is_extension p.1) as (λ b. RowFits (rule.made_plan line kind p.0 (if b then Refused line.text else Template (without_workspace p.1)))) [
+numbered_path : (line : Taken) (kind : ℕ) (options : RuleOptions) (path : List ℕ) (number : Result ℕ Fault) → not (kind == EFI_SECTION_FREEFORM_SUBTYPE_GUID) ≡ true
+    → IfSome (rule.numbered_row line kind options (rule.path_source line path) number) RowFits
+numbered_path line kind options path (Ok number) h =
+    elim (rule.is_extension path) as (λ b. RowFits (rule.made_plan line kind options number (if b then Refused line.text else Template (without_workspace path)))) [
       | true ↦ (tt, tt)
       | false ↦ (no_guid kind h, tt)
     ]
-rule_path_fits line kind None h = tt
+numbered_path line kind options path (Err fault) h = tt
 
-rule_text_fits : (line : Taken) (kind : ℕ) (words : List ℕ) (o : Option (RuleOptions × List ℕ)) → not (kind == EFI_SECTION_FREEFORM_SUBTYPE_GUID) ≡ true → IfSome (rule.text_row line kind words o) RowFits
-rule_text_fits line kind words (Some p) h = (no_guid kind h, tt)
-rule_text_fits line kind words None h = tt
+rule_path_fits : (line : Taken) (kind : ℕ) (p : RuleOptions × List ℕ × List ℕ) → not (kind == EFI_SECTION_FREEFORM_SUBTYPE_GUID) ≡ true → IfSome (rule.path_row line kind p) RowFits
+rule_path_fits line kind p h = numbered_path line kind p.0 p.2 (rule.number_in line p.0 p.1) h
+
+numbered_text : (line : Taken) (kind : ℕ) (options : RuleOptions) (words : List ℕ) (number : Result ℕ Fault) → not (kind == EFI_SECTION_FREEFORM_SUBTYPE_GUID) ≡ true
+    → IfSome (rule.numbered_row line kind options (Words words) number) RowFits
+numbered_text line kind options words (Ok number) h = (no_guid kind h, tt)
+numbered_text line kind options words (Err fault) h = tt
+
+rule_text_fits : (line : Taken) (kind : ℕ) (words : List ℕ) (p : RuleOptions × List ℕ × List ℕ) → not (kind == EFI_SECTION_FREEFORM_SUBTYPE_GUID) ≡ true → IfSome (rule.text_row line kind words p) RowFits
+rule_text_fits line kind words p h = numbered_text line kind p.0 words (rule.number_in line p.0 p.1) h
 
 quoted_fits : (line : Taken) (kind : ℕ) (o : Option (List ℕ × List ℕ)) → not (kind == EFI_SECTION_FREEFORM_SUBTYPE_GUID) ≡ true → IfSome (rule.quoted_row line kind o) RowFits
 quoted_fits line kind (Some p) h = rule_text_fits line kind p.0 (rule.rule_parts p.1) h

@@ -34,7 +34,7 @@ use Rattle.flash_document.specs.Names.{folded, place_from, place_of}
 use Rattle.flash_document.specs.Numbering.{order_of}
 use Rattle.flash_document.specs.Parts.{all_stated}
 use Rattle.flash_document.specs.Shape.{HeadFits, KindFits, RegionFits, DeviceFits, SectionFits, NameFits, RuleFits, HasShape}
-use Rattle.flash_document.specs.Whole.{volumes_of, volume_in, names_of, nests_of, nest_in, all_held, held_of, first_size, volume_size, block_of, size_of, size_fault, part_too_large, whole_blocks, unlike, blocks_with, volume_blocks, part_blocks, part_unstated, loop_fault, row_unknown, line_unknown, part_sizes, twin, whole_fault}
+use Rattle.flash_document.specs.Whole.{volumes_of, volume_in, names_of, nests_of, nest_in, all_held, held_of, first_size, volume_size, block_of, size_of, size_fault, part_too_large, whole_blocks, unlike, blocks_with, volume_blocks, part_blocks, part_unstated, loop_fault, row_unknown, line_unknown, part_sizes, part_key, twin, is_again, above_with, twin_marks, first_marked, whole_fault}
 use Rattle.flash_document.specs.declared.held.HeldRegion.{HeldRegion}
 use Rattle.flash_document.specs.declared.held.HeldSizes.{HeldSizes}
 use Rattle.flash_document.specs.declared.stated.Stated.{Stated}
@@ -135,19 +135,33 @@ pub record Makes (regions : List HeldRegion) (volume : StatedVolume) : Type 0 wh
 plan_fits : (names : List (List ℕ)) (regions : List HeldRegion) (volume : StatedVolume) → Makes regions volume → HeadFits (volume_plan names regions volume)
 plan_fits names regions volume h = size_shape volume.at (block_of volume (held_of regions volume)) volume.blocks (held_of regions volume) h.small h.full
 
-part_makes : (regions : List HeldRegion) (part : Stated) → part_too_large regions part ≡ None → part_blocks regions part ≡ None → All (Makes regions) (volume_in part)
-part_makes regions Settings small full = All-nil (Makes regions)
-part_makes regions (Device device) small full = All-nil (Makes regions)
-part_makes regions (Volume volume) small full = All-cons (Makes regions) volume [] (record { small = small; full = full }) (All-nil (Makes regions))
-part_makes regions (Rule rule) small full = All-nil (Makes regions)
+some_none : {X : Type 0} {fault : Fault} → Some fault ≡ None → X
+some_none e = absurd cc
 
-all_make : (regions : List HeldRegion) (parts : List Stated) → first_fault (part_too_large regions) parts ≡ None → first_fault (part_blocks regions) parts ≡ None
-    → All (Makes regions) (volumes_of parts)
-all_make regions [] small full = All-nil (Makes regions)
-all_make regions (part ∷ parts) small full =
-    let s = neither (part_too_large regions part) (first_fault (part_too_large regions) parts) small in
-    let f = neither (part_blocks regions part) (first_fault (part_blocks regions) parts) full in
-    All-append (Makes regions) (volume_in part) (volumes_of parts) (part_makes regions part s.0 f.0) (all_make regions parts s.1 f.1)
+volume_makes : (regions : List HeldRegion) (again : Bool) (volume : StatedVolume) → part_too_large regions again (Volume volume) ≡ None → part_blocks regions again (Volume volume) ≡ None
+    → twin again (Volume volume) ≡ None → All (Makes regions) (volume ∷ [])
+volume_makes regions true volume small full once = some_none once
+volume_makes regions false volume small full once = All-cons (Makes regions) volume [] (record { small = small; full = full }) (All-nil (Makes regions))
+
+part_makes : (regions : List HeldRegion) (again : Bool) (part : Stated) → part_too_large regions again part ≡ None → part_blocks regions again part ≡ None → twin again part ≡ None
+    → All (Makes regions) (volume_in part)
+part_makes regions again Settings small full once = All-nil (Makes regions)
+part_makes regions again (Device device) small full once = All-nil (Makes regions)
+part_makes regions again (Volume volume) small full once = volume_makes regions again volume small full once
+part_makes regions again (Rule rule) small full once = All-nil (Makes regions)
+
+-- where no name stands twice, each volume is the first of its name
+all_make : (regions : List HeldRegion) (parts : List Stated) (above : List (List ℕ)) → first_marked (part_too_large regions) parts (twin_marks parts above) ≡ None
+    → first_marked (part_blocks regions) parts (twin_marks parts above) ≡ None → first_marked twin parts (twin_marks parts above) ≡ None → All (Makes regions) (volumes_of parts)
+unfolding twin_marks
+all_make regions [] above small full once = All-nil (Makes regions)
+all_make regions (part ∷ parts) above small full once =
+    let again : Bool = is_again above (part_key part) in
+    let below : List (List ℕ) = above_with above (part_key part) in
+    let s = neither (part_too_large regions again part) (first_marked (part_too_large regions) parts (twin_marks parts below)) small in
+    let f = neither (part_blocks regions again part) (first_marked (part_blocks regions) parts (twin_marks parts below)) full in
+    let o = neither (twin again part) (first_marked twin parts (twin_marks parts below)) once in
+    All-append (Makes regions) (volume_in part) (volumes_of parts) (part_makes regions again part s.0 f.0 o.0) (all_make regions parts below s.1 f.1 o.1)
 
 one_fits : (names : List (List ℕ)) (regions : List HeldRegion) (o : Option StatedVolume) → IfSome o (Makes regions) → All HeadFits (plan_at names regions o)
 one_fits names regions None h = All-nil HeadFits
@@ -268,10 +282,13 @@ document_shape root lines parts told all few h =
     let regions : List HeldRegion = all_held parts in
     let names : List (List ℕ) = ordered_names parts in
     let a = neither (first_fault part_unstated parts) _ h in
-    let b = neither (first_fault (part_too_large regions) parts) _ a.1 in
+    let marks : List Bool = twin_marks parts [] in
+    let b = neither (first_marked (part_too_large regions) parts marks) _ a.1 in
     let c = neither (loop_fault parts) _ b.1 in
     let d = neither (first_fault (line_unknown (names_of parts)) lines) _ c.1 in
-    let e = neither (first_fault (part_blocks regions) parts) _ d.1 in
+    let e = neither (first_marked (part_blocks regions) parts marks) _ d.1 in
+    let f = neither (first_marked (part_sizes regions) parts marks) _ e.1 in
+    let g = neither (first_marked twin parts marks) _ f.1 in
     let same : length names ≡ length (flat_map (λ p. plan_at names regions (slice_get (volumes_of parts) p)) (numbered parts)) =
     length-map (numbered parts) (λ p. get_or (names_of parts) p []) ∙ sym (plans_count names regions (volumes_of parts) (numbered parts) (numbered_below parts)) in
     let stated : All (StatedHas RowFits ScopeFits) parts = subst (All (StatedHas RowFits ScopeFits)) (sym told) (all_have RowFits ScopeFits lines all) in
@@ -279,7 +296,7 @@ document_shape root lines parts told all few h =
     subst (All (StatedHas (λ r. row_unknown (names_of parts) r ≡ None) (λ s. Unit {0}))) (sym told)
     (all_have (λ r. row_unknown (names_of parts) r ≡ None) (λ s. Unit {0}) lines (lines_known (names_of parts) lines (faultless (line_unknown (names_of parts)) lines d.0))) in
     record {
-      volumes = plans_fit names regions (volumes_of parts) (all_make regions parts b.0 e.0) (numbered parts);
+      volumes = plans_fit names regions (volumes_of parts) (all_make regions parts [] b.0 e.0 g.0) (numbered parts);
       regions = subst (λ count. All (DeviceFits count) (flat_map (part_device names) parts)) same (devices_fit names parts);
       nested = plans_nested (names_of parts) regions (volumes_of parts) names (volumes_have RowFits ScopeFits parts stated)
           (volumes_have (λ r. row_unknown (names_of parts) r ≡ None) (λ s. Unit {0}) parts known) [] (numbered parts) refl (order_ordered (nests_of parts)) (numbered_below parts);

@@ -1,9 +1,9 @@
 -- The checks over a whole flash description (EDK II FDF specification; the limits are this
 -- project's own), in the order of their codes; of one code the one of the earliest place.
-use Rattle.std.specs.Prelude.{ℕ, ◌*◌, ◌-◌, ◌%◌, nat_le, ◌==◌, if◌then◌else◌, List, [], ◌∷◌, ◌++◌, map, Option, Some, None, is_some, unwrap_or, codes, decimal, slice_get, nat_eq}
+use Rattle.std.specs.Prelude.{ℕ, Bool, false, ◌*◌, ◌-◌, ◌%◌, nat_le, ◌==◌, if◌then◌else◌, List, [], ◌∷◌, ◌++◌, map, Option, Some, None, is_some, unwrap_or, codes, decimal, slice_get, nat_eq}
 use Rattle.std.specs.List.{flat_map}
 use Rattle.std.specs.Cmp.Lexicographic.{pointwise}
-use Rattle.build_base.specs.First.{first_of}
+use Rattle.build_base.specs.First.{first_of, or_else}
 use Rattle.build_base.specs.FaultText.{fault_of}
 use Rattle.build_base.specs.declared.fault.Fault.{Fault}
 use Rattle.build_base.specs.declared.fault.Place.{Place}
@@ -133,10 +133,14 @@ size_fault at (Some size) = if nat_le size size_limit then None
     else Some (fault_of SIZE_TOO_LARGE at (decimal size))
 size_fault at None = None
 
-abbrev pub part_too_large : List HeldRegion → Stated → Option Fault
-part_too_large regions (Volume volume) =
-    size_fault volume.at (size_of volume (held_of regions volume))
-part_too_large regions stated = None
+-- a region holds the first volume of its name, so a volume whose name one above has stands in none
+abbrev pub held_first : List HeldRegion → Bool → StatedVolume → Option HeldSizes
+held_first regions again volume = if again then None else held_of regions volume
+
+abbrev pub part_too_large : List HeldRegion → Bool → Stated → Option Fault
+part_too_large regions again (Volume volume) =
+    size_fault volume.at (size_of volume (held_first regions again volume))
+part_too_large regions again stated = None
 
 abbrev pub body_names : SectionBody → List (List ℕ)
 body_names (body.Volume name) = name ∷ []
@@ -221,19 +225,19 @@ blocks_with at held block None = whole_blocks at block (first_size held)
 abbrev pub volume_blocks : StatedVolume → Option HeldSizes → Option Fault
 volume_blocks volume held = blocks_with volume.at held (block_of volume held) volume.blocks
 
-abbrev pub part_blocks : List HeldRegion → Stated → Option Fault
-part_blocks regions (Device device) = device_blocks device.at device.blocks device.size
-part_blocks regions (Volume volume) = volume_blocks volume (held_of regions volume)
-part_blocks regions stated = None
+abbrev pub part_blocks : List HeldRegion → Bool → Stated → Option Fault
+part_blocks regions again (Device device) = device_blocks device.at device.blocks device.size
+part_blocks regions again (Volume volume) = volume_blocks volume (held_first regions again volume)
+part_blocks regions again stated = None
 
 abbrev pub two_sizes : Place → Option HeldSizes → Option Fault
 two_sizes at None = None
 two_sizes at (Some held) = unlike VOLUME_TWO_SIZES at held.first held.other
 
 -- the regions that hold a volume have one size
-abbrev pub part_sizes : List HeldRegion → Stated → Option Fault
-part_sizes regions (Volume volume) = two_sizes volume.at (held_of regions volume)
-part_sizes regions stated = None
+abbrev pub part_sizes : List HeldRegion → Bool → Stated → Option Fault
+part_sizes regions again (Volume volume) = two_sizes volume.at (held_first regions again volume)
+part_sizes regions again stated = None
 
 -- a name with the kind of the thing that has it: D, F or R
 abbrev pub part_key : Stated → Option (List ℕ)
@@ -248,26 +252,40 @@ named_twice (Device device) = Some (fault_of FDF_REPEATED_NAME device.at device.
 named_twice (Volume volume) = Some (fault_of FDF_REPEATED_NAME volume.at volume.name)
 named_twice (Rule rule) = Some (fault_of FDF_REPEATED_NAME rule.rule.at rule.name)
 
-abbrev pub twin_with : (List (List ℕ) → Option Fault) → List (List ℕ) → Option Fault
-    → Option (List ℕ) → Option Fault
-twin_with more above fault None = more above
-twin_with more above fault (Some key) = if is_some (place_of above key) then fault
-    else more (above ++ key ∷ [])
+-- a device, volume or rule whose name one above of its kind has
+abbrev pub twin : Bool → Stated → Option Fault
+twin again part = if again then named_twice part else None
 
--- the first device, volume or rule whose name one above of its kind has
-unfoldable pub twin : List Stated → List (List ℕ) → Option Fault
-twin [] above = None
-twin (part ∷ parts) above = twin_with (twin parts) above (named_twice part) (part_key part)
+abbrev pub is_again : List (List ℕ) → Option (List ℕ) → Bool
+is_again above None = false
+is_again above (Some key) = is_some (place_of above key)
+
+abbrev pub above_with : List (List ℕ) → Option (List ℕ) → List (List ℕ)
+above_with above None = above
+above_with above (Some key) = above ++ key ∷ []
+
+-- of each part whether one above of its kind has its name
+unfoldable pub twin_marks : List Stated → List (List ℕ) → List Bool
+twin_marks [] above = []
+twin_marks (part ∷ parts) above =
+    is_again above (part_key part) ∷ twin_marks parts (above_with above (part_key part))
+
+-- the first fault of some parts, each with whether one above of its kind has its name
+abbrev pub first_marked : (Bool → Stated → Option Fault) → List Stated → List Bool → Option Fault
+first_marked fault [] marks = None
+first_marked fault (part ∷ parts) [] = None
+first_marked fault (part ∷ parts) (again ∷ marks) =
+    or_else (fault again part) (first_marked fault parts marks)
 
 -- the first fault of the whole
 unfoldable pub whole_fault : List LineRead → List Stated → Option Fault
 whole_fault lines parts =
     first_of (
     first_fault part_unstated parts
-    ∷ first_fault (part_too_large (all_held parts)) parts
+    ∷ first_marked (part_too_large (all_held parts)) parts (twin_marks parts [])
     ∷ loop_fault parts
     ∷ first_fault (line_unknown (names_of parts)) lines
-    ∷ first_fault (part_blocks (all_held parts)) parts
-    ∷ first_fault (part_sizes (all_held parts)) parts
-    ∷ twin parts []
+    ∷ first_marked (part_blocks (all_held parts)) parts (twin_marks parts [])
+    ∷ first_marked (part_sizes (all_held parts)) parts (twin_marks parts [])
+    ∷ first_marked twin parts (twin_marks parts [])
     ∷ [])

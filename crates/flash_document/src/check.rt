@@ -1,13 +1,13 @@
 //! The checks over the whole of a flash description.
-ghost use Rattle.std.specs.Prelude.{◌≡◌, ◌-◌, ◌%◌, ◌++◌, ◌∷◌, [], ℕ, IfOk, OnOk, Some, List, slice_get, map};
+ghost use Rattle.std.specs.Prelude.{◌≡◌, ◌-◌, ◌%◌, ◌++◌, ◌∷◌, [], ℕ, IfOk, OnOk, Some, is_some, List, slice_get, map};
 ghost use Rattle.std.specs.List.{flat_map};
 ghost use Rattle.build_base.specs.Answer.{Checks, Finds};
 ghost use Rattle.build_base.specs.FaultText.{fault_of};
 ghost use Rattle.meta_lexer.specs.Faults.{first_fault};
 ghost use Rattle.flash_document.specs.declared.held.HeldRegion.{HeldRegion as Part};
-ghost use Rattle.flash_document.specs.Names.{Places};
+ghost use Rattle.flash_document.specs.Names.{place_of, Places};
 ghost use Rattle.flash_document.specs.Held.{Sizes};
-ghost use Rattle.flash_document.specs.Whole.{other_than, first_size, block_of, size_of, unequal, unstated, part_unstated, size_fault, part_too_large, all_held, unknown, content_unknown, body_unknown, row_unknown, line_unknown, names_of, device_blocks, unlike, whole_blocks, volume_blocks, part_blocks, two_sizes, part_sizes, loop_fault, twin, part_key, named_twice, whole_fault};
+ghost use Rattle.flash_document.specs.Whole.{other_than, first_size, block_of, size_of, unequal, unstated, part_unstated, size_fault, held_first, part_too_large, all_held, unknown, content_unknown, body_unknown, row_unknown, line_unknown, names_of, device_blocks, unlike, whole_blocks, volume_blocks, part_blocks, two_sizes, part_sizes, loop_fault, part_key, named_twice, twin, is_again, above_with, twin_marks, first_marked, whole_fault};
 
 use crate::held::{HeldSizes, held_in};
 use crate::names::{add_name, place_in};
@@ -129,18 +129,35 @@ fn size_fault(alloc: Global, at: &Place, size: Option<u64>) -> Result<(), Refusa
     }
 }
 
+// The sizes of the regions that hold a volume; `again` is whether one above has its name.
+fn held_first(
+    alloc: Global,
+    sizes: &IndexMap<Vec<u8>, HeldSizes>,
+    again: bool,
+    volume: &StatedVolume,
+) -> Result<Option<HeldSizes>, WantOfMemory>
+    ensures { (regions : List Part) → Sizes regions sizes.now
+        → IfOk result (λ held. held ≡ held_first regions again volume.now) }
+{
+    if again {
+        return Ok(None);
+    }
+    held_in(alloc, sizes, volume)
+}
+
 fn part_too_large(
     alloc: Global,
     sizes: &IndexMap<Vec<u8>, HeldSizes>,
+    again: bool,
     part: &Stated,
 ) -> Result<(), Refusal>
     ensures { (regions : List Part) → Sizes regions sizes.now
-        → Checks result (part_too_large regions part.now) }
+        → Checks result (part_too_large regions again part.now) }
 {
     let Stated::Volume(volume) = part else {
         return Ok(());
     };
-    let held = held_in(alloc, sizes, volume)?;
+    let held = held_first(alloc, sizes, again, volume)?;
     size_fault(alloc, &volume.at, size_of(volume, held))
 }
 
@@ -149,14 +166,20 @@ pub fn check_sizes(
     alloc: Global,
     sizes: &IndexMap<Vec<u8>, HeldSizes>,
     parts: &[Stated],
+    repeats: &[bool],
 ) -> Result<(), Refusal>
     ensures { (regions : List Part) → Sizes regions sizes.now
-        → Checks result (first_fault (part_too_large regions) parts.now) }
+        → Checks result (first_marked (part_too_large regions) parts.now repeats.now) }
 {
     let mut left = parts;
+    let mut marks = repeats;
     while let [part, rest @ ..] = left {
-        part_too_large(alloc, sizes, part)?;
+        let [again, more @ ..] = marks else {
+            return Ok(());
+        };
+        part_too_large(alloc, sizes, *again, part)?;
         left = rest;
+        marks = more;
     }
     Ok(())
 }
@@ -305,15 +328,16 @@ fn volume_blocks(
 fn part_blocks(
     alloc: Global,
     sizes: &IndexMap<Vec<u8>, HeldSizes>,
+    again: bool,
     part: &Stated,
 ) -> Result<(), Refusal>
     ensures { (regions : List Part) → Sizes regions sizes.now
-        → Checks result (part_blocks regions part.now) }
+        → Checks result (part_blocks regions again part.now) }
 {
     match part {
         Stated::Device(device) => device_blocks(alloc, &device.at, device.blocks, device.size),
         Stated::Volume(volume) => {
-            let held = held_in(alloc, sizes, volume)?;
+            let held = held_first(alloc, sizes, again, volume)?;
             volume_blocks(alloc, volume, held)
         }
         _ => Ok(()),
@@ -325,14 +349,20 @@ pub fn check_blocks(
     alloc: Global,
     sizes: &IndexMap<Vec<u8>, HeldSizes>,
     parts: &[Stated],
+    repeats: &[bool],
 ) -> Result<(), Refusal>
     ensures { (regions : List Part) → Sizes regions sizes.now
-        → Checks result (first_fault (part_blocks regions) parts.now) }
+        → Checks result (first_marked (part_blocks regions) parts.now repeats.now) }
 {
     let mut left = parts;
+    let mut marks = repeats;
     while let [part, rest @ ..] = left {
-        part_blocks(alloc, sizes, part)?;
+        let [again, more @ ..] = marks else {
+            return Ok(());
+        };
+        part_blocks(alloc, sizes, *again, part)?;
         left = rest;
+        marks = more;
     }
     Ok(())
 }
@@ -349,15 +379,16 @@ fn two_sizes(alloc: Global, at: &Place, held: Option<HeldSizes>) -> Result<(), R
 fn part_sizes(
     alloc: Global,
     sizes: &IndexMap<Vec<u8>, HeldSizes>,
+    again: bool,
     part: &Stated,
 ) -> Result<(), Refusal>
     ensures { (regions : List Part) → Sizes regions sizes.now
-        → Checks result (part_sizes regions part.now) }
+        → Checks result (part_sizes regions again part.now) }
 {
     let Stated::Volume(volume) = part else {
         return Ok(());
     };
-    let held = held_in(alloc, sizes, volume)?;
+    let held = held_first(alloc, sizes, again, volume)?;
     two_sizes(alloc, &volume.at, held)
 }
 
@@ -366,14 +397,20 @@ pub fn check_regions(
     alloc: Global,
     sizes: &IndexMap<Vec<u8>, HeldSizes>,
     parts: &[Stated],
+    repeats: &[bool],
 ) -> Result<(), Refusal>
     ensures { (regions : List Part) → Sizes regions sizes.now
-        → Checks result (first_fault (part_sizes regions) parts.now) }
+        → Checks result (first_marked (part_sizes regions) parts.now repeats.now) }
 {
     let mut left = parts;
+    let mut marks = repeats;
     while let [part, rest @ ..] = left {
-        part_sizes(alloc, sizes, part)?;
+        let [again, more @ ..] = marks else {
+            return Ok(());
+        };
+        part_sizes(alloc, sizes, *again, part)?;
         left = rest;
+        marks = more;
     }
     Ok(())
 }
@@ -424,23 +461,81 @@ fn named_twice(alloc: Global, part: &Stated) -> Result<(), Refusal>
     }
 }
 
-/// Refuses the first device, volume or rule whose name one above of its kind has.
-#[tactic(auto, unfolding(crate::specs::Whole::twin))]
-pub fn check_twins(alloc: Global, parts: &[Stated]) -> Result<(), Refusal>
-    ensures { Checks result (twin parts.now []) }
+// Whether a name with its kind stands above; it is added there.
+fn add_key(
+    alloc: Global,
+    table: &mut IndexMap<Vec<u8>, usize>,
+    above: &mut Rows<Text>,
+    key: Text,
+) -> Result<bool, WantOfMemory>
+    ensures found { Places above.old table.old
+        → IfOk result (λ again. again ≡ is_some (place_of above.old key)) }
+    ensures longer { OnOk result (above.new ≡ above.old ++ key ∷ []) }
+    ensures placed { Places above.old table.old → OnOk result (Places above.new table.new) }
 {
+    let again = place_in(alloc, table, key.bytes())?.is_some();
+    add_name(alloc, table, key.bytes(), above.items().len())?;
+    above.push(key)?;
+    Ok(again)
+}
+
+// Whether one above has the name of a part, which is added there.
+fn add_part(
+    alloc: Global,
+    table: &mut IndexMap<Vec<u8>, usize>,
+    above: &mut Rows<Text>,
+    part: &Stated,
+) -> Result<bool, WantOfMemory>
+    ensures found { Places above.old table.old
+        → IfOk result (λ again. again ≡ is_again above.old (part_key part.now)) }
+    ensures longer { OnOk result (above.new ≡ above_with above.old (part_key part.now)) }
+    ensures placed { Places above.old table.old → OnOk result (Places above.new table.new) }
+{
+    match part_key(alloc, part)? {
+        Some(key) => add_key(alloc, table, above, key),
+        None => Ok(false),
+    }
+}
+
+/// Of each device, volume and rule whether one above of its kind has its name.
+#[tactic(auto, unfolding(crate::specs::Whole::twin_marks))]
+pub fn twin_marks(alloc: Global, parts: &[Stated]) -> Result<Rows<bool>, WantOfMemory>
+    ensures { IfOk result (λ marks. marks ≡ twin_marks parts.now []) }
+{
+    let mut marks = Rows::new(alloc);
     let mut above = Rows::new(alloc);
     let mut table = IndexMap::new(alloc);
     let mut left = parts;
     while let [part, rest @ ..] = left {
-        if let Some(key) = part_key(alloc, part)? {
-            if place_in(alloc, &table, key.bytes())?.is_some() {
-                return named_twice(alloc, part);
-            }
-            add_name(alloc, &mut table, key.bytes(), above.items().len())?;
-            above.push(key)?;
-        }
+        let again = add_part(alloc, &mut table, &mut above, part)?;
+        marks.push(again)?;
         left = rest;
+    }
+    Ok(marks)
+}
+
+fn twin(alloc: Global, again: bool, part: &Stated) -> Result<(), Refusal>
+    ensures { Checks result (twin again part.now) }
+{
+    if again {
+        return named_twice(alloc, part);
+    }
+    Ok(())
+}
+
+/// Refuses the first device, volume or rule whose name one above of its kind has.
+pub fn check_twins(alloc: Global, parts: &[Stated], repeats: &[bool]) -> Result<(), Refusal>
+    ensures { Checks result (first_marked twin parts.now repeats.now) }
+{
+    let mut left = parts;
+    let mut marks = repeats;
+    while let [part, rest @ ..] = left {
+        let [again, more @ ..] = marks else {
+            return Ok(());
+        };
+        twin(alloc, *again, part)?;
+        left = rest;
+        marks = more;
     }
     Ok(())
 }

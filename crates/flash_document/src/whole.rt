@@ -2,7 +2,7 @@
 ghost use Rattle.std.specs.Prelude.{◌≡◌, ◌++◌, ◌∷◌, [], ℕ, List, IfOk, OnOk, IfSome, IfNone, Some, None, map, slice_get};
 ghost use Rattle.std.specs.Option.{option_map};
 ghost use Rattle.build_base.specs.Answer.{Answers, Checks, Finds};
-ghost use Rattle.flash_document.specs.Whole.{volumes_of, names_of, nests_of, all_held, loop_at, loop_named, loop_fault, whole_fault};
+ghost use Rattle.flash_document.specs.Whole.{volumes_of, names_of, nests_of, all_held, loop_at, loop_named, loop_fault, twin_marks, whole_fault};
 ghost use Rattle.flash_document.specs.Numbering.{first_loop};
 ghost use Rattle.std.specs.List.{flat_map};
 ghost use Rattle.flash_document.specs.Document.{numbered, ordered_names, part_device, volume_plans, document_of, flash_of_lines};
@@ -12,7 +12,7 @@ ghost use Rattle.flash_document.specs.Parts.{all_stated};
 ghost use Rattle.flash_document.specs.Tables.{loop_in, Stands};
 
 use crate::check::{
-    check_blocks, check_names, check_regions, check_sizes, check_stated, check_twins,
+    check_blocks, check_names, check_regions, check_sizes, check_stated, check_twins, twin_marks,
 };
 use crate::components::numbers_of;
 use crate::held::{HeldSizes, all_held, sizes_of};
@@ -100,6 +100,26 @@ fn check_loops(
 }
 
 #[tactic(auto, unfolding(crate::specs::Whole::whole_fault))]
+fn check_marked(
+    alloc: Global,
+    lines: &[LineRead],
+    parts: &[Stated],
+    volumes: &[&StatedVolume],
+    tables: &Tables,
+    repeats: &[bool],
+) -> Result<(), Refusal>
+    ensures { map (λ v. v.now) volumes.now ≡ volumes_of parts.now → Stands parts.now tables.now
+        → repeats.now ≡ twin_marks parts.now [] → Checks result (whole_fault lines.now parts.now) }
+{
+    check_stated(alloc, parts)?;
+    check_sizes(alloc, &tables.sizes, parts, repeats)?;
+    check_loops(alloc, volumes, tables.nests.items())?;
+    check_names(alloc, &tables.places, lines)?;
+    check_blocks(alloc, &tables.sizes, parts, repeats)?;
+    check_regions(alloc, &tables.sizes, parts, repeats)?;
+    check_twins(alloc, parts, repeats)
+}
+
 fn check_whole(
     alloc: Global,
     lines: &[LineRead],
@@ -110,13 +130,8 @@ fn check_whole(
     ensures { map (λ v. v.now) volumes.now ≡ volumes_of parts.now → Stands parts.now tables.now
         → Checks result (whole_fault lines.now parts.now) }
 {
-    check_stated(alloc, parts)?;
-    check_sizes(alloc, &tables.sizes, parts)?;
-    check_loops(alloc, volumes, tables.nests.items())?;
-    check_names(alloc, &tables.places, lines)?;
-    check_blocks(alloc, &tables.sizes, parts)?;
-    check_regions(alloc, &tables.sizes, parts)?;
-    check_twins(alloc, parts)
+    let repeats = twin_marks(alloc, parts)?;
+    check_marked(alloc, lines, parts, volumes, tables, repeats.items())
 }
 
 // The places of the names in the order of the volumes' numbers.

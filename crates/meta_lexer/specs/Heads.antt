@@ -16,9 +16,13 @@ abbrev pub stands_between : ℕ → ℕ → List ℕ → Bool
 stands_between first last text = nat_le 2 (length text) && (slice_index text 0 == first)
     && (slice_index text (length text - 1) == last)
 
--- a part in quotes loses them
+-- one quoted text: nothing but its outer quotes are quotes
+abbrev pub is_quoted : List ℕ → Bool
+is_quoted text = stands_between 34 34 text && list_all (λ b. not (b == 34)) (inner text)
+
+-- one quoted text loses its quotes, and any other part stays as written
 unfoldable pub unquoted : List ℕ → List ℕ
-unquoted part = if stands_between 34 34 part then inner part else part
+unquoted part = if is_quoted part then inner part else part
 
 abbrev pub part_at : List ℕ → Span → List ℕ
 part_at text span = unquoted (without_blanks (bytes_at text span))

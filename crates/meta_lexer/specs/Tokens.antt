@@ -5,7 +5,7 @@ use Rattle.meta_lexer.specs.Faults.{Spot}
 use Rattle.meta_lexer.specs.Lines.{is_blank}
 use Rattle.meta_lexer.specs.Numbers.{is_digit}
 use Rattle.meta_lexer.specs.Fields.{ends_quoted, open_quote}
-use Rattle.meta_lexer.specs.Heads.{inner, stands_between}
+use Rattle.meta_lexer.specs.Heads.{is_quoted}
 use Rattle.meta_lexer.specs.declared.field.Span.{Span}
 use Rattle.meta_lexer.specs.declared.token.Token.{Token}
 use Rattle.meta_lexer.specs.declared.token.Front as code
@@ -90,5 +90,4 @@ tokens_of text = if ends_quoted text then Err (open_quote text) else Ok (tokens_
 -- what stands within quotes, where a text is one quoted text
 unfoldable pub quoted_of : List ℕ → Option Span
 quoted_of text =
-    if stands_between 34 34 text && list_all (λ b. not (b == 34)) (inner text)
-    then Some (record { start = 1; end = length text - 1 }) else None
+    if is_quoted text then Some (record { start = 1; end = length text - 1 }) else None

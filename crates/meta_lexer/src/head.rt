@@ -1,10 +1,10 @@
 //! Heads of sections, as `[name.qualifier.qualifier, name.qualifier]`.
-ghost use Rattle.std.specs.Prelude.{◌≡◌, ◌<◌, ◌≤◌, IfOk, length, nat_lt, Some, None, if◌then◌else◌};
+ghost use Rattle.std.specs.Prelude.{◌≡◌, ◌<◌, ◌≤◌, ◌==◌, IfOk, length, nat_lt, not, Some, None, if◌then◌else◌};
 ghost use Rattle.std.specs.Option.{option_map};
 ghost use Rattle.std.specs.List.{list_all};
 ghost use Rattle.meta_lexer.specs.Faults.{Gives};
 ghost use Rattle.meta_lexer.specs.Fields.{bytes_at, IsWithin};
-ghost use Rattle.meta_lexer.specs.Heads.{inner, stands_between, unquoted, part_at, head_of, heads_of, is_head, are_heads, begins_section, section_of};
+ghost use Rattle.meta_lexer.specs.Heads.{inner, stands_between, is_quoted, unquoted, part_at, head_of, heads_of, is_head, are_heads, begins_section, section_of};
 
 use crate::field::{Span, cut, ends_quoted};
 use crate::line::trim;
@@ -31,12 +31,36 @@ pub fn between(first: u8, last: u8, text: &[u8]) -> Option<&[u8]>
     }
 }
 
-/// A part in quotes, without them.
+/// Whether no quote stands in a text.
+pub(crate) fn has_no_quote(text: &[u8]) -> bool
+    ensures { result ≡ list_all (λ b. not (b == 34)) text.now }
+{
+    text.iter().all(|b| *b != b'"')
+}
+
+// What stands within the quotes of a text that is one quoted text.
+fn within_quotes(text: &[u8]) -> Option<&[u8]>
+    ensures { option_map (λ t. t.now) result
+        ≡ (if is_quoted text.now then Some (inner text.now) else None) }
+{
+    match between(b'"', b'"', text) {
+        Some(inner) => {
+            if has_no_quote(inner) {
+                Some(inner)
+            } else {
+                None
+            }
+        }
+        None => None,
+    }
+}
+
+/// One quoted text without its quotes; any other part as it is.
 #[tactic(auto, unfolding(crate::specs::Heads::unquoted))]
 pub fn unquoted(part: &[u8]) -> &[u8]
     ensures { result.now ≡ unquoted part.now }
 {
-    match between(b'"', b'"', part) {
+    match within_quotes(part) {
         Some(text) => text,
         None => part,
     }

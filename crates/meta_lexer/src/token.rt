@@ -7,7 +7,7 @@ ghost use Rattle.meta_lexer.specs.Tokens.{is_word_byte, are_digits, is_numeral, 
 ghost use Rattle.meta_lexer.specs.Fields.{IsWithin};
 
 use crate::field::{Span, ends_quoted, last_quote};
-use crate::head::between;
+use crate::head::{between, has_no_quote};
 use crate::line::is_blank;
 use crate::numbers::digit;
 use crate::refusal::LexRefusal;
@@ -209,12 +209,6 @@ pub fn tokens(alloc: Global, text: &[u8]) -> Result<Vec<Token>, LexRefusal>
         i += push_front(&mut found, i, &text[i..])?;
     }
     Ok(found)
-}
-
-fn has_no_quote(text: &[u8]) -> bool
-    ensures { result ≡ list_all (λ b. not (b == 34)) text.now }
-{
-    text.iter().all(|b| *b != b'"')
 }
 
 /// What stands within the quotes of a text that is one quoted text.
