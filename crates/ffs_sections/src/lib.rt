@@ -5,10 +5,16 @@ pub mod alignment;
 pub mod faults;
 pub mod file;
 pub mod header;
+pub mod lent;
+pub mod lent_plan;
 pub mod sections;
+pub mod sizes;
 pub mod standard;
 pub mod sums;
 
-pub use file::file_of;
+pub use file::{file_of, file_of_lent};
+pub use lent::{LentContent, LentPart};
+pub use lent_plan::{LentBody, LentPlan};
 pub use sections::have_guids;
+pub use sizes::file_length;
 pub use sums::{body_sum, header_sum, header_sum_long};

@@ -1,15 +1,18 @@
 //! Sections, one after another.
 ghost use Rattle.std.specs.Prelude.{◌≡◌, ◌≤◌, ◌<◌, ◌+◌, ◌^◌, ◌++◌, length, vec_len, OnOk, IfOk, Some, ◌%◌, ◌==◌, ◌↔◌, IsTrue, All, is_some};
 ghost use Rattle.build_base.specs.First.{unless};
-ghost use Rattle.build_base.specs.Answer.{Grows, Checks};
+ghost use Rattle.build_base.specs.Answer.{Answers, Grows, Checks};
 ghost use Rattle.doc_types.specs.Standard.{EFI_SECTION_FREEFORM_SUBTYPE_GUID};
 ghost use Rattle.ffs_sections.specs.Sections.{guid_bytes, is_large, content_at, section_limit, section_size, section_head, section_bytes, part_pad, pad_section, with_part, part_fault, with_parts, HaveGuids};
+ghost use Rattle.ffs_sections.specs.Sizes.{part_end, parts_end};
 
 use crate::alignment::{is_align, pad};
 use crate::faults::sized;
+use crate::lent::LentPart;
 use crate::standard::{FFS3_LIMIT, SECTION_LIMIT};
+use build_base::bytes::fill;
 use build_base::fault_codes::{ALIGNMENT_REFUSED, SECTION_TOO_LONG};
-use build_base::{Guid, Place, Refusal, RunWriter, Same, Text, WantOfMemory};
+use build_base::{Guid, Place, Refusal, WantOfMemory};
 use doc_types::image::{Body, Part};
 use doc_types::standard::{EFI_SECTION_FREEFORM_SUBTYPE_GUID, EFI_SECTION_RAW};
 use std::alloc::Global;
@@ -63,7 +66,7 @@ fn check_part(
     ffs3: bool,
     place: &Place,
     at: u64,
-    part: &Part,
+    part: &LentPart<'_>,
 ) -> Result<u64, Refusal>
     requires { at < 2 ^ 63 }
     ensures fault { Checks result (part_fault ffs3 place.now at part.now) }
@@ -75,7 +78,7 @@ fn check_part(
     if !is_align(part.align) {
         return Err(Refusal::Bad(sized(alloc, ALIGNMENT_REFUSED, place, part.align as u64)?));
     }
-    let count = part.bytes.bytes().len() as u64;
+    let count = part.content.length();
     let head = content_at(ffs3, &part.guid, count);
     let size = match pad((at + 3) / 4 * 4 + head, part.align, part.shift) {
         Some(size) => size,
@@ -93,83 +96,76 @@ fn check_part(
     Ok(size)
 }
 
-// The size and the kind of a section.
+// Appends the size and the kind of a section.
 #[tactic(auto, unfolding(crate::specs::Sections::section_head))]
-fn section_head(alloc: Global, large: bool, kind: u8, size: u32) -> Result<Text, WantOfMemory>
-    ensures { IfOk result (λ t. t ≡ section_head large kind size) }
+fn put_section_head(out: &mut Vec<u8>, large: bool, kind: u8, size: u32) -> Result<(), WantOfMemory>
+    ensures { OnOk result (out.new.items ≡ out.old.items ++ section_head large kind size) }
 {
     let [first, second, third, fourth] = size.to_le_bytes();
     if large {
         let head = [0xFF, 0xFF, 0xFF, kind, first, second, third, fourth];
-        Text::of(alloc, head.as_slice())
-    } else {
-        Text::of(alloc, [first, second, third, kind].as_slice())
+        out.extend_from_slice(&head)?;
+        return Ok(());
     }
+    out.extend_from_slice(&[first, second, third, kind])?;
+    Ok(())
 }
 
 // Appends a RAW section of zeros, or nothing where the size is 0.
 #[tactic(auto, unfolding(crate::specs::Sections::section_bytes))]
-fn pad_section(alloc: Global, out: &mut RunWriter, size: u64) -> Result<(), WantOfMemory>
+fn pad_section(out: &mut Vec<u8>, size: u64) -> Result<(), WantOfMemory>
     requires four { size % 4 ≡ 0 }
     requires small { size < 2 ^ 24 }
-    requires zeros { out.old.free ≡ 0 }
-    ensures bytes { OnOk result (out.new.bytes ≡ out.old.bytes ++ pad_section size) }
-    ensures zeros { OnOk result (out.new.free ≡ 0) }
+    ensures { OnOk result (out.new.items ≡ out.old.items ++ pad_section size) }
 {
     if size == 0 {
         return Ok(());
     }
-    out.put(section_head(alloc, false, EFI_SECTION_RAW, size as u32)?)?;
-    out.fill(size - 4)
+    put_section_head(out, false, EFI_SECTION_RAW, size as u32)?;
+    fill(out, size - 4, 0)
 }
 
-fn guid_text(alloc: Global, guid: &Option<Guid>) -> Result<Text, WantOfMemory>
-    ensures { IfOk result (λ t. t ≡ guid_bytes guid.now) }
+fn put_guid(out: &mut Vec<u8>, guid: &Option<Guid>) -> Result<(), WantOfMemory>
+    ensures { OnOk result (out.new.items ≡ out.old.items ++ guid_bytes guid.now) }
 {
-    match guid {
-        Some(guid) => Text::of(alloc, &guid.0),
-        None => Text::of(alloc, &[]),
+    if let Some(guid) = guid {
+        out.extend_from_slice(&guid.0)?;
     }
+    Ok(())
 }
 
-// Appends a section. Its content is shared.
+// Appends a section.
 #[tactic(auto, unfolding(crate::specs::Sections::section_bytes))]
-fn section(alloc: Global, out: &mut RunWriter, ffs3: bool, part: &Part) -> Result<(), WantOfMemory>
+fn section(out: &mut Vec<u8>, ffs3: bool, part: &LentPart<'_>) -> Result<(), WantOfMemory>
     requires { length part.now.bytes < 2 ^ 29 }
-    ensures bytes { OnOk result (out.new.bytes ≡ out.old.bytes
+    ensures { OnOk result (out.new.items ≡ out.old.items
         ++ section_bytes ffs3 part.now.kind part.now.guid part.now.bytes) }
-    ensures free { OnOk result (out.new.free ≡ out.old.free) }
 {
-    let count = part.bytes.bytes().len() as u64;
+    let count = part.content.length();
     let size = (content_at(ffs3, &part.guid, count) + count) as u32;
-    let large = is_large(ffs3, &part.guid, count);
-    out.put(section_head(alloc, large, part.kind, size)?)?;
-    out.put(guid_text(alloc, &part.guid)?)?;
-    out.put(part.bytes.copy(alloc)?)
+    put_section_head(out, is_large(ffs3, &part.guid, count), part.kind, size)?;
+    put_guid(out, &part.guid)?;
+    part.content.put(out)
 }
 
 // Appends a section behind a pad of this size.
 #[tactic(auto, unfolding(crate::specs::Sections::with_part))]
 fn put_part(
-    alloc: Global,
-    out: &mut RunWriter,
+    out: &mut Vec<u8>,
     ffs3: bool,
-    part: &Part,
+    part: &LentPart<'_>,
     pad: u64,
 ) -> Result<(), WantOfMemory>
-    requires pad { part_pad ffs3 (length out.old.bytes) part.now ≡ Some pad }
+    requires pad { part_pad ffs3 (vec_len out.old) part.now ≡ Some pad }
     requires four { pad % 4 ≡ 0 }
     requires small { pad < 2 ^ 24 }
     requires short { length part.now.bytes < 2 ^ 29 }
-    requires below { length out.old.bytes < 2 ^ 63 }
-    requires zeros { out.old.free ≡ 0 }
-    ensures bytes { OnOk result (out.new.bytes ≡ with_part ffs3 out.old.bytes part.now) }
-    ensures zeros { OnOk result (out.new.free ≡ 0) }
+    ensures { OnOk result (out.new.items ≡ with_part ffs3 out.old.items part.now) }
 {
-    let at = out.length();
-    out.fill((at + 3) / 4 * 4 - at)?;
-    pad_section(alloc, out, pad)?;
-    section(alloc, out, ffs3, part)
+    let at = out.len() as u64;
+    fill(out, (at + 3) / 4 * 4 - at, 0)?;
+    pad_section(out, pad)?;
+    section(out, ffs3, part)
 }
 
 /// Whether a GUID stands in the SUBTYPE_GUID sections and in no other.
@@ -194,17 +190,58 @@ fn all_guids(parts: &[Part]) -> bool
     true
 }
 
-/// Appends sections to a body, each behind the pad that it needs, in a file of FFS3 or of FFS2.
-/// Their contents are shared and their pads are runs, so no byte of them is made here.
-pub(crate) fn add_parts(
+// Where a body ends that has one section more behind `at` bytes.
+fn part_end(
     alloc: Global,
-    out: &mut RunWriter,
     ffs3: bool,
     place: &Place,
-    parts: &[Part],
+    at: u64,
+    part: &LentPart<'_>,
+) -> Result<u64, Refusal>
+    requires { at < 2 ^ 63 }
+    ensures value { Answers result
+        (unless (part_fault ffs3 place.now at part.now) (part_end ffs3 at part.now)) }
+    ensures short { IfOk result (λ end. end < 2 ^ 63) }
+{
+    let pad = check_part(alloc, ffs3, place, at, part)?;
+    let count = part.content.length();
+    let end = (at + 3) / 4 * 4 + pad + (content_at(ffs3, &part.guid, count) + count);
+    if end >= 0x8000_0000_0000_0000 {
+        return Err(Refusal::WantOfMemory);
+    }
+    Ok(end)
+}
+
+/// Where the body of these sections ends, each behind the pad that it needs, in a file of FFS3 or of
+/// FFS2. No byte of them is looked at.
+pub(crate) fn parts_end(
+    alloc: Global,
+    ffs3: bool,
+    place: &Place,
+    parts: &[LentPart<'_>],
+) -> Result<u64, Refusal>
+    ensures value { Answers result (parts_end ffs3 place.now 0 parts.now) }
+    ensures short { IfOk result (λ end. end < 2 ^ 63) }
+{
+    let mut end = 0;
+    for part in parts {
+        match part_end(alloc, ffs3, place, end, part) {
+            Ok(next) => end = next,
+            Err(refusal) => return Err(refusal),
+        }
+    }
+    Ok(end)
+}
+
+/// Appends sections to a body.
+pub(crate) fn add_parts(
+    alloc: Global,
+    out: &mut Vec<u8>,
+    ffs3: bool,
+    place: &Place,
+    parts: &[LentPart<'_>],
 ) -> Result<(), Refusal>
-    requires { out.old.free ≡ 0 }
-    ensures { Grows result out.new.bytes (with_parts ffs3 place.now out.old.bytes parts.now) }
+    ensures { Grows result out.new.items (with_parts ffs3 place.now out.old.items parts.now) }
 {
     for part in parts {
         match add_part(alloc, out, ffs3, place, part) {
@@ -217,22 +254,16 @@ pub(crate) fn add_parts(
 
 fn add_part(
     alloc: Global,
-    out: &mut RunWriter,
+    out: &mut Vec<u8>,
     ffs3: bool,
     place: &Place,
-    part: &Part,
+    part: &LentPart<'_>,
 ) -> Result<(), Refusal>
-    requires { out.old.free ≡ 0 }
-    ensures value { Grows result out.new.bytes
-        (unless (part_fault ffs3 place.now (length out.old.bytes) part.now)
-        (with_part ffs3 out.old.bytes part.now)) }
-    ensures zeros { OnOk result (out.new.free ≡ 0) }
+    ensures { Grows result out.new.items
+        (unless (part_fault ffs3 place.now (length out.old.items) part.now)
+        (with_part ffs3 out.old.items part.now)) }
 {
-    let at = out.length();
-    if at >= 0x8000_0000_0000_0000 {
-        return Err(Refusal::WantOfMemory);
-    }
-    let pad = check_part(alloc, ffs3, place, at, part)?;
-    put_part(alloc, out, ffs3, part, pad)?;
+    let pad = check_part(alloc, ffs3, place, out.len() as u64, part)?;
+    put_part(out, ffs3, part, pad)?;
     Ok(())
 }

@@ -146,15 +146,3 @@ pub fn words_bytes(alloc: Global, kind: u8, number: u16, text: &[u8]) -> Result<
     push_wide(&mut out, text)?;
     Ok(Text::from_vec(out))
 }
-
-/// The bytes of an image.
-pub fn image_text(alloc: Global, image: &Image) -> Result<Text, WantOfMemory>
-    ensures { IfOk result (λ t. t ≡ image.now) }
-{
-    let mut out = Vec::new(alloc);
-    let mut pieces = image.pieces();
-    while let Some(piece) = pieces.next() {
-        out.extend_from_slice(piece)?;
-    }
-    Ok(Text::from_vec(out))
-}

@@ -5,16 +5,17 @@ ghost use Rattle.build_stages.specs.Gives.{GivesIn};
 ghost use Rattle.ffs_sections.specs.Sections.{HaveGuids};
 ghost use Rattle.image_steps.specs.Files.{file_align, body_given, file_name, image_plan, file_given};
 ghost use Rattle.ffs_sections.specs.File.{file_of};
+ghost use Rattle.ffs_sections.specs.LentPlans.{lent_body};
 
 use crate::contents::whole_content;
 use crate::parts::{file_count, files_checked, parts};
-use build_base::{Guid, Permit, Refusal, Same, Text, WantOfMemory};
+use build_base::{Guid, Permit, Refusal, Same, WantOfMemory};
 use build_stages::{Given, Stop};
 use doc_types::flash::FlashDoc;
 use doc_types::image::{Body, FileImage, ImagePlan};
 use doc_types::volume::{Align, FilePlan};
 use doc_types::volume_head::VolumeHead;
-use ffs_sections::file_of;
+use ffs_sections::{LentBody, LentPlan, file_of, file_of_lent};
 use std::alloc::Global;
 use step_pack::{Key, Out};
 
@@ -28,26 +29,26 @@ pub fn file_align(align: Align) -> u32
     }
 }
 
-fn body_given(
+fn body_given<'a>(
     alloc: Global,
     flash: &FlashDoc,
     plan: &FilePlan,
-    given: &Given<'_, Out>,
-) -> Result<Body, Stop<Key>>
-    ensures value { GivesIn (λ body. body) result
+    given: &Given<'a, Out>,
+) -> Result<LentBody<'a>, Stop<Key>>
+    ensures value { GivesIn (λ body. lent_body body) result
         (body_given flash.now plan.now plan.now.whole given.now) }
-    ensures guids { IfOk result HaveGuids }
+    ensures guids { IfOk result (λ body. HaveGuids (lent_body body)) }
 {
     let sections = plan.sections.items();
     match &plan.whole {
         Some(path) => {
             let bytes = whole_content(alloc, given, 0, path)?;
-            Ok(Body::Whole(Text::of(alloc, bytes.bytes())?))
+            Ok(LentBody::Whole(bytes.bytes()))
         }
         None => {
             files_checked(alloc, given, sections)?;
             let parts = parts(alloc, flash, given, file_count(sections), sections)?;
-            Ok(Body::Sections(parts))
+            Ok(LentBody::Sections(parts))
         }
     }
 }
@@ -99,6 +100,43 @@ pub fn image(
     file_of(alloc, permit, &image)
 }
 
+// A plan whose body is lent.
+fn lent_plan<'a>(
+    head: &VolumeHead,
+    plan: &'a FilePlan,
+    name: Guid,
+    body: LentBody<'a>,
+) -> LentPlan<'a>
+    ensures { result ≡ image_plan head.now plan.now name (lent_body body.entry) }
+{
+    LentPlan {
+        at: &plan.at,
+        file_type: plan.file_type,
+        guid: name,
+        fixed: plan.fixed,
+        checksum: plan.checksum,
+        align: file_align(plan.align),
+        erase: head.erase,
+        ffs3: head.ffs3,
+        body,
+    }
+}
+
+fn lent_image(
+    alloc: Global,
+    permit: Permit,
+    head: &VolumeHead,
+    plan: &FilePlan,
+    name: Guid,
+    body: LentBody<'_>,
+) -> Result<FileImage, Refusal>
+    requires { HaveGuids (lent_body body) }
+    ensures { Answers result (file_of (image_plan head.now plan.now name (lent_body body.entry))) }
+{
+    let lent = lent_plan(head, plan, name, body);
+    file_of_lent(alloc, permit, &lent)
+}
+
 /// The file of a statement in a volume with this head. The answers of its files stand before those
 /// of its volumes.
 #[tactic(auto, unfolding(crate::specs::Files::file_given))]
@@ -114,5 +152,5 @@ pub fn file_given(
 {
     let body = body_given(alloc, flash, plan, given)?;
     let name = file_name(plan.guid)?;
-    Ok(image(alloc, permit, head, plan, name, body)?)
+    Ok(lent_image(alloc, permit, head, plan, name, body)?)
 }

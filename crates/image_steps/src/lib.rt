@@ -5,6 +5,7 @@ pub mod asks;
 pub mod contents;
 pub mod devices;
 pub mod files;
+pub mod lent;
 pub mod parts;
 pub mod volumes;
 

@@ -9,16 +9,17 @@ ghost use Rattle.te_images.specs.Pe.{file_alignment_of, section_alignment_of};
 ghost use Rattle.te_images.specs.Te.{te_of};
 ghost use Rattle.image_steps.specs.Parts.{alignments_text, pe_code, pe_detail, pe_fault, as_is, stripped, te_shaped, file_shaped, content_at, files_of, volumes_of, volume_align, unset_align, section_align, some_guid, without_guid, header_guid, part_with, part_at, parts_from, source_checked, files_checked, file_count};
 
-use crate::contents::{image_text, refuse_file, section_content, volume_content, words_bytes};
+use crate::contents::{refuse_file, section_content, volume_content, words_bytes};
+use crate::lent::LentShaped;
 use build_base::fault_codes::{
     ALIGNMENTS_DIFFER, HEADER_TOO_LONG, NOT_PE, SUBSYSTEM_TOO_LARGE, TOO_MANY_SECTIONS, TRUNCATED,
 };
-use build_base::{Guid, Image, Path, Refusal, Rows, Same, Text, WantOfMemory};
+use build_base::{Guid, Path, Refusal, Rows, Same, Text, WantOfMemory};
 use build_stages::{Given, Stop};
 use doc_types::flash::FlashDoc;
-use doc_types::image::Part;
 use doc_types::standard::{EFI_SECTION_FREEFORM_SUBTYPE_GUID, EFI_SECTION_TE};
 use doc_types::volume::{Align, SectionPlan, SectionSource, VolumePlan};
+use ffs_sections::LentPart;
 use itoa::Buffer;
 use std::alloc::Global;
 use step_pack::{Key, Out};
@@ -113,15 +114,6 @@ fn as_is(alloc: Global, bytes: &Text) -> Result<Shaped, WantOfMemory>
     })
 }
 
-fn as_image(alloc: Global, image: &Image) -> Result<Shaped, WantOfMemory>
-    ensures { IfOk result (λ s. s ≡ as_is image.now) }
-{
-    Ok(Shaped {
-        shift: 0,
-        bytes: image_text(alloc, image)?,
-    })
-}
-
 fn stripped(alloc: Global, file: &[u8], head: &TeHead) -> Result<Shaped, WantOfMemory>
     requires inside { head.now.stripped ≤ length file.now }
     requires least { 120 ≤ head.now.stripped }
@@ -154,37 +146,39 @@ pub fn file_shaped(alloc: Global, kind: u8, path: &Path, file: &Text) -> Result<
     Ok(as_is(alloc, file)?)
 }
 
-fn file_content(
+fn file_content<'a>(
     alloc: Global,
-    given: &Given<'_, Out>,
+    given: &Given<'a, Out>,
     place: usize,
     section: &SectionPlan,
     path: &Path,
-) -> Result<Shaped, Stop<Key>>
+) -> Result<LentShaped<'a>, Stop<Key>>
     ensures { GivesIn (λ s. s) result
         (content_at given.now place 0 section.now (SectionSource.Tree path.now)) }
 {
     let bytes = section_content(alloc, given, place, &section.at, path)?;
-    Ok(file_shaped(alloc, section.kind, path, bytes)?)
+    Ok(LentShaped::of_file(alloc, section.kind, path, bytes)?)
 }
 
-fn words_content(alloc: Global, section: &SectionPlan, text: &Text) -> Result<Shaped, WantOfMemory>
+fn words_content<'a>(
+    alloc: Global,
+    section: &SectionPlan,
+    text: &Text,
+) -> Result<LentShaped<'a>, WantOfMemory>
     ensures { IfOk result
         (λ s. s ≡ as_is (words_bytes section.now.kind section.now.number text.now)) }
 {
-    Ok(Shaped {
-        shift: 0,
-        bytes: words_bytes(alloc, section.kind, section.number, text.bytes())?,
-    })
+    let bytes = words_bytes(alloc, section.kind, section.number, text.bytes())?;
+    Ok(LentShaped::of_text(bytes))
 }
 
-fn content_at(
+fn content_at<'a>(
     alloc: Global,
-    given: &Given<'_, Out>,
+    given: &Given<'a, Out>,
     file: usize,
     volume: usize,
     section: &SectionPlan,
-) -> Result<Shaped, Stop<Key>>
+) -> Result<LentShaped<'a>, Stop<Key>>
     ensures { GivesIn (λ s. s) result
         (content_at given.now file volume section.now section.now.source) }
 {
@@ -192,7 +186,7 @@ fn content_at(
         SectionSource::Tree(path) => file_content(alloc, given, file, section, path),
         SectionSource::Volume(_) => {
             let image = volume_content(given, volume)?;
-            Ok(as_image(alloc, image)?)
+            Ok(LentShaped::of_image(image)?)
         }
         SectionSource::Words(text) => Ok(words_content(alloc, section, text)?),
         SectionSource::Template(_) | SectionSource::Refused(_) => Err(Stop::Misfit),
@@ -296,27 +290,32 @@ pub fn header_guid(kind: u8, guid: Option<Guid>) -> Result<Option<Guid>, Stop<Ke
     }
 }
 
-fn part_with(flash: &FlashDoc, section: &SectionPlan, content: Shaped, guid: Option<Guid>) -> Part
-    ensures { result ≡ part_with flash.now section.now content guid }
+fn part_with<'a>(
+    flash: &FlashDoc,
+    section: &SectionPlan,
+    content: LentShaped<'a>,
+    guid: Option<Guid>,
+) -> LentPart<'a>
+    ensures { result ≡ part_with flash.now section.now content.entry guid }
 {
-    Part {
+    LentPart {
         kind: section.kind,
         guid,
         align: section_align(flash, &section.source, section.align),
         shift: content.shift,
-        bytes: content.bytes,
+        content: content.content,
     }
 }
 
 #[tactic(auto, unfolding(crate::specs::Parts::part_at))]
-fn part_at(
+fn part_at<'a>(
     alloc: Global,
     flash: &FlashDoc,
-    given: &Given<'_, Out>,
+    given: &Given<'a, Out>,
     file: usize,
     volume: usize,
     section: &SectionPlan,
-) -> Result<Part, Stop<Key>>
+) -> Result<LentPart<'a>, Stop<Key>>
     ensures value { GivesIn (λ part. part) result
         (part_at flash.now given.now file volume section.now) }
     ensures guid { IfOk result (λ part. is_some part.guid
@@ -327,16 +326,16 @@ fn part_at(
     Ok(part_with(flash, section, content, guid))
 }
 
-/// All sections, or the first fault of one. The answers of the files begin at 0, those of the
-/// volumes at `volumes`.
+/// All sections, whose contents are lent, or the first fault of one. The answers of the files begin
+/// at 0, those of the volumes at `volumes`.
 #[tactic(auto, unfolding(crate::specs::Parts::parts_from))]
-pub fn parts(
+pub fn parts<'a>(
     alloc: Global,
     flash: &FlashDoc,
-    given: &Given<'_, Out>,
+    given: &Given<'a, Out>,
     volumes: usize,
     sections: &[SectionPlan],
-) -> Result<Rows<Part>, Stop<Key>>
+) -> Result<Rows<LentPart<'a>>, Stop<Key>>
     requires { volumes ≤ length sections.now }
     ensures value { GivesIn (λ parts. parts) result
         (parts_from flash.now given.now 0 volumes sections.now) }

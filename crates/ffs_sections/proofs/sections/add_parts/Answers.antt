@@ -5,11 +5,11 @@ use Rattle.ffs_sections.proofs.sections.add_parts.Goals as goal
 
 pub loop-part-preserved : goal.loop-part-preserved
 loop-part-preserved c =
-    (answers_rest _ _ _ _ (c.loop-part.invariant.0 ∙ parts_more c.args.ffs3 c.args.place.now c.loop-part.out.bytes c.args.parts.now c.loop-part.part-index c.part-item.result (omega arith) c.part-item.is) c.in-Ok.ensures.value, c.in-Ok.ensures.zeros)
+    answers_rest _ _ _ _ (c.loop-part.invariant ∙ parts_more c.args.ffs3 c.args.place.now c.loop-part.out.items c.args.parts.now c.loop-part.part-index c.part-item.result (omega arith) c.part-item.is) c.in-Ok.ensures
 
 pub returns-in-Err : goal.returns-in-Err
 returns-in-Err c =
-    refused_first c.in-Err.refusal _ _ _ (c.loop-part.invariant.0 ∙ parts_more c.args.ffs3 c.args.place.now c.loop-part.out.bytes c.args.parts.now c.loop-part.part-index c.part-item.result (omega arith) c.part-item.is) c.in-Err.ensures.value
+    refused_first c.in-Err.refusal _ _ _ (c.loop-part.invariant ∙ parts_more c.args.ffs3 c.args.place.now c.loop-part.out.items c.args.parts.now c.loop-part.part-index c.part-item.result (omega arith) c.part-item.is) c.in-Err.ensures
 
 pub returns : goal.returns
-returns c = c.loop-part.invariant.0 ∙ parts_end c.args.ffs3 c.args.place.now c.loop-part.out.bytes c.args.parts.now c.loop-part.part-index (omega arith)
+returns c = c.loop-part.invariant ∙ parts_end c.args.ffs3 c.args.place.now c.loop-part.out.items c.args.parts.now c.loop-part.part-index (omega arith)
