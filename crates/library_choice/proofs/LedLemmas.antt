@@ -23,7 +23,7 @@ or-there true b h = refl
 or-there false true h = h refl
 or-there false false h = refl
 
-in-put : {X : Type 0} (eq : X → X → Bool) → Same eq → (b : List X) (y x : X) (v : Bool) → is_in eq b y ≡ v → is_in eq (cond v b (b ++ y ∷ [])) x ≡ is_in eq b x || eq y x
+pub in-put : {X : Type 0} (eq : X → X → Bool) → Same eq → (b : List X) (y x : X) (v : Bool) → is_in eq b y ≡ v → is_in eq (cond v b (b ++ y ∷ [])) x ≡ is_in eq b x || eq y x
 in-put eq s b y x true e = or-there (is_in eq b x) (eq y x) (λ same. subst (λ z. is_in eq b z ≡ true) (s.same y x same) e)
 in-put eq s b y x false e = list_any-append (λ z. eq z x) b (y ∷ []) ∙ ap (λ v. is_in eq b x || v) (or-false (eq y x))
 

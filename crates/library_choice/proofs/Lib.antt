@@ -1,3 +1,4 @@
+pub mod BothLemmas
 pub mod CallerLemmas
 pub mod CountLemmas
 pub mod FallLemmas

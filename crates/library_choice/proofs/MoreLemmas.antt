@@ -11,11 +11,12 @@ use Rattle.doc_types.specs.declared.module.InfDoc.{InfDoc}
 use Rattle.doc_types.specs.declared.module.Named.{Named}
 use Rattle.doc_types.specs.declared.platform.PlatformDoc.{PlatformDoc}
 use Rattle.library_choice.specs.declared.front.Front.{Front}
+use Rattle.library_choice.specs.declared.front.Fronts.{Fronts}
 use Rattle.library_choice.specs.Closure.{same_path, known, is_known, instance_of, classes_of, next, nulls, setting_of}
-use Rattle.library_choice.specs.Fronts.{IsFront, IsFrontOf}
+use Rattle.library_choice.specs.Fronts.{IsFrontOf, AreFronts}
 use Rattle.library_choice.specs.Lines.{Setting, chosen_line}
 use Rattle.library_choice.specs.Searches.{IsSearch}
-use Rattle.library_choice.proofs.FrontLemmas.{front-more}
+use Rattle.library_choice.proofs.FrontLemmas.{stands-more}
 
 -- what is known stays known
 pub known-stays : (infs more : List InfDoc) (path : List ℕ) (inf : InfDoc) → known infs path ≡ Some inf → known (infs ++ more) path ≡ Some inf
@@ -65,33 +66,38 @@ pub next-unknown : (s : Setting) (x : List ℕ) → is_known s.infs x ≡ false 
 unfolding next is_known
 next-unknown s x h = next-unknown-by s (known s.infs x) h
 
-pub front-of-more : (s : Setting) (more : List InfDoc) (inf : InfDoc) (f : Front) → IsFrontOf s inf f → IsFrontOf (with_more s more) inf f
-front-of-more s more inf f h = record {
+front-of-more : (s : Setting) (more : List InfDoc) (starts : List (List ℕ)) (f : Front) → IsFrontOf s starts f → IsFrontOf (with_more s more) starts f
+front-of-more s more starts f h = record {
   known = All-weaker (λ path. is_known s.infs path ≡ true) (λ path. is_known (s.infs ++ more) path ≡ true) (known-more s.infs more) (take f.at f.found) h.known;
-  stands = subst (λ l. IsFront same_path (is_known (s.infs ++ more)) (next (with_more s more)) l (nulls s) f.has_nulls f.found f.at) (sym (same-instances s more inf.classes))
-      (front-more same_path (is_known s.infs) (is_known (s.infs ++ more)) (next s) (next (with_more s more)) (filter_map (instance_of s) inf.classes) (nulls s) f.has_nulls f.found f.at (known-more s.infs more) (next-known s more) h.stands);
+  stands = stands-more same_path (is_known s.infs) (is_known (s.infs ++ more)) (next s) (next (with_more s more)) starts f.found f.at (known-more s.infs more) (next-known s more) h.stands;
+}
+
+fronts-more : (s : Setting) (more : List InfDoc) (inf : InfDoc) (f : Fronts) → AreFronts s inf f → AreFronts (with_more s more) inf f
+fronts-more s more inf f h = record {
+  classes = subst (λ (l : List (List ℕ)). IsFrontOf (with_more s more) l f.classes) (sym (same-instances s more inf.classes)) (front-of-more s more (filter_map (instance_of s) inf.classes) f.classes h.classes);
+  nulls = front-of-more s more (nulls s) f.nulls h.nulls;
 }
 
 same-setting : (user : Module) (platform : PlatformDoc) (inf : InfDoc) (s : Setting) (more : List InfDoc) → s ≡ setting_of user platform s.infs inf → with_more s more ≡ setting_of user platform (s.infs ++ more) inf
 unfolding setting_of
 same-setting user platform inf s more e = ap (λ (t : Setting). record t { infs = s.infs ++ more }) e
 
-pub search-more : (user : Module) (platform : PlatformDoc) (inf : InfDoc) (s : Setting) (more : List InfDoc) (f : Front) → IsSearch user platform inf s f → IsSearch user platform inf (with_more s more) f
+pub search-more : (user : Module) (platform : PlatformDoc) (inf : InfDoc) (s : Setting) (more : List InfDoc) (f : Fronts) → IsSearch user platform inf s f → IsSearch user platform inf (with_more s more) f
 search-more user platform inf s more f h = record {
   own = known-stays s.infs more user.inf inf h.own;
   setting = same-setting user platform inf s more h.setting;
-  front = front-of-more s more inf f h.front;
+  fronts = fronts-more s more inf f h.fronts;
 }
 
 pub setting-infs : (user : Module) (platform : PlatformDoc) (inf : InfDoc) (infs : List InfDoc) (s : Setting) → s ≡ setting_of user platform infs inf → s.infs ≡ infs
 unfolding setting_of
 setting-infs user platform inf infs s e = ap (λ (t : Setting). t.infs) e
 
-pub search-begins : (user : Module) (platform : PlatformDoc) (inf : InfDoc) (infs : List InfDoc) (s : Setting) (f : Front) → known infs user.inf ≡ Some inf → s ≡ setting_of user platform infs inf → IsFrontOf s inf f → IsSearch user platform inf s f
+pub search-begins : (user : Module) (platform : PlatformDoc) (inf : InfDoc) (infs : List InfDoc) (s : Setting) (f : Fronts) → known infs user.inf ≡ Some inf → s ≡ setting_of user platform infs inf → AreFronts s inf f → IsSearch user platform inf s f
 search-begins user platform inf infs s f own e h =
     let same : s.infs ≡ infs = setting-infs user platform inf infs s e in
     record {
       own = ap (λ (l : List InfDoc). known l user.inf) same ∙ own;
       setting = e ∙ ap (λ (l : List InfDoc). setting_of user platform l inf) (sym same);
-      front = h;
+      fronts = h;
     }

@@ -3,8 +3,8 @@ use Rattle.std.proofs.Common.{◌≡◌, ℕ, zero, suc, ◌+◌, ◌-◌, ◌<�
 use Rattle.std.specs.List.{flat_map}
 use Rattle.std.proofs.lemmas.List.{take_all, take_at, take_more}
 use Rattle.std.proofs.lemmas.List.Concat.{flat_map-append}
-use Rattle.library_choice.specs.Found.{add, ends, found_in, IsFound}
-use Rattle.library_choice.specs.Search.{Same, AllIn, Closed, Prefix, grown, Going, Stands, Ended, Passed, Reason, First, Finds}
+use Rattle.library_choice.specs.Found.{add, ends, found_in}
+use Rattle.library_choice.specs.Search.{Same, AllIn, Closed, Prefix, grown, Going, Stands, Ended, Passed, Reason, First}
 use Rattle.library_choice.proofs.FoundLemmas.{Prefix-trans, Prefix-length, Prefix-both, Prefix-take, take-Prefix, add_append, add-grows, AllIn-grown, add-skip, added, grown-mono, ends-grown, ends-up}
 
 -- nothing but what was there and the starts
@@ -72,16 +72,7 @@ Going-end eq s next b starts found at k g e =
           (Prefix-trans found (add eq b (ends next starts at)) (add eq b (ends next starts n)) (subst (λ l. Prefix l (add eq b (ends next starts at))) all g.grounded) (ends-up eq s next b starts k at (n - at) n (omega arith)));
     }
 
--- walks that begin with a class, then those that begin with a NULL line
-pub found-whole : {X : Type 0} (eq : X → X → Bool) (next : X → List X) (classes nulls first found : List X) → Ended eq next [] classes first → Ended eq next first nulls found → IsFound eq next classes nulls found
-unfolding found_in
-found-whole eq next classes nulls first found a b n l =
-    let shorter = Prefix-length first found b.begins in
-    add_append eq [] (ends next classes n) (ends next nulls n)
-    ∙ ap (λ f. add eq f (ends next nulls n)) (a.whole n (omega (arith, shorter, l)))
-    ∙ b.whole n l
-
-more-eq : {X : Type 0} (eq : X → X → Bool) → Same eq → (next : X → List X) (starts b found : List X) (at : ℕ) → Closed eq next b → Going eq next b starts found at → at ≤ 1024 → length found ≤ length (add eq b (ends next starts 1025))
+pub more-eq : {X : Type 0} (eq : X → X → Bool) → Same eq → (next : X → List X) (starts b found : List X) (at : ℕ) → Closed eq next b → Going eq next b starts found at → at ≤ 1024 → length found ≤ length (add eq b (ends next starts 1025))
 more-eq eq s next starts b found at k g l =
     let p = Going-grounded eq s next b starts found at k g in
     let up = ends-up eq s next b starts k (suc at) (1024 - at) 1025 (omega (arith, l)) in
@@ -93,18 +84,11 @@ many-first eq s next classes nulls found at g h =
     let q = subst (λ l. Prefix (add eq [] (ends next classes 1025)) l) (sym (add_append eq [] (ends next classes 1025) (ends next nulls 1025))) (add-grows eq (add eq [] (ends next classes 1025)) (ends next nulls 1025)) in
     omega (arith, h, more-eq eq s next classes [] found at tt g.going g.early, Prefix-length (add eq [] (ends next classes 1025)) (add eq [] (ends next classes 1025 ++ ends next nulls 1025)) q)
 
-pub many-second : {X : Type 0} (eq : X → X → Bool) → Same eq → (next : X → List X) (classes nulls first found : List X) (at : ℕ) → Ended eq next [] classes first → length first ≤ 1024 → Stands eq next first nulls found at → 1025 ≤ length found → 1025 ≤ length (found_in eq next classes nulls 1025)
-unfolding found_in
-many-second eq s next classes nulls first found at a few g h =
-    let e : add eq [] (ends next classes 1025 ++ ends next nulls 1025) ≡ add eq first (ends next nulls 1025) =
-    add_append eq [] (ends next classes 1025) (ends next nulls 1025) ∙ ap (λ f. add eq f (ends next nulls 1025)) (a.whole 1025 (omega (arith, few))) in
-    omega (arith, h, ap length e, more-eq eq s next nulls first found at a.closed g.going g.early)
-
 -- a queue came to a place, for a reason
 abbrev pub Went : {X : Type 0} → (X → X → Bool) → (X → List X) → List X → List X → List X → Bool → Type 0
 Went eq next b starts found few = (at : ℕ) × Stands eq next b starts found at × Reason few found at
 
--- the first queue
+-- a queue that begins from nothing
 first-went : {X : Type 0} (eq : X → X → Bool) (next : X → List X) (classes start found : List X) (few : Bool) → start ≡ add eq [] classes → Passed eq next start 0 found few → Went eq next [] classes found few
 first-went eq next classes start found few e p = p [] classes tt (subst (λ l. Stands eq next [] classes l 0) (sym e) (record { going = Going-start eq next [] classes tt; early = omega arith }))
 
@@ -116,25 +100,6 @@ first-end eq s next classes found at g end = record { ended = Going-end eq s nex
 
 pub first-ended : {X : Type 0} (eq : X → X → Bool) → Same eq → (next : X → List X) (classes found : List X) (few : Bool) → Went eq next [] classes found few → few ≡ true → First eq next classes found
 first-ended eq s next classes found few g f = first-end eq s next classes found g.0 g.1 (subst (λ v. Reason v found g.0) f g.2)
-
--- the second
-pub second-starts : {X : Type 0} (eq : X → X → Bool) (next : X → List X) (classes nulls first : List X) → First eq next classes first → Stands eq next first nulls (add eq first nulls) (length first)
-second-starts eq next classes nulls first a = record { going = Going-start eq next first nulls a.ended.closed; early = a.few }
-
-pub second-went : {X : Type 0} (eq : X → X → Bool) (next : X → List X) (classes nulls first start found : List X) (from : ℕ) (whole : Bool) → First eq next classes first → start ≡ add eq first nulls → from ≡ length first → Passed eq next start from found whole → Went eq next first nulls found whole
-second-went eq next classes nulls first start found from whole a e l p =
-    p first nulls a.ended.closed (subst (λ n. Stands eq next first nulls start n) (sym l) (subst (λ l. Stands eq next first nulls l (length first)) (sym e) (second-starts eq next classes nulls first a)))
-
-pub second-many : {X : Type 0} (eq : X → X → Bool) → Same eq → (next : X → List X) (classes nulls first found : List X) (whole : Bool) → First eq next classes first → Went eq next first nulls found whole → whole ≡ false → 1025 ≤ length (found_in eq next classes nulls 1025)
-second-many eq s next classes nulls first found whole a g f = many-second eq s next classes nulls first found g.0 a.ended a.few g.1 (subst (λ v. Reason v found g.0) f g.2)
-
-pub second-found : {X : Type 0} (eq : X → X → Bool) → Same eq → (next : X → List X) (classes nulls first found : List X) (whole : Bool) → First eq next classes first → Went eq next first nulls found whole → whole ≡ true → Finds eq next classes nulls (Some found)
-second-found eq s next classes nulls first found whole a g f =
-    let end : g.0 ≡ length found = subst (λ v. Reason v found g.0) f g.2 in
-    let ended = Going-end eq s next first nulls found g.0 a.ended.closed g.1.going end in
-    let is = found-whole eq next classes nulls first found a.ended ended in
-    let few : length found ≤ 1024 = omega (arith, end, g.1.early) in
-    (sym (is 1025 (omega (arith, few))), few, ended.closed, is)
 
 -- one queue that ended, from nothing
 pub led-whole : {X : Type 0} (eq : X → X → Bool) → Same eq → (next : X → List X) (starts begun found : List X) (few : Bool) → begun ≡ add eq [] starts → Passed eq next begun 0 found few → few ≡ true → (n : ℕ) → 1024 ≤ n → add eq [] (ends next starts n) ≡ found

@@ -56,10 +56,10 @@ Passed {X} eq next old from new whole =
     (b starts : List X) → Closed eq next b → Stands eq next b starts old from → (at : ℕ)
     × Stands eq next b starts new at × Reason whole new at
 
--- a queue that begins with the classes has ended, with few that are found
-pub record First {X : Type 0} (eq : X → X → Bool) (next : X → List X) (classes found : List X)
+-- a queue has ended that begins from nothing, with few that are found
+pub record First {X : Type 0} (eq : X → X → Bool) (next : X → List X) (starts found : List X)
     : Type 0 where
-  pub ended : Ended eq next [] classes found
+  pub ended : Ended eq next [] starts found
   pub few : length found ≤ 1024
 
 -- all that is found, at most 1,024, or that there are more

@@ -6,14 +6,14 @@ ghost use Rattle.build_base.specs.FaultText.{fault_of};
 ghost use Rattle.build_base.specs.First.{or_fault};
 ghost use Rattle.library_choice.specs.Choices.{choice_of, classes_fault, made, empty_choice, choice};
 ghost use Rattle.library_choice.specs.Closure.{same_path, is_known, instance_of, next, nulls, wanted};
-ghost use Rattle.library_choice.specs.Fronts.{IsFrontOf};
+ghost use Rattle.library_choice.specs.Fronts.{AreFronts};
 ghost use Rattle.library_choice.specs.Laws.{IsLawful, AreLawful};
 ghost use Rattle.library_choice.specs.Reaching.{IsWhole};
 ghost use Rattle.library_choice.specs.Search.{Finds};
 ghost use Rattle.build_base.specs.FaultCodes.{TOO_MANY_INSTANCES};
 
 use crate::callers::callers;
-use crate::front::{Front, instances_behind};
+use crate::front::{Fronts, instances_behind};
 use crate::reach::reach;
 use crate::search::InstanceSearch;
 use crate::serving::check_all;
@@ -90,13 +90,13 @@ pub fn made(
     user: &Module,
     tables: &Tables<'_>,
     inf: &InfDoc,
-    front: Front,
+    fronts: Fronts,
 ) -> Result<Choice, Refusal>
-    requires { IsFrontOf tables.now inf.now front }
+    requires { AreFronts tables.now inf.now fronts }
     ensures value { Answers result (made user.now tables.now inf.now) }
     ensures laws { OnOk result (IsLawful tables.now inf.now) }
 {
-    match instances_behind(alloc, tables, front)? {
+    match instances_behind(alloc, tables, fronts)? {
         Some(found) => lawful_choice(alloc, tables, inf, found.paths(alloc)?),
         None => Err(too_many(alloc, &user.inf)),
     }

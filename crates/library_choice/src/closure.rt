@@ -114,12 +114,11 @@ pub fn pass(
     Ok(true)
 }
 
-/// Puts the instances that are linked without a class.
+/// Puts paths.
 #[tactic(auto, unfolding(crate::specs::Found::add))]
-pub fn put_nulls(alloc: Global, tables: &Tables<'_>, found: &mut Found) -> Result<(), WantOfMemory>
-    ensures { OnOk result (found.new ≡ add same_path found.old (nulls tables.now)) }
+pub fn put_paths(alloc: Global, paths: &[Path], found: &mut Found) -> Result<(), WantOfMemory>
+    ensures { OnOk result (found.new ≡ add same_path found.old paths.now) }
 {
-    let paths = tables.nulls();
     for path in paths {
         put_here(alloc, path, found)?;
     }
@@ -133,6 +132,15 @@ pub fn first_found(alloc: Global, tables: &Tables<'_>, inf: &InfDoc) -> Result<F
 {
     let mut found = Found::new(alloc);
     put_classes(alloc, tables, inf.classes.items(), &mut found)?;
+    Ok(found)
+}
+
+/// The instances that are linked without a class.
+pub fn nulls_found(alloc: Global, tables: &Tables<'_>) -> Result<Found, WantOfMemory>
+    ensures { IfOk result (λ f. f ≡ add same_path [] (nulls tables.now)) }
+{
+    let mut found = Found::new(alloc);
+    put_paths(alloc, tables.nulls(), &mut found)?;
     Ok(found)
 }
 

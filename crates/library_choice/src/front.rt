@@ -1,35 +1,51 @@
 //! How far the instances of a module are found that more known INF files don't move.
-ghost use Rattle.std.specs.Prelude.{◌≡◌, ◌≤◌, ◌∷◌, ◌++◌, [], false, cond, length, drop, filter, IfOk, OnOk};
+ghost use Rattle.std.specs.Prelude.{◌≡◌, ◌≤◌, ◌+◌, ◌∷◌, ◌++◌, ℕ, [], List, length, drop, filter, nat_le, IfOk, OnOk};
+ghost use Rattle.std.specs.List.{filter_map};
 ghost use Rattle.doc_types.specs.declared.module.InfDoc.{InfDoc as InfModel};
-ghost use Rattle.library_choice.specs.Closure.{same_path, is_known, is_unknown, next, wanted_by};
-ghost use Rattle.library_choice.specs.Fronts.{PassedKnown, IsFrontOf, FindsFor, Whole};
+ghost use Rattle.library_choice.specs.Closure.{same_path, is_known, is_unknown, instance_of, next, nulls, wanted_by};
+ghost use Rattle.library_choice.specs.Found.{add, is_in};
+ghost use Rattle.library_choice.specs.Fronts.{PassedKnown, IsFrontOf, LeadsClasses, LeadsNulls, AreFronts, FindsFor, BothEnd, is_apart};
 ghost use Rattle.library_choice.specs.Search.{Prefix};
 
-use crate::closure::{MOST_INSTANCES, first_found, is_unknown, pass, put_next, put_nulls};
+use crate::closure::{
+    MOST_INSTANCES, first_found, is_unknown, nulls_found, pass, put_next, put_paths,
+};
 use crate::found::Found;
 use crate::tables::Tables;
 use build_base::{Path, Rows, Same, WantOfMemory};
 use doc_types::module::InfDoc;
 use std::alloc::Global;
 
-/// What is found so far is a queue, which is passed up to a place. The instances without a class
-/// are put once all that classes lead to is passed.
+/// What is found so far of a queue, which is passed up to a place.
 #[derive(Drop)]
 pub struct Front {
     pub found: Found,
     pub at: usize,
-    pub has_nulls: bool,
 }
 
-/// The front of a module whose INF file this is, with nothing passed.
-pub fn begin(alloc: Global, tables: &Tables<'_>, inf: &InfDoc) -> Result<Front, WantOfMemory>
-    ensures { IfOk result (IsFrontOf tables.now inf.now) }
+/// The queue that begins with the classes of a module, and that of the instances without a class.
+/// Neither knows of the other, so each goes on as far as its own INF files are known.
+#[derive(Drop)]
+pub struct Fronts {
+    pub classes: Front,
+    pub nulls: Front,
+}
+
+/// The fronts of a module whose INF file this is, with nothing passed.
+pub fn begin(alloc: Global, tables: &Tables<'_>, inf: &InfDoc) -> Result<Fronts, WantOfMemory>
+    ensures { IfOk result (AreFronts tables.now inf.now) }
 {
-    let found = first_found(alloc, tables, inf)?;
-    Ok(Front {
-        found,
-        at: 0,
-        has_nulls: false,
+    let classes = first_found(alloc, tables, inf)?;
+    let nulls = nulls_found(alloc, tables)?;
+    Ok(Fronts {
+        classes: Front {
+            found: classes,
+            at: 0,
+        },
+        nulls: Front {
+            found: nulls,
+            at: 0,
+        },
     })
 }
 
@@ -57,76 +73,48 @@ fn pass_known(
     Ok(at)
 }
 
-fn pass_front(alloc: Global, tables: &Tables<'_>, front: Front) -> Result<Front, WantOfMemory>
-    ensures { (inf : InfModel) → IsFrontOf tables.now inf front
-        → IfOk result (IsFrontOf tables.now inf) }
+// Passes a queue as far as more known INF files don't move it.
+fn advance(alloc: Global, tables: &Tables<'_>, front: Front) -> Result<Front, WantOfMemory>
+    ensures { (starts : List (List ℕ)) → IsFrontOf tables.now starts front
+        → IfOk result (IsFrontOf tables.now starts) }
 {
-    let Front {
-        found,
-        at,
-        has_nulls,
-    } = front;
+    let Front { found, at } = front;
     let mut found = found;
     let at = pass_known(alloc, tables, &mut found, at)?;
-    Ok(Front {
-        found,
-        at,
-        has_nulls,
-    })
+    Ok(Front { found, at })
 }
 
-// Puts the instances without a class, where all that classes lead to is passed.
-fn begin_nulls(alloc: Global, tables: &Tables<'_>, front: Front) -> Result<Front, WantOfMemory>
-    ensures { (inf : InfModel) → front.has_nulls ≡ false → length front.found ≤ front.at
-        → IsFrontOf tables.now inf front → IfOk result (IsFrontOf tables.now inf) }
+fn advance_both(alloc: Global, tables: &Tables<'_>, fronts: Fronts) -> Result<Fronts, WantOfMemory>
+    ensures { (inf : InfModel) → AreFronts tables.now inf fronts
+        → IfOk result (AreFronts tables.now inf) }
 {
-    let Front { found, at, .. } = front;
-    let mut found = found;
-    put_nulls(alloc, tables, &mut found)?;
-    Ok(Front {
-        found,
-        at,
-        has_nulls: true,
-    })
+    let Fronts { classes, nulls } = fronts;
+    let classes = advance(alloc, tables, classes)?;
+    let nulls = advance(alloc, tables, nulls)?;
+    Ok(Fronts { classes, nulls })
 }
 
-// Passes the queue as far as more known INF files don't move it.
-fn advance(alloc: Global, tables: &Tables<'_>, front: Front) -> Result<Front, WantOfMemory>
-    ensures { (inf : InfModel) → IsFrontOf tables.now inf front
-        → IfOk result (IsFrontOf tables.now inf) }
-{
-    let front = pass_front(alloc, tables, front)?;
-    if front.has_nulls || front.at < front.found.len() {
-        return Ok(front);
-    }
-    let front = begin_nulls(alloc, tables, front)?;
-    pass_front(alloc, tables, front)
-}
-
-/// Passes all that is left behind a front. True where nothing is left, false where there are too
-/// many.
-pub fn pass_rest(
+// Passes all that is left of both queues. False where one of them has too many.
+fn pass_both(
     alloc: Global,
     tables: &Tables<'_>,
-    found: &mut Found,
-    at: usize,
-    has_nulls: bool,
+    first: &mut Found,
+    first_at: usize,
+    second: &mut Found,
+    second_at: usize,
 ) -> Result<bool, WantOfMemory>
-    ensures finds { (inf : InfModel)
-        → IsFrontOf tables.now inf (record { found = found.old; at = at; has_nulls = has_nulls })
-        → IfOk result (Whole tables.now inf found.new) }
-    ensures grows { OnOk result (Prefix found.old found.new) }
+    ensures ends { (inf : InfModel)
+        → LeadsClasses tables.now inf (record { found = first.old; at = first_at })
+        → LeadsNulls tables.now (record { found = second.old; at = second_at })
+        → IfOk result (BothEnd tables.now inf first.new second.new) }
+    ensures first { OnOk result (Prefix first.old first.new) }
+    ensures second { OnOk result (Prefix second.old second.new) }
 {
-    if !pass(alloc, tables, found, at)? {
+    if !pass(alloc, tables, first, first_at)? {
         return Ok(false);
     }
-    if has_nulls {
-        return Ok(true);
-    }
-    let from = found.len();
-    put_nulls(alloc, tables, found)?;
-    let whole = pass(alloc, tables, found, from)?;
-    Ok(whole)
+    let few = pass(alloc, tables, second, second_at)?;
+    Ok(few)
 }
 
 fn push_unknown(
@@ -145,82 +133,183 @@ fn push_unknown(
 }
 
 // Those of which no INF file is known.
-fn unknown(alloc: Global, tables: &Tables<'_>, found: &[Path]) -> Result<Rows<Path>, WantOfMemory>
-    ensures { IfOk result (λ w. w ≡ filter (is_unknown tables.now.infs) found.now) }
+fn push_unknowns(
+    alloc: Global,
+    tables: &Tables<'_>,
+    found: &[Path],
+    paths: &mut Rows<Path>,
+) -> Result<(), WantOfMemory>
+    ensures { OnOk result (paths.new ≡ paths.old
+        ++ filter (is_unknown tables.now.infs) found.now) }
 {
-    let mut paths = Rows::new(alloc);
     let mut left = found;
     while let [path, rest @ ..] = left {
-        push_unknown(alloc, tables, path, &mut paths)?;
+        push_unknown(alloc, tables, path, paths)?;
         left = rest;
     }
-    Ok(paths)
+    Ok(())
 }
 
+#[tactic(auto, unfolding(crate::specs::Fronts::is_apart))]
+fn is_apart(tables: &Tables<'_>, first: &Found, path: &Path) -> bool
+    ensures { result ≡ is_apart tables.now first.now path.now }
+{
+    is_unknown(tables, path) && !first.has(path)
+}
+
+fn push_apart(
+    alloc: Global,
+    tables: &Tables<'_>,
+    first: &Found,
+    path: &Path,
+    paths: &mut Rows<Path>,
+) -> Result<(), WantOfMemory>
+    ensures { OnOk result (paths.new ≡ paths.old
+        ++ filter (is_apart tables.now first.now) (path.now ∷ [])) }
+{
+    if is_apart(tables, first, path) {
+        paths.push(path.copy(alloc)?)?;
+    }
+    Ok(())
+}
+
+// Those of which no INF file is known, and that aren't among the first.
+fn push_aparts(
+    alloc: Global,
+    tables: &Tables<'_>,
+    first: &Found,
+    found: &[Path],
+    paths: &mut Rows<Path>,
+) -> Result<(), WantOfMemory>
+    ensures { OnOk result (paths.new ≡ paths.old
+        ++ filter (is_apart tables.now first.now) found.now) }
+{
+    let mut left = found;
+    while let [path, rest @ ..] = left {
+        push_apart(alloc, tables, first, path, paths)?;
+        left = rest;
+    }
+    Ok(())
+}
+
+// Those of both queues behind their fronts of which no INF file is known, each once.
 fn unknown_behind(
     alloc: Global,
     tables: &Tables<'_>,
-    found: &Found,
-    at: usize,
-    few: bool,
+    first: &Found,
+    first_at: usize,
+    second: &Found,
+    second_at: usize,
 ) -> Result<Rows<Path>, WantOfMemory>
-    ensures { IfOk result
-        (λ w. w ≡ cond few (filter (is_unknown tables.now.infs) (drop at found.now)) []) }
+    ensures { IfOk result (λ w. w
+        ≡ filter (is_unknown tables.now.infs) (drop first_at first.now)
+        ++ filter (is_apart tables.now first.now) (drop second_at second.now)) }
 {
-    if few {
-        unknown(alloc, tables, found.behind(at))
-    } else {
-        Ok(Rows::new(alloc))
-    }
+    let mut paths = Rows::new(alloc);
+    push_unknowns(alloc, tables, first.behind(first_at), &mut paths)?;
+    push_aparts(alloc, tables, first, second.behind(second_at), &mut paths)?;
+    Ok(paths)
 }
 
-/// The INF files that are wanted next, and the front behind which they were found.
+// Whether both queues have at most 1,024 together, of which so many are unknown. They are put
+// together only where the number of the known ones leaves that open.
+fn are_few(
+    alloc: Global,
+    tables: &Tables<'_>,
+    unknown: usize,
+    first: &mut Found,
+    second: &Found,
+) -> Result<bool, WantOfMemory>
+    ensures few { length (add same_path first.old second.now) ≤ unknown + length tables.now.infs
+        → IfOk result (λ few. few ≡ nat_le (length (add same_path first.old second.now)) 1024) }
+    ensures grows { OnOk result (Prefix first.old first.new) }
+{
+    let known = tables.count();
+    if known <= MOST_INSTANCES && unknown <= MOST_INSTANCES - known {
+        return Ok(true);
+    }
+    put_paths(alloc, second.items(), first)?;
+    Ok(first.len() <= MOST_INSTANCES)
+}
+
+// The INF files that are wanted next. What was found stays in front of what it finds.
+fn wanted_of(
+    alloc: Global,
+    tables: &Tables<'_>,
+    first: &mut Found,
+    first_at: usize,
+    second: &mut Found,
+    second_at: usize,
+) -> Result<Rows<Path>, WantOfMemory>
+    ensures wanted { (inf : InfModel)
+        → LeadsClasses tables.now inf (record { found = first.old; at = first_at })
+        → LeadsNulls tables.now (record { found = second.old; at = second_at })
+        → IfOk result (λ w. w ≡ wanted_by tables.now inf) }
+    ensures first { OnOk result (Prefix first.old first.new) }
+    ensures second { OnOk result (Prefix second.old second.new) }
+{
+    if !pass_both(alloc, tables, first, first_at, second, second_at)? {
+        return Ok(Rows::new(alloc));
+    }
+    let wanted = unknown_behind(alloc, tables, first, first_at, second, second_at)?;
+    if are_few(alloc, tables, wanted.items().len(), first, second)? {
+        return Ok(wanted);
+    }
+    Ok(Rows::new(alloc))
+}
+
+/// The INF files that are wanted next, and the fronts behind which they were found.
 pub fn wanted_behind(
     alloc: Global,
     tables: &Tables<'_>,
-    front: Front,
-) -> Result<(Rows<Path>, Front), WantOfMemory>
-    ensures wanted { (inf : InfModel) → IsFrontOf tables.now inf front
+    fronts: Fronts,
+) -> Result<(Rows<Path>, Fronts), WantOfMemory>
+    ensures wanted { (inf : InfModel) → AreFronts tables.now inf fronts
         → IfOk result (λ x. x.0 ≡ wanted_by tables.now inf) }
-    ensures front { (inf : InfModel) → IsFrontOf tables.now inf front
-        → IfOk result (λ x. IsFrontOf tables.now inf x.1) }
+    ensures fronts { (inf : InfModel) → AreFronts tables.now inf fronts
+        → IfOk result (λ x. AreFronts tables.now inf x.1) }
 {
-    let Front {
-        found,
-        at,
-        has_nulls,
-    } = advance(alloc, tables, front)?;
-    let mut found = found;
-    let size = found.len();
-    let few = pass_rest(alloc, tables, &mut found, at, has_nulls)?;
-    let wanted = unknown_behind(alloc, tables, &found, at, few)?;
-    found.truncate(size);
-    let front = Front {
-        found,
-        at,
-        has_nulls,
-    };
-    Ok((wanted, front))
+    let Fronts { classes, nulls } = advance_both(alloc, tables, fronts)?;
+    let (mut classes, mut nulls) = (classes, nulls);
+    let (first_size, second_size) = (classes.found.len(), nulls.found.len());
+    let wanted = wanted_of(
+        alloc,
+        tables,
+        &mut classes.found,
+        classes.at,
+        &mut nulls.found,
+        nulls.at,
+    )?;
+    classes.found.truncate(first_size);
+    nulls.found.truncate(second_size);
+    Ok((wanted, Fronts { classes, nulls }))
 }
 
 /// The instances of a module, or none where they are too many.
 pub fn instances_behind(
     alloc: Global,
     tables: &Tables<'_>,
-    front: Front,
+    fronts: Fronts,
 ) -> Result<Option<Found>, WantOfMemory>
-    ensures { (inf : InfModel) → IsFrontOf tables.now inf front
+    ensures { (inf : InfModel) → AreFronts tables.now inf fronts
         → IfOk result (FindsFor tables.now inf) }
 {
+    let Fronts { classes, nulls } = fronts;
     let Front {
-        found,
-        at,
-        has_nulls,
-    } = front;
-    let mut found = found;
-    if pass_rest(alloc, tables, &mut found, at, has_nulls)? {
-        Ok(Some(found))
-    } else {
-        Ok(None)
+        found: first,
+        at: first_at,
+    } = classes;
+    let Front {
+        found: second,
+        at: second_at,
+    } = nulls;
+    let (mut first, mut second) = (first, second);
+    if !pass_both(alloc, tables, &mut first, first_at, &mut second, second_at)? {
+        return Ok(None);
     }
+    put_paths(alloc, second.items(), &mut first)?;
+    if first.len() > MOST_INSTANCES {
+        return Ok(None);
+    }
+    Ok(Some(first))
 }

@@ -1,5 +1,5 @@
 //! The INF files that are known, found by their paths.
-ghost use Rattle.std.specs.Prelude.{◌≡◌, ◌∷◌, ◌++◌, [], List, IfOk, OnOk};
+ghost use Rattle.std.specs.Prelude.{◌≡◌, ◌∷◌, ◌++◌, [], List, length, IfOk, OnOk};
 ghost use Rattle.std.specs.Option.{option_copied};
 ghost use Rattle.doc_types.specs.declared.module.InfDoc.{InfDoc as InfModel};
 ghost use Rattle.library_choice.specs.Closure.{known};
@@ -112,6 +112,13 @@ impl KnownInfs {
         add_infs(alloc, more, &mut by_path)?;
         append(alloc, more, &mut list)?;
         Ok(KnownInfs { list, by_path })
+    }
+
+    /// How many there are.
+    pub fn len(&self) -> usize
+        ensures { result ≡ length self.now }
+    {
+        self.list.items().len()
     }
 
     /// The INF file of a path, where it is known.

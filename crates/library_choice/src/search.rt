@@ -7,7 +7,7 @@ ghost use Rattle.library_choice.specs.Closure.{known, is_known, is_library, sett
 ghost use Rattle.library_choice.specs.Laws.{AreLawful};
 
 use crate::choosing::{empty_choice, made};
-use crate::front::{Front, begin, wanted_behind};
+use crate::front::{Fronts, begin, wanted_behind};
 use crate::known_infs::KnownInfs;
 use crate::tables::Tables;
 use crate::wanted::own_lines;
@@ -20,14 +20,14 @@ use shared_value::Shared;
 use std::alloc::Global;
 use std::marker::Model;
 
-/// What is found of a module's instances. A round goes on from the first instance whose INF file
-/// the rounds before it didn't know.
+/// What is found of a module's instances. In a round each of the two queues goes on from its first
+/// instance whose INF file the rounds before it didn't know.
 pub struct InstanceSearch<'a> {
     user: &'a Module,
     platform: &'a PlatformDoc,
     inf: Shared<InfDoc>,
     tables: Tables<'a>,
-    front: Front,
+    fronts: Fronts,
 }
 
 // Written out, so that a caller that lets a search go has one call here.
@@ -38,7 +38,7 @@ impl Drop for InstanceSearch<'_> {
             platform: _platform,
             inf: _inf,
             tables: _tables,
-            front: _front,
+            fronts: _fronts,
         } = self;
     }
 }
@@ -51,7 +51,7 @@ impl<'a> Model for InstanceSearch<'a> {
     ghost view = { λ s.
         record { user = s.user.now; platform = s.platform.now; infs = s.tables.infs } };
 
-    ghost invariant = { λ s. IsSearch s.user.now s.platform.now s.inf s.tables s.front };
+    ghost invariant = { λ s. IsSearch s.user.now s.platform.now s.inf s.tables s.fronts };
 }
 
 // The INF file of a module, which is known.
@@ -99,13 +99,13 @@ impl<'a> InstanceSearch<'a> {
         let infs = KnownInfs::of(alloc, infs)?;
         let inf = own_inf(alloc, user, &infs)?;
         let tables = tables_for(alloc, user, platform, inf.value(), infs)?;
-        let front = begin(alloc, &tables, inf.value())?;
+        let fronts = begin(alloc, &tables, inf.value())?;
         Ok(InstanceSearch {
             user,
             platform,
             inf,
             tables,
-            front,
+            fronts,
         })
     }
 
@@ -130,15 +130,15 @@ impl<'a> InstanceSearch<'a> {
             platform,
             inf,
             tables,
-            front,
+            fronts,
         } = self;
-        let (wanted, front) = wanted_behind(alloc, &tables, front)?;
+        let (wanted, fronts) = wanted_behind(alloc, &tables, fronts)?;
         let search = InstanceSearch {
             user,
             platform,
             inf,
             tables,
-            front,
+            fronts,
         };
         Ok((wanted, search))
     }
@@ -157,7 +157,7 @@ impl<'a> InstanceSearch<'a> {
             platform,
             inf,
             tables,
-            front,
+            fronts,
         } = self;
         let tables = tables.with_more(alloc, more)?;
         Ok(InstanceSearch {
@@ -165,7 +165,7 @@ impl<'a> InstanceSearch<'a> {
             platform,
             inf,
             tables,
-            front,
+            fronts,
         })
     }
 
@@ -188,8 +188,8 @@ impl<'a> InstanceSearch<'a> {
             platform: _platform,
             inf,
             tables,
-            front,
+            fronts,
         } = self;
-        made(alloc, user, &tables, inf.value(), front)
+        made(alloc, user, &tables, inf.value(), fronts)
     }
 }

@@ -1,5 +1,5 @@
 //! Look-ups of lines by class and of INF files by path.
-ghost use Rattle.std.specs.Prelude.{◌≡◌, ◌∷◌, ◌++◌, [], nat_eq, codes, IfOk, OnOk};
+ghost use Rattle.std.specs.Prelude.{◌≡◌, ◌∷◌, ◌++◌, [], length, nat_eq, codes, IfOk, OnOk};
 ghost use Rattle.std.specs.Cmp.Lexicographic.{pointwise};
 ghost use Rattle.std.specs.List.{filter_map};
 ghost use Rattle.std.specs.Option.{option_copied};
@@ -204,6 +204,13 @@ impl<'a> Tables<'a> {
             Some(line) => Some(line),
             None => picked(self.sections, &self.section_places, class),
         }
+    }
+
+    /// How many INF files are known.
+    pub fn count(&self) -> usize
+        ensures { result ≡ length self.now.infs }
+    {
+        self.infs.len()
     }
 
     /// The INF file of a path, where it is known.

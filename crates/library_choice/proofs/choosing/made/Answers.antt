@@ -8,6 +8,11 @@ use Rattle.library_choice.specs.Fronts.{FindsFor}
 use Rattle.library_choice.proofs.MadeLemmas.{made_some, made_none, refused_is}
 use Rattle.library_choice.proofs.choosing.made.Goals as goal
 
+pub lawful_choice-requires : goal.lawful_choice-requires
+lawful_choice-requires c =
+    let found : FindsFor c.args.tables.now c.args.inf.now (Some c.in-Some.found) = subst (λ (o : Option (List (List ℕ))). FindsFor c.args.tables.now c.args.inf.now o) c.in-Some.is (c.in_ok-found.ensures c.args.inf.now c.requires) in
+    subst (λ (l : List (List ℕ)). FindsFor c.args.tables.now c.args.inf.now (Some l)) (sym c.in_ok-paths-in-Some.ensures) found
+
 pub returns-in_ok-paths-in-Some-clause-value : goal.returns-in_ok-paths-in-Some-clause-value
 returns-in_ok-paths-in-Some-clause-value c =
     let s = c.args.tables.now in

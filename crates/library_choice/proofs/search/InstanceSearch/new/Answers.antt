@@ -1,7 +1,7 @@
 use Rattle.std.proofs.Common.{◌≡◌, ◌∙◌, List, ap, subst}
 use Rattle.doc_types.specs.declared.module.InfDoc.{InfDoc}
 use Rattle.library_choice.specs.Closure.{setting_of}
-use Rattle.library_choice.specs.Fronts.{IsFrontOf}
+use Rattle.library_choice.specs.Fronts.{AreFronts}
 use Rattle.library_choice.specs.Searches.{Search}
 use Rattle.library_choice.proofs.MoreLemmas.{search-begins, setting-infs}
 use Rattle.library_choice.proofs.search.InstanceSearch.new.Goals as goal
@@ -10,9 +10,9 @@ pub invariant_of-result : goal.invariant_of-result
 invariant_of-result c =
     let u = c.args.user.now in
     let p = c.args.platform.now in
-    search-begins u p c.in_ok-inf.inf c.in_ok-infs.infs c.in_ok-tables.tables c.in_ok-front.front c.in_ok-inf.ensures
+    search-begins u p c.in_ok-inf.inf c.in_ok-infs.infs c.in_ok-tables.tables c.in_ok-fronts.fronts c.in_ok-inf.ensures
     (c.in_ok-tables.ensures ∙ ap (setting_of u p c.in_ok-infs.infs) c.value.ensures)
-    (subst (λ (inf : InfDoc). IsFrontOf c.in_ok-tables.tables inf c.in_ok-front.front) c.value-2.ensures c.in_ok-front.ensures)
+    (subst (λ (inf : InfDoc). AreFronts c.in_ok-tables.tables inf c.in_ok-fronts.fronts) c.value-2.ensures c.in_ok-fronts.ensures)
 
 pub returns : goal.returns
 returns c =

@@ -4,5 +4,5 @@ pub invariant_of-search : goal.invariant_of-search
 invariant_of-search c = record {
   own = c.self.invariant.own;
   setting = c.self.invariant.setting;
-  front = c.in_ok-wanted.ensures.front c.self.inside.inf c.self.invariant.front;
+  fronts = c.in_ok-wanted.ensures.fronts c.self.inside.inf c.self.invariant.fronts;
 }

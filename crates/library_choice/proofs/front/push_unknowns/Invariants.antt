@@ -1,10 +1,10 @@
 use Rattle.std.proofs.Common.{◌≡◌, ◌++◌, length}
 use Rattle.std.specs.Prelude.{filter}
 use Rattle.library_choice.specs.Closure.{is_unknown}
-use Rattle.library_choice.proofs.front.unknown.Given as goal
+use Rattle.library_choice.proofs.front.push_unknowns.Given as goal
 
 abbrev pub invariant-loop-left : goal.invariant-loop-left
-invariant-loop-left l = l.paths ++ filter (is_unknown l.tables.infs) l.left ≡ filter (is_unknown l.tables.infs) l.found
+invariant-loop-left l = l.paths ++ filter (is_unknown l.tables.infs) l.left ≡ l.fn.paths ++ filter (is_unknown l.tables.infs) l.found
 
 abbrev pub decreases-loop-left : goal.decreases-loop-left
 decreases-loop-left l = length l.left
