@@ -4,6 +4,7 @@ pub mod NameLemmas
 pub mod HeldLemmas
 pub mod ExponentLemmas
 pub mod LoopLemmas
+pub mod MarkedLemmas
 pub mod WholeLemmas
 pub mod OrderLemmas
 pub mod ShapeLemmas

@@ -162,6 +162,7 @@ fn part_too_large(
 }
 
 /// Refuses the first volume that is too large.
+#[tactic(auto, using(crate::proofs::MarkedLemmas::marked_passed))]
 pub fn check_sizes(
     alloc: Global,
     sizes: &IndexMap<Vec<u8>, HeldSizes>,
@@ -177,7 +178,10 @@ pub fn check_sizes(
         let [again, more @ ..] = marks else {
             return Ok(());
         };
-        part_too_large(alloc, sizes, *again, part)?;
+        let found = part_too_large(alloc, sizes, *again, part);
+        if found.is_err() {
+            return found;
+        }
         left = rest;
         marks = more;
     }
@@ -345,6 +349,7 @@ fn part_blocks(
 }
 
 /// Refuses the first device or volume whose blocks are no whole size.
+#[tactic(auto, using(crate::proofs::MarkedLemmas::marked_passed))]
 pub fn check_blocks(
     alloc: Global,
     sizes: &IndexMap<Vec<u8>, HeldSizes>,
@@ -360,7 +365,10 @@ pub fn check_blocks(
         let [again, more @ ..] = marks else {
             return Ok(());
         };
-        part_blocks(alloc, sizes, *again, part)?;
+        let found = part_blocks(alloc, sizes, *again, part);
+        if found.is_err() {
+            return found;
+        }
         left = rest;
         marks = more;
     }
@@ -393,6 +401,7 @@ fn part_sizes(
 }
 
 /// Refuses the first volume in regions of two sizes.
+#[tactic(auto, using(crate::proofs::MarkedLemmas::marked_passed))]
 pub fn check_regions(
     alloc: Global,
     sizes: &IndexMap<Vec<u8>, HeldSizes>,
@@ -408,7 +417,10 @@ pub fn check_regions(
         let [again, more @ ..] = marks else {
             return Ok(());
         };
-        part_sizes(alloc, sizes, *again, part)?;
+        let found = part_sizes(alloc, sizes, *again, part);
+        if found.is_err() {
+            return found;
+        }
         left = rest;
         marks = more;
     }
