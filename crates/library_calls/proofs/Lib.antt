@@ -1,3 +1,4 @@
 pub mod OrderLaws
 pub mod OrderLemmas
 pub mod TurnLemmas
+pub mod WaitingLemmas

@@ -1,11 +1,19 @@
 //! The order of calls.
-ghost use Rattle.std.specs.Prelude.{◌≡◌, ◌&&◌, false, slice_index_or, IfOk};
+ghost use Rattle.std.specs.Prelude.{◌≡◌, ◌&&◌, false, map, slice_index_or, IfOk};
 ghost use Rattle.std.specs.List.{list_any, find, range_with_len};
 ghost use Rattle.library_calls.specs.Calls.{before, is_looped};
-ghost use Rattle.library_calls.specs.Order.{waits, ready, call_order};
+ghost use Rattle.library_calls.specs.Order.{call_order};
+ghost use Rattle.library_calls.specs.Waiting.{count_before, wait_of, waits_of, first_free, without};
 
 use build_base::{Rows, WantOfMemory};
 use std::alloc::Global;
+
+// One that is left, and how many of those that are left must come before it.
+#[derive(Clone, Copy)]
+struct Waiting {
+    place: usize,
+    count: usize,
+}
 
 fn tells(row: &[bool], x: usize) -> bool
     ensures { result ≡ slice_index_or row.now x false }
@@ -53,17 +61,82 @@ pub fn first_looped(rows: &[Rows<bool>], all: &[usize]) -> Option<usize>
     None
 }
 
-fn waits(rows: &[Rows<bool>], left: &[usize], x: usize) -> bool
-    ensures { result ≡ waits (before rows.now) left.now x }
+// How many of those that are left must come before x.
+fn count_before(rows: &[Rows<bool>], left: &[usize], x: usize) -> usize
+    ensures { result ≡ count_before (before rows.now) left.now x }
 {
-    left.iter().any(|y| before(rows, *y, x))
+    let mut count = 0;
+    let mut rest = left;
+    while let [y, more @ ..] = rest {
+        if before(rows, *y, x) {
+            count += 1;
+        }
+        rest = more;
+    }
+    count
 }
 
-// The place of the first that may come.
-fn first_ready(rows: &[Rows<bool>], left: &[usize]) -> Option<usize>
-    ensures { result ≡ ready (before rows.now) left.now }
+fn wait_of(rows: &[Rows<bool>], left: &[usize], x: usize) -> Waiting
+    ensures { result ≡ wait_of (before rows.now) left.now x }
 {
-    left.iter().position(|x| !waits(rows, left, *x))
+    Waiting {
+        place: x,
+        count: count_before(rows, left, x),
+    }
+}
+
+fn waits_of(
+    alloc: Global,
+    rows: &[Rows<bool>],
+    left: &[usize],
+) -> Result<Vec<Waiting>, WantOfMemory>
+    ensures { IfOk result (λ all. all.items ≡ waits_of (before rows.now) left.now) }
+{
+    let mut all = Vec::new(alloc);
+    for x in left {
+        if all.push(wait_of(rows, left, *x)).is_err() {
+            return Err(WantOfMemory);
+        }
+    }
+    Ok(all)
+}
+
+// The place of the first that waits for none.
+fn first_ready(left: &[Waiting]) -> Option<usize>
+    ensures { result ≡ first_free left.now }
+{
+    left.iter().position(|waiting| waiting.count == 0)
+}
+
+fn without(rows: &[Rows<bool>], y: usize, waiting: &Waiting) -> Waiting
+    ensures { result ≡ without (before rows.now) y waiting.now }
+{
+    if before(rows, y, waiting.place) {
+        Waiting {
+            place: waiting.place,
+            count: waiting.count.saturating_sub(1),
+        }
+    } else {
+        *waiting
+    }
+}
+
+// Those that are left wait no longer for y.
+fn all_without(
+    alloc: Global,
+    rows: &[Rows<bool>],
+    y: usize,
+    left: &[Waiting],
+) -> Result<Vec<Waiting>, WantOfMemory>
+    ensures { IfOk result (λ all. all.items ≡ map (without (before rows.now) y) left.now) }
+{
+    let mut all = Vec::new(alloc);
+    for waiting in left {
+        if all.push(without(rows, y, waiting)).is_err() {
+            return Err(WantOfMemory);
+        }
+    }
+    Ok(all)
 }
 
 /// The numbers below this one.
@@ -85,11 +158,12 @@ pub fn call_order(
 ) -> Result<Rows<usize>, WantOfMemory>
     ensures { IfOk result (λ order. order ≡ call_order (before rows.now) all.now) }
 {
-    let mut left = Vec::from_slice(alloc, all)?;
+    let mut left = waits_of(alloc, rows, all)?;
     let mut order = Rows::new(alloc);
-    while let Some(place) = first_ready(rows, left.as_slice()) {
-        let x = left.remove(place);
-        order.push(x)?;
+    while let Some(place) = first_ready(left.as_slice()) {
+        let next = left.remove(place).place;
+        order.push(next)?;
+        left = all_without(alloc, rows, next, left.as_slice())?;
     }
     Ok(order)
 }
