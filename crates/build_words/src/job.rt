@@ -4,19 +4,38 @@ use build_base::{Path, Rows, Text};
 
 /// The files that the words name: the platform's, the flash description's in place of the one that
 /// the platform names, and the report's.
-#[derive(Drop)]
 pub struct Files {
     pub platform: Path,
     pub flash: Option<Path>,
     pub report: Option<Path>,
 }
 
+// A written `Drop` is one call for whoever lets the value go. A derived one is spelled out there.
+impl Drop for Files {
+    fn drop(self) {
+        let Files {
+            platform: _platform,
+            flash: _flash,
+            report: _report,
+        } = self;
+    }
+}
+
 /// The build's target, the tool chain's tag and the SKU, where the words name them.
-#[derive(Drop)]
 pub struct Names {
     pub target: Option<Text>,
     pub tag: Option<Text>,
     pub sku: Option<Text>,
+}
+
+impl Drop for Names {
+    fn drop(self) {
+        let Names {
+            target: _target,
+            tag: _tag,
+            sku: _sku,
+        } = self;
+    }
 }
 
 /// The macros `NAME` or `NAME=VALUE` and the PCDs `Space.Name=Value` that the words set, in their

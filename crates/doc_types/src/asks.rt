@@ -12,7 +12,6 @@ use std::alloc::Global;
 /// For the values of dynamic PCDs, which a platform has once: `commands` are the values that the
 /// build's words give, `skus` the SKUs that they choose, none where they leave the choice to the
 /// platform, and `arches` the architectures that are built.
-#[derive(Drop)]
 pub struct PlatformAsk {
     pub platform: Shared<PlatformDoc>,
     pub flash: Shared<FlashDoc>,
@@ -22,14 +21,39 @@ pub struct PlatformAsk {
     pub modules: Rows<ModuleParts>,
 }
 
+// A written `Drop` is one call for whoever lets the value go. A derived one is spelled out there.
+impl Drop for PlatformAsk {
+    fn drop(self) {
+        let PlatformAsk {
+            platform: _platform,
+            flash: _flash,
+            commands: _commands,
+            skus: _skus,
+            arches: _arches,
+            modules: _modules,
+        } = self;
+    }
+}
+
 /// For the values of one module. `dynamic` are those of the platform's dynamic PCDs.
-#[derive(Drop)]
 pub struct ModuleAsk {
     pub platform: Shared<PlatformDoc>,
     pub flash: Shared<FlashDoc>,
     pub commands: Rows<PcdSet>,
     pub parts: ModuleParts,
     pub dynamic: Shared<Values>,
+}
+
+impl Drop for ModuleAsk {
+    fn drop(self) {
+        let ModuleAsk {
+            platform: _platform,
+            flash: _flash,
+            commands: _commands,
+            parts: _parts,
+            dynamic: _dynamic,
+        } = self;
+    }
 }
 
 impl Same for PlatformAsk {

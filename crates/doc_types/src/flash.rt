@@ -24,7 +24,6 @@ pub struct Region {
 }
 
 /// A flash device of `size` bytes at the address `base`. `erase` is the erase polarity, 1 or 0.
-#[derive(Drop)]
 pub struct DevicePlan {
     pub at: Place,
     pub name: Text,
@@ -34,15 +33,40 @@ pub struct DevicePlan {
     pub regions: Rows<Region>,
 }
 
+// A written `Drop` is one call for whoever lets the value go. A derived one is spelled out there.
+impl Drop for DevicePlan {
+    fn drop(self) {
+        let DevicePlan {
+            at: _at,
+            name: _name,
+            base: _base,
+            size: _size,
+            erase: _erase,
+            regions: _regions,
+        } = self;
+    }
+}
+
 /// What an FDF file says. `sets` are the values that it gives to PCDs, line by line. The volumes
 /// stand in the order of their numbers.
-#[derive(Drop)]
 pub struct FlashDoc {
     pub at: Place,
     pub sets: Rows<PcdSet>,
     pub devices: Rows<DevicePlan>,
     pub volumes: Rows<VolumePlan>,
     pub rule_list: Rows<RuleDoc>,
+}
+
+impl Drop for FlashDoc {
+    fn drop(self) {
+        let FlashDoc {
+            at: _at,
+            sets: _sets,
+            devices: _devices,
+            volumes: _volumes,
+            rule_list: _rule_list,
+        } = self;
+    }
 }
 
 impl Same for RegionKind {

@@ -15,11 +15,21 @@ pub struct Package {
 
 /// A module, the descriptions of itself and of its library instances in first-found order, and the
 /// packages that they name. The first of `infs` is the module's own.
-#[derive(Drop)]
 pub struct ModuleParts {
     pub module: Module,
     pub infs: Rows<Shared<InfDoc>>,
     pub decs: Rows<Package>,
+}
+
+// A written `Drop` is one call for whoever lets the value go. A derived one is spelled out there.
+impl Drop for ModuleParts {
+    fn drop(self) {
+        let ModuleParts {
+            module: _module,
+            infs: _infs,
+            decs: _decs,
+        } = self;
+    }
 }
 
 impl Same for Package {

@@ -46,7 +46,6 @@ pub enum Store {
 }
 
 /// A line that gives a PCD its value, as written, for an architecture and a SKU.
-#[derive(Drop)]
 pub struct PcdLine {
     pub at: Place,
     pub arch: Arch,
@@ -59,8 +58,24 @@ pub struct PcdLine {
     pub store: Store,
 }
 
+// A written `Drop` is one call for whoever lets the value go. A derived one is spelled out there.
+impl Drop for PcdLine {
+    fn drop(self) {
+        let PcdLine {
+            at: _at,
+            arch: _arch,
+            kind: _kind,
+            sku: _sku,
+            pcd: _pcd,
+            value: _value,
+            datum: _datum,
+            max: _max,
+            store: _store,
+        } = self;
+    }
+}
+
 /// A module of the platform, and what its braces say of it alone.
-#[derive(Drop)]
 pub struct Component {
     pub at: Place,
     pub arch: Arch,
@@ -70,11 +85,23 @@ pub struct Component {
     pub pcds: Rows<PcdLine>,
 }
 
+impl Drop for Component {
+    fn drop(self) {
+        let Component {
+            at: _at,
+            arch: _arch,
+            inf: _inf,
+            file_guid: _file_guid,
+            libraries: _libraries,
+            pcds: _pcds,
+        } = self;
+    }
+}
+
 /// What a DSC file says. `output` is its OUTPUT_DIRECTORY, `arches` its SUPPORTED_ARCHITECTURES as
 /// written, `sku_choice` its SKUID_IDENTIFIER as written, and `flash` its FLASH_DEFINITION. Each
 /// list stands line by line, and for each line by its section's heads. `macros` are those at its
 /// end.
-#[derive(Drop)]
 pub struct PlatformDoc {
     pub at: Place,
     pub name: Text,
@@ -88,6 +115,25 @@ pub struct PlatformDoc {
     pub components: Rows<Component>,
     pub pcds: Rows<PcdLine>,
     pub macros: Rows<Macro>,
+}
+
+impl Drop for PlatformDoc {
+    fn drop(self) {
+        let PlatformDoc {
+            at: _at,
+            name: _name,
+            guid: _guid,
+            output: _output,
+            arches: _arches,
+            sku_choice: _sku_choice,
+            flash: _flash,
+            skus: _skus,
+            libraries: _libraries,
+            components: _components,
+            pcds: _pcds,
+            macros: _macros,
+        } = self;
+    }
 }
 
 impl Same for Store {
