@@ -90,7 +90,7 @@ fn put_last(out: &mut Vec<u8>, guid: &[u8; 16]) -> Result<(), AllocError>
 
 /// Adds a GUID's bytes as an initializer in C.
 #[tactic(auto, unfolding(crate::specs::Guids::initializer))]
-pub fn put_initializer(
+pub(crate) fn put_initializer(
     alloc: Global,
     out: &mut Vec<u8>,
     guid: &[u8; 16],

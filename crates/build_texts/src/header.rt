@@ -17,7 +17,7 @@ use std::alloc::{AllocError, Global};
 
 /// Adds the first line of both texts.
 #[tactic(auto, unfolding(crate::specs::Code::title))]
-pub fn put_title(out: &mut Vec<u8>, user: &Module) -> Result<(), AllocError>
+pub(crate) fn put_title(out: &mut Vec<u8>, user: &Module) -> Result<(), AllocError>
     ensures { OnOk result (out.new.items ≡ out.old.items ++ title user.now) }
 {
     out.extend_from_slice(b"/* ")?;
@@ -170,7 +170,7 @@ fn put_pcds(alloc: Global, out: &mut Vec<u8>, rows: &[PcdRow]) -> Result<(), Wan
 
 /// AutoGen.h.
 #[tactic(auto, unfolding(crate::specs::Code::header_text))]
-pub fn header_text(alloc: Global, ask: &CodeAsk) -> Result<Text, WantOfMemory>
+pub(crate) fn header_text(alloc: Global, ask: &CodeAsk) -> Result<Text, WantOfMemory>
     ensures { IfOk result (λ t. t ≡ header_text ask.now) }
 {
     let mut out = Vec::new(alloc);

@@ -201,7 +201,7 @@ fn guid_marks(alloc: Global, infs: &[Shared<InfDoc>]) -> Result<Vec<bool>, WantO
 
 /// What the INF files of a module name, file by file and line by line, or the first fault.
 #[tactic(auto, unfolding(crate::specs::Named::module_guids))]
-pub fn module_guids<'a>(
+pub(crate) fn module_guids<'a>(
     alloc: Global,
     parts: &'a ModuleParts,
 ) -> Result<Vec<FoundGuid<'a>>, Refusal>

@@ -133,7 +133,7 @@ fn guid_from(arch: Arch, lines: &[DeclaredGuid<'_>], path: &[u8]) -> Option<Guid
 
 /// The GUID of the first of some lines, by packages in order and then by lines.
 #[tactic(auto, unfolding(crate::specs::Named::first_guid))]
-pub fn first_guid(arch: Arch, lines: &[DeclaredGuid<'_>], paths: &[&[u8]]) -> Option<Guid>
+pub(crate) fn first_guid(arch: Arch, lines: &[DeclaredGuid<'_>], paths: &[&[u8]]) -> Option<Guid>
     ensures { result ≡ first_guid arch (map declared_view lines.now) (map (λ p. p.now) paths.now) }
 {
     for path in paths {

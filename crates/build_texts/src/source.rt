@@ -164,7 +164,7 @@ fn put_include(out: &mut Vec<u8>) -> Result<(), AllocError>
 
 /// AutoGen.c, with these names of GUIDs.
 #[tactic(auto, unfolding(crate::specs::Code::source_text))]
-pub fn source_text(
+pub(crate) fn source_text(
     alloc: Global,
     ask: &CodeAsk,
     named: &[FoundGuid<'_>],

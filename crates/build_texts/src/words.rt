@@ -21,7 +21,7 @@ pub fn arch_word(arch: Arch) -> &'static [u8]
     }
 }
 
-pub fn kind_word(kind: Kind) -> &'static [u8]
+pub(crate) fn kind_word(kind: Kind) -> &'static [u8]
     ensures { result.now ≡ kind_word kind }
 {
     match kind {
@@ -33,7 +33,7 @@ pub fn kind_word(kind: Kind) -> &'static [u8]
     }
 }
 
-pub fn datum_word(datum: Datum) -> &'static [u8]
+pub(crate) fn datum_word(datum: Datum) -> &'static [u8]
     ensures { result.now ≡ datum_word datum }
 {
     match datum {
@@ -47,7 +47,7 @@ pub fn datum_word(datum: Datum) -> &'static [u8]
 }
 
 /// What stated a value of this rank.
-pub fn source_word(rank: u8) -> &'static [u8]
+pub(crate) fn source_word(rank: u8) -> &'static [u8]
     ensures { result.now ≡ source_word rank }
 {
     match rank {

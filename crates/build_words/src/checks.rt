@@ -53,7 +53,7 @@ fn first_at(byte: u8, text: &[u8]) -> usize
 
 /// Whether a text defines a macro: `NAME=VALUE`, or `NAME`, whose value is TRUE.
 #[tactic(auto, unfolding(crate::specs::Values::is_define))]
-pub fn is_define(text: &[u8]) -> bool
+pub(crate) fn is_define(text: &[u8]) -> bool
     ensures { result ≡ is_define text.now }
 {
     let equals = first_at(b'=', text);
@@ -79,7 +79,7 @@ fn is_pcd_name(text: &[u8]) -> bool
 
 /// Whether a text gives a PCD a value: `Space.Name=Value`.
 #[tactic(auto, unfolding(crate::specs::Values::is_setting))]
-pub fn is_setting(text: &[u8]) -> bool
+pub(crate) fn is_setting(text: &[u8]) -> bool
     ensures { result ≡ is_setting text.now }
 {
     let equals = first_at(b'=', text);
@@ -87,7 +87,7 @@ pub fn is_setting(text: &[u8]) -> bool
 }
 
 /// Whether a text names an architecture that can be built, in any case of its letters.
-pub fn is_arch(text: &[u8]) -> bool
+pub(crate) fn is_arch(text: &[u8]) -> bool
     ensures { result ≡ is_arch text.now }
 {
     match arch_named(text) {

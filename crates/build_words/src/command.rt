@@ -130,7 +130,7 @@ fn with_settings<'a>(alloc: Global, command: Command<'a>) -> Result<Command<'a>,
 }
 
 /// The command, of which the first word is its name.
-pub fn build_command<'a>(alloc: Global) -> Result<Command<'a>, AllocError>
+pub(crate) fn build_command<'a>(alloc: Global) -> Result<Command<'a>, AllocError>
     ensures { IfOk result (λ c. app_of c ≡ build_app) }
 {
     let bare = bare_command(alloc);

@@ -82,7 +82,7 @@ pub fn optional_path(
 }
 
 /// The name of an option that may be left out, or none where it isn't one.
-pub fn optional_name(
+pub(crate) fn optional_name(
     alloc: Global,
     value: Option<&str>,
 ) -> Result<Option<Option<Text>>, WantOfMemory>

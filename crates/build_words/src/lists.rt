@@ -16,7 +16,7 @@ fn are_names(texts: &[Text]) -> bool
 }
 
 /// The texts, where each is a name.
-pub fn each_name(texts: Rows<Text>) -> Option<Rows<Text>>
+pub(crate) fn each_name(texts: Rows<Text>) -> Option<Rows<Text>>
     ensures { result ≡ each_of is_name texts }
 {
     if are_names(texts.items()) {
@@ -33,7 +33,7 @@ fn are_defines(texts: &[Text]) -> bool
 }
 
 /// The texts, where each defines a macro.
-pub fn each_define(texts: Rows<Text>) -> Option<Rows<Text>>
+pub(crate) fn each_define(texts: Rows<Text>) -> Option<Rows<Text>>
     ensures { result ≡ each_of is_define texts }
 {
     if are_defines(texts.items()) {
@@ -50,7 +50,7 @@ fn are_settings(texts: &[Text]) -> bool
 }
 
 /// The texts, where each gives a PCD a value.
-pub fn each_setting(texts: Rows<Text>) -> Option<Rows<Text>>
+pub(crate) fn each_setting(texts: Rows<Text>) -> Option<Rows<Text>>
     ensures { result ≡ each_of is_setting texts }
 {
     if are_settings(texts.items()) {
@@ -61,7 +61,7 @@ pub fn each_setting(texts: Rows<Text>) -> Option<Rows<Text>>
 }
 
 /// Whether each text names an architecture that can be built.
-pub fn are_arches(texts: &[Text]) -> bool
+pub(crate) fn are_arches(texts: &[Text]) -> bool
     ensures { result ≡ list_all is_arch texts.now }
 {
     texts.iter().all(|text| is_arch(text.bytes()))

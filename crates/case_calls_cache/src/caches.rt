@@ -24,7 +24,7 @@ fn entry_of(alloc: Global, line: &[u8]) -> Result<Entry<Key, Out>, Stop> {
 
 /// The text of the cache of a file's keys, one on each line, as the file `packed`. Each gives its
 /// line.
-pub fn call_pack(page: &mut Page, files: &[Output], path: &str) -> Result<(), Stop> {
+pub(crate) fn call_pack(page: &mut Page, files: &[Output], path: &str) -> Result<(), Stop> {
     let alloc = page.alloc();
     let mut cache = Cache::new(alloc);
     for line in file_of(files, path)?.split(|byte| *byte == b'\n') {
@@ -45,7 +45,7 @@ fn tell_entries(page: &mut Page, entries: &[Entry<Key, Out>]) {
 
 /// The keys of the cache whose text a file is, which is packed again as the file `packed`; or
 /// `none`.
-pub fn call_unpack(page: &mut Page, files: &[Output], path: &str) -> Result<(), Stop> {
+pub(crate) fn call_unpack(page: &mut Page, files: &[Output], path: &str) -> Result<(), Stop> {
     let alloc = page.alloc();
     match unpack(alloc, file_of(files, path)?)? {
         None => page.put(b"none\n"),
@@ -81,7 +81,11 @@ fn none_at(alloc: Global, bytes: &mut [u8], place: usize) -> Result<u64, Stop> {
 }
 
 /// How many of a file's texts with one byte changed are the text of no cache, for each place.
-pub fn call_unpack_changed(page: &mut Page, files: &[Output], path: &str) -> Result<(), Stop> {
+pub(crate) fn call_unpack_changed(
+    page: &mut Page,
+    files: &[Output],
+    path: &str,
+) -> Result<(), Stop> {
     let alloc = page.alloc();
     let mut bytes = Vec::from_slice(alloc, file_of(files, path)?)?;
     for place in 0..bytes.len() {
@@ -94,7 +98,7 @@ pub fn call_unpack_changed(page: &mut Page, files: &[Output], path: &str) -> Res
 }
 
 /// How many of what begins a file, from nothing to all of it but a byte, are the text of no cache.
-pub fn call_unpack_cut(page: &mut Page, files: &[Output], path: &str) -> Result<(), Stop> {
+pub(crate) fn call_unpack_cut(page: &mut Page, files: &[Output], path: &str) -> Result<(), Stop> {
     let alloc = page.alloc();
     let bytes = file_of(files, path)?;
     let mut count: u64 = 0;

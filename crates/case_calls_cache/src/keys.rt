@@ -120,7 +120,7 @@ fn tell_platform_key(page: &mut Page, key: &Key) {
 }
 
 /// A key on a line of its own.
-pub fn tell_key(page: &mut Page, key: &Key) {
+pub(crate) fn tell_key(page: &mut Page, key: &Key) {
     match key {
         Key::Dec(path) => tell_path(page, b"Dec", path),
         Key::Inf(path) => tell_path(page, b"Inf", path),
@@ -133,7 +133,7 @@ pub fn tell_key(page: &mut Page, key: &Key) {
 }
 
 /// The packed form of a key, as the file `packed`.
-pub fn call_pack_key(page: &mut Page, words: &str) -> Result<(), Stop> {
+pub(crate) fn call_pack_key(page: &mut Page, words: &str) -> Result<(), Stop> {
     let alloc = page.alloc();
     let key = key_of(alloc, words)?;
     let text = pack_key(alloc, &key)?;
@@ -142,7 +142,7 @@ pub fn call_pack_key(page: &mut Page, words: &str) -> Result<(), Stop> {
 }
 
 /// The key that a file is the packed form of, or `none`.
-pub fn call_unpack_key(page: &mut Page, files: &[Output], path: &str) -> Result<(), Stop> {
+pub(crate) fn call_unpack_key(page: &mut Page, files: &[Output], path: &str) -> Result<(), Stop> {
     match unpack_key(page.alloc(), file_of(files, path)?)? {
         None => page.put(b"none\n"),
         Some(key) => tell_key(page, &key),

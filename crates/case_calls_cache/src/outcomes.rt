@@ -45,7 +45,11 @@ fn tell_outcome(page: &mut Page, outcome: &Outcome<Out>) {
 
 /// The outcome that a file is the packed form of, which is packed again as the file `packed`; or
 /// `none`.
-pub fn call_unpack_outcome(page: &mut Page, files: &[Output], path: &str) -> Result<(), Stop> {
+pub(crate) fn call_unpack_outcome(
+    page: &mut Page,
+    files: &[Output],
+    path: &str,
+) -> Result<(), Stop> {
     let alloc = page.alloc();
     match unpack_outcome(alloc, file_of(files, path)?)? {
         None => page.put(b"none\n"),

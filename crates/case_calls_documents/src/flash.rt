@@ -198,7 +198,7 @@ fn tell_rule(page: &mut Page, rule: &RuleDoc) {
     tell_file(page, &rule.file);
 }
 
-pub fn tell_flash(page: &mut Page, flash: &FlashDoc) {
+pub(crate) fn tell_flash(page: &mut Page, flash: &FlashDoc) {
     for set in flash.sets.items() {
         tell_set(page, set);
     }
@@ -214,7 +214,7 @@ pub fn tell_flash(page: &mut Page, flash: &FlashDoc) {
 }
 
 /// How many rows there are of each kind, and statements of the volume that has the most.
-pub fn tell_counts(page: &mut Page, flash: &FlashDoc) -> Result<(), Stop> {
+pub(crate) fn tell_counts(page: &mut Page, flash: &FlashDoc) -> Result<(), Stop> {
     let sets = flash.sets.items().len();
     let devices = flash.devices.items().len();
     let volumes = flash.volumes.items().len();

@@ -22,7 +22,7 @@ fn tell_pcd(page: &mut Page, row: &DecPcd) {
     page.end();
 }
 
-pub fn tell_package(page: &mut Page, package: &DecDoc) {
+pub(crate) fn tell_package(page: &mut Page, package: &DecDoc) {
     page.row(b"name", package.name.bytes());
     page.put(b"file");
     page.guid(&package.guid);

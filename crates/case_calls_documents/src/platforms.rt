@@ -112,7 +112,7 @@ fn tell_keys(page: &mut Page, platform: &PlatformDoc) {
     }
 }
 
-pub fn tell_platform(page: &mut Page, platform: &PlatformDoc) {
+pub(crate) fn tell_platform(page: &mut Page, platform: &PlatformDoc) {
     tell_keys(page, platform);
     for sku in platform.skus.items() {
         tell_sku(page, sku);

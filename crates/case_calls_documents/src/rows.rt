@@ -12,7 +12,7 @@ pub fn begin(page: &mut Page, name: &[u8], at: &Place) {
 }
 
 /// A row's first words: what it is, its line and its architecture.
-pub fn begin_row(page: &mut Page, name: &[u8], at: &Place, arch: Arch) {
+pub(crate) fn begin_row(page: &mut Page, name: &[u8], at: &Place, arch: Arch) {
     begin(page, name, at);
     page.name(&arch);
 }

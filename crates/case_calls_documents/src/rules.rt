@@ -43,7 +43,7 @@ fn tell_items(
 
 /// The architecture of each module of the volumes, and the number of its rule, up to the first that
 /// has none, for the words `TYPE PLATFORM FLASH`.
-pub fn call_modules(page: &mut Page, files: &[Output], words: &str) -> Result<(), Stop> {
+pub(crate) fn call_modules(page: &mut Page, files: &[Output], words: &str) -> Result<(), Stop> {
     let alloc = page.alloc();
     let (module_type, rest) = first_word(words);
     let (root, flash) = first_word(rest);

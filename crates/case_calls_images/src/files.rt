@@ -100,7 +100,7 @@ fn plan_of(alloc: Global, files: &[Output], path: &str) -> Result<ImagePlan, Sto
 }
 
 /// The file `file`, or its fault, of the plan that the file of this path has.
-pub fn call_file_of(page: &mut Page, files: &[Output], path: &str) -> Result<(), Stop> {
+pub(crate) fn call_file_of(page: &mut Page, files: &[Output], path: &str) -> Result<(), Stop> {
     let alloc = page.alloc();
     let plan = plan_of(alloc, files, path)?;
     if !have_guids(&plan.body) {

@@ -10,7 +10,7 @@ fn fail(page: &mut Page, fault: PeFault) -> Result<(), Stop> {
 }
 
 /// The header as the file `head`, and what follows it as the file `rest`.
-pub fn call_te_header(page: &mut Page, files: &[Output], path: &str) -> Result<(), Stop> {
+pub(crate) fn call_te_header(page: &mut Page, files: &[Output], path: &str) -> Result<(), Stop> {
     let file = file_of(files, path)?;
     match te_header(file) {
         Ok(head) => {
@@ -23,7 +23,11 @@ pub fn call_te_header(page: &mut Page, files: &[Output], path: &str) -> Result<(
 }
 
 /// The alignment as a line of standard output.
-pub fn call_section_alignment(page: &mut Page, files: &[Output], path: &str) -> Result<(), Stop> {
+pub(crate) fn call_section_alignment(
+    page: &mut Page,
+    files: &[Output],
+    path: &str,
+) -> Result<(), Stop> {
     match section_alignment(file_of(files, path)?) {
         Ok(alignment) => {
             let text = format!(in page.alloc(); "{alignment}\n")?;

@@ -8,7 +8,7 @@ use volume_reader::{
 };
 
 /// The listing of the file of this path on standard output, or its fault.
-pub fn call_list_text(page: &mut Page, files: &[Output], path: &str) -> Result<(), Stop> {
+pub(crate) fn call_list_text(page: &mut Page, files: &[Output], path: &str) -> Result<(), Stop> {
     let alloc = page.alloc();
     let bytes = file_of(files, path)?;
     let name = path_of(alloc, path)?;
@@ -18,7 +18,7 @@ pub fn call_list_text(page: &mut Page, files: &[Output], path: &str) -> Result<(
 }
 
 /// The first place from a number on at which a volume stands in a file, or `none`.
-pub fn call_find_volume(page: &mut Page, files: &[Output], words: &str) -> Result<(), Stop> {
+pub(crate) fn call_find_volume(page: &mut Page, files: &[Output], words: &str) -> Result<(), Stop> {
     let (from, path) = first_word(words);
     match find_volume(file_of(files, path)?, count(from)?) {
         Some(at) => page.count(b"at", at),
@@ -61,7 +61,7 @@ fn tell_volume(page: &mut Page, list: &VolumeList) {
 
 /// What the volume holds that a file begins with, row by row; or `wrong` and the place of its first
 /// wrong file, with the status 1.
-pub fn call_read_volume(page: &mut Page, files: &[Output], path: &str) -> Result<(), Stop> {
+pub(crate) fn call_read_volume(page: &mut Page, files: &[Output], path: &str) -> Result<(), Stop> {
     let bytes = file_of(files, path)?;
     if !is_head(bytes) {
         return Err(Stop::Wrong(Wrong::Line("no volume's header stands at the front")));

@@ -103,7 +103,7 @@ fn plan_of(
 }
 
 /// The file `volume`, or its fault, of what the file of this path has.
-pub fn call_compose(page: &mut Page, files: &[Output], path: &str) -> Result<(), Stop> {
+pub(crate) fn call_compose(page: &mut Page, files: &[Output], path: &str) -> Result<(), Stop> {
     let alloc = page.alloc();
     let mut images = Rows::new(alloc);
     let head = plan_of(alloc, files, path, &mut images)?;
@@ -111,7 +111,11 @@ pub fn call_compose(page: &mut Page, files: &[Output], path: &str) -> Result<(),
 }
 
 /// The same with its modules moved; `base NUMBER` says where the volume lies.
-pub fn call_rebase_volume(page: &mut Page, files: &[Output], path: &str) -> Result<(), Stop> {
+pub(crate) fn call_rebase_volume(
+    page: &mut Page,
+    files: &[Output],
+    path: &str,
+) -> Result<(), Stop> {
     let alloc = page.alloc();
     let mut images = Rows::new(alloc);
     let head = plan_of(alloc, files, path, &mut images)?;

@@ -81,7 +81,7 @@ fn tell_rounds(
 
 /// The rounds in which INF files are wanted, and then the choice, for the words `ARCH PLATFORM
 /// MODULE`.
-pub fn call_choose(page: &mut Page, files: &[Output], words: &str) -> Result<(), Stop> {
+pub(crate) fn call_choose(page: &mut Page, files: &[Output], words: &str) -> Result<(), Stop> {
     let alloc = page.alloc();
     let (arch, rest) = first_word(words);
     let (root, inf) = first_word(rest);

@@ -30,7 +30,7 @@ fn tell_opcode(page: &mut Page, depex: &Depex) {
 }
 
 /// The opcode at the tree's root as a line of standard output, or the status 1.
-pub fn call_read_back(page: &mut Page, files: &[Output], path: &str) -> Result<(), Stop> {
+pub(crate) fn call_read_back(page: &mut Page, files: &[Output], path: &str) -> Result<(), Stop> {
     match read_back(page.alloc(), file_of(files, path)?)? {
         Some(depex) => tell_opcode(page, &depex),
         None => page.fail(b""),
@@ -106,7 +106,7 @@ fn tell_code(page: &mut Page, found: ModuleType, groups: &Rows<DepexGroup>) -> R
 
 /// The file `code`, or the fault, of the expression of a module of the type that the first word
 /// names.
-pub fn call_compile(page: &mut Page, files: &[Output], words: &str) -> Result<(), Stop> {
+pub(crate) fn call_compile(page: &mut Page, files: &[Output], words: &str) -> Result<(), Stop> {
     let (found, path) = first_word(words);
     let found = type_of(found)?;
     let path = path.trim_ascii();
@@ -129,7 +129,11 @@ fn add_names(
 }
 
 /// The bytes of a module's dependency expression, with the names of its packages.
-pub fn call_compile_module(page: &mut Page, files: &[Output], root: &str) -> Result<(), Stop> {
+pub(crate) fn call_compile_module(
+    page: &mut Page,
+    files: &[Output],
+    root: &str,
+) -> Result<(), Stop> {
     let alloc = page.alloc();
     let module = module_of(alloc, files, &path_of(alloc, root)?)?;
     let mut group = empty_group(alloc);

@@ -59,7 +59,7 @@ fn tell_line(page: &mut Page, path: &str, number: u64, line: &[u8]) -> Result<()
 
 /// For each line `DATUM|VALUE` of a file how many bytes its value has and how it prints, or its
 /// fault.
-pub fn call_parse_value(page: &mut Page, files: &[Output], path: &str) -> Result<(), Stop> {
+pub(crate) fn call_parse_value(page: &mut Page, files: &[Output], path: &str) -> Result<(), Stop> {
     let text = file_of(files, path)?.trim_ascii();
     let mut number: u64 = 0;
     for line in text.split(|byte| *byte == b'\n') {

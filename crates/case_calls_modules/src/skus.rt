@@ -48,7 +48,7 @@ fn rows_of(alloc: Global, sets: &[PcdSet]) -> Result<Rows<SkuRow>, Stop> {
 
 /// The value of each SKU, where the sets of the call's file name SKUs by PCDs of the token space
 /// `sku`.
-pub fn call_sku_value(page: &mut Page, files: &[Output], path: &str) -> Result<(), Stop> {
+pub(crate) fn call_sku_value(page: &mut Page, files: &[Output], path: &str) -> Result<(), Stop> {
     let alloc = page.alloc();
     let ask = ask_of(alloc, files, path)?;
     let rows = rows_of(alloc, ask.flash.value().sets.items())?;

@@ -38,7 +38,11 @@ fn tell_values(page: &mut Page, values: &Values) -> Result<(), Stop> {
 }
 
 /// The rows of a platform's dynamic PCDs, or the first fault.
-pub fn call_resolve_platform(page: &mut Page, files: &[Output], path: &str) -> Result<(), Stop> {
+pub(crate) fn call_resolve_platform(
+    page: &mut Page,
+    files: &[Output],
+    path: &str,
+) -> Result<(), Stop> {
     let alloc = page.alloc();
     let ask = ask_of(alloc, files, path)?;
     let mut book = Book::new(alloc);
@@ -118,7 +122,11 @@ fn tell_modules(page: &mut Page, ask: &PlatformAsk, dynamic: &Shared<Values>) ->
 }
 
 /// The rows of each module, or its first fault.
-pub fn call_resolve_module(page: &mut Page, files: &[Output], path: &str) -> Result<(), Stop> {
+pub(crate) fn call_resolve_module(
+    page: &mut Page,
+    files: &[Output],
+    path: &str,
+) -> Result<(), Stop> {
     let alloc = page.alloc();
     let ask = ask_of(alloc, files, path)?;
     let dynamic = Shared::new(alloc, dynamic_of(alloc, &ask)?)?;

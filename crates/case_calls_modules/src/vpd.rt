@@ -49,7 +49,7 @@ fn made(alloc: Global, ask: &VpdAsk) -> Result<Vpd, Stop> {
 
 /// The places of a platform's VPD lines, their image and its map, from the values of its dynamic
 /// PCDs, or the first fault.
-pub fn call_vpd(page: &mut Page, files: &[Output], path: &str) -> Result<(), Stop> {
+pub(crate) fn call_vpd(page: &mut Page, files: &[Output], path: &str) -> Result<(), Stop> {
     let alloc = page.alloc();
     let ask = ask_of(alloc, files, path)?;
     let mut book = Book::new(alloc);

@@ -15,7 +15,7 @@ pub fn arch_of(word: &str) -> Result<Arch, Wrong> {
     }
 }
 
-pub fn type_of(word: &str) -> Result<ModuleType, Wrong> {
+pub(crate) fn type_of(word: &str) -> Result<ModuleType, Wrong> {
     match module_type_named(word.as_bytes()) {
         Some(found) => Ok(found),
         None => Err(Wrong::Line("no module type has this name")),
@@ -50,7 +50,7 @@ pub fn pcd_of(alloc: Global, word: &str) -> Result<PcdName, Stop> {
     }
 }
 
-pub fn text_of_word(alloc: Global, word: &str) -> Result<Text, Stop> {
+pub(crate) fn text_of_word(alloc: Global, word: &str) -> Result<Text, Stop> {
     Ok(Text::of(alloc, word.as_bytes())?)
 }
 

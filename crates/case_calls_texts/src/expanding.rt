@@ -7,7 +7,7 @@ use macro_conditions::{Known, Turned, expand};
 use std::alloc::Global;
 
 /// The lines of a document, each behind its place.
-pub fn call_expand(page: &mut Page, files: &[Output], root: &str) -> Result<(), Stop> {
+pub(crate) fn call_expand(page: &mut Page, files: &[Output], root: &str) -> Result<(), Stop> {
     let alloc = page.alloc();
     let lines = lines_of(alloc, files, &path_of(alloc, root)?)?;
     for line in lines.rows.items() {
@@ -49,7 +49,7 @@ fn tell_paths(page: &mut Page, paths: &[Path]) {
 }
 
 /// The paths that a document's lines want where the files of the case alone are known.
-pub fn call_wanted(page: &mut Page, files: &[Output], root: &str) -> Result<(), Stop> {
+pub(crate) fn call_wanted(page: &mut Page, files: &[Output], root: &str) -> Result<(), Stop> {
     let alloc = page.alloc();
     let root = path_of(alloc, root)?;
     let known = known_files(alloc, files)?;

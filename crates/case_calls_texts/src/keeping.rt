@@ -6,7 +6,7 @@ use build_base::{KeeperFailed, Text};
 use case_player::{Output, Page, Stop, Wrong, file_of};
 
 /// The file `loaded`, which a keeper of the file's bytes tells.
-pub fn call_keeper(page: &mut Page, files: &[Output], path: &str) -> Result<(), Stop> {
+pub(crate) fn call_keeper(page: &mut Page, files: &[Output], path: &str) -> Result<(), Stop> {
     let alloc = page.alloc();
     let kept = Text::of(alloc, file_of(files, path)?)?;
     let mut keeper = SureKeeper::new(alloc, Some(kept), 0)?;

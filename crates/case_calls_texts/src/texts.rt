@@ -24,7 +24,7 @@ fn tell_value(page: &mut Page, value: &Value) -> Result<(), Stop> {
 }
 
 /// What the expression of a file's one line comes to.
-pub fn call_evaluate(page: &mut Page, files: &[Output], path: &str) -> Result<(), Stop> {
+pub(crate) fn call_evaluate(page: &mut Page, files: &[Output], path: &str) -> Result<(), Stop> {
     let alloc = page.alloc();
     let text = Text::of(alloc, file_of(files, path)?.trim_ascii())?;
     let at = place_of(alloc, path, 1)?;
@@ -34,7 +34,7 @@ pub fn call_evaluate(page: &mut Page, files: &[Output], path: &str) -> Result<()
 }
 
 /// The plain number that each line of a file is, or `none`.
-pub fn call_number(page: &mut Page, files: &[Output], path: &str) -> Result<(), Stop> {
+pub(crate) fn call_number(page: &mut Page, files: &[Output], path: &str) -> Result<(), Stop> {
     let text = file_of(files, path)?.trim_ascii();
     for line in text.split(|byte| *byte == b'\n') {
         tell_number(page, line)?;
@@ -54,7 +54,7 @@ fn tell_number(page: &mut Page, line: &[u8]) -> Result<(), Stop> {
 }
 
 /// The fields of a file's one line, a line for each.
-pub fn call_fields(page: &mut Page, files: &[Output], path: &str) -> Result<(), Stop> {
+pub(crate) fn call_fields(page: &mut Page, files: &[Output], path: &str) -> Result<(), Stop> {
     let text = file_of(files, path)?.trim_ascii();
     let fields = field_texts(page.alloc(), text)?;
     for field in fields.items() {
@@ -83,7 +83,7 @@ fn tell_tokens(page: &mut Page, tokens: &[Token]) {
 
 /// The tokens of a file's one line, each with its span; or the code of its fault and where that
 /// begins.
-pub fn call_tokens(page: &mut Page, files: &[Output], path: &str) -> Result<(), Stop> {
+pub(crate) fn call_tokens(page: &mut Page, files: &[Output], path: &str) -> Result<(), Stop> {
     let text = file_of(files, path)?.trim_ascii();
     match tokens(page.alloc(), text) {
         Ok(found) => tell_tokens(page, found.as_slice()),
@@ -107,7 +107,7 @@ fn tell_heads(page: &mut Page, heads: &[Head]) {
 
 /// The heads of a file's one line, a line for each part; `none` where the line is no head; or the
 /// code of its fault and where that ends.
-pub fn call_heads(page: &mut Page, files: &[Output], path: &str) -> Result<(), Stop> {
+pub(crate) fn call_heads(page: &mut Page, files: &[Output], path: &str) -> Result<(), Stop> {
     let text = file_of(files, path)?.trim_ascii();
     match section_head(page.alloc(), text) {
         Ok(Some(heads)) => tell_heads(page, heads.items()),

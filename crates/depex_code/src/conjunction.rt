@@ -66,7 +66,7 @@ fn each_once(alloc: Global, guids: &[Guid]) -> Result<Vec<u8>, WantOfMemory>
 
 /// The postfix form of the GUIDs, each at its first place alone, joined from the left by AND; TRUE
 /// where there is none.
-pub fn conjunction(alloc: Global, guids: &[Guid]) -> Result<Vec<u8>, WantOfMemory>
+pub(crate) fn conjunction(alloc: Global, guids: &[Guid]) -> Result<Vec<u8>, WantOfMemory>
     ensures { IfOk result (λ v. v.items ≡ and_bytes (guids_view guids.now)) }
 {
     let mut bytes = each_once(alloc, guids)?;

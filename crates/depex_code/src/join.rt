@@ -165,7 +165,7 @@ fn with_group(
 }
 
 /// The expression of all INF files, without the SOR around it. The first one has the leave.
-pub fn joined_groups(
+pub(crate) fn joined_groups(
     alloc: Global,
     front: bool,
     leave: Leave,
@@ -221,7 +221,11 @@ fn simple_bytes(alloc: Global, code: Code) -> Result<Vec<u8>, WantOfMemory>
 }
 
 /// The bytes of an expression, with the SOR in front and END.
-pub fn final_bytes(alloc: Global, front: bool, whole: Option<Piece>) -> Result<Text, WantOfMemory>
+pub(crate) fn final_bytes(
+    alloc: Global,
+    front: bool,
+    whole: Option<Piece>,
+) -> Result<Text, WantOfMemory>
     ensures { IfOk result (λ t. t ≡ final_bytes front (option_map piece_size whole)) }
 {
     match whole {

@@ -9,7 +9,7 @@ pub struct Leave {
 }
 
 /// No leave: a part that is not the first of the module's.
-pub const NO_LEAVE: Leave = Leave {
+pub(crate) const NO_LEAVE: Leave = Leave {
     sor: false,
     edge: false,
 };

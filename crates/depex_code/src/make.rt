@@ -130,14 +130,14 @@ fn measured(deep: u32, count: u32) -> Measure
 }
 
 /// The measure of two operands and what joins them. A long row of AND doesn't nest.
-pub fn joined_measure(a: Measure, b: Measure) -> Measure
+pub(crate) fn joined_measure(a: Measure, b: Measure) -> Measure
     ensures { reach_view result ≡ join_reach (reach_view a) (reach_view b) }
 {
     measured(a.deep.max(b.deep + 1), a.count + b.count + 1)
 }
 
 /// The measure of an operand and what stands before it.
-pub fn prefixed_measure(a: Measure) -> Measure
+pub(crate) fn prefixed_measure(a: Measure) -> Measure
     ensures { reach_view result ≡ prefix_reach (reach_view a) }
 {
     measured(a.deep + 1, a.count + 1)

@@ -17,12 +17,12 @@ pub const TRUE: u8 = 6;
 
 pub const FALSE: u8 = 7;
 
-pub const END: u8 = 8;
+pub(crate) const END: u8 = 8;
 
 pub const SOR: u8 = 9;
 
 /// How deep an expression may nest.
-pub const DEEPEST: u32 = 64;
+pub(crate) const DEEPEST: u32 = 64;
 
 /// How many opcodes may stand before END.
 pub const MOST: u32 = 4096;

@@ -142,7 +142,7 @@ fn edge_stands(
 
 /// The expression of a section, without the SOR at its front.
 #[tactic(auto, unfolding(crate::specs::Compiled::part_tree))]
-pub fn part_piece(
+pub(crate) fn part_piece(
     alloc: Global,
     leave: Leave,
     guids: &[NamedGuid],

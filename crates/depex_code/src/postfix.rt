@@ -10,7 +10,7 @@ use doc_types::depex::Depex;
 use std::alloc::Global;
 
 /// A tree in a box.
-pub fn boxed(alloc: Global, tree: Depex) -> Result<Box<Depex>, WantOfMemory>
+pub(crate) fn boxed(alloc: Global, tree: Depex) -> Result<Box<Depex>, WantOfMemory>
     ensures { IfOk result (λ b. b.value ≡ tree) }
 {
     match Box::new(alloc, tree) {

@@ -53,7 +53,7 @@ pub fn token(guids: &[NamedGuid], term: &[u8]) -> Token
 }
 
 /// Whether SOR is the first term.
-pub fn begins_with_sor(terms: &[Text]) -> bool
+pub(crate) fn begins_with_sor(terms: &[Text]) -> bool
     ensures { result ≡ begins_with_sor terms.now }
 {
     match terms.first() {
@@ -110,7 +110,7 @@ fn is_edge_pair(tokens: &[Token]) -> bool
 
 /// Whether a BEFORE or AFTER and its name are all the terms, parentheses apart.
 #[tactic(auto, unfolding(crate::specs::Compiled::is_edge_part))]
-pub fn is_edge_part(
+pub(crate) fn is_edge_part(
     alloc: Global,
     guids: &[NamedGuid],
     terms: &[Text],

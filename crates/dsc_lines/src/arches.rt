@@ -42,7 +42,7 @@ fn arches_of(alloc: Global, at: &Place, words: &[Text]) -> Result<Rows<Arch>, Re
 
 /// The architectures that a field states, in order.
 #[tactic(auto, unfolding(crate::specs::Arches::arches_value))]
-pub fn arches_value(alloc: Global, at: &Place, text: &[u8]) -> Result<Rows<Arch>, Refusal>
+pub(crate) fn arches_value(alloc: Global, at: &Place, text: &[u8]) -> Result<Rows<Arch>, Refusal>
     ensures { Answers result (arches_value at.now text.now) }
 {
     let words = field_texts(alloc, text)?;

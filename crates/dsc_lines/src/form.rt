@@ -9,7 +9,7 @@ use doc_reading::value_fields::undefined_macros;
 use std::alloc::Global;
 
 /// The refusal of a line of no form, with the code of its section.
-pub fn refuse_form(alloc: Global, code: u16, line: &Taken, fields: &[Text]) -> Refusal
+pub(crate) fn refuse_form(alloc: Global, code: u16, line: &Taken, fields: &[Text]) -> Refusal
     ensures { Finds result (least_of (formless code line.now fields.now)) }
 {
     least_refusal(

@@ -20,7 +20,7 @@ pub fn listed_lines_give_rows()
 {}
 
 /// A line of components, of which no condition holds, gives a row where lines aren't read past.
-pub fn component_lines_give_rows()
+pub(crate) fn component_lines_give_rows()
     ensures { (line : Line) (arch : Arch) (standing : Open) → Tells standing
         → least_of (component_faults line standing) ≡ None
         → IsSome (component_part line arch standing) }

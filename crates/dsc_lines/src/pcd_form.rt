@@ -28,7 +28,7 @@ fn small_in(number: Option<u64>) -> Option<u32>
 
 /// The plain number below 2^32 that a text is.
 #[tactic(auto, unfolding(crate::specs::PcdLines::small_of))]
-pub fn small_number(text: &[u8]) -> Option<u32>
+pub(crate) fn small_number(text: &[u8]) -> Option<u32>
     ensures { result ≡ small_of text.now }
 {
     small_in(number(text))
@@ -167,7 +167,7 @@ fn is_vpd_form(fields: &[Text]) -> bool
 }
 
 /// Whether these are the fields of a line of a section's form, but for the name and the number.
-pub fn is_form(stored: StoreKind, fields: &[Text]) -> bool
+pub(crate) fn is_form(stored: StoreKind, fields: &[Text]) -> bool
     ensures { result ≡ is_form stored fields.now }
 {
     match stored {

@@ -52,7 +52,7 @@ fn plain_datum(fields: &[Text]) -> Option<Datum>
 }
 
 /// The type of the value.
-pub fn datum_in(stored: StoreKind, fields: &[Text]) -> Option<Datum>
+pub(crate) fn datum_in(stored: StoreKind, fields: &[Text]) -> Option<Datum>
     ensures { result ≡ datum_in stored fields.now }
 {
     match stored {
@@ -71,7 +71,7 @@ fn plain_max(fields: &[Text]) -> Option<u32>
 }
 
 /// The greatest length of the value.
-pub fn max_in(stored: StoreKind, fields: &[Text]) -> Option<u32>
+pub(crate) fn max_in(stored: StoreKind, fields: &[Text]) -> Option<u32>
     ensures { result ≡ max_in stored fields.now }
 {
     match stored {
@@ -126,7 +126,11 @@ fn vpd_store(alloc: Global, fields: &[Text]) -> Result<Store, WantOfMemory>
 }
 
 /// Where the PCD is kept.
-pub fn store_in(alloc: Global, stored: StoreKind, fields: &[Text]) -> Result<Store, WantOfMemory>
+pub(crate) fn store_in(
+    alloc: Global,
+    stored: StoreKind,
+    fields: &[Text],
+) -> Result<Store, WantOfMemory>
     ensures { IfOk result (λ store. store ≡ store_in stored fields.now) }
 {
     match stored {

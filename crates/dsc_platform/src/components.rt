@@ -184,7 +184,7 @@ fn push_component(
 }
 
 /// Adds the components of a block: of the line that begins it, and of the parts below.
-pub fn push_block(
+pub(crate) fn push_block(
     alloc: Global,
     components: &mut Rows<Component>,
     first: &[Part],

@@ -27,7 +27,7 @@ impl Model for NamedPlatform {
 
 impl NamedPlatform {
     /// The document.
-    pub fn into_document(self) -> PlatformDoc
+    pub(crate) fn into_document(self) -> PlatformDoc
         ensures value { result ≡ self }
         ensures name { IsSegmentName result.name }
         ensures output { IsPathField result.output }

@@ -36,7 +36,7 @@ pub fn push_place(places: &mut Vec<Option<usize>>, place: Option<usize>) -> Resu
 }
 
 /// Where the parent of each SKU stands, by a table of the names.
-pub fn parents_among(
+pub(crate) fn parents_among(
     alloc: Global,
     names: &IndexMap<Vec<u8>, usize>,
     skus: &[SkuLine],

@@ -58,7 +58,7 @@ fn push_head(
 }
 
 /// Takes the SKUs that heads name.
-pub fn push_heads(
+pub(crate) fn push_heads(
     alloc: Global,
     uses: &mut Rows<SkuUse>,
     at: &Place,
@@ -98,7 +98,11 @@ fn push_row(alloc: Global, uses: &mut Rows<SkuUse>, row: &Said) -> Result<(), Wa
 }
 
 /// Takes the SKUs that the rows of a line name.
-pub fn push_rows(alloc: Global, uses: &mut Rows<SkuUse>, rows: &[Said]) -> Result<(), WantOfMemory>
+pub(crate) fn push_rows(
+    alloc: Global,
+    uses: &mut Rows<SkuUse>,
+    rows: &[Said],
+) -> Result<(), WantOfMemory>
     ensures { OnOk result (uses.new ≡ uses.old ++ flat_map row_uses rows.now) }
 {
     for row in rows {
@@ -210,7 +214,7 @@ fn check_standing(
 
 /// Refuses the first name that is no SKU's. It goes from the last to the first, since the last
 /// SKUID_IDENTIFIER counts alone.
-pub fn check_uses(
+pub(crate) fn check_uses(
     alloc: Global,
     names: &IndexMap<Vec<u8>, usize>,
     uses: &[SkuUse],

@@ -143,7 +143,7 @@ fn keep_row(
 
 /// Takes the rows of a line.
 #[tactic(auto, using(crate::proofs::StatedLemmas::rows_join, crate::proofs::StatedLemmas::rows_none))]
-pub fn keep_rows(
+pub(crate) fn keep_rows(
     alloc: Global,
     stated: &mut Stated,
     names: &mut IndexMap<Vec<u8>, usize>,

@@ -79,7 +79,7 @@ pub struct Brought {
 
 /// Brings what these fields of a job ask for, over edits of the tree's files, from the cache that
 /// the last build left, which is dropped where the build stops.
-pub fn bring_all<H: Threads + Sync, T: Tree, G: Gate>(
+pub(crate) fn bring_all<H: Threads + Sync, T: Tree, G: Gate>(
     rt: &H,
     alloc: Global,
     fields: &Rows<Text>,

@@ -165,7 +165,7 @@ fn given_bytes(given: &Out, part: u8) -> Content<'_>
 }
 
 /// The bytes of what a step gave: none where that is a fault.
-pub fn outcome_bytes(outcome: &Outcome<Out>, part: u8) -> Content<'_>
+pub(crate) fn outcome_bytes(outcome: &Outcome<Out>, part: u8) -> Content<'_>
     ensures { result ≡ outcome_bytes outcome.now part }
 {
     match outcome {

@@ -357,7 +357,7 @@ fn build_from<H: Threads + Sync, T: Tree, S: Sink, K: Keeper, G: Gate>(
 /// is what is kept.
 ///
 /// All is read, and all memory is taken, before the first emission.
-pub fn build_kept<H: Threads + Sync, T: Tree, S: Sink, K: Keeper, G: Gate>(
+pub(crate) fn build_kept<H: Threads + Sync, T: Tree, S: Sink, K: Keeper, G: Gate>(
     rt: &H,
     alloc: Global,
     job: &Job,

@@ -15,7 +15,7 @@ ghost use Rattle.edk_build.specs.KeptRuns.{AreRight, BuildRun, Follow};
 
 /// What is kept stands for one cache. Nothing, no cache's text, the text of a sound cache and each
 /// prefix of it stand for none that isn't sound.
-pub fn kept_is_one()
+pub(crate) fn kept_is_one()
     ensures one { (kept : Option (List ℕ)) (a b : List (EntryOf KeyOf OutOf)) → StandsFor kept a
         → StandsFor kept b → a ≡ b }
     ensures nothing { IsSoundKept None }
@@ -27,7 +27,7 @@ pub fn kept_is_one()
 /// The text of a cache that a build of an older edition left, sound by the definitions of that
 /// edition, and each prefix of it stand for no cache that isn't sound by today's: whatever the
 /// definitions were of the steps whose entries don't stay.
-pub fn older_texts_are_adopted()
+pub(crate) fn older_texts_are_adopted()
     ensures { (edition : ℕ) (older : KeyOf → EdkStages) (cache : List (EntryOf KeyOf OutOf))
         (front rest : List ℕ) → edition < 5 → IsTextOf edition cache (front ++ rest)
         → AreOlder edition older → AreSound (meaning_of key_cmp (by_older older)) cache
@@ -37,7 +37,7 @@ pub fn older_texts_are_adopted()
 /// Runs of `build` with edits between them, each of which begins with what the one before it kept,
 /// write what the definitions give for their words and the files of their moments, where the first
 /// begins with what stands for no unsound cache.
-pub fn runs_are_right()
+pub(crate) fn runs_are_right()
     ensures { (kept : Option (List ℕ)) (runs : List BuildRun) → IsSoundKept kept → Follow kept runs
         → AreRight runs }
 {}

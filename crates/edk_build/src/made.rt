@@ -131,7 +131,7 @@ fn make<'a>(
 }
 
 /// What a build of this outcome emits, lent by the entries that it left.
-pub fn make_ready<'a>(
+pub(crate) fn make_ready<'a>(
     alloc: Global,
     label: &Label,
     given: &Outcome<Out>,
@@ -153,7 +153,11 @@ pub fn make_ready<'a>(
 }
 
 /// Writes a text.
-pub fn write_text<S: Sink>(sink: &mut S, target: &Target, bytes: &Text) -> Result<(), SinkFailed>
+pub(crate) fn write_text<S: Sink>(
+    sink: &mut S,
+    target: &Target,
+    bytes: &Text,
+) -> Result<(), SinkFailed>
     ensures written { Writes (S.written sink.old) (S.written sink.new)
         (text target.now bytes.now ∷ []) result }
     ensures cause { Cause (S.faults sink.old) (S.faults sink.new) result }
@@ -209,7 +213,7 @@ impl Ready<'_> {
     }
 
     /// Writes all but the summary, without taking memory.
-    pub fn write_outputs<S: Sink>(&self, sink: &mut S) -> Result<(), SinkFailed>
+    pub(crate) fn write_outputs<S: Sink>(&self, sink: &mut S) -> Result<(), SinkFailed>
         ensures written { Writes (S.written sink.old) (S.written sink.new)
             (made_outputs self.now.made) result }
         ensures cause { Cause (S.faults sink.old) (S.faults sink.new) result }
@@ -218,7 +222,7 @@ impl Ready<'_> {
     }
 
     /// Writes the summary, without taking memory.
-    pub fn write_summary<S: Sink>(&self, sink: &mut S) -> Result<(), SinkFailed>
+    pub(crate) fn write_summary<S: Sink>(&self, sink: &mut S) -> Result<(), SinkFailed>
         ensures written { Emits (S.written sink.old) (S.written sink.new) ToOut self.now.summary
             result }
         ensures cause { Cause (S.faults sink.old) (S.faults sink.new) result }

@@ -158,7 +158,10 @@ fn push_content(
 
 /// The lines of a script that aren't empty, or nothing where one isn't in the grammar.
 #[tactic(auto, unfolding(crate::specs::Script::script_of))]
-pub fn read_script(alloc: Global, bytes: &[u8]) -> Result<Option<Rows<ScriptLine>>, WantOfMemory>
+pub(crate) fn read_script(
+    alloc: Global,
+    bytes: &[u8],
+) -> Result<Option<Rows<ScriptLine>>, WantOfMemory>
     ensures { IfOk result (λ lines. lines ≡ script_of bytes.now) }
 {
     let mut lines = Rows::new(alloc);

@@ -33,7 +33,7 @@ impl Stand {
 
 /// How the build of this number is told from the others: its outputs go below the folder of that
 /// name.
-pub fn label_of(alloc: Global, number: u64) -> Result<Label, WantOfMemory>
+pub(crate) fn label_of(alloc: Global, number: u64) -> Result<Label, WantOfMemory>
     ensures { IfOk result (λ label. label ≡ label_of number) }
 {
     let mut digits = Buffer::new();

@@ -4,7 +4,7 @@ ghost use Rattle.edk_build.specs.Statuses.{IsUsageTold};
 use build_base::{Sink, Target};
 
 /// Tells it to standard error; a failure there changes nothing.
-pub fn tell_usage<S: Sink>(sink: &mut S)
+pub(crate) fn tell_usage<S: Sink>(sink: &mut S)
     ensures { IsUsageTold (S.faults sink.old) (S.faults sink.new) (S.written sink.old)
         (S.written sink.new) }
 {

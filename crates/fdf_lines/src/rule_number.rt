@@ -59,7 +59,12 @@ fn build_number(alloc: Global, line: &Taken, word: &[u8]) -> Result<u16, Refusal
 }
 
 /// The number that an option of a rule's section states, or 0 where it states none.
-pub fn stated_number(alloc: Global, line: &Taken, stated: bool, word: &[u8]) -> Result<u16, Refusal>
+pub(crate) fn stated_number(
+    alloc: Global,
+    line: &Taken,
+    stated: bool,
+    word: &[u8],
+) -> Result<u16, Refusal>
     ensures { Answers result (stated_number line.now stated word.now) }
 {
     if stated {

@@ -71,7 +71,7 @@ fn marks_with(marks: Marks, row: &Row) -> Marks
 }
 
 /// What these rows leave below the marks above.
-pub fn marks_after(marks: Marks, rows: &[Row]) -> Marks
+pub(crate) fn marks_after(marks: Marks, rows: &[Row]) -> Marks
     ensures { result ≡ fold marks_with marks rows.now }
 {
     let mut after = marks;
@@ -113,7 +113,7 @@ pub fn has_volume(scopes: &[Scope]) -> bool
 }
 
 /// What heads leave that enter these scopes.
-pub fn marks_begun(scopes: &[Scope]) -> Marks
+pub(crate) fn marks_begun(scopes: &[Scope]) -> Marks
     ensures { result ≡ marks_begun scopes.now }
 {
     Marks {

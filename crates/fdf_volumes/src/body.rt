@@ -341,7 +341,7 @@ fn named_section(
 }
 
 /// The refusal of a section that would be compressed or GUIDed, unless a macro is left in its line.
-pub fn refuse_kind(alloc: Global, line: &Taken, word: &[u8]) -> Refusal
+pub(crate) fn refuse_kind(alloc: Global, line: &Taken, word: &[u8]) -> Refusal
     ensures { Finds result
         (least_of (undefined_macro line.now.at line.now.text
         ∷ Some (fault_of COMPRESSED_REFUSED line.now.at word.now) ∷ [])) }
@@ -413,7 +413,7 @@ fn whole_row(path: Option<Path>) -> Option<Row>
 }
 
 /// The path of a whole body.
-pub fn whole_line(alloc: Global, line: &Taken) -> Result<Option<Row>, Refusal>
+pub(crate) fn whole_line(alloc: Global, line: &Taken) -> Result<Option<Row>, Refusal>
     ensures { Answers result
         (judged (whole_faults line.now)
         (whole_row (path_field (without_workspace line.now.text)))) }

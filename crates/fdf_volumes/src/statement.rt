@@ -60,7 +60,7 @@ pub fn macro_before(alloc: Global, line: &Taken, field: &[u8]) -> Result<(), Ref
 }
 
 /// Refuses a statement where the volume has as many as it may.
-pub fn check_full(alloc: Global, line: &Taken, full: bool) -> Result<(), Refusal>
+pub(crate) fn check_full(alloc: Global, line: &Taken, full: bool) -> Result<(), Refusal>
     ensures { Checks result (full_fault line.now full) }
 {
     if full {
@@ -181,7 +181,7 @@ fn bad_or_full(alloc: Global, code: u16, line: &Taken, full: bool) -> Refusal
 }
 
 /// The refusal of a statement that is of no form.
-pub fn no_statement(alloc: Global, code: u16, line: &Taken, full: bool) -> Refusal
+pub(crate) fn no_statement(alloc: Global, code: u16, line: &Taken, full: bool) -> Refusal
     ensures { Finds result
         (least_of (undefined_macro line.now.at line.now.text ∷ Some (bad_line code line.now)
         ∷ full_fault line.now full ∷ [])) }
@@ -248,7 +248,7 @@ fn named_line(alloc: Global, line: &Taken, word: &[u8]) -> Result<Option<Row>, R
 
 /// A file of an a priori file.
 #[tactic(auto, unfolding(crate::specs::Statements::member_faults, crate::specs::Statements::member_row))]
-pub fn member_line(alloc: Global, line: &Taken) -> Result<Option<Row>, Refusal>
+pub(crate) fn member_line(alloc: Global, line: &Taken) -> Result<Option<Row>, Refusal>
     ensures { Answers result (judged (member_faults line.now) (member_row line.now)) }
 {
     let (_, rest) = first_word(line.text.bytes());
@@ -286,7 +286,7 @@ fn made_apriori(alloc: Global, line: &Taken, pei: Option<bool>) -> Result<Option
 
 /// The first line of an a priori file.
 #[tactic(auto, unfolding(crate::specs::Statements::apriori_faults, crate::specs::Statements::apriori_row))]
-pub fn apriori_line(alloc: Global, line: &Taken, full: bool) -> Result<Option<Row>, Refusal>
+pub(crate) fn apriori_line(alloc: Global, line: &Taken, full: bool) -> Result<Option<Row>, Refusal>
     ensures { Answers result (judged (apriori_faults line.now full) (apriori_row line.now)) }
 {
     let (_, rest) = first_word(line.text.bytes());

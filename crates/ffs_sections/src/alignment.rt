@@ -62,7 +62,7 @@ pub fn is_alignment(align: u32) -> bool
 }
 
 /// The alignment of this index, in bytes.
-pub fn step_align(step: usize) -> u32
+pub(crate) fn step_align(step: usize) -> u32
     requires { step < 16 }
     ensures value { result ≡ slice_index alignments step }
     ensures known { IsAlignment result }

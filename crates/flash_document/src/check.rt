@@ -49,7 +49,7 @@ fn other_than(size: u64, held: Option<HeldSizes>) -> Option<u64>
 }
 
 /// The block size of a volume: its own, else the first of the device that holds it, else 0x1000.
-pub fn block_of(volume: &StatedVolume, held: Option<HeldSizes>) -> u64
+pub(crate) fn block_of(volume: &StatedVolume, held: Option<HeldSizes>) -> u64
     ensures { result ≡ block_of volume.now held }
 {
     match (volume.block_size, held) {
@@ -108,7 +108,7 @@ fn part_unstated(alloc: Global, part: &Stated) -> Result<(), Refusal>
 }
 
 /// Refuses the first device without a base address or a size.
-pub fn check_stated(alloc: Global, parts: &[Stated]) -> Result<(), Refusal>
+pub(crate) fn check_stated(alloc: Global, parts: &[Stated]) -> Result<(), Refusal>
     ensures { Checks result (first_fault part_unstated parts.now) }
 {
     for part in parts {
@@ -163,7 +163,7 @@ fn part_too_large(
 
 /// Refuses the first volume that is too large.
 #[tactic(auto, using(crate::proofs::MarkedLemmas::marked_passed))]
-pub fn check_sizes(
+pub(crate) fn check_sizes(
     alloc: Global,
     sizes: &IndexMap<Vec<u8>, HeldSizes>,
     parts: &[Stated],
@@ -402,7 +402,7 @@ fn part_sizes(
 
 /// Refuses the first volume in regions of two sizes.
 #[tactic(auto, using(crate::proofs::MarkedLemmas::marked_passed))]
-pub fn check_regions(
+pub(crate) fn check_regions(
     alloc: Global,
     sizes: &IndexMap<Vec<u8>, HeldSizes>,
     parts: &[Stated],
@@ -511,7 +511,7 @@ fn add_part(
 
 /// Of each device, volume and rule whether one above of its kind has its name.
 #[tactic(auto, unfolding(crate::specs::Whole::twin_marks))]
-pub fn twin_marks(alloc: Global, parts: &[Stated]) -> Result<Rows<bool>, WantOfMemory>
+pub(crate) fn twin_marks(alloc: Global, parts: &[Stated]) -> Result<Rows<bool>, WantOfMemory>
     ensures { IfOk result (λ marks. marks ≡ twin_marks parts.now []) }
 {
     let mut marks = Rows::new(alloc);
@@ -536,7 +536,7 @@ fn twin(alloc: Global, again: bool, part: &Stated) -> Result<(), Refusal>
 }
 
 /// Refuses the first device, volume or rule whose name one above of its kind has.
-pub fn check_twins(alloc: Global, parts: &[Stated], repeats: &[bool]) -> Result<(), Refusal>
+pub(crate) fn check_twins(alloc: Global, parts: &[Stated], repeats: &[bool]) -> Result<(), Refusal>
     ensures { Checks result (first_marked twin parts.now repeats.now) }
 {
     let mut left = parts;

@@ -219,7 +219,10 @@ fn number_of(visit: Option<Visit>) -> usize {
 }
 
 /// The numbers of the volumes.
-pub fn numbers_of(alloc: Global, nests: &[Rows<usize>]) -> Result<Rows<usize>, WantOfMemory> {
+pub(crate) fn numbers_of(
+    alloc: Global,
+    nests: &[Rows<usize>],
+) -> Result<Rows<usize>, WantOfMemory> {
     let walk = walk_all(alloc, nests)?;
     let mut numbers = Rows::new(alloc);
     for visit in walk.visits.as_slice() {

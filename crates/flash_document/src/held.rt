@@ -79,7 +79,7 @@ fn push_part(alloc: Global, held: &mut Rows<HeldRegion>, part: &Stated) -> Resul
 }
 
 /// The regions that hold volumes.
-pub fn all_held(alloc: Global, parts: &[Stated]) -> Result<Rows<HeldRegion>, WantOfMemory>
+pub(crate) fn all_held(alloc: Global, parts: &[Stated]) -> Result<Rows<HeldRegion>, WantOfMemory>
     ensures { IfOk result (λ held. held ≡ all_held parts.now) }
 {
     let mut held = Rows::new(alloc);
@@ -131,7 +131,7 @@ fn add_region(
 }
 
 /// The sizes of the regions by the names of their volumes in lower case.
-pub fn sizes_of(
+pub(crate) fn sizes_of(
     alloc: Global,
     regions: &[HeldRegion],
 ) -> Result<IndexMap<Vec<u8>, HeldSizes>, WantOfMemory>
@@ -145,7 +145,7 @@ pub fn sizes_of(
 }
 
 /// The sizes of the regions that hold a volume, by a table of them.
-pub fn held_in(
+pub(crate) fn held_in(
     alloc: Global,
     sizes: &IndexMap<Vec<u8>, HeldSizes>,
     volume: &StatedVolume,

@@ -184,7 +184,7 @@ fn loops_by(
 /// only those are tried that may hold themselves: where a volume's number is greater than those of
 /// all that it holds it doesn't, as long as it is nowhere less.
 #[tactic(auto, using(crate::proofs::LoopLemmas::find_step, crate::proofs::LoopLemmas::find_here, crate::proofs::LoopLemmas::find_end), unfolding(crate::specs::Numbering::first_loop))]
-pub fn first_loop(
+pub(crate) fn first_loop(
     alloc: Global,
     nests: &[Rows<usize>],
     ranks: &[usize],

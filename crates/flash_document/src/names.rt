@@ -7,7 +7,7 @@ use indexmap::IndexMap;
 use std::alloc::Global;
 
 /// A name in lower case.
-pub fn folded(alloc: Global, name: &[u8]) -> Result<Vec<u8>, WantOfMemory>
+pub(crate) fn folded(alloc: Global, name: &[u8]) -> Result<Vec<u8>, WantOfMemory>
     ensures { IfOk result (λ v. v.items ≡ folded name.now) }
 {
     match name.to_ascii_lowercase(alloc) {

@@ -31,7 +31,7 @@ pub struct Turns {
 }
 
 /// The volumes that a volume holds.
-pub fn nest_of(nests: &[Rows<usize>], volume: usize) -> &[usize]
+pub(crate) fn nest_of(nests: &[Rows<usize>], volume: usize) -> &[usize]
     ensures { result.now ≡ nest_of nests.now volume }
 {
     match nests.get(volume) {

@@ -63,7 +63,7 @@ fn push_below(
 }
 
 /// What each section states below each of its heads, in file order.
-pub fn all_stated(alloc: Global, lines: &[LineRead]) -> Result<Rows<Stated>, WantOfMemory>
+pub(crate) fn all_stated(alloc: Global, lines: &[LineRead]) -> Result<Rows<Stated>, WantOfMemory>
     ensures { IfOk result (λ parts. parts ≡ all_stated lines.now) }
 {
     let mut parts = Rows::new(alloc);

@@ -136,7 +136,7 @@ fn push_device(
 }
 
 /// The devices.
-pub fn device_plans(
+pub(crate) fn device_plans(
     alloc: Global,
     table: &IndexMap<Vec<u8>, usize>,
     parts: &[Stated],
@@ -154,7 +154,7 @@ pub fn device_plans(
 }
 
 /// The rules.
-pub fn rules_of(alloc: Global, parts: &[Stated]) -> Result<Rows<RuleDoc>, WantOfMemory>
+pub(crate) fn rules_of(alloc: Global, parts: &[Stated]) -> Result<Rows<RuleDoc>, WantOfMemory>
     ensures { IfOk result (λ rows. rows ≡ flat_map part_rule parts.now) }
 {
     let mut rules = Rows::new(alloc);
@@ -332,7 +332,7 @@ fn head_plan(
 }
 
 /// A volume.
-pub fn volume_plan(
+pub(crate) fn volume_plan(
     alloc: Global,
     table: &IndexMap<Vec<u8>, usize>,
     sizes: &IndexMap<Vec<u8>, HeldSizes>,

@@ -93,7 +93,7 @@ fn rule_with(
 
 /// The rule that a section states below the head of a number.
 #[tactic(auto, unfolding(crate::specs::Volumes::rule_of_lines))]
-pub fn rule_of_lines(
+pub(crate) fn rule_of_lines(
     alloc: Global,
     at: &Place,
     scope: &RuleScope,

@@ -33,7 +33,7 @@ fn heads_at(lines: &[LineRead]) -> usize
 }
 
 /// The lines down to the next heads.
-pub fn section_lines(lines: &[LineRead]) -> &[LineRead]
+pub(crate) fn section_lines(lines: &[LineRead]) -> &[LineRead]
     ensures { result.now ≡ section_lines lines.now }
 {
     match lines.get(..heads_at(lines)) {

@@ -93,7 +93,7 @@ fn content_copy(content: &Content, alloc: Global) -> Result<Content, WantOfMemor
 }
 
 /// What fills a region, once more.
-pub fn region_content_copy(
+pub(crate) fn region_content_copy(
     stated: &RegionContent,
     alloc: Global,
 ) -> Result<RegionContent, WantOfMemory>
@@ -106,7 +106,7 @@ pub fn region_content_copy(
 }
 
 /// The first line of a file, once more.
-pub fn head_copy(head: &FileHead, alloc: Global) -> Result<FileHead, WantOfMemory>
+pub(crate) fn head_copy(head: &FileHead, alloc: Global) -> Result<FileHead, WantOfMemory>
     ensures { IfOk result (λ h. h ≡ head.now) }
 {
     copied!(FileHead, head, alloc; at; file_type, guid, fixed, checksum, align)
@@ -123,7 +123,10 @@ fn body_copy(body: &SectionBody, alloc: Global) -> Result<SectionBody, WantOfMem
 }
 
 /// The line of a section, once more.
-pub fn section_copy(section: &SectionLine, alloc: Global) -> Result<SectionLine, WantOfMemory>
+pub(crate) fn section_copy(
+    section: &SectionLine,
+    alloc: Global,
+) -> Result<SectionLine, WantOfMemory>
     ensures { IfOk result (λ s. s ≡ section.now) }
 {
     Ok(SectionLine {

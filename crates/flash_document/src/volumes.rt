@@ -117,7 +117,7 @@ fn nest_in(
 }
 
 /// The places of the volumes that each volume holds.
-pub fn nests_of(
+pub(crate) fn nests_of(
     alloc: Global,
     table: &IndexMap<Vec<u8>, usize>,
     volumes: &[&StatedVolume],
@@ -144,7 +144,7 @@ fn name_at(alloc: Global, names: &[Text], place: usize) -> Result<Text, WantOfMe
 }
 
 /// The names in the order of the numbers.
-pub fn ordered_names(
+pub(crate) fn ordered_names(
     alloc: Global,
     names: &[Text],
     order: &[usize],
@@ -194,7 +194,7 @@ fn push_plan(
 }
 
 /// The volumes in the order of their numbers.
-pub fn volume_plans(
+pub(crate) fn volume_plans(
     alloc: Global,
     table: &IndexMap<Vec<u8>, usize>,
     sizes: &IndexMap<Vec<u8>, HeldSizes>,

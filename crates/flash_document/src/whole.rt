@@ -255,7 +255,11 @@ fn flash_of_parts(
 }
 
 /// The document of what the lines say, or the first fault of the whole, in the order of codes.
-pub fn flash_of_lines(alloc: Global, root: &Path, lines: &[LineRead]) -> Result<FlashDoc, Refusal>
+pub(crate) fn flash_of_lines(
+    alloc: Global,
+    root: &Path,
+    lines: &[LineRead],
+) -> Result<FlashDoc, Refusal>
     ensures { Answers result (flash_of_lines root.now lines.now) }
 {
     let parts = all_stated(alloc, lines)?;

@@ -32,7 +32,7 @@ fn lies_past(image: &Module, count: u64) -> bool
 
 /// The bytes of a module's directory of base relocations.
 #[tactic(auto, unfolding(crate::specs::Blocks::directory_in))]
-pub fn directory_in<'a>(image: &Module, content: &'a [u8]) -> &'a [u8]
+pub(crate) fn directory_in<'a>(image: &Module, content: &'a [u8]) -> &'a [u8]
     ensures { result.now ≡ directory_in image.now content.now }
 {
     let start = image.address.saturating_sub(image.skip as u32);
@@ -111,7 +111,7 @@ fn blocks_of(alloc: Global, place: &Place, directory: &[u8]) -> Result<Rows<Bloc
 
 /// The blocks of a module's directory.
 #[tactic(auto, unfolding(crate::specs::Moves::module_blocks))]
-pub fn module_blocks(
+pub(crate) fn module_blocks(
     alloc: Global,
     place: &Place,
     image: &Module,

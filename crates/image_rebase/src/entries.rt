@@ -246,7 +246,7 @@ fn move_block(
 
 /// Carries out the entries of all blocks of a directory.
 #[tactic(auto, unfolding(crate::specs::Moves::moved_blocks))]
-pub fn move_blocks(
+pub(crate) fn move_blocks(
     alloc: Global,
     place: &Place,
     skip: u16,

@@ -133,7 +133,7 @@ fn move_bytes(
 
 /// A file that stands at a place of a volume with this base.
 #[tactic(auto, unfolding(crate::specs::Files::moved_file))]
-pub fn move_file(
+pub(crate) fn move_file(
     alloc: Global,
     ffs3: bool,
     base: u64,

@@ -9,7 +9,7 @@ use std::alloc::Global;
 
 /// The files, of which each starts at the place of the same number.
 #[tactic(auto, unfolding(crate::specs::Files::moved_files))]
-pub fn move_files(
+pub(crate) fn move_files(
     alloc: Global,
     ffs3: bool,
     base: u64,

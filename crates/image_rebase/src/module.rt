@@ -137,7 +137,7 @@ fn te_module(content: &[u8]) -> Option<Module>
 
 /// The module in the content of a section of this kind, unless the content stays as it is.
 #[tactic(auto, unfolding(crate::specs::Module::module_in))]
-pub fn module_in(kind: u8, content: &[u8]) -> Option<Module>
+pub(crate) fn module_in(kind: u8, content: &[u8]) -> Option<Module>
     ensures { result ≡ module_in kind content.now }
 {
     if kind == EFI_SECTION_PE32 {

@@ -204,7 +204,7 @@ fn move_module(
 
 /// The content of a section of this kind, which lies at this address.
 #[tactic(auto, unfolding(crate::specs::Moves::moved_content))]
-pub fn move_content(
+pub(crate) fn move_content(
     alloc: Global,
     place: &Place,
     base: u64,

@@ -47,7 +47,7 @@ fn content_in<'a>(body: &'a [u8], section: &ListedSection) -> &'a [u8]
 /// The body of a file, which lies at an address of memory, with the modules of these sections
 /// moved.
 #[tactic(auto, unfolding(crate::specs::Files::moved_from))]
-pub fn move_from(
+pub(crate) fn move_from(
     alloc: Global,
     place: &Place,
     base: u64,

@@ -2,23 +2,23 @@
 //! and 3).
 
 /// "VZ", what a TE image begins with.
-pub const EFI_TE_IMAGE_HEADER_SIGNATURE: u16 = 0x5A56;
+pub(crate) const EFI_TE_IMAGE_HEADER_SIGNATURE: u16 = 0x5A56;
 
 /// The length of a TE image's header.
-pub const EFI_TE_IMAGE_HEADER_SIZE: u16 = 0x28;
+pub(crate) const EFI_TE_IMAGE_HEADER_SIZE: u16 = 0x28;
 
 /// The length of a section's header in the section table.
 pub const IMAGE_SIZEOF_SECTION_HEADER: u64 = 0x28;
 
 /// The length of what a block of base relocations begins with.
-pub const IMAGE_SIZEOF_BASE_RELOCATION: u32 = 8;
+pub(crate) const IMAGE_SIZEOF_BASE_RELOCATION: u32 = 8;
 
 /// Types of base relocations.
-pub const IMAGE_REL_BASED_ABSOLUTE: u16 = 0;
+pub(crate) const IMAGE_REL_BASED_ABSOLUTE: u16 = 0;
 
-pub const IMAGE_REL_BASED_HIGHLOW: u16 = 3;
+pub(crate) const IMAGE_REL_BASED_HIGHLOW: u16 = 3;
 
-pub const IMAGE_REL_BASED_DIR64: u16 = 10;
+pub(crate) const IMAGE_REL_BASED_DIR64: u16 = 10;
 
 /// Sections of a file that hold modules.
 pub const EFI_SECTION_PE32: u8 = 0x10;

@@ -35,7 +35,7 @@ pub fn refuse_file(alloc: Global, code: u16, path: &Path, detail: &[u8]) -> Refu
 
 /// The bytes of the file at a place among the answers, which is a whole body or the content of a
 /// region.
-pub fn whole_content<'a>(
+pub(crate) fn whole_content<'a>(
     alloc: Global,
     given: &Given<'a, Out>,
     place: usize,
@@ -53,7 +53,7 @@ pub fn whole_content<'a>(
 }
 
 /// The bytes of the file at a place among the answers, which is a section's.
-pub fn section_content<'a>(
+pub(crate) fn section_content<'a>(
     alloc: Global,
     given: &Given<'a, Out>,
     place: usize,
@@ -81,7 +81,10 @@ fn volume_of(out: &Out) -> Result<&Image, Stop<Key>>
 }
 
 /// The volume at a place among the answers.
-pub fn volume_content<'a>(given: &Given<'a, Out>, place: usize) -> Result<&'a Image, Stop<Key>>
+pub(crate) fn volume_content<'a>(
+    given: &Given<'a, Out>,
+    place: usize,
+) -> Result<&'a Image, Stop<Key>>
     ensures { GivesIn (λ image. image.now) result (volume_content given.now place) }
 {
     volume_of(given.part(place)?)
@@ -97,7 +100,7 @@ fn vpd_of(out: &Out) -> Result<&Text, Stop<Key>>
 }
 
 /// The image of vital product data at a place among the answers.
-pub fn vpd_content<'a>(given: &Given<'a, Out>, place: usize) -> Result<&'a Text, Stop<Key>>
+pub(crate) fn vpd_content<'a>(given: &Given<'a, Out>, place: usize) -> Result<&'a Text, Stop<Key>>
     ensures { GivesIn (λ text. text.now) result (vpd_content given.now place) }
 {
     vpd_of(given.part(place)?)

@@ -106,7 +106,7 @@ fn types_named(alloc: Global, words: &[Text]) -> Result<Rows<ModuleType>, WantOf
 
 /// The class that fields state.
 #[tactic(auto, unfolding(crate::specs::Classes::class_served))]
-pub fn class_served(alloc: Global, fields: &[Text]) -> Result<Option<Served>, WantOfMemory>
+pub(crate) fn class_served(alloc: Global, fields: &[Text]) -> Result<Option<Served>, WantOfMemory>
     ensures { IfOk result (λ served. served ≡ class_served fields.now) }
 {
     match fields {

@@ -54,7 +54,7 @@ fn terms_of(alloc: Global, text: &[u8]) -> Result<Rows<Text>, WantOfMemory>
 
 /// The terms of a line.
 #[tactic(auto, unfolding(crate::specs::Depex::terms_faults))]
-pub fn terms_line(alloc: Global, line: &Taken) -> Result<Rows<Text>, Refusal>
+pub(crate) fn terms_line(alloc: Global, line: &Taken) -> Result<Rows<Text>, Refusal>
     ensures { Answers result (judged (terms_faults line.now) (terms_of line.now.text)) }
 {
     open_quote(alloc, &line.at, line.text.bytes())?;
@@ -111,7 +111,7 @@ fn push_terms(alloc: Global, terms: &mut Rows<Text>, mut rows: &[Row]) -> Result
 }
 
 /// Adds the terms of a line, of which these are the rows, to the section at hand.
-pub fn add_terms(
+pub(crate) fn add_terms(
     alloc: Global,
     section: &mut Option<OpenSection>,
     rows: &[Row],

@@ -64,7 +64,7 @@ pub fn name_line(alloc: Global, line: &Taken, arch: Arch) -> Result<Named, Refus
 
 /// The path of a package, in a line's first field.
 #[tactic(auto, unfolding(crate::specs::Names::package_faults, crate::specs::Names::package_row))]
-pub fn package_line(alloc: Global, line: &Taken, arch: Arch) -> Result<Option<Row>, Refusal>
+pub(crate) fn package_line(alloc: Global, line: &Taken, arch: Arch) -> Result<Option<Row>, Refusal>
     ensures { Answers result (judged (package_faults line.now) (package_row line.now arch)) }
 {
     open_quote(alloc, &line.at, line.text.bytes())?;

@@ -80,14 +80,15 @@ turn-waits before ws vs place next e free is new =
     let within : place < length left = (position-Some (λ x. not (waits before left x)) left place 0 (sym found)).0 in
     let at : next.place ≡ get_or left place 0 = ap (λ (w : Waiting). w.place) is ∙ ap (λ (l : List Waiting). (get_or l place next).place) e ∙ place-waits before left left place next within in
     let all : vs ≡ waits_of before (remove left place) =
-        new ∙ ap (λ y. map (without before y) (remove ws place)) at
-        ∙ ap (λ (l : List Waiting). map (without before (get_or left place 0)) (remove l place)) e
-        ∙ waits-remove before left place within in
-    let places : places_of vs ≡ remove left place = ap places_of all ∙ places-waits before (remove left place) (remove left place) in
-    (all ∙ ap (waits_of before) (sym places),
-    turns_step before left place found within
-    ∙ ap (λ y. y ∷ call_order before (remove left place)) (sym at)
-    ∙ ap (λ l. next.place ∷ call_order before l) (sym places))
+    new ∙ ap (λ y. map (without before y) (remove ws place)) at
+    ∙ ap (λ (l : List Waiting). map (without before (get_or left place 0)) (remove l place)) e
+    ∙ waits-remove before left place within in
+    let places : places_of vs ≡ remove left place = ap places_of all ∙ places-waits before (remove left place) (remove left place) in (
+      all ∙ ap (waits_of before) (sym places),
+      turns_step before left place found within
+          ∙ ap (λ y. y ∷ call_order before (remove left place)) (sym at)
+          ∙ ap (λ l. next.place ∷ call_order before l) (sym places),
+    )
 
 pub turn-none : (before : ℕ → ℕ → Bool) (ws : List Waiting) → ws ≡ waits_of before (places_of ws) → None ≡ first_free ws → call_order before (places_of ws) ≡ []
 turn-none before ws e free = turns_end before (places_of ws) (free ∙ ap first_free e ∙ free-ready before (places_of ws))

@@ -50,7 +50,7 @@ fn is_looped(rows: &[Rows<bool>], all: &[usize], x: usize) -> bool
 }
 
 /// The first of those that must come before one that must come before it.
-pub fn first_looped(rows: &[Rows<bool>], all: &[usize]) -> Option<usize>
+pub(crate) fn first_looped(rows: &[Rows<bool>], all: &[usize]) -> Option<usize>
     ensures { result ≡ find (is_looped rows.now all.now) all.now }
 {
     for x in all {

@@ -103,7 +103,7 @@ pub fn made(
 }
 
 /// The choice for a library.
-pub fn empty_choice(alloc: Global) -> Choice
+pub(crate) fn empty_choice(alloc: Global) -> Choice
     ensures { result ≡ empty_choice }
 {
     Choice {

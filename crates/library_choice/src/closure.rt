@@ -14,7 +14,7 @@ use doc_types::module::{InfDoc, Named};
 use std::alloc::Global;
 
 /// The most instances of a module.
-pub const MOST_INSTANCES: usize = 1024;
+pub(crate) const MOST_INSTANCES: usize = 1024;
 
 #[tactic(auto, unfolding(crate::specs::Found::add))]
 fn put_here(alloc: Global, path: &Path, found: &mut Found) -> Result<(), WantOfMemory>
@@ -43,7 +43,7 @@ fn put_class(
 
 /// Puts the instances for the classes of an INF file.
 #[tactic(auto, unfolding(crate::specs::Found::add))]
-pub fn put_classes(
+pub(crate) fn put_classes(
     alloc: Global,
     tables: &Tables<'_>,
     classes: &[Named],
@@ -116,7 +116,11 @@ pub fn pass(
 
 /// Puts paths.
 #[tactic(auto, unfolding(crate::specs::Found::add))]
-pub fn put_paths(alloc: Global, paths: &[Path], found: &mut Found) -> Result<(), WantOfMemory>
+pub(crate) fn put_paths(
+    alloc: Global,
+    paths: &[Path],
+    found: &mut Found,
+) -> Result<(), WantOfMemory>
     ensures { OnOk result (found.new ≡ add same_path found.old paths.now) }
 {
     for path in paths {
@@ -126,7 +130,11 @@ pub fn put_paths(alloc: Global, paths: &[Path], found: &mut Found) -> Result<(),
 }
 
 /// The instances for the classes of the module's INF file.
-pub fn first_found(alloc: Global, tables: &Tables<'_>, inf: &InfDoc) -> Result<Found, WantOfMemory>
+pub(crate) fn first_found(
+    alloc: Global,
+    tables: &Tables<'_>,
+    inf: &InfDoc,
+) -> Result<Found, WantOfMemory>
     ensures { IfOk result
         (λ f. f ≡ add same_path [] (filter_map (instance_of tables.now) inf.now.classes)) }
 {
@@ -136,7 +144,7 @@ pub fn first_found(alloc: Global, tables: &Tables<'_>, inf: &InfDoc) -> Result<F
 }
 
 /// The instances that are linked without a class.
-pub fn nulls_found(alloc: Global, tables: &Tables<'_>) -> Result<Found, WantOfMemory>
+pub(crate) fn nulls_found(alloc: Global, tables: &Tables<'_>) -> Result<Found, WantOfMemory>
     ensures { IfOk result (λ f. f ≡ add same_path [] (nulls tables.now)) }
 {
     let mut found = Found::new(alloc);
@@ -146,7 +154,7 @@ pub fn nulls_found(alloc: Global, tables: &Tables<'_>) -> Result<Found, WantOfMe
 
 /// Whether no INF file of a path is known.
 #[tactic(auto, unfolding(crate::specs::Closure::is_unknown))]
-pub fn is_unknown(tables: &Tables<'_>, path: &Path) -> bool
+pub(crate) fn is_unknown(tables: &Tables<'_>, path: &Path) -> bool
     ensures { result ≡ is_unknown tables.now.infs path.now }
 {
     tables.known(path).is_none()

@@ -259,7 +259,7 @@ fn wanted_of(
 }
 
 /// The INF files that are wanted next, and the fronts behind which they were found.
-pub fn wanted_behind(
+pub(crate) fn wanted_behind(
     alloc: Global,
     tables: &Tables<'_>,
     fronts: Fronts,
@@ -286,7 +286,7 @@ pub fn wanted_behind(
 }
 
 /// The instances of a module, or none where they are too many.
-pub fn instances_behind(
+pub(crate) fn instances_behind(
     alloc: Global,
     tables: &Tables<'_>,
     fronts: Fronts,

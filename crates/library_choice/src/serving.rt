@@ -148,7 +148,7 @@ fn check_paths(alloc: Global, tables: &Tables<'_>, found: &[Path]) -> Result<(),
 
 /// The faults of classes: the module's, and then those of each instance.
 #[tactic(auto, unfolding(crate::specs::Choices::classes_fault))]
-pub fn check_all(
+pub(crate) fn check_all(
     alloc: Global,
     tables: &Tables<'_>,
     inf: &InfDoc,

@@ -189,7 +189,7 @@ impl<'a> Tables<'a> {
 
     /// The instances that are linked without a class: those of the sections, then those of the
     /// module's own braces.
-    pub fn nulls(&self) -> &[Path]
+    pub(crate) fn nulls(&self) -> &[Path]
         ensures { result.now ≡ nulls self.now }
     {
         self.nulls.items()
@@ -197,7 +197,7 @@ impl<'a> Tables<'a> {
 
     /// The line that gives a class its instance.
     #[tactic(auto, unfolding(crate::specs::Lines::chosen_line))]
-    pub fn chosen_line(&self, class: &Text) -> Option<&'a LibraryLine>
+    pub(crate) fn chosen_line(&self, class: &Text) -> Option<&'a LibraryLine>
         ensures { option_copied result ≡ chosen_line self.now class.now }
     {
         match picked(self.own, &self.own_places, class) {
@@ -225,7 +225,7 @@ impl<'a> Tables<'a> {
 
     /// The instance for a line of [LibraryClasses] in an INF file.
     #[tactic(auto, unfolding(crate::specs::Closure::instance_of))]
-    pub fn instance_of(&self, class: &Named) -> Option<&'a Path>
+    pub(crate) fn instance_of(&self, class: &Named) -> Option<&'a Path>
         ensures { option_copied result ≡ instance_of self.now class.now }
     {
         if !covers(class.arch, self.user().arch) {

@@ -33,7 +33,7 @@ fn component_of<'a>(user: &Module, components: &'a [Component]) -> Option<&'a Co
 
 /// The lines of [LibraryClasses] in the braces of a module's own component.
 #[tactic(auto, unfolding(crate::specs::Closure::own_lines))]
-pub fn own_lines<'a>(user: &Module, components: &'a [Component]) -> &'a [LibraryLine]
+pub(crate) fn own_lines<'a>(user: &Module, components: &'a [Component]) -> &'a [LibraryLine]
     ensures { result.now ≡ own_lines user.now components.now }
 {
     match component_of(user, components) {

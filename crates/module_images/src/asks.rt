@@ -134,7 +134,7 @@ pub fn file_count(depex: &Text, sections: &[SectionPlan]) -> usize
 }
 
 /// Whether a section holds the file of a path.
-pub fn is_source_of(path: &[u8], source: &SectionSource) -> bool
+pub(crate) fn is_source_of(path: &[u8], source: &SectionSource) -> bool
     ensures { result ≡ is_source_of path.now source.now }
 {
     match source {

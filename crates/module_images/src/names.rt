@@ -22,7 +22,7 @@ fn or_default<'a>(text: &'a [u8], default: &'a [u8]) -> &'a [u8]
 
 /// The folder of all outputs: the stated one, and in it that of the target and the tool chain.
 #[tactic(auto, unfolding(crate::specs::Names::build_folder))]
-pub fn build_folder(
+pub(crate) fn build_folder(
     alloc: Global,
     output: &Path,
     target: &[u8],
@@ -54,7 +54,7 @@ pub fn module_folder(alloc: Global, folder: &Text, module: &Module) -> Result<Te
 
 /// The GUID of a module: that of its component, else that of its INF file.
 #[tactic(auto, unfolding(crate::specs::Names::module_guid))]
-pub fn module_guid(platform: &PlatformDoc, module: &Module, inf: &InfDoc) -> Guid
+pub(crate) fn module_guid(platform: &PlatformDoc, module: &Module, inf: &InfDoc) -> Guid
     ensures { result ≡ module_guid platform.now «module».now inf.now }
 {
     match stated_guid(platform, module) {
@@ -201,7 +201,7 @@ pub fn filled(alloc: Global, names: &[Macro], text: &[u8]) -> Result<Text, WantO
 
 /// The path of the module's own expression.
 #[tactic(auto, unfolding(crate::specs::Names::own_depex))]
-pub fn own_depex(alloc: Global, folder: &Text, inf: &InfDoc) -> Result<Text, WantOfMemory>
+pub(crate) fn own_depex(alloc: Global, folder: &Text, inf: &InfDoc) -> Result<Text, WantOfMemory>
     ensures { IfOk result (λ path. path ≡ own_depex folder.now inf.now) }
 {
     let mut path = Vec::from_slice(alloc, folder.bytes())?;

@@ -291,7 +291,7 @@ pub fn module_of(alloc: Global, line: &InfLine, arch: Arch) -> Result<Module, Wa
 /// The file of the module that a statement names, by its rule. `arches` are those that are built,
 /// `inf` is the module's description, and all outputs stand in `folder`.
 #[tactic(auto, unfolding(crate::specs::Plans::module_plan))]
-pub fn module_plan(
+pub(crate) fn module_plan(
     alloc: Global,
     flash: &FlashDoc,
     line: &InfLine,

@@ -78,7 +78,7 @@ fn picked<'a>(sections: &'a [SectionPlan], place: Option<&usize>) -> Option<&'a 
 }
 
 /// The first of the sections that requires the file of a path, by the table of their places.
-pub fn requiring<'a>(
+pub(crate) fn requiring<'a>(
     alloc: Global,
     places: &IndexMap<Vec<u8>, usize>,
     sections: &'a [SectionPlan],

@@ -127,7 +127,7 @@ fn depex_of_out(out: &Out) -> Result<&[u8], Stop<Key>>
 
 /// The module's own expression, where a section holds it, else no bytes.
 #[tactic(auto, unfolding(crate::specs::Sections::own_expression))]
-pub fn own_expression<'a>(
+pub(crate) fn own_expression<'a>(
     depex: &Text,
     sections: &[SectionPlan],
     given: &Given<'a, Out>,
@@ -142,7 +142,7 @@ pub fn own_expression<'a>(
 }
 
 /// Refuses an expression without bytes, where one of the sections requires it.
-pub fn expression_checked(
+pub(crate) fn expression_checked(
     alloc: Global,
     depex: &Text,
     places: &IndexMap<Vec<u8>, usize>,

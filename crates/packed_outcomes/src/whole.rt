@@ -43,6 +43,6 @@ pub fn unpack_outcome(alloc: Global, bytes: &[u8]) -> Result<Option<Outcome<Out>
 
 /// The spelling of a key is its packed form.
 #[tactic(auto, using(crate::proofs::KeyLemmas::key_spelling))]
-pub fn keys_are_spelled_packed()
+pub(crate) fn keys_are_spelled_packed()
     ensures { (key : KeyOf) → key_form.spelling key ≡ packed key }
 {}

@@ -85,7 +85,11 @@ fn vpd_fault(alloc: Global, datum: Datum, stated: &StatedLine<'_>) -> Result<(),
 }
 
 /// Refuses the first VPD line whose further fields don't fit the type.
-pub fn vpd_faults(alloc: Global, datum: Datum, lines: &[StatedLine<'_>]) -> Result<(), Refusal>
+pub(crate) fn vpd_faults(
+    alloc: Global,
+    datum: Datum,
+    lines: &[StatedLine<'_>],
+) -> Result<(), Refusal>
     ensures { Checks result (first_fault (vpd_fault datum) (map stated_view lines.now)) }
 {
     for stated in lines {
@@ -142,7 +146,7 @@ fn put_lines<'a>(
 
 /// The assignments of a PCD for a SKU.
 #[tactic(auto, unfolding(crate::specs::Platform::sku_assignments))]
-pub fn sku_assignments<'a>(
+pub(crate) fn sku_assignments<'a>(
     alloc: Global,
     line: &'a DecPcd,
     lines: &[StatedLine<'a>],
@@ -220,7 +224,7 @@ pub fn valued<'a>(
 }
 
 /// The row of a SKU, by the SKU whose value it takes.
-pub fn row_by_source<'a>(
+pub(crate) fn row_by_source<'a>(
     alloc: Global,
     kind: Kind,
     line: &'a DecPcd,
@@ -300,7 +304,7 @@ fn rows_for<'a>(
 
 /// The rows of a dynamic PCD, one for each chosen SKU.
 #[tactic(auto, unfolding(crate::specs::Platform::dynamic_rows))]
-pub fn dynamic_rows<'a>(
+pub(crate) fn dynamic_rows<'a>(
     alloc: Global,
     kind: Kind,
     line: &'a DecPcd,

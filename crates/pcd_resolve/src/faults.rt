@@ -380,7 +380,7 @@ pub fn pcd_faults(
 
 /// The kind of a PCD, or its first fault.
 #[tactic(auto, unfolding(crate::specs::Faults::checked_kind))]
-pub fn checked_kind(
+pub(crate) fn checked_kind(
     alloc: Global,
     pcd: &[u8],
     uses: &[UseLine<'_>],

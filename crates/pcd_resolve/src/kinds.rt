@@ -10,7 +10,7 @@ use pcd_ranks::listing::{StatedLine, UseLine};
 use pcd_ranks::names::same_kind;
 
 /// The kind for which a section of an INF asks.
-pub fn asked_kind(asked: Asked) -> Option<Kind>
+pub(crate) fn asked_kind(asked: Asked) -> Option<Kind>
     ensures { result ≡ asked_kind asked }
 {
     match asked {
@@ -23,7 +23,7 @@ pub fn asked_kind(asked: Asked) -> Option<Kind>
 }
 
 /// Whether one of some lines has a kind.
-pub fn has_kind(lines: &[&DecPcd], kind: Kind) -> bool
+pub(crate) fn has_kind(lines: &[&DecPcd], kind: Kind) -> bool
     ensures { result ≡ has_kind (map (λ l. l.now) lines.now) kind }
 {
     for line in lines {
@@ -58,7 +58,7 @@ fn first_kind(lines: &[&DecPcd]) -> Option<Kind>
 
 /// The kind that a use gives where the platform lists none.
 #[tactic(auto, unfolding(crate::specs::Kinds::kind_given))]
-pub fn kind_given(used: &UseLine<'_>) -> Option<Kind>
+pub(crate) fn kind_given(used: &UseLine<'_>) -> Option<Kind>
     ensures { result ≡ kind_given (use_view used.now) }
 {
     if let Some(kind) = asked_kind(used.line.asked) {

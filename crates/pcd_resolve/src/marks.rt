@@ -80,7 +80,7 @@ pub fn is_kept(marks: &[bool], name: &[u8]) -> bool
 }
 
 /// Whether lines of a PCD are wanted. Its name is not put together for that.
-pub fn is_pcd_kept(marks: &[bool], pcd: &PcdName) -> bool
+pub(crate) fn is_pcd_kept(marks: &[bool], pcd: &PcdName) -> bool
     ensures { result ≡ is_kept marks.now (dotted pcd.now) }
 {
     let name = pcd.name.bytes();
@@ -91,7 +91,7 @@ pub fn is_pcd_kept(marks: &[bool], pcd: &PcdName) -> bool
 }
 
 /// Marks the names of a list.
-pub fn mark_names(marks: &mut Vec<bool>, names: &[Vec<u8>])
+pub(crate) fn mark_names(marks: &mut Vec<bool>, names: &[Vec<u8>])
     ensures { marks.new.items ≡ with_marks marks.old.items (map (λ n. n.items) names.now) }
 {
     let mut left = names;

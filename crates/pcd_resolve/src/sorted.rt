@@ -107,7 +107,10 @@ fn in_order(alloc: Global, names: BTreeSet<Vec<u8>>) -> Result<Vec<Vec<u8>>, Wan
 
 /// The names of a module's uses in ascending order, each once.
 #[tactic(auto, unfolding(crate::specs::Rows::names_of))]
-pub fn names_of_module(alloc: Global, parts: &ModuleParts) -> Result<Vec<Vec<u8>>, WantOfMemory>
+pub(crate) fn names_of_module(
+    alloc: Global,
+    parts: &ModuleParts,
+) -> Result<Vec<Vec<u8>>, WantOfMemory>
     ensures { IfOk result (λ v. map (λ n. n.items) v.items ≡ names_of (uses_of_module parts.now)) }
 {
     let mut names = BTreeSet::new(alloc);
@@ -117,7 +120,7 @@ pub fn names_of_module(alloc: Global, parts: &ModuleParts) -> Result<Vec<Vec<u8>
 
 /// The names of the uses of modules in ascending order, each once.
 #[tactic(auto, unfolding(crate::specs::Rows::names_of, pcd_ranks::specs::Listing::uses_in))]
-pub fn names_of_modules(
+pub(crate) fn names_of_modules(
     alloc: Global,
     modules: &[ModuleParts],
 ) -> Result<Vec<Vec<u8>>, WantOfMemory>

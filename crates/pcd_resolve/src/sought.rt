@@ -257,7 +257,7 @@ fn begun<'n, 'a>(
 }
 
 /// The PCDs of these names, each with what is found of it in all modules.
-pub fn sought_of<'n, 'a>(
+pub(crate) fn sought_of<'n, 'a>(
     alloc: Global,
     ask: &'a PlatformAsk,
     names: &'n [Vec<u8>],

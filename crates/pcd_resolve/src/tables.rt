@@ -231,7 +231,7 @@ fn add_packages<'a>(
 
 /// The lines of packages by the names of their PCDs, where these are marked.
 #[tactic(auto, unfolding(pcd_ranks::specs::Listing::package_lines))]
-pub fn declared_by_name<'a>(
+pub(crate) fn declared_by_name<'a>(
     alloc: Global,
     marks: &[bool],
     decs: &'a [Package],
@@ -291,7 +291,7 @@ pub fn all_lines<'a>(
 }
 
 /// The sets of two lists by their names, where these are marked.
-pub fn sets_by_name<'a>(
+pub(crate) fn sets_by_name<'a>(
     alloc: Global,
     marks: &[bool],
     words: &'a [PcdSet],
@@ -318,7 +318,7 @@ pub fn all_sets<'a>(
 }
 
 /// Rows by their names, where these are marked.
-pub fn rows_by_name<'a>(
+pub(crate) fn rows_by_name<'a>(
     alloc: Global,
     marks: &[bool],
     rows: &'a [PcdRow],

@@ -137,7 +137,7 @@ fn add_modules<'a>(
 }
 
 /// The uses by a module by their names.
-pub fn uses_by_name<'a>(
+pub(crate) fn uses_by_name<'a>(
     alloc: Global,
     tables: &ModuleTables<'a>,
 ) -> Result<IndexMap<Vec<u8>, Vec<UseLine<'a>>>, WantOfMemory>
@@ -154,7 +154,7 @@ pub fn uses_by_name<'a>(
 
 /// The uses by modules by their names. The tables of a module are let go before those of the next
 /// one are made.
-pub fn all_uses_by_name<'a>(
+pub(crate) fn all_uses_by_name<'a>(
     alloc: Global,
     modules: &'a [ModuleParts],
 ) -> Result<IndexMap<Vec<u8>, Vec<UseLine<'a>>>, WantOfMemory>

@@ -9,7 +9,7 @@ ghost use Rattle.step_pack.specs.declared.out.Out.{Out as OutOf};
 /// edition; what begins a text and is one is the whole of it; the edition stands in each, and the
 /// texts of a cache differ in that alone.
 #[tactic(auto, using(crate::proofs::TextLemmas::same_text))]
-pub fn texts_are_one()
+pub(crate) fn texts_are_one()
     ensures text { (e : ℕ) (entries : List (EntryOf KeyOf OutOf)) (a b : List ℕ) →
         IsTextOf e entries a → IsTextOf e entries b → a ≡ b }
     ensures edition { (d e : ℕ) (a b : List (EntryOf KeyOf OutOf)) (text : List ℕ) →

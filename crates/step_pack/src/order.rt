@@ -24,7 +24,7 @@ pub fn arch_byte(arch: Arch) -> u8
 
 /// The order of numbers by their four bytes, the lowest first.
 #[tactic(auto, using(crate::proofs::NumberLemmas::numbers_swapped))]
-pub fn number_cmp(ours: u32, other: u32) -> Ordering
+pub(crate) fn number_cmp(ours: u32, other: u32) -> Ordering
     ensures { result ≡ number_cmp ours other }
 {
     ours.swap_bytes().cmp(&other.swap_bytes())
@@ -41,7 +41,7 @@ fn length_cmp(ours: u64, other: u64) -> Ordering
 /// The order of paths by the eight bytes of their lengths, the lowest first, and then by their
 /// bytes.
 #[tactic(auto, unfolding(crate::specs::Keys::path_cmp))]
-pub fn path_cmp(ours: &[u8], other: &[u8]) -> Ordering
+pub(crate) fn path_cmp(ours: &[u8], other: &[u8]) -> Ordering
     ensures { result ≡ path_cmp ours.now other.now }
 {
     match length_cmp(ours.len() as u64, other.len() as u64) {

@@ -105,7 +105,7 @@ impl PeHeaders {
     }
 
     // The place of the section table, behind the optional header.
-    pub fn section_table(self) -> u64
+    pub(crate) fn section_table(self) -> u64
         ensures { result ≡ self.signature + IMAGE_SIZEOF_FILE_HEADER + self.optional_size }
     {
         self.optional() + self.optional_size as u64
@@ -118,28 +118,28 @@ impl PeHeaders {
         u16_at(file, self.signature as u64 + 0x04)
     }
 
-    pub fn number_of_sections(self, file: &[u8]) -> u16
+    pub(crate) fn number_of_sections(self, file: &[u8]) -> u16
         requires { AreHeaders file.now self }
         ensures { result ≡ number_of_sections file.now }
     {
         u16_at(file, self.signature as u64 + 0x06)
     }
 
-    pub fn entry_point(self, file: &[u8]) -> u32
+    pub(crate) fn entry_point(self, file: &[u8]) -> u32
         requires { AreHeaders file.now self }
         ensures { result ≡ address_of_entry_point file.now }
     {
         u32_at(file, self.optional() + 0x10)
     }
 
-    pub fn base_of_code(self, file: &[u8]) -> u32
+    pub(crate) fn base_of_code(self, file: &[u8]) -> u32
         requires { AreHeaders file.now self }
         ensures { result ≡ base_of_code file.now }
     {
         u32_at(file, self.optional() + 0x14)
     }
 
-    pub fn image_base(self, file: &[u8]) -> u64
+    pub(crate) fn image_base(self, file: &[u8]) -> u64
         requires { AreHeaders file.now self }
         ensures { result ≡ image_base file.now }
     {
@@ -164,7 +164,7 @@ impl PeHeaders {
         u32_at(file, self.optional() + 0x24)
     }
 
-    pub fn subsystem(self, file: &[u8]) -> u16
+    pub(crate) fn subsystem(self, file: &[u8]) -> u16
         requires { AreHeaders file.now self }
         ensures { result ≡ subsystem file.now }
     {
@@ -194,7 +194,7 @@ impl PeHeaders {
 
     // The address and the size in a data directory; zeros where there is none of this number.
     #[tactic(auto, unfolding(crate::specs::Pe::data_directory))]
-    pub fn data_directory(self, file: &[u8], number: u32) -> [u32; 2]
+    pub(crate) fn data_directory(self, file: &[u8], number: u32) -> [u32; 2]
         requires { AreHeaders file.now self }
         ensures { result ≡ data_directory file.now number }
     {

@@ -29,7 +29,7 @@ pub fn front(bytes: &[u8], count: u64) -> &[u8]
 
 /// The least multiple of 8 from a place on.
 #[tactic(auto, unfolding(fv_compose::specs::Place::up))]
-pub fn up8(at: u64) -> u64
+pub(crate) fn up8(at: u64) -> u64
     requires { at < 2 ^ 63 + 2 ^ 16 }
     ensures value { result ≡ spec_up 8 at }
     ensures after { at ≤ result }
@@ -47,7 +47,7 @@ pub fn u16_at(bytes: &[u8], at: usize) -> u16
 }
 
 /// That of three bytes.
-pub fn u24_at(bytes: &[u8], at: usize) -> u32
+pub(crate) fn u24_at(bytes: &[u8], at: usize) -> u32
     requires { at + 3 ≤ length bytes.now }
     ensures { result ≡ little_from at 3 bytes.now }
 {

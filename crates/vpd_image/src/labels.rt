@@ -20,7 +20,7 @@ pub fn sku_of(line: &PcdLine) -> &[u8]
 
 /// Appends `Space.Name SKU`.
 #[tactic(auto, unfolding(crate::specs::Entries::label))]
-pub fn put_label(out: &mut Vec<u8>, pcd: &PcdName, sku: &[u8]) -> Result<(), AllocError>
+pub(crate) fn put_label(out: &mut Vec<u8>, pcd: &PcdName, sku: &[u8]) -> Result<(), AllocError>
     ensures { OnOk result (out.new.items ≡ out.old.items ++ label pcd.now sku.now) }
 {
     out.extend_from_slice(pcd.space.bytes())?;
@@ -40,14 +40,14 @@ fn label(alloc: Global, pcd: &PcdName, sku: &[u8]) -> Result<Vec<u8>, WantOfMemo
 }
 
 /// The name of a line's value.
-pub fn line_label(alloc: Global, line: &PcdLine) -> Result<Vec<u8>, WantOfMemory>
+pub(crate) fn line_label(alloc: Global, line: &PcdLine) -> Result<Vec<u8>, WantOfMemory>
     ensures { IfOk result (λ v. v.items ≡ line_label line.now) }
 {
     label(alloc, &line.pcd, sku_of(line))
 }
 
 /// The name of a row's value.
-pub fn row_label(alloc: Global, row: &PcdRow) -> Result<Vec<u8>, WantOfMemory>
+pub(crate) fn row_label(alloc: Global, row: &PcdRow) -> Result<Vec<u8>, WantOfMemory>
     ensures { IfOk result (λ v. v.items ≡ row_label row.now) }
 {
     label(alloc, &row.pcd, row.sku.bytes())

@@ -25,7 +25,7 @@ pub struct PlacedLine<'a> {
 }
 
 /// Where every entry ends at the latest.
-pub const END_LIMIT: u64 = 0x100_0000;
+pub(crate) const END_LIMIT: u64 = 0x100_0000;
 
 /// Where an entry ends.
 #[tactic(auto, unfolding(crate::specs::Places::end_of))]
@@ -164,7 +164,7 @@ fn take_written(
 }
 
 /// Takes the bytes of all written entries.
-pub fn take_all_written(
+pub(crate) fn take_all_written(
     alloc: Global,
     room: &mut Room,
     fixed: &[PlacedLine<'_>],
@@ -182,7 +182,7 @@ pub fn take_all_written(
 }
 
 /// An entry at a place ends too late.
-pub fn refuse_end(alloc: Global, at: &Place, end: u64) -> Refusal
+pub(crate) fn refuse_end(alloc: Global, at: &Place, end: u64) -> Refusal
     ensures { Finds result (Some (fault_of VPD_TOO_LONG at.now (decimal end))) }
 {
     let mut digits = Buffer::new();
@@ -203,7 +203,7 @@ pub fn check_end(alloc: Global, placed: &PlacedLine<'_>) -> Result<(), Refusal>
 
 /// The first that ends too late.
 #[tactic(auto, unfolding(crate::specs::Places::long_fault))]
-pub fn check_ends(alloc: Global, fixed: &[PlacedLine<'_>]) -> Result<(), Refusal>
+pub(crate) fn check_ends(alloc: Global, fixed: &[PlacedLine<'_>]) -> Result<(), Refusal>
     ensures { Checks result (long_fault (map placed_view fixed.now)) }
 {
     let mut left = fixed;

@@ -137,7 +137,7 @@ fn put_next<'a>(
 }
 
 /// All entries, each at its place, in line order, or the first that ends too late.
-pub fn place_all<'a>(
+pub(crate) fn place_all<'a>(
     alloc: Global,
     room: &mut Room,
     fixed: &[PlacedLine<'a>],

@@ -30,7 +30,7 @@ fn put_row(
 }
 
 /// For each PCD and SKU the place of its first row.
-pub fn rows_by_label(
+pub(crate) fn rows_by_label(
     alloc: Global,
     rows: &[PcdRow],
 ) -> Result<IndexMap<Vec<u8>, usize>, WantOfMemory>
@@ -55,7 +55,7 @@ fn picked<'a>(rows: &'a [PcdRow], place: Option<usize>) -> Option<&'a PcdRow>
 }
 
 /// Takes the row of a PCD and a SKU out of a table.
-pub fn take_row<'a>(
+pub(crate) fn take_row<'a>(
     table: &mut IndexMap<Vec<u8>, usize>,
     rows: &'a [PcdRow],
     key: &Vec<u8>,

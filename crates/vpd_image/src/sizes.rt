@@ -21,7 +21,7 @@ pub fn size_of(row: &PcdRow) -> u32
 
 /// The least size that a value of this type has, if it has bytes.
 #[tactic(auto, unfolding(crate::specs::Rooms::least_size))]
-pub fn least_size(datum: Datum) -> u64
+pub(crate) fn least_size(datum: Datum) -> u64
     ensures value { result ≡ least_size datum }
     ensures some { 0 < result }
     ensures small { result ≤ 8 }
@@ -46,7 +46,7 @@ pub fn align_of(datum: Datum) -> u64
 }
 
 /// The offset that a line states, or none where it is `*`.
-pub fn offset_in(store: &Store) -> Option<u32>
+pub(crate) fn offset_in(store: &Store) -> Option<u32>
     ensures { result ≡ offset_in store.now }
 {
     match store {

@@ -11,9 +11,10 @@ use Rattle.library_calls.proofs.order.call_order.Goals as goal
 pub loop-place-init : goal.loop-place-init
 loop-place-init c =
     let b = before c.args.rows.now in
-    let places : places_of c.in_ok-left.left.items ≡ c.args.all.now = ap places_of c.in_ok-left.ensures ∙ places-waits b c.args.all.now c.args.all.now in
-    (c.in_ok-left.ensures ∙ ap (waits_of b) (sym places),
-    ap (λ (l : List ℕ). l ++ call_order b (places_of c.in_ok-left.left.items)) c.new-order.ensures ∙ ap (call_order b) places)
+    let places : places_of c.in_ok-left.left.items ≡ c.args.all.now = ap places_of c.in_ok-left.ensures ∙ places-waits b c.args.all.now c.args.all.now in (
+      c.in_ok-left.ensures ∙ ap (waits_of b) (sym places),
+      ap (λ (l : List ℕ). l ++ call_order b (places_of c.in_ok-left.left.items)) c.new-order.ensures ∙ ap (call_order b) places,
+    )
 
 pub loop-place-preserved : goal.loop-place-preserved
 loop-place-preserved c =
@@ -25,13 +26,14 @@ loop-place-preserved c =
     let within : c.in-Some.place < length ws = (position-Some (λ (w : Waiting). w.count == 0) ws c.in-Some.place next (sym free)).0 in
     let is : next ≡ get_or ws c.in-Some.place next = get_or_read ws c.in-Some.place next within c.remove-next.ensures.value next in
     let new : vs ≡ map (without b next.place) (remove ws c.in-Some.place) =
-        c.in_ok-left-2.ensures ∙ ap (map (without b next.place)) (c.as_slice-in-Some.ensures.value ∙ c.remove-next.ensures.items) in
-    let turn = turn-waits b ws vs c.in-Some.place next c.loop-place.invariant.0 free is new in
-    (turn.0,
-    ap (λ (l : List ℕ). l ++ call_order b (places_of vs)) c.in_ok-push.ensures.ok
-    ∙ append_assoc c.loop-place.order (next.place ∷ []) (call_order b (places_of vs))
-    ∙ ap (λ (l : List ℕ). c.loop-place.order ++ l) (sym turn.1)
-    ∙ c.loop-place.invariant.1)
+    c.in_ok-left-2.ensures ∙ ap (map (without b next.place)) (c.as_slice-in-Some.ensures.value ∙ c.remove-next.ensures.items) in
+    let turn = turn-waits b ws vs c.in-Some.place next c.loop-place.invariant.0 free is new in (
+      turn.0,
+      ap (λ (l : List ℕ). l ++ call_order b (places_of vs)) c.in_ok-push.ensures.ok
+          ∙ append_assoc c.loop-place.order (next.place ∷ []) (call_order b (places_of vs))
+          ∙ ap (λ (l : List ℕ). c.loop-place.order ++ l) (sym turn.1)
+          ∙ c.loop-place.invariant.1,
+    )
 
 pub returns : goal.returns
 returns c =
