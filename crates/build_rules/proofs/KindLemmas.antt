@@ -57,7 +57,7 @@ use Rattle.text_steps.specs.Depex.{depex_given}
 use Rattle.text_steps.specs.Report.{values_at, report_given}
 use Rattle.document_rules.specs.Trees.{EdkStages, given_as, document_stages, root_in, macros_in, platform_in, flash_root, flash_from, flash_in}
 use Rattle.image_rules.specs.ImageTrees.{volume_at, item_at, device_at, vpd_in, item_stages}
-use Rattle.image_rules.specs.VpdTree.{arches_at, placed}
+use Rattle.image_rules.specs.VpdTree.{arches_at, placed_vpd}
 use Rattle.document_rules.specs.VpdLines.{has_vpd}
 use Rattle.build_rules.specs.Rules.{edk, stages_of}
 use Rattle.build_rules.specs.RulesBounds.{edk_is_bounded}
@@ -145,7 +145,7 @@ of_kind (key.Based v) =
     when_kind 9 (are_few (length plan.items)) _ (λ files. given_kind 9 out.Volume (λ x. refl) (based_given plan.head files))))
 of_kind key.Vpd =
     λ given. attempt_kind 13 (platform_in given 0) _ (λ platform. attempt_kind 13 (values_at given 1) _ (λ values. attempt_kind 13 (arches_at platform given) _ (λ arches.
-    given_kind 13 out.Vpd (λ x. refl) (placed platform values arches))))
+    given_kind 13 out.Vpd (λ x. refl) (placed_vpd platform values arches))))
 of_kind (key.Device d) =
     λ given. attempt_kind 10 (flash_in given 0) _ (λ flash. attempt_kind 10 (platform_in given 1) _ (λ platform. attempt_kind 10 (vpd_in platform given) _ (λ vpd.
     attempt_kind 10 (device_at flash d) _ (λ plan.

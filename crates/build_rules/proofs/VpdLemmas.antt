@@ -21,7 +21,7 @@ use Rattle.build_rules.specs.Rules.{edk, value_in}
 use Rattle.build_rules.specs.RulesBounds.{edk_is_bounded}
 use Rattle.document_rules.specs.Trees.{given_as}
 use Rattle.build_rules.specs.Values.{fault_asked, platform_value}
-use Rattle.image_rules.specs.VpdTree.{vpd_asks, placed, vpd_from, vpd_stages}
+use Rattle.image_rules.specs.VpdTree.{vpd_asks, placed_vpd, vpd_from, vpd_stages}
 use Rattle.build_rules.specs.VpdValues.{vpd_value}
 use Rattle.build_rules.proofs.ImageValues.{gives, step_run, both_same}
 use Rattle.build_rules.proofs.KindLemmas.{stage_run}
@@ -36,7 +36,7 @@ by_rows w p v =
 by_rows_is : (w : World) (p : Result PlatformDoc Fault) (v : Result Values Fault)
     → by_rows w (outcome_of (given_as out.Platform p)) (outcome_of (given_as out.Values v))
     ≡ and_then p (λ platform. and_then v (λ values. gives w (attempt (arches_built platform (field w 1)) (λ arches.
-    end (given_as out.Vpd (placed platform values arches))))))
+    end (given_as out.Vpd (placed_vpd platform values arches))))))
 by_rows_is w (Ok platform) (Ok values) = refl
 by_rows_is w (Ok platform) (Err fault) = refl
 by_rows_is w (Err fault) (Ok values) = refl
@@ -49,8 +49,8 @@ vpd_run w e =
     ∙ ap (λ (p : Outcome Out). by_rows w p (value_in w key.PlatformPcds)) (platform_is w e)
     ∙ ap (by_rows w (outcome_of (given_as out.Platform (platform_value w)))) (pcds_is w e)
     ∙ by_rows_is w (platform_value w) (pcds_value w)
-    ∙ both_same out.Vpd (platform_value w) (pcds_value w) _ (λ platform values. and_then (arches_built platform (field w 1)) (placed platform values)) (λ platform values.
-    step_run w out.Vpd (arches_built platform (field w 1)) _ (placed platform values) (λ arches. refl))
+    ∙ both_same out.Vpd (platform_value w) (pcds_value w) _ (λ platform values. and_then (arches_built platform (field w 1)) (placed_vpd platform values)) (λ platform values.
+    step_run w out.Vpd (arches_built platform (field w 1)) _ (placed_vpd platform values) (λ arches. refl))
 
 pub vpd_is : (w : World) → IsWorld (meaning_of key_cmp edk) w → value_in w key.Vpd ≡ outcome_of (given_as out.Vpd (vpd_value w))
 vpd_is w e = value_is key_cmp edk edk_is_bounded w key.Vpd ∙ ap outcome_of (vpd_run w e)

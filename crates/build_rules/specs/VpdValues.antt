@@ -13,14 +13,14 @@ use Rattle.build_rules.specs.ModuleValues.{pcds_value}
 use Rattle.build_rules.specs.Rules.{value_in}
 use Rattle.document_rules.specs.Trees.{given_as}
 use Rattle.build_rules.specs.Values.{platform_value}
-use Rattle.image_rules.specs.VpdTree.{placed}
+use Rattle.image_rules.specs.VpdTree.{placed_vpd}
 
 -- the image of vital product data, its map and its places
 unfoldable pub vpd_value : World → Result Vpd Fault
 vpd_value w =
     and_then (platform_value w) (λ platform.
     and_then (pcds_value w) (λ values.
-    and_then (arches_built platform (field w 1)) (placed platform values)))
+    and_then (arches_built platform (field w 1)) (placed_vpd platform values)))
 
 -- the step gives it
 abbrev pub GivesVpd : World → Type 0

@@ -3,7 +3,7 @@ pub use crate::shapes::EdkRules;
 use build_base::{Permit, WantOfMemory};
 use build_stages::{Known, StagedRules, Stop, turn_by};
 use document_rules::documents::{dec, flash, inf, platform};
-use image_rules::images::{based, device, file, volume};
+use image_rules::images::{device, file, rebased_volume, volume};
 use image_rules::vpd::vpd;
 use module_rules::modules::{choice, pcds, values};
 use module_rules::texts::{code, depex, report};
@@ -51,7 +51,7 @@ impl StagedRules for EdkRules {
             Key::Depex(module) => depex(alloc, known, module, permit),
             Key::File(volume, item) => file(alloc, known, *volume, *item, permit),
             Key::Volume(number) => volume(alloc, known, *number, permit),
-            Key::Based(number) => based(alloc, known, *number, permit),
+            Key::Based(number) => rebased_volume(alloc, known, *number, permit),
             Key::Device(number) => device(alloc, known, *number, permit),
             Key::Report => report(alloc, known, permit),
             Key::All => all(alloc, known, permit),

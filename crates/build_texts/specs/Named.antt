@@ -57,14 +57,14 @@ abbrev pub Found : Type 0
 Found = List ℕ × Guid
 
 -- 511: no package of the INF declares the name for the architecture
-abbrev pub found : Named → Option Guid → Result (List Found) Fault
-found named None = Err (fault_of AUTOGEN_GUID_UNKNOWN named.at named.name)
-found named (Some guid) = Ok ((named.name, guid) ∷ [])
+abbrev pub found_guid : Named → Option Guid → Result (List Found) Fault
+found_guid named None = Err (fault_of AUTOGEN_GUID_UNKNOWN named.at named.name)
+found_guid named (Some guid) = Ok ((named.name, guid) ∷ [])
 
 -- what a line of an INF with these packages names; a line of another architecture names nothing
 unfoldable pub line_guids : Arch → List Declared → List (List ℕ) → Named → Result (List Found) Fault
 line_guids arch lines paths named =
-    if serves named.arch arch then found named (first_guid arch (lines_of named.name lines) paths)
+    if serves named.arch arch then found_guid named (first_guid arch (lines_of named.name lines) paths)
     else Ok []
 
 -- what all give, or the first fault

@@ -5,7 +5,7 @@ ghost use Rattle.std.specs.BTreeMap.{insert_entry};
 ghost use Rattle.std.specs.Cmp.Lexicographic.{slice_cmp};
 ghost use Rattle.std.specs.Ordering.{nat_cmp};
 ghost use Rattle.build_base.specs.Answer.{AnswersAs};
-ghost use Rattle.build_texts.specs.Named.{Declared, all_of, by_name, declared_name, found, inf_guids, line_guids, module_guids, with_guids};
+ghost use Rattle.build_texts.specs.Named.{Declared, all_of, by_name, declared_name, found_guid, inf_guids, line_guids, module_guids, with_guids};
 ghost use Rattle.pcd_resolve.specs.Groups.{by_bytes, GroupedAt};
 ghost use Rattle.pcd_resolve.specs.Marks.{is_kept, with_marks};
 ghost use Rattle.build_texts.specs.Views.{declared_view, entry_view, given, seen};
@@ -32,12 +32,12 @@ pub struct FoundGuid<'a> {
     pub guid: Guid,
 }
 
-fn found<'a>(
+fn found_guid<'a>(
     alloc: Global,
     named: &'a Named,
     guid: Option<Guid>,
 ) -> Result<Option<FoundGuid<'a>>, Refusal>
-    ensures { AnswersAs given result (found named.now guid) }
+    ensures { AnswersAs given result (found_guid named.now guid) }
 {
     match guid {
         None => Err(refuse(alloc, AUTOGEN_GUID_UNKNOWN, &named.at, named.name.bytes())),
@@ -73,7 +73,7 @@ fn line_guid<'a>(
     }
     let name = key_of(alloc, named)?;
     let guid = first_guid(arch, group(table, &name), paths);
-    found(alloc, named, guid)
+    found_guid(alloc, named, guid)
 }
 
 fn put_found<'a>(

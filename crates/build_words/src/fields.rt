@@ -21,7 +21,7 @@ fn push_text(out: &mut Vec<u8>, first: bool, text: &[u8]) -> Result<(), WantOfMe
 }
 
 #[tactic(auto, using(crate::proofs::JoinLemmas::joined_more))]
-fn joined(alloc: Global, texts: &[Text]) -> Result<Text, WantOfMemory>
+fn join_lines(alloc: Global, texts: &[Text]) -> Result<Text, WantOfMemory>
     ensures { IfOk result (λ t. t ≡ join_with_byte 10 texts.now) }
 {
     let mut out = Vec::new(alloc);
@@ -74,7 +74,7 @@ fn push(alloc: Global, fields: &mut Rows<Text>, text: &[u8]) -> Result<(), WantO
 fn push_joined(alloc: Global, fields: &mut Rows<Text>, texts: &[Text]) -> Result<(), WantOfMemory>
     ensures { OnOk result (fields.new ≡ fields.old ++ join_with_byte 10 texts.now ∷ []) }
 {
-    fields.push(joined(alloc, texts)?)
+    fields.push(join_lines(alloc, texts)?)
 }
 
 fn push_name(

@@ -133,7 +133,7 @@ fn workers_by(value: Option<&str>) -> Option<Workers>
 {
     match value {
         None => Some(Workers::one()),
-        Some(text) => Workers::named(text.as_bytes()),
+        Some(text) => Workers::from_decimal(text.as_bytes()),
     }
 }
 

@@ -12,8 +12,8 @@ use Rattle.doc_reading.specs.ValueFields.{undefined_macro}
 use Rattle.doc_reading.specs.Values.{wanted, of_read_line}
 use Rattle.doc_types.specs.declared.arch.Arch.{Arch}
 use Rattle.dec_docs.specs.declared.rows.Declared.TheVariants as row
-use Rattle.dec_docs.specs.declared.rows.Said.{Said}
-use Rattle.dec_docs.specs.declared.rows.Said.TheVariants.{Row}
+use Rattle.dec_docs.specs.declared.rows.DecRow.{DecRow}
+use Rattle.dec_docs.specs.declared.rows.DecRow.TheVariants.{Row}
 use Rattle.build_base.specs.FaultCodes.{DEC_BAD_GUID}
 
 -- a macro that isn't defined
@@ -34,12 +34,12 @@ field_faults line field (Some p) = words_fault line p.0 p.1
     ∷ pair_fault line p.0 p.1 (guid_of_braces p.1) ∷ []
 field_faults line field None = undefined_macro line.at field ∷ Some (bad_line line) ∷ []
 
-abbrev pub named_guid : Taken → Arch → List ℕ → Option GuidBytes → Option Said
+abbrev pub named_guid : Taken → Arch → List ℕ → Option GuidBytes → Option DecRow
 named_guid line arch name (Some guid) =
     Some (Row (row.Guid (record { at = line.at; arch = arch; name = name; guid = guid })))
 named_guid line arch name None = None
 
-abbrev pub field_row : Taken → Arch → Option (List ℕ × List ℕ) → Option Said
+abbrev pub field_row : Taken → Arch → Option (List ℕ × List ℕ) → Option DecRow
 field_row line arch (Some p) = named_guid line arch p.0 (guid_of_braces p.1)
 field_row line arch None = None
 
@@ -51,5 +51,5 @@ unfoldable pub guid_line_faults : Taken → List (Option Fault)
 guid_line_faults line = of_read_line line
     (field_faults line (guid_field line) (halves 61 (guid_field line)))
 
-unfoldable pub guid_line_row : Taken → Arch → Option Said
+unfoldable pub guid_line_row : Taken → Arch → Option DecRow
 guid_line_row line arch = field_row line arch (halves 61 (guid_field line))

@@ -13,8 +13,8 @@ use Rattle.meta_lexer.specs.Lookup.{lookup}
 use Rattle.doc_reading.specs.Values.{wanted, of_read_line}
 use Rattle.dec_docs.specs.declared.key_line.DecKey as key_type
 use Rattle.dec_docs.specs.declared.key_line.DecKey.TheVariants as key
-use Rattle.dec_docs.specs.declared.rows.Said.{Said}
-use Rattle.dec_docs.specs.declared.rows.Said.TheVariants.{Name, Guid}
+use Rattle.dec_docs.specs.declared.rows.DecRow.{DecRow}
+use Rattle.dec_docs.specs.declared.rows.DecRow.TheVariants.{Name, Guid}
 use Rattle.build_base.specs.FaultCodes.{DEC_BAD_GUID}
 
 abbrev pub keys : List (List ℕ × key_type.DecKey)
@@ -32,7 +32,7 @@ key_faults line (Some key.Guid) value =
     ∷ wanted (guid_of value) (fault_of DEC_BAD_GUID line.at value) ∷ [])
 key_faults line None value = []
 
-abbrev pub key_row : Option key_type.DecKey → List ℕ → Option Said
+abbrev pub key_row : Option key_type.DecKey → List ℕ → Option DecRow
 key_row (Some key.Name) value = Some (Name value)
 key_row (Some key.Guid) value = option_map Guid (guid_of value)
 key_row None value = None
@@ -42,12 +42,12 @@ abbrev pub pair_faults : Taken → Option (List ℕ × List ℕ) → List (Optio
 pair_faults line (Some p) = key_faults line (key_named p.0) p.1
 pair_faults line None = []
 
-abbrev pub pair_row : Option (List ℕ × List ℕ) → Option Said
+abbrev pub pair_row : Option (List ℕ × List ℕ) → Option DecRow
 pair_row (Some p) = key_row (key_named p.0) p.1
 pair_row None = None
 
 unfoldable pub key_line_faults : Taken → List (Option Fault)
 key_line_faults line = pair_faults line (halves 61 line.text)
 
-unfoldable pub key_line_row : Taken → Option Said
+unfoldable pub key_line_row : Taken → Option DecRow
 key_line_row line = pair_row (halves 61 line.text)

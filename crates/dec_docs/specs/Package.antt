@@ -17,8 +17,8 @@ use Rattle.doc_types.specs.declared.package.DecDoc.{DecDoc}
 use Rattle.dec_docs.specs.declared.package.Stated.{Stated}
 use Rattle.dec_docs.specs.declared.rows.Declared.{Declared}
 use Rattle.dec_docs.specs.declared.rows.Declared.TheVariants as row
-use Rattle.dec_docs.specs.declared.rows.Said.{Said}
-use Rattle.dec_docs.specs.declared.rows.Said.TheVariants.{Name, Guid, Row}
+use Rattle.dec_docs.specs.declared.rows.DecRow.{DecRow}
+use Rattle.dec_docs.specs.declared.rows.DecRow.TheVariants.{Name, Guid, Row}
 use Rattle.dec_docs.specs.declared.section.DecSection.{DecSection}
 use Rattle.dec_docs.specs.declared.section.DecSection.TheVariants.{Defines, Guids, Pcds}
 use Rattle.dec_docs.specs.declared.section.Entry.{Entry}
@@ -34,7 +34,7 @@ faults_in line Defines = key_line_faults line
 faults_in line Guids = guid_line_faults line
 faults_in line (Pcds kind) = pcd_line_faults line
 
-abbrev pub row_in : Taken → Arch → DecSection → Option Said
+abbrev pub row_in : Taken → Arch → DecSection → Option DecRow
 row_in line arch Defines = key_line_row line
 row_in line arch Guids = guid_line_row line arch
 row_in line arch (Pcds kind) = pcd_line_row line arch kind
@@ -43,11 +43,11 @@ row_in line arch (Pcds kind) = pcd_line_row line arch kind
 unfoldable pub line_faults : Taken → Entry → List (Option Fault)
 line_faults line entry = faults_in line entry.section
 
-unfoldable pub line_row : Taken → Entry → Option Said
+unfoldable pub line_row : Taken → Entry → Option DecRow
 line_row line entry = row_in line entry.arch entry.section
 
 -- nothing is ever open
-abbrev pub dec_grammar : Grammar Entry Said
+abbrev pub dec_grammar : Grammar Entry DecRow
 dec_grammar =
     record {
       head_faults = λ line head. meaning_faults DEC_UNKNOWN_SECTION line head (head_meaning head);
@@ -59,15 +59,15 @@ dec_grammar =
       left_open = λ above line. None;
     }
 
-abbrev pub name_in : Said → List (List ℕ)
+abbrev pub name_in : DecRow → List (List ℕ)
 name_in (Name name) = name ∷ []
 name_in said = []
 
-abbrev pub guid_in : Said → List GuidBytes
+abbrev pub guid_in : DecRow → List GuidBytes
 guid_in (Guid guid) = guid ∷ []
 guid_in said = []
 
-abbrev pub row_said : Said → List Declared
+abbrev pub row_said : DecRow → List Declared
 row_said (Row row) = row ∷ []
 row_said said = []
 
@@ -75,7 +75,7 @@ abbrev pub nothing : Stated
 nothing = record { name = None; guid = None; rows = [] }
 
 -- with more that is said: the last value of each key, and all rows
-unfoldable pub with_rows : Stated → List Said → Stated
+unfoldable pub with_rows : Stated → List DecRow → Stated
 with_rows stated said =
     record {
       name = last_or stated.name (flat_map name_in said);
@@ -115,7 +115,7 @@ unfoldable pub document_of : List ℕ → Stated → Result DecDoc Fault
 document_of root stated = required root stated.rows stated.name stated.guid
 
 -- what lines that come to this make: the document, where it is whole
-abbrev pub package_made : Lines → List (Read Entry Said) → Result DecDoc Fault
+abbrev pub package_made : Lines → List (Read Entry DecRow) → Result DecDoc Fault
 package_made lines reads = document_of lines.root (with_rows nothing (rows_of reads))
 
 -- the fault of the first line that has one, else the document, where it is whole

@@ -15,8 +15,8 @@ use Rattle.doc_types.specs.declared.pcd.Datum.{Datum}
 use Rattle.doc_types.specs.declared.pcd.Kind.{Kind}
 use Rattle.doc_types.specs.declared.pcd.PcdName.{PcdName}
 use Rattle.dec_docs.specs.declared.rows.Declared.TheVariants as row
-use Rattle.dec_docs.specs.declared.rows.Said.{Said}
-use Rattle.dec_docs.specs.declared.rows.Said.TheVariants.{Row}
+use Rattle.dec_docs.specs.declared.rows.DecRow.{DecRow}
+use Rattle.dec_docs.specs.declared.rows.DecRow.TheVariants.{Row}
 use Rattle.build_base.specs.FaultCodes.{BAD_NUMBER, BAD_TOKEN, DEC_BAD_PCD_LINE}
 
 -- a line that declares no PCD
@@ -60,7 +60,7 @@ fields_faults line (name ∷ default ∷ datum ∷ token ∷ []) =
 fields_faults line fields = other_faults line fields
 
 abbrev pub made_pcd : Taken → Arch → Kind → Option PcdName → List ℕ → Option Datum → Option ℕ
-    → Option Said
+    → Option DecRow
 made_pcd line arch kind (Some pcd) default (Some datum) (Some token) =
     Some
     (Row
@@ -79,7 +79,7 @@ made_pcd line arch kind (Some pcd) default (Some datum) None = None
 made_pcd line arch kind (Some pcd) default None token = None
 made_pcd line arch kind None default datum token = None
 
-abbrev pub fields_row : Taken → Arch → Kind → List (List ℕ) → Option Said
+abbrev pub fields_row : Taken → Arch → Kind → List (List ℕ) → Option DecRow
 fields_row line arch kind (name ∷ default ∷ datum ∷ token ∷ []) =
     made_pcd line arch kind (pcd_name_of name) default (datum_named datum)
     (token_of (number_of token))
@@ -88,5 +88,5 @@ fields_row line arch kind fields = None
 unfoldable pub pcd_line_faults : Taken → List (Option Fault)
 pcd_line_faults line = of_read_line line (fields_faults line (field_texts line.text))
 
-unfoldable pub pcd_line_row : Taken → Arch → Kind → Option Said
+unfoldable pub pcd_line_row : Taken → Arch → Kind → Option DecRow
 pcd_line_row line arch kind = fields_row line arch kind (field_texts line.text)

@@ -38,16 +38,16 @@ with_arch section (Some arch) = Enters (record { section = section; arch = arch 
 with_arch section None = Misqualified
 
 -- at most one qualifier, and in [Defines] none
-abbrev pub qualified : DecSection → List (List ℕ) → Meaning Entry
-qualified section [] = for_all section
-qualified Defines (word ∷ words) = Misqualified
-qualified Guids (word ∷ []) = with_arch Guids (arch_named word)
-qualified (Pcds kind) (word ∷ []) = with_arch (Pcds kind) (arch_named word)
-qualified section (word ∷ other ∷ words) = Misqualified
+abbrev pub qualified_section : DecSection → List (List ℕ) → Meaning Entry
+qualified_section section [] = for_all section
+qualified_section Defines (word ∷ words) = Misqualified
+qualified_section Guids (word ∷ []) = with_arch Guids (arch_named word)
+qualified_section (Pcds kind) (word ∷ []) = with_arch (Pcds kind) (arch_named word)
+qualified_section section (word ∷ other ∷ words) = Misqualified
 
 -- a section that is read past takes any
 abbrev pub meaning_of : Option (Option DecSection) → List (List ℕ) → Meaning Entry
-meaning_of (Some (Some section)) qualifiers = qualified section qualifiers
+meaning_of (Some (Some section)) qualifiers = qualified_section section qualifiers
 meaning_of (Some None) qualifiers = Passed
 meaning_of None qualifiers = Unknown
 

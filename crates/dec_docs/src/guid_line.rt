@@ -6,7 +6,7 @@ ghost use Rattle.build_base.specs.Answer.{Answers, Checks};
 ghost use Rattle.doc_reading.specs.Gathering.{judged};
 ghost use Rattle.dec_docs.specs.GuidLines.{words_fault, pair_fault, named_guid, field_faults, field_row, guid_line_faults, guid_line_row};
 
-use crate::rows::{Declared, Said};
+use crate::rows::{DecRow, Declared};
 use build_base::fault_codes::DEC_BAD_GUID;
 use build_base::{Guid, Refusal, Same, Taken, Text, WantOfMemory, refuse};
 use doc_reading::least_check::{least_of_two, least_refusal};
@@ -48,11 +48,11 @@ fn named_guid(
     arch: Arch,
     name: &[u8],
     guid: Option<Guid>,
-) -> Result<Option<Said>, WantOfMemory>
+) -> Result<Option<DecRow>, WantOfMemory>
     ensures { IfOk result (λ row. row ≡ named_guid line.now arch name.now guid) }
 {
     match guid {
-        Some(guid) => Ok(Some(Said::Row(Declared::Guid(NamedGuid {
+        Some(guid) => Ok(Some(DecRow::Row(Declared::Guid(NamedGuid {
             at: line.at.copy(alloc)?,
             arch,
             name: Text::of(alloc, name)?,
@@ -67,7 +67,7 @@ fn guid_field(
     line: &Taken,
     arch: Arch,
     field: &[u8],
-) -> Result<Option<Said>, Refusal>
+) -> Result<Option<DecRow>, Refusal>
     ensures { Answers result (judged (field_faults line.now field.now (halves 61 field.now))
         (field_row line.now arch (halves 61 field.now))) }
 {
@@ -90,7 +90,7 @@ fn guid_field(
 
 /// The name that a line `Name = { .. }` declares, where further fields are read past.
 #[tactic(auto, unfolding(crate::specs::GuidLines::guid_line_faults, crate::specs::GuidLines::guid_line_row))]
-pub fn guid_line(alloc: Global, line: &Taken, arch: Arch) -> Result<Option<Said>, Refusal>
+pub fn guid_line(alloc: Global, line: &Taken, arch: Arch) -> Result<Option<DecRow>, Refusal>
     ensures { Answers result (judged (guid_line_faults line.now) (guid_line_row line.now arch)) }
 {
     open_quote(alloc, &line.at, line.text.bytes())?;

@@ -4,7 +4,7 @@ ghost use Rattle.build_base.specs.Answer.{Answers};
 ghost use Rattle.doc_reading.specs.Gathering.{judged};
 ghost use Rattle.dec_docs.specs.KeyLines.{key_named, key_faults, key_row, pair_faults, pair_row, key_line_faults, key_line_row};
 
-use crate::rows::Said;
+use crate::rows::DecRow;
 use build_base::fault_codes::DEC_BAD_GUID;
 use build_base::{Guid, Refusal, Taken};
 use doc_reading::least_check::least_of_two;
@@ -40,14 +40,14 @@ fn key_said(
     line: &Taken,
     key: Option<DecKey>,
     value: &[u8],
-) -> Result<Option<Said>, Refusal>
+) -> Result<Option<DecRow>, Refusal>
     ensures { Answers result (judged (key_faults line.now key value.now) (key_row key value.now)) }
 {
     match key {
         Some(DecKey::Name) => {
             open_quote(alloc, &line.at, line.text.bytes())?;
             let name = segment_name(alloc, &line.at, value)?;
-            Ok(Some(Said::Name(name.into_text())))
+            Ok(Some(DecRow::Name(name.into_text())))
         }
         Some(DecKey::Guid) => {
             open_quote(alloc, &line.at, line.text.bytes())?;
@@ -56,7 +56,7 @@ fn key_said(
                 undefined_macro(alloc, &line.at, value),
                 wanted(alloc, &guid, DEC_BAD_GUID, &line.at, value),
             )?;
-            Ok(guid.map(|guid| Said::Guid(guid)))
+            Ok(guid.map(|guid| DecRow::Guid(guid)))
         }
         None => Ok(None),
     }
@@ -64,7 +64,7 @@ fn key_said(
 
 /// What a line of [Defines] says.
 #[tactic(auto, unfolding(crate::specs::KeyLines::key_line_faults, crate::specs::KeyLines::key_line_row))]
-pub fn key_line(alloc: Global, line: &Taken) -> Result<Option<Said>, Refusal>
+pub fn key_line(alloc: Global, line: &Taken) -> Result<Option<DecRow>, Refusal>
     ensures { Answers result (judged (key_line_faults line.now) (key_line_row line.now)) }
 {
     match halves(b'=', line.text.bytes()) {

@@ -5,7 +5,7 @@ ghost use Rattle.doc_reading.specs.Least.{least_of};
 ghost use Rattle.doc_reading.specs.Gathering.{judged};
 ghost use Rattle.dec_docs.specs.PcdLines.{words_fault, parts_fault, token_fault, token_of, made_pcd, other_faults, fields_faults, fields_row, pcd_line_faults, pcd_line_row};
 
-use crate::rows::{Declared, Said};
+use crate::rows::{DecRow, Declared};
 use build_base::fault_codes::{BAD_NUMBER, BAD_TOKEN, DEC_BAD_PCD_LINE};
 use build_base::{Refusal, Same, Taken, Text, WantOfMemory, refuse};
 use doc_reading::least_check::{least_of_four, least_refusal};
@@ -95,13 +95,13 @@ fn made_pcd(
     default: &[u8],
     datum: Option<Datum>,
     token: Option<u32>,
-) -> Result<Option<Said>, WantOfMemory>
+) -> Result<Option<DecRow>, WantOfMemory>
     ensures { IfOk result (λ row. row ≡ made_pcd line.now arch kind pcd default.now datum token) }
 {
     let (Some(pcd), Some(datum), Some(token)) = (pcd, datum, token) else {
         return Ok(None);
     };
-    Ok(Some(Said::Row(Declared::Pcd(DecPcd {
+    Ok(Some(DecRow::Row(Declared::Pcd(DecPcd {
         at: line.at.copy(alloc)?,
         arch,
         kind,
@@ -121,7 +121,7 @@ fn four_fields(
     default: &[u8],
     datum: &[u8],
     token: &[u8],
-) -> Result<Option<Said>, Refusal>
+) -> Result<Option<DecRow>, Refusal>
     ensures { Answers result (judged
         (fields_faults line.now (name.now ∷ default.now ∷ datum.now ∷ token.now ∷ []))
         (fields_row line.now arch kind (name.now ∷ default.now ∷ datum.now ∷ token.now ∷ []))) }
@@ -162,7 +162,7 @@ fn pcd_fields(
     arch: Arch,
     kind: Kind,
     fields: &[Text],
-) -> Result<Option<Said>, Refusal>
+) -> Result<Option<DecRow>, Refusal>
     ensures { Answers result
         (judged (fields_faults line.now fields.now) (fields_row line.now arch kind fields.now)) }
 {
@@ -188,7 +188,7 @@ pub fn pcd_line(
     line: &Taken,
     arch: Arch,
     kind: Kind,
-) -> Result<Option<Said>, Refusal>
+) -> Result<Option<DecRow>, Refusal>
     ensures { Answers result (judged (pcd_line_faults line.now) (pcd_line_row line.now arch kind)) }
 {
     open_quote(alloc, &line.at, line.text.bytes())?;

@@ -1,6 +1,6 @@
 //! The sections of a package's declarations, and what their heads stand for.
 ghost use Rattle.std.specs.Prelude.{◌≡◌};
-ghost use Rattle.dec_docs.specs.Sections.{section_named, for_all, with_arch, qualified, meaning_of, head_meaning};
+ghost use Rattle.dec_docs.specs.Sections.{section_named, for_all, with_arch, qualified_section, meaning_of, head_meaning};
 
 use build_base::Text;
 use doc_reading::meaning::Meaning;
@@ -77,8 +77,8 @@ fn with_arch(section: DecSection, arch: Option<Arch>) -> Meaning<Entry>
     }
 }
 
-fn qualified(section: DecSection, qualifiers: &[Text]) -> Meaning<Entry>
-    ensures { result ≡ qualified section qualifiers.now }
+fn qualified_section(section: DecSection, qualifiers: &[Text]) -> Meaning<Entry>
+    ensures { result ≡ qualified_section section qualifiers.now }
 {
     match (section, qualifiers) {
         (_, []) => for_all(section),
@@ -92,7 +92,7 @@ fn meaning_of(section: Option<Option<DecSection>>, qualifiers: &[Text]) -> Meani
     ensures { result ≡ meaning_of section qualifiers.now }
 {
     match section {
-        Some(Some(section)) => qualified(section, qualifiers),
+        Some(Some(section)) => qualified_section(section, qualifiers),
         Some(None) => Meaning::Passed,
         None => Meaning::Unknown,
     }

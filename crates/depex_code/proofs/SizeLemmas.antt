@@ -13,7 +13,7 @@ use Rattle.depex_code.specs.declared.token.Edge.TheVariants.{Before, After}
 use Rattle.depex_code.specs.Tree.{Tree, neg, sor, post, nest, opcodes}
 use Rattle.depex_code.specs.Grammar.{prefix_tree, join_tree}
 use Rattle.depex_code.specs.Terms.{trees, Wait, group, front, left, State, wanting, pointing, holding, wrong, settle, closed, step, ended, is_right}
-use Rattle.depex_code.specs.Sizes.{Size, Reach, Form, no_form, form_of, join_form, prefix_form, reach_of, join_reach, prefix_reach, fits, sized, size_of, sizes, join_size, prefix_size}
+use Rattle.depex_code.specs.Sizes.{Size, Reach, Form, no_form, form_of, join_form, prefix_form, reach_of, join_reach, prefix_reach, fits, sized_piece, size_of, sizes, join_size, prefix_size}
 
 record_of : ℕ → ℕ → Reach
 record_of deep count = record { deep = deep; count = count }
@@ -37,16 +37,16 @@ form-same x y r false n same = refl
 made : Bool → Form → Reach → Size
 made alone form reach = record { form = form; reach = reach; alone = alone }
 
-sized-made : (alone : Bool) (x : Form) (r : Reach) → sized alone x r ≡ made alone (cond (fits r) x no_form) r
+sized-made : (alone : Bool) (x : Form) (r : Reach) → sized_piece alone x r ≡ made alone (cond (fits r) x no_form) r
 unfolding made
 sized-made alone x r = refl
 
-sized-same : (alone : Bool) (x y : Form) (r s : Reach) → r ≡ s → (r.deep ≤ 64 → r.count ≤ 4096 → x ≡ y) → sized alone x r ≡ sized alone y s
+sized-same : (alone : Bool) (x y : Form) (r s : Reach) → r ≡ s → (r.deep ≤ 64 → r.count ≤ 4096 → x ≡ y) → sized_piece alone x r ≡ sized_piece alone y s
 sized-same alone x y r s e same =
     sized-made alone x r
     ∙ ap (λ z. made alone z r) (form-same x y r (fits r) refl same)
     ∙ sym (sized-made alone y r)
-    ∙ ap (sized alone y) e
+    ∙ ap (sized_piece alone y) e
 
 reach-same : (d e c f : ℕ) → min d 65 ≡ min e 65 → min c 4097 ≡ min f 4097 → reach_of d c ≡ reach_of e f
 unfolding record_of
@@ -68,8 +68,8 @@ prefix-sized Sor a =
     (prefix-reached (nest a) (opcodes a)) (λ h k. ap (prefix_form Sor) (sym (fits-form (nest a) (opcodes a) (form_of a) (omega (arith, h)) (omega (arith, k)))))
 
 joined-sized : (op : Joiner) (x y : Form) (d e c f : ℕ)
-    → sized false (join_form op x y) (reach_of (max d (e + 1)) (c + f + 1))
-    ≡ sized false (join_form op (cond (fits (reach_of d c)) x no_form) (cond (fits (reach_of e f)) y no_form)) (join_reach (reach_of d c) (reach_of e f))
+    → sized_piece false (join_form op x y) (reach_of (max d (e + 1)) (c + f + 1))
+    ≡ sized_piece false (join_form op (cond (fits (reach_of d c)) x no_form) (cond (fits (reach_of e f)) y no_form)) (join_reach (reach_of d c) (reach_of e f))
 joined-sized op x y d e c f =
     sized-same false (join_form op x y) (join_form op (cond (fits (reach_of d c)) x no_form) (cond (fits (reach_of e f)) y no_form)) (reach_of (max d (e + 1)) (c + f + 1)) (join_reach (reach_of d c) (reach_of e f))
     (join-reached d e c f)

@@ -12,8 +12,8 @@ pub data State : Type 0 where
 abbrev pub leaf : ℕ → List ℕ → Tree
 leaf kind guid = if kind == 0 then before guid else if kind == 1 then after guid else push guid
 
-abbrev pub joined : ℕ → Tree → Tree → Tree
-joined op a b = if op == 3 then both a b else either a b
+abbrev pub join_trees : ℕ → Tree → Tree → Tree
+join_trees op a b = if op == 3 then both a b else either a b
 
 -- a tree that nests too deep is never held
 abbrev pub held : Tree → List Tree → State
@@ -22,7 +22,7 @@ held t ts = if nat_le (nest t) 64 then ready (t ∷ ts) else stuck
 abbrev pub join : ℕ → List Tree → State
 join op [] = stuck
 join op (b ∷ []) = stuck
-join op (b ∷ a ∷ ts) = held (joined op a b) ts
+join op (b ∷ a ∷ ts) = held (join_trees op a b) ts
 
 abbrev pub negate : List Tree → State
 negate [] = stuck

@@ -42,15 +42,15 @@ abbrev pub no_form : Form
 no_form = record { bytes = []; guids = None }
 
 -- nor is there a form
-abbrev pub sized : Bool → Form → Reach → Size
-sized alone form reach =
+abbrev pub sized_piece : Bool → Form → Reach → Size
+sized_piece alone form reach =
     record { form = if fits reach then form else no_form; reach = reach; alone = alone }
 
 abbrev pub form_of : Tree → Form
 form_of t = record { bytes = post t; guids = conjuncts t }
 
 unfoldable pub size_of : Tree → Size
-size_of t = sized (is_alone t) (form_of t) (reach_of (nest t) (opcodes t))
+size_of t = sized_piece (is_alone t) (form_of t) (reach_of (nest t) (opcodes t))
 
 abbrev pub edge_code : Edge → ℕ
 edge_code Before = 0
@@ -78,13 +78,13 @@ join_form op a b =
     }
 
 abbrev pub join_size : Joiner → Size → Size → Size
-join_size op a b = sized false (join_form op a.form b.form) (join_reach a.reach b.reach)
+join_size op a b = sized_piece false (join_form op a.form b.form) (join_reach a.reach b.reach)
 
 abbrev pub prefix_form : Prefix → Form → Form
 prefix_form p a = record { bytes = prefix_bytes p a.bytes; guids = None }
 
 abbrev pub prefix_size : Prefix → Size → Size
-prefix_size p a = sized false (prefix_form p a.form) (prefix_reach a.reach)
+prefix_size p a = sized_piece false (prefix_form p a.form) (prefix_reach a.reach)
 
 abbrev pub leaf_size : Bool → List ℕ → Option (List (List ℕ)) → Size
 leaf_size alone bytes guids =

@@ -8,7 +8,7 @@ ghost use Rattle.depex_code.specs.SizedJoins.{join_to_size, join_to_reach, aroun
 
 use crate::conjunction::conjunction;
 use crate::leave::{Leave, NO_LEAVE};
-use crate::make::{joined, joined_measure, prefixed_measure, put};
+use crate::make::{join_pieces, joined_measure, prefixed_measure, put};
 use crate::measure::Measure;
 use crate::opcode::{DEEPEST, END, MOST, SOR};
 use crate::part::part_piece;
@@ -29,7 +29,7 @@ fn join_to(alloc: Global, whole: Option<Piece>, piece: Piece) -> Result<Piece, W
             if a.alone {
                 Ok(a)
             } else {
-                joined(alloc, Joiner::And, a, piece)
+                join_pieces(alloc, Joiner::And, a, piece)
             }
         }
     }

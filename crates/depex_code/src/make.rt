@@ -1,7 +1,7 @@
 //! Makes pieces.
 ghost use Rattle.std.specs.Prelude.{◌≡◌, ◌+◌, ◌≤◌, ◌∷◌, ◌++◌, [], false, true, Some, None, IfOk, OnOk, option_map};
 ghost use Rattle.depex_code.specs.Tree.{both_lists};
-ghost use Rattle.depex_code.specs.Sizes.{reach_of, join_reach, prefix_reach, fits, no_form, sized, leaf_size, constant_size, name_size, edge_size, edge_code, join_code, prefix_bytes, prefix_form, join_guids, join_form, join_size, prefix_size};
+ghost use Rattle.depex_code.specs.Sizes.{reach_of, join_reach, prefix_reach, fits, no_form, sized_piece, leaf_size, constant_size, name_size, edge_size, edge_code, join_code, prefix_bytes, prefix_form, join_guids, join_form, join_size, prefix_size};
 ghost use Rattle.depex_code.specs.Kept.{reach_view, guids_view, form_view, piece_size};
 
 use crate::measure::Measure;
@@ -111,7 +111,7 @@ pub fn name(alloc: Global, guid: Option<Guid>) -> Result<Piece, WantOfMemory>
 }
 
 /// BEFORE or AFTER a GUID name.
-pub fn pointed(alloc: Global, edge: Edge, guid: Option<Guid>) -> Result<Piece, WantOfMemory>
+pub fn edge_piece(alloc: Global, edge: Edge, guid: Option<Guid>) -> Result<Piece, WantOfMemory>
     ensures { IfOk result (λ p. piece_size p ≡ edge_size edge guid) }
 {
     let bytes = match guid {
@@ -121,7 +121,7 @@ pub fn pointed(alloc: Global, edge: Edge, guid: Option<Guid>) -> Result<Piece, W
     Ok(leaf(true, bytes, None))
 }
 
-fn measured(deep: u32, count: u32) -> Measure
+fn measure_of(deep: u32, count: u32) -> Measure
     ensures { reach_view result ≡ reach_of deep count }
 {
     let deep = deep.min(DEEPEST + 1);
@@ -133,14 +133,14 @@ fn measured(deep: u32, count: u32) -> Measure
 pub(crate) fn joined_measure(a: Measure, b: Measure) -> Measure
     ensures { reach_view result ≡ join_reach (reach_view a) (reach_view b) }
 {
-    measured(a.deep.max(b.deep + 1), a.count + b.count + 1)
+    measure_of(a.deep.max(b.deep + 1), a.count + b.count + 1)
 }
 
 /// The measure of an operand and what stands before it.
 pub(crate) fn prefixed_measure(a: Measure) -> Measure
     ensures { reach_view result ≡ prefix_reach (reach_view a) }
 {
-    measured(a.deep + 1, a.count + 1)
+    measure_of(a.deep + 1, a.count + 1)
 }
 
 fn fits(measure: Measure) -> bool
@@ -159,8 +159,8 @@ fn no_code(alloc: Global) -> Code
 }
 
 // No code where the limits are passed.
-fn sized(alloc: Global, code: Code, measure: Measure) -> Piece
-    ensures { piece_size result ≡ sized false (form_view code) (reach_view measure) }
+fn sized_piece(alloc: Global, code: Code, measure: Measure) -> Piece
+    ensures { piece_size result ≡ sized_piece false (form_view code) (reach_view measure) }
 {
     let code = if fits(measure) { code } else { no_code(alloc) };
     Piece {
@@ -218,12 +218,12 @@ fn joined_code(join: Joiner, a: Code, b: Code) -> Result<Code, WantOfMemory>
 }
 
 /// Two operands and what joins them.
-pub fn joined(alloc: Global, join: Joiner, a: Piece, b: Piece) -> Result<Piece, WantOfMemory>
+pub fn join_pieces(alloc: Global, join: Joiner, a: Piece, b: Piece) -> Result<Piece, WantOfMemory>
     ensures { IfOk result (λ p. piece_size p ≡ join_size join (piece_size a) (piece_size b)) }
 {
     let measure = joined_measure(a.measure, b.measure);
     let code = joined_code(join, a.code, b.code)?;
-    Ok(sized(alloc, code, measure))
+    Ok(sized_piece(alloc, code, measure))
 }
 
 fn prefixed_bytes(alloc: Global, prefix: Prefix, a: Vec<u8>) -> Result<Vec<u8>, WantOfMemory>
@@ -252,10 +252,10 @@ fn prefixed_code(alloc: Global, prefix: Prefix, a: Code) -> Result<Code, WantOfM
 }
 
 /// An operand and what stands before it.
-pub fn prefixed(alloc: Global, prefix: Prefix, a: Piece) -> Result<Piece, WantOfMemory>
+pub fn prefix_piece(alloc: Global, prefix: Prefix, a: Piece) -> Result<Piece, WantOfMemory>
     ensures { IfOk result (λ p. piece_size p ≡ prefix_size prefix (piece_size a)) }
 {
     let measure = prefixed_measure(a.measure);
     let code = prefixed_code(alloc, prefix, a.code)?;
-    Ok(sized(alloc, code, measure))
+    Ok(sized_piece(alloc, code, measure))
 }

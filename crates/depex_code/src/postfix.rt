@@ -1,7 +1,7 @@
 //! Reads opcodes one by one.
 ghost use Rattle.std.specs.Prelude.{◌≡◌, ◌+◌, ◌≤◌, ◌<◌, ◌∷◌, [], List, ℕ, if◌then◌else◌, IfOk, OnOk, length, option_map, vec_len, slice_index};
 ghost use Rattle.depex_code.specs.Tree.{tree_of, neg, nest, opcodes};
-ghost use Rattle.depex_code.specs.Postfix.{leaf, joined, join, negate, trees, trees_are, ready, stuck, Applied, Turned, Ran};
+ghost use Rattle.depex_code.specs.Postfix.{leaf, join_trees, join, negate, trees, trees_are, ready, stuck, Applied, Turned, Ran};
 
 use crate::held::Held;
 use crate::opcode::{AFTER, AND, BEFORE, DEEPEST, FALSE, NOT, OR, PUSH, TRUE};
@@ -10,7 +10,7 @@ use doc_types::depex::Depex;
 use std::alloc::Global;
 
 /// A tree in a box.
-pub(crate) fn boxed(alloc: Global, tree: Depex) -> Result<Box<Depex>, WantOfMemory>
+pub(crate) fn box_of(alloc: Global, tree: Depex) -> Result<Box<Depex>, WantOfMemory>
     ensures { IfOk result (λ b. b.value ≡ tree) }
 {
     match Box::new(alloc, tree) {
@@ -29,11 +29,11 @@ fn leaf(kind: u8, guid: Guid) -> Depex
     }
 }
 
-fn joined(alloc: Global, op: u8, a: Depex, b: Depex) -> Result<Depex, WantOfMemory>
-    ensures { IfOk result (λ t. tree_of t ≡ joined op (tree_of a) (tree_of b)) }
+fn join_trees(alloc: Global, op: u8, a: Depex, b: Depex) -> Result<Depex, WantOfMemory>
+    ensures { IfOk result (λ t. tree_of t ≡ join_trees op (tree_of a) (tree_of b)) }
 {
-    let a = boxed(alloc, a)?;
-    let b = boxed(alloc, b)?;
+    let a = box_of(alloc, a)?;
+    let b = box_of(alloc, b)?;
     if op == AND {
         Ok(Depex::And(a, b))
     } else {
@@ -41,10 +41,10 @@ fn joined(alloc: Global, op: u8, a: Depex, b: Depex) -> Result<Depex, WantOfMemo
     }
 }
 
-fn negated(alloc: Global, a: Depex) -> Result<Depex, WantOfMemory>
+fn negate_tree(alloc: Global, a: Depex) -> Result<Depex, WantOfMemory>
     ensures { IfOk result (λ t. tree_of t ≡ neg (tree_of a)) }
 {
-    Ok(Depex::Not(boxed(alloc, a)?))
+    Ok(Depex::Not(box_of(alloc, a)?))
 }
 
 fn put(stack: &mut Vec<Held>, held: Held) -> Result<(), WantOfMemory>
@@ -86,7 +86,7 @@ fn join(alloc: Global, op: u8, stack: &mut Vec<Held>) -> Result<bool, WantOfMemo
     if deep > DEEPEST {
         return Ok(false);
     }
-    let tree = joined(alloc, op, a.tree, b.tree)?;
+    let tree = join_trees(alloc, op, a.tree, b.tree)?;
     put(stack, Held { tree, deep })?;
     Ok(true)
 }
@@ -103,7 +103,7 @@ fn negate(alloc: Global, stack: &mut Vec<Held>) -> Result<bool, WantOfMemory>
         return Ok(false);
     }
     let deep = operand.deep + 1;
-    let tree = negated(alloc, operand.tree)?;
+    let tree = negate_tree(alloc, operand.tree)?;
     put(stack, Held { tree, deep })?;
     Ok(true)
 }

@@ -5,7 +5,7 @@ ghost use Rattle.depex_code.specs.Postfix.{trees, OnlyIs, BodyRead, SorRead};
 
 use crate::held::Held;
 use crate::opcode::{DEEPEST, END, MOST, SOR};
-use crate::postfix::{boxed, run};
+use crate::postfix::{box_of, run};
 use build_base::WantOfMemory;
 use doc_types::depex::Depex;
 use std::alloc::Global;
@@ -41,7 +41,7 @@ fn body(alloc: Global, bytes: &[u8], extra: u32) -> Result<Option<Depex>, WantOf
 fn within_sor(alloc: Global, tree: Depex) -> Result<Depex, WantOfMemory>
     ensures { IfOk result (λ t. tree_of t ≡ sor (tree_of tree)) }
 {
-    Ok(Depex::Sor(boxed(alloc, tree)?))
+    Ok(Depex::Sor(box_of(alloc, tree)?))
 }
 
 fn with_sor(alloc: Global, bytes: &[u8]) -> Result<Option<Depex>, WantOfMemory>

@@ -4,7 +4,7 @@ ghost use Rattle.depex_code.specs.Terms.{settle, step, holding};
 ghost use Rattle.depex_code.specs.Sizes.{sizes};
 ghost use Rattle.depex_code.specs.Kept.{piece_size, wait_view, waits_of, is_base, Popped, Took, Closed, Steps, state_of};
 
-use crate::make::{constant, joined, name, pointed, prefixed};
+use crate::make::{constant, edge_piece, join_pieces, name, prefix_piece};
 use crate::piece::Piece;
 use crate::token::Token;
 use crate::waiting::{Stage, Waiting};
@@ -50,15 +50,19 @@ fn put(waits: &mut Vec<Waiting>, wait: Waiting) -> Result<(), WantOfMemory>
 }
 
 // An operand is whole: the prefixes and the joiner before it take it.
-fn settled(alloc: Global, waits: &mut Vec<Waiting>, factor: Piece) -> Result<Piece, WantOfMemory>
+fn settle_operand(
+    alloc: Global,
+    waits: &mut Vec<Waiting>,
+    factor: Piece,
+) -> Result<Piece, WantOfMemory>
     ensures { IfOk result (λ v. settle sizes (waits_of waits.old.items) (piece_size factor)
         ≡ holding (waits_of waits.new.items) (piece_size v)) }
 {
     let mut value = factor;
     while let Some(wait) = take(waits) {
         match wait {
-            Waiting::Front(prefix) => value = prefixed(alloc, prefix, value)?,
-            Waiting::Left(a, join) => return joined(alloc, join, a, value),
+            Waiting::Front(prefix) => value = prefix_piece(alloc, prefix, value)?,
+            Waiting::Left(a, join) => return join_pieces(alloc, join, a, value),
             Waiting::Group => return Ok(value),
         }
     }
@@ -90,10 +94,10 @@ pub fn step(
 {
     match (stage, token) {
         (Stage::Wanting, Token::Name(guid)) => {
-            Ok(Some(Stage::Holding(settled(alloc, waits, name(alloc, guid)?)?)))
+            Ok(Some(Stage::Holding(settle_operand(alloc, waits, name(alloc, guid)?)?)))
         }
         (Stage::Wanting, Token::Constant(value)) => {
-            Ok(Some(Stage::Holding(settled(alloc, waits, constant(alloc, value)?)?)))
+            Ok(Some(Stage::Holding(settle_operand(alloc, waits, constant(alloc, value)?)?)))
         }
         (Stage::Wanting, Token::Edge(edge)) => Ok(Some(Stage::Pointing(edge))),
         (Stage::Wanting, Token::Prefix(prefix)) => {
@@ -105,7 +109,7 @@ pub fn step(
             Ok(Some(Stage::Wanting))
         }
         (Stage::Pointing(edge), Token::Name(guid)) => {
-            Ok(Some(Stage::Holding(settled(alloc, waits, pointed(alloc, edge, guid)?)?)))
+            Ok(Some(Stage::Holding(settle_operand(alloc, waits, edge_piece(alloc, edge, guid)?)?)))
         }
         (Stage::Holding(value), Token::Joiner(join)) => {
             put(waits, Waiting::Left(value, join))?;
@@ -116,7 +120,7 @@ pub fn step(
             if !closes {
                 return Ok(None);
             }
-            Ok(Some(Stage::Holding(settled(alloc, waits, value)?)))
+            Ok(Some(Stage::Holding(settle_operand(alloc, waits, value)?)))
         }
         _ => Ok(None),
     }

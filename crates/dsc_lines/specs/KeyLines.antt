@@ -20,8 +20,8 @@ use Rattle.dsc_lines.specs.declared.key_line.PlatformKey.{PlatformKey}
 use Rattle.dsc_lines.specs.declared.key_line.PlatformKey.TheVariants as key
 use Rattle.dsc_lines.specs.declared.rows.KeyValue.{KeyValue}
 use Rattle.dsc_lines.specs.declared.rows.KeyValue.TheVariants as value_of
-use Rattle.dsc_lines.specs.declared.rows.Said.{Said}
-use Rattle.dsc_lines.specs.declared.rows.Said.TheVariants.{Key}
+use Rattle.dsc_lines.specs.declared.rows.DscRow.{DscRow}
+use Rattle.dsc_lines.specs.declared.rows.DscRow.TheVariants.{Key}
 use Rattle.build_base.specs.FaultCodes.{BAD_PATH, DSC_BAD_GUID}
 
 abbrev pub keys : List (List ℕ × PlatformKey)
@@ -35,7 +35,7 @@ unfoldable pub key_named : List ℕ → Option PlatformKey
 key_named word = lookup keys word
 
 -- the row that an outcome's value makes
-abbrev pub row_with : {T : Type 0} → (T → KeyValue) → Result T Fault → Option Said
+abbrev pub row_with : {T : Type 0} → (T → KeyValue) → Result T Fault → Option DscRow
 row_with make (Ok value) = Some (Key (make value))
 row_with make (Err fault) = None
 
@@ -43,14 +43,14 @@ abbrev pub guid_faults : Taken → List ℕ → List (Option Fault)
 guid_faults line value = undefined_macro line.at value
     ∷ wanted (guid_of value) (fault_of DSC_BAD_GUID line.at value) ∷ []
 
-abbrev pub guid_row : List ℕ → Option Said
+abbrev pub guid_row : List ℕ → Option DscRow
 guid_row value = option_map (λ guid. Key (value_of.Guid guid)) (guid_of value)
 
 abbrev pub output_faults : Taken → List ℕ → List (Option Fault)
 output_faults line value = wanted (path_field (without_workspace value))
     (fault_of BAD_PATH line.at value) ∷ []
 
-abbrev pub output_row : List ℕ → Option Said
+abbrev pub output_row : List ℕ → Option DscRow
 output_row value = option_map (λ folder. Key (value_of.Output folder))
     (path_field (without_workspace value))
 
@@ -63,7 +63,7 @@ key_faults line key.Output value = output_faults line value
 key_faults line key.SkuChoice value = fault_in (text_value line.at value) ∷ []
 key_faults line key.Flash value = fault_in (path_value line.at value) ∷ []
 
-abbrev pub key_row : Taken → PlatformKey → List ℕ → Option Said
+abbrev pub key_row : Taken → PlatformKey → List ℕ → Option DscRow
 key_row line key.Name value = row_with value_of.Name (segment_name line.at value)
 key_row line key.Guid value = guid_row value
 key_row line key.Arches value = row_with value_of.Arches (arches_value line.at value)
@@ -77,7 +77,7 @@ abbrev pub pair_faults : Taken → Option PlatformKey → List ℕ → List (Opt
 pair_faults line (Some key) value = of_read_line line (key_faults line key value)
 pair_faults line None value = []
 
-abbrev pub pair_row : Taken → Option PlatformKey → List ℕ → Option Said
+abbrev pub pair_row : Taken → Option PlatformKey → List ℕ → Option DscRow
 pair_row line (Some key) value = key_row line key value
 pair_row line None value = None
 
@@ -85,7 +85,7 @@ abbrev pub halves_faults : Taken → Option (List ℕ × List ℕ) → List (Opt
 halves_faults line (Some p) = pair_faults line (key_named p.0) p.1
 halves_faults line None = []
 
-abbrev pub halves_row : Taken → Option (List ℕ × List ℕ) → Option Said
+abbrev pub halves_row : Taken → Option (List ℕ × List ℕ) → Option DscRow
 halves_row line (Some p) = pair_row line (key_named p.0) p.1
 halves_row line None = None
 
@@ -93,5 +93,5 @@ halves_row line None = None
 unfoldable pub key_line_faults : Taken → List (Option Fault)
 key_line_faults line = halves_faults line (halves 61 line.text)
 
-unfoldable pub key_line_row : Taken → Option Said
+unfoldable pub key_line_row : Taken → Option DscRow
 key_line_row line = halves_row line (halves 61 line.text)

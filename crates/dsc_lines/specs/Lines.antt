@@ -5,8 +5,8 @@ use Rattle.std.specs.Option.{option_map}
 use Rattle.build_base.specs.declared.fault.Fault.{Fault}
 use Rattle.build_base.specs.declared.lines.Taken.{Taken}
 use Rattle.dsc_lines.specs.declared.open_mark.Open.{Open}
-use Rattle.dsc_lines.specs.declared.rows.Said.{Said}
-use Rattle.dsc_lines.specs.declared.rows.Said.TheVariants.{Sku, Library, Pcd, Part}
+use Rattle.dsc_lines.specs.declared.rows.DscRow.{DscRow}
+use Rattle.dsc_lines.specs.declared.rows.DscRow.TheVariants.{Sku, Library, Pcd, Part}
 use Rattle.dsc_lines.specs.declared.section.Scope.{Scope}
 use Rattle.dsc_lines.specs.declared.section.Scope.TheVariants.{Defines, SkuIds, Libraries, Components, Pcds}
 use Rattle.dsc_lines.specs.ComponentLines.{component_faults, component_part}
@@ -25,7 +25,7 @@ scope_faults names standing line (Components arch) = component_faults line stand
 scope_faults names standing line (Pcds p) = pcd_faults line p.store
 
 -- what it says there
-abbrev pub scope_row : Open → Taken → Scope → Option Said
+abbrev pub scope_row : Open → Taken → Scope → Option DscRow
 scope_row standing line Defines = key_line_row line
 scope_row standing line SkuIds = option_map Sku (sku_of line)
 scope_row standing line (Libraries arch kind) = option_map Library (library_of line arch kind)
@@ -35,7 +35,7 @@ scope_row standing line (Pcds p) = option_map Pcd (pcd_of line p.kind p.store p.
 unfoldable pub line_faults : List (List ℕ) → Open → Taken → Scope → List (Option Fault)
 line_faults names standing line scope = scope_faults names standing line scope
 
-unfoldable pub line_row : Open → Taken → Scope → Option Said
+unfoldable pub line_row : Open → Taken → Scope → Option DscRow
 line_row standing line scope = scope_row standing line scope
 
 -- a section of which each line that is read gives a row

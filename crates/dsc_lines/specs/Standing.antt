@@ -6,8 +6,8 @@ use Rattle.dsc_lines.specs.declared.open_mark.Open.{Open}
 use Rattle.dsc_lines.specs.declared.open_mark.Open.TheVariants as state
 use Rattle.dsc_lines.specs.declared.rows.Part.{Part}
 use Rattle.dsc_lines.specs.declared.rows.Part.TheVariants.{Begins, Tagged, Library, Pcd, FileGuid, Closes}
-use Rattle.dsc_lines.specs.declared.rows.Said.{Said}
-use Rattle.dsc_lines.specs.declared.rows.Said.TheVariants as said
+use Rattle.dsc_lines.specs.declared.rows.DscRow.{DscRow}
+use Rattle.dsc_lines.specs.declared.rows.DscRow.TheVariants as said
 
 abbrev pub marks : Part → List Open
 marks (Begins begun) = (if begun.braced then state.Untagged else state.Shut) ∷ []
@@ -24,16 +24,16 @@ last_mark standing (mark ∷ more) = last_mark mark more
 abbrev pub open_with : Open → Part → Open
 open_with standing row = last_mark standing (marks row)
 
-abbrev pub parts_in : Said → List Part
+abbrev pub parts_in : DscRow → List Part
 parts_in (said.Part part) = part ∷ []
 parts_in (said.Key value) = []
 parts_in (said.Sku sku) = []
 parts_in (said.Library library) = []
 parts_in (said.Pcd pcd) = []
 
-abbrev pub said_marks : Said → List Open
+abbrev pub said_marks : DscRow → List Open
 said_marks row = flat_map marks (parts_in row)
 
 -- what is open below some rows
-abbrev pub open_below : List Said → Open
+abbrev pub open_below : List DscRow → Open
 open_below rows = last_mark state.Shut (flat_map said_marks rows)

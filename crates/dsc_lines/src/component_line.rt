@@ -114,7 +114,7 @@ fn inf_text(text: &[u8]) -> &[u8]
 }
 
 // A brace, a tag or a line out of place.
-fn misplaced(alloc: Global, line: &Taken) -> Result<Option<Part>, Refusal>
+fn refuse_misplaced(alloc: Global, line: &Taken) -> Result<Option<Part>, Refusal>
     ensures { (part : Option Row) → Answers result (judged (out_of_place line.now) part) }
 {
     open_quote(alloc, &line.at, line.text.bytes())?;
@@ -153,7 +153,7 @@ fn begun_part(
 {
     let text = inf_text(line.text.bytes());
     if text.is_empty() {
-        return misplaced(alloc, line);
+        return refuse_misplaced(alloc, line);
     }
     open_quote(alloc, &line.at, line.text.bytes())?;
     let inf = path_field(alloc, without_workspace(text))?;
@@ -214,7 +214,7 @@ fn found_tag(alloc: Global, line: &Taken) -> Result<Option<Part>, Refusal>
 {
     match tag_named(line.text.bytes()) {
         Some(tag) => Ok(Some(Part::Tagged(tag))),
-        None => misplaced(alloc, line),
+        None => refuse_misplaced(alloc, line),
     }
 }
 
@@ -224,9 +224,9 @@ fn shut_part(alloc: Global, line: &Taken, arch: Arch, form: Form) -> Result<Opti
     match form {
         Form::Plain => begun_part(alloc, line, arch, false),
         Form::Opens => begun_part(alloc, line, arch, true),
-        Form::Closes => misplaced(alloc, line),
-        Form::Misplaced => misplaced(alloc, line),
-        Form::Tagged => misplaced(alloc, line),
+        Form::Closes => refuse_misplaced(alloc, line),
+        Form::Misplaced => refuse_misplaced(alloc, line),
+        Form::Tagged => refuse_misplaced(alloc, line),
     }
 }
 
@@ -235,10 +235,10 @@ fn untagged_part(alloc: Global, line: &Taken, form: Form) -> Result<Option<Part>
         (judged (untagged_faults line.now form) (untagged_part line.now form)) }
 {
     match form {
-        Form::Plain => misplaced(alloc, line),
-        Form::Opens => misplaced(alloc, line),
+        Form::Plain => refuse_misplaced(alloc, line),
+        Form::Opens => refuse_misplaced(alloc, line),
         Form::Closes => Ok(Some(Part::Closes)),
-        Form::Misplaced => misplaced(alloc, line),
+        Form::Misplaced => refuse_misplaced(alloc, line),
         Form::Tagged => found_tag(alloc, line),
     }
 }
@@ -248,9 +248,9 @@ fn misplaced_below(alloc: Global, line: &Taken, tag: Tag) -> Result<Option<Part>
     ensures { Answers result (judged (misplaced_faults line.now tag) None) }
 {
     match tag {
-        Tag::Libraries => misplaced(alloc, line),
-        Tag::Defines => misplaced(alloc, line),
-        Tag::Pcds(_, _) => misplaced(alloc, line),
+        Tag::Libraries => refuse_misplaced(alloc, line),
+        Tag::Defines => refuse_misplaced(alloc, line),
+        Tag::Pcds(_, _) => refuse_misplaced(alloc, line),
         Tag::Passed => Ok(None),
     }
 }

@@ -7,7 +7,7 @@ ghost use Rattle.dsc_lines.specs.KeyLines.{key_named, guid_faults, guid_row, out
 use crate::arches::arches_value;
 use crate::output_folder::output_folder;
 use crate::platform_name::platform_name;
-use crate::rows::{KeyValue, Said};
+use crate::rows::{DscRow, KeyValue};
 use build_base::fault_codes::{BAD_PATH, DSC_BAD_GUID};
 use build_base::{Guid, Refusal, Same, Taken};
 use doc_reading::least_check::{least_of_one, least_of_two};
@@ -46,7 +46,7 @@ pub fn key_named(word: &[u8]) -> Option<PlatformKey>
     lookup(&KEYS, word)
 }
 
-fn guid_said(alloc: Global, line: &Taken, value: &[u8]) -> Result<Option<Said>, Refusal>
+fn guid_said(alloc: Global, line: &Taken, value: &[u8]) -> Result<Option<DscRow>, Refusal>
     ensures { Answers result (judged (guid_faults line.now value.now) (guid_row value.now)) }
 {
     let guid = Guid::of_text(value);
@@ -54,15 +54,15 @@ fn guid_said(alloc: Global, line: &Taken, value: &[u8]) -> Result<Option<Said>, 
         undefined_macro(alloc, &line.at, value),
         wanted(alloc, &guid, DSC_BAD_GUID, &line.at, value),
     )?;
-    Ok(guid.map(|guid| Said::Key(KeyValue::Guid(guid))))
+    Ok(guid.map(|guid| DscRow::Key(KeyValue::Guid(guid))))
 }
 
-fn output_said(alloc: Global, line: &Taken, value: &[u8]) -> Result<Option<Said>, Refusal>
+fn output_said(alloc: Global, line: &Taken, value: &[u8]) -> Result<Option<DscRow>, Refusal>
     ensures { Answers result (judged (output_faults line.now value.now) (output_row value.now)) }
 {
     let folder = output_folder(alloc, without_workspace(value))?;
     least_of_one(wanted(alloc, &folder, BAD_PATH, &line.at, value))?;
-    Ok(folder.map(|folder| Said::Key(KeyValue::Output(folder))))
+    Ok(folder.map(|folder| DscRow::Key(KeyValue::Output(folder))))
 }
 
 fn key_said(
@@ -70,28 +70,28 @@ fn key_said(
     line: &Taken,
     key: PlatformKey,
     value: &[u8],
-) -> Result<Option<Said>, Refusal>
+) -> Result<Option<DscRow>, Refusal>
     ensures { Answers result
         (judged (key_faults line.now key value.now) (key_row line.now key value.now)) }
 {
     match key {
         PlatformKey::Name => {
             let name = platform_name(alloc, &line.at, value)?;
-            Ok(Some(Said::Key(KeyValue::Name(name))))
+            Ok(Some(DscRow::Key(KeyValue::Name(name))))
         }
         PlatformKey::Guid => guid_said(alloc, line, value),
         PlatformKey::Arches => {
             let arches = arches_value(alloc, &line.at, value)?;
-            Ok(Some(Said::Key(KeyValue::Arches(arches))))
+            Ok(Some(DscRow::Key(KeyValue::Arches(arches))))
         }
         PlatformKey::Output => output_said(alloc, line, value),
         PlatformKey::SkuChoice => {
             let choice = text_value(alloc, &line.at, value)?;
-            Ok(Some(Said::Key(KeyValue::SkuChoice(line.at.copy(alloc)?, choice))))
+            Ok(Some(DscRow::Key(KeyValue::SkuChoice(line.at.copy(alloc)?, choice))))
         }
         PlatformKey::Flash => {
             let flash = path_value(alloc, &line.at, value)?;
-            Ok(Some(Said::Key(KeyValue::Flash(flash))))
+            Ok(Some(DscRow::Key(KeyValue::Flash(flash))))
         }
     }
 }
@@ -101,7 +101,7 @@ fn pair_said(
     line: &Taken,
     key: Option<PlatformKey>,
     value: &[u8],
-) -> Result<Option<Said>, Refusal>
+) -> Result<Option<DscRow>, Refusal>
     ensures { Answers result
         (judged (pair_faults line.now key value.now) (pair_row line.now key value.now)) }
 {
@@ -116,7 +116,7 @@ fn pair_said(
 
 /// What a line of [Defines] says.
 #[tactic(auto, unfolding(crate::specs::KeyLines::key_line_faults, crate::specs::KeyLines::key_line_row))]
-pub fn key_line(alloc: Global, line: &Taken) -> Result<Option<Said>, Refusal>
+pub fn key_line(alloc: Global, line: &Taken) -> Result<Option<DscRow>, Refusal>
     ensures { Answers result (judged (key_line_faults line.now) (key_line_row line.now)) }
 {
     match halves(b'=', line.text.bytes()) {

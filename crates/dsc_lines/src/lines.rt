@@ -10,7 +10,7 @@ use crate::key_line::key_line;
 use crate::library_line::library_line;
 use crate::open_mark::Open;
 use crate::pcd_line::pcd_line;
-use crate::rows::Said;
+use crate::rows::DscRow;
 use crate::section::Scope;
 use crate::sku_line::sku_line;
 use build_base::{Refusal, Taken};
@@ -25,7 +25,7 @@ pub fn line_row(
     names: &IndexMap<Vec<u8>, usize>,
     standing: Open,
     scope: &Scope,
-) -> Result<Option<Said>, Refusal>
+) -> Result<Option<DscRow>, Refusal>
     ensures { (above : List (List ℕ)) → Placed above names.now
         → Answers result
         (judged (line_faults above standing line.now scope.now)
@@ -35,15 +35,15 @@ pub fn line_row(
         Scope::Defines => key_line(alloc, line),
         Scope::SkuIds => {
             let sku = sku_line(alloc, line, names)?;
-            Ok(sku.map(|sku| Said::Sku(sku)))
+            Ok(sku.map(|sku| DscRow::Sku(sku)))
         }
         Scope::Libraries(arch, kind) => {
             let library = library_line(alloc, line, *arch, *kind)?;
-            Ok(library.map(|library| Said::Library(library)))
+            Ok(library.map(|library| DscRow::Library(library)))
         }
         Scope::Components(arch) => {
             let part = component_line(alloc, line, *arch, standing)?;
-            Ok(part.map(|part| Said::Part(part)))
+            Ok(part.map(|part| DscRow::Part(part)))
         }
         Scope::Pcds(pcds) => {
             let pcd = pcd_line(
@@ -54,7 +54,7 @@ pub fn line_row(
                 pcds.arch,
                 pcds.sku.bytes(),
             )?;
-            Ok(pcd.map(|pcd| Said::Pcd(pcd)))
+            Ok(pcd.map(|pcd| DscRow::Pcd(pcd)))
         }
     }
 }

@@ -2,7 +2,7 @@
 ghost use Rattle.std.specs.Prelude.{◌≡◌};
 ghost use Rattle.dsc_lines.specs.Standing.{open_with, last_mark, said_marks};
 
-use crate::rows::{Begun, Part, Said, Tag};
+use crate::rows::{Begun, DscRow, Part, Tag};
 
 /// Whether a component's braces are open, and the tag below which the next line stands.
 #[derive(Clone, Copy, PartialEq, Eq)]
@@ -25,11 +25,11 @@ fn open_with(standing: Open, part: &Part) -> Open
 }
 
 /// With one row more.
-pub fn open_below(standing: Open, row: &Said) -> Open
+pub fn open_below(standing: Open, row: &DscRow) -> Open
     ensures { result ≡ last_mark standing (said_marks row.now) }
 {
     match row {
-        Said::Part(part) => open_with(standing, part),
-        Said::Key(_) | Said::Sku(_) | Said::Library(_) | Said::Pcd(_) => standing,
+        DscRow::Part(part) => open_with(standing, part),
+        DscRow::Key(_) | DscRow::Sku(_) | DscRow::Library(_) | DscRow::Pcd(_) => standing,
     }
 }

@@ -56,7 +56,7 @@ pub enum Part {
 
 /// What a line says.
 #[derive(Drop)]
-pub enum Said {
+pub enum DscRow {
     Key(KeyValue),
     Sku(SkuLine),
     Library(LibraryLine),

@@ -6,7 +6,7 @@ use Rattle.doc_reading.specs.Blocks.{Block, blocks, with_line}
 use Rattle.doc_reading.proofs.BlockLemmas.{blocks_begin, blocks_none, blocks_more}
 use Rattle.doc_types.specs.declared.platform.Component.{Component}
 use Rattle.dsc_lines.specs.declared.rows.Part.{Part}
-use Rattle.dsc_lines.specs.declared.rows.Said.{Said}
+use Rattle.dsc_lines.specs.declared.rows.DscRow.{DscRow}
 use Rattle.build_base.specs.declared.fault.Place.{Place}
 use Rattle.doc_reading.specs.Grammar.{Read, entered, gave}
 use Rattle.dsc_lines.specs.declared.section.Scope.{Scope}
@@ -51,10 +51,10 @@ block_ended lines done new first rest (some front block b d f r) n =
     n ∙ ap (λ cs. cs ++ built first rest) d ∙ ap (λ fs. flat_map block_components front ++ built fs rest) f ∙ ap (λ rs. flat_map block_components front ++ built block.first rs) r ∙ sym (one_block front block) ∙ sym (ap (flat_map block_components) b)
 
 -- the lines with one more
-pub lines_more : (above : List (Read Scope Said)) (rows : List Said) → lines_of (above ++ gave rows ∷ []) ≡ lines_of above ++ flat_map parts_in rows ∷ []
+pub lines_more : (above : List (Read Scope DscRow)) (rows : List DscRow) → lines_of (above ++ gave rows ∷ []) ≡ lines_of above ++ flat_map parts_in rows ∷ []
 lines_more above rows = flat_map-append line_in above (gave rows ∷ [])
 
-pub lines_same : (above : List (Read Scope Said)) (at : Place) (scopes : List Scope) → lines_of (above ++ entered at scopes ∷ []) ≡ lines_of above
+pub lines_same : (above : List (Read Scope DscRow)) (at : Place) (scopes : List Scope) → lines_of (above ++ entered at scopes ∷ []) ≡ lines_of above
 lines_same above at scopes = flat_map-append line_in above (entered at scopes ∷ []) ∙ append-nil (flat_map line_in above)
 
 last_join : (standing : Open) (xs ys : List Open) → last_mark standing (xs ++ ys) ≡ last_mark (last_mark standing xs) ys
@@ -62,5 +62,5 @@ last_join standing [] ys = refl
 last_join standing (x ∷ xs) ys = last_join x xs ys
 
 -- what is open below more rows
-pub open_more : (rows more : List Said) → open_below (rows ++ more) ≡ last_mark (open_below rows) (flat_map said_marks more)
+pub open_more : (rows more : List DscRow) → open_below (rows ++ more) ≡ last_mark (open_below rows) (flat_map said_marks more)
 open_more rows more = ap (last_mark Shut) (flat_map-append said_marks rows more) ∙ last_join Shut (flat_map said_marks rows) (flat_map said_marks more)

@@ -10,21 +10,21 @@ use Rattle.std.proofs.lemmas.Grind.{flat_map-append}
 use Rattle.doc_types.specs.declared.arch.Arch.{Arch}
 use Rattle.doc_types.specs.declared.platform.Component.{Component}
 use Rattle.dsc_lines.specs.SkuNames.{same_key}
-use Rattle.dsc_platform.specs.Repeats.{meets, repeats, arch_at, Arched}
+use Rattle.dsc_platform.specs.Repeats.{archs_overlap, repeats, arch_at, Arched}
 
 bytes_same : (xs ys : List ℕ) → bytes_eq xs ys ≡ true → xs ≡ ys
 bytes_same xs ys e = same_text xs ys (sym e)
 
-one_at : (t : Bool) (arch other : Arch) (rest : List Arch) → list_any (λ a. meets a other) ((if t then arch ∷ [] else []) ++ rest) ≡ ((t && meets arch other) || list_any (λ a. meets a other) rest)
+one_at : (t : Bool) (arch other : Arch) (rest : List Arch) → list_any (λ a. archs_overlap a other) ((if t then arch ∷ [] else []) ++ rest) ≡ ((t && archs_overlap arch other) || list_any (λ a. archs_overlap a other) rest)
 one_at true arch other rest = refl
 one_at false arch other rest = refl
 
 -- the architectures of a module tell whether it stands above
-pub any_at : (component : Component) (above : List Component) → list_any (λ a. meets a component.arch) (flat_map (arch_at component.inf) above) ≡ list_any (λ old. repeats old component) above
+pub any_at : (component : Component) (above : List Component) → list_any (λ a. archs_overlap a component.arch) (flat_map (arch_at component.inf) above) ≡ list_any (λ old. repeats old component) above
 any_at component [] = refl
 any_at component (old ∷ above) =
     one_at (bytes_eq old.inf component.inf) old.arch component.arch (flat_map (arch_at component.inf) above)
-    ∙ ap (λ b. (bytes_eq old.inf component.inf && meets old.arch component.arch) || b) (any_at component above)
+    ∙ ap (λ b. (bytes_eq old.inf component.inf && archs_overlap old.arch component.arch) || b) (any_at component above)
 
 -- no components
 pub arched_none : {S : Type 0} (table : HashMap (Vec ℕ) (List Arch) S) → table.entries ≡ [] → Arched [] table

@@ -14,8 +14,8 @@ use Rattle.doc_types.specs.SkuWalks.{EndsAtDefault}
 use Rattle.doc_types.specs.declared.arch.Arch.{Arch}
 use Rattle.doc_types.specs.declared.platform.Component.{Component}
 use Rattle.doc_types.specs.declared.platform.PlatformDoc.{PlatformDoc}
-use Rattle.dsc_lines.specs.declared.rows.Said.{Said}
-use Rattle.dsc_lines.specs.declared.rows.Said.TheVariants.{Key, Sku, Library, Pcd, Part}
+use Rattle.dsc_lines.specs.declared.rows.DscRow.{DscRow}
+use Rattle.dsc_lines.specs.declared.rows.DscRow.TheVariants.{Key, Sku, Library, Pcd, Part}
 use Rattle.dsc_lines.specs.declared.rows.SkuLine.{SkuLine}
 use Rattle.dsc_lines.specs.declared.section.Scope.{Scope}
 use Rattle.dsc_platform.specs.declared.sku_uses.SkuUse.{SkuUse}
@@ -63,7 +63,7 @@ all_join P [] ys h k = k
 all_join P (x ∷ xs) ys h k = (h.0, all_join P xs ys h.1 k)
 
 -- a row
-row_known : (names : List (List ℕ)) (row : Said) → AllByRecursion (UseKnown names) (row_uses row) → AllByRecursion (ParentKnown names) (sku_in row)
+row_known : (names : List (List ℕ)) (row : DscRow) → AllByRecursion (UseKnown names) (row_uses row) → AllByRecursion (ParentKnown names) (sku_in row)
 row_known names (Sku line) h = (own (is_default line.sku.name) refl h, tt)
   where
     own : (t : Bool) → is_default line.sku.name ≡ t → AllByRecursion (UseKnown names) (if t then [] else record { at = line.at; text = line.sku.parent; chosen = false } ∷ [])
@@ -75,14 +75,14 @@ row_known names (Library library) h = tt
 row_known names (Pcd pcd) h = tt
 row_known names (Part part) h = tt
 
-rows_known : (names : List (List ℕ)) (rows : List Said) → AllByRecursion (UseKnown names) (flat_map row_uses rows) → AllByRecursion (ParentKnown names) (flat_map sku_in rows)
+rows_known : (names : List (List ℕ)) (rows : List DscRow) → AllByRecursion (UseKnown names) (flat_map row_uses rows) → AllByRecursion (ParentKnown names) (flat_map sku_in rows)
 rows_known names [] h = tt
 rows_known names (row ∷ rows) h =
     let both = all_split (UseKnown names) (row_uses row) (flat_map row_uses rows) h in
     all_join (ParentKnown names) (sku_in row) (flat_map sku_in rows) (row_known names row both.0) (rows_known names rows both.1)
 
 -- what the lines came to
-reads_known : (names : List (List ℕ)) (reads : List (Read Scope Said)) → AllByRecursion (UseKnown names) (uses_of reads) → AllByRecursion (ParentKnown names) (flat_map sku_in (rows_of reads))
+reads_known : (names : List (List ℕ)) (reads : List (Read Scope DscRow)) → AllByRecursion (UseKnown names) (uses_of reads) → AllByRecursion (ParentKnown names) (flat_map sku_in (rows_of reads))
 reads_known names [] h = tt
 reads_known names (entered at scopes ∷ reads) h = reads_known names reads (all_split (UseKnown names) (uses_in (entered at scopes)) (uses_of reads) h).1
 reads_known names (gave rows ∷ reads) h =
@@ -109,7 +109,7 @@ of_required lines stated components uses (Some name) (Some guid) (Some arches) d
     (with_required lines stated.keys.options stated.skus stated.libraries stated.pcds components name guid arches) document e in
     (both.0, ap (λ d. d.skus) (sym both.1))
 
-of_reads : (lines : Lines) (reads : List (Read Scope Said)) (document : PlatformDoc) → platform_made lines reads ≡ Ok document → All (λ sku. EndsAtDefault document.skus sku.name) document.skus
+of_reads : (lines : Lines) (reads : List (Read Scope DscRow)) (document : PlatformDoc) → platform_made lines reads ≡ Ok document → All (λ sku. EndsAtDefault document.skus sku.name) document.skus
 unfolding platform_made document_of
 of_reads lines reads document e =
     let stated = with_rows nothing (rows_of reads) in

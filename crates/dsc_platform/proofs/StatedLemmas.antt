@@ -5,7 +5,7 @@ use Rattle.std.proofs.lemmas.Grind.{flat_map-append}
 use Rattle.std.proofs.lemmas.List.{map-append}
 use Rattle.doc_reading.specs.Reading.{last_or}
 use Rattle.doc_reading.proofs.Turns.{last_or-append}
-use Rattle.dsc_lines.specs.declared.rows.Said.{Said}
+use Rattle.dsc_lines.specs.declared.rows.DscRow.{DscRow}
 use Rattle.dsc_lines.specs.declared.rows.SkuLine.{SkuLine}
 use Rattle.dsc_platform.specs.declared.stated.Stated.{Stated}
 use Rattle.dsc_lines.specs.declared.rows.Part.{Part}
@@ -16,14 +16,14 @@ use Rattle.dsc_platform.specs.Stating.{name_in, guid_in, arches_in, output_in, c
 pub flat_push : {X T : Type 0} (f : X → List T) (xs : List X) (x : X) → flat_map f (xs ++ x ∷ []) ≡ flat_map f xs ++ f x
 flat_push f xs x = flat_map-append f xs (x ∷ []) ∙ ap (λ ys. flat_map f xs ++ ys) (append-nil (f x))
 
-last_join : {R : Type 0} (f : Said → List R) (o : Option R) (xs ys : List Said) → last_or (last_or o (flat_map f xs)) (flat_map f ys) ≡ last_or o (flat_map f (xs ++ ys))
+last_join : {R : Type 0} (f : DscRow → List R) (o : Option R) (xs ys : List DscRow) → last_or (last_or o (flat_map f xs)) (flat_map f ys) ≡ last_or o (flat_map f (xs ++ ys))
 last_join f o xs ys = sym (ap (last_or o) (flat_map-append f xs ys) ∙ last_or-append o (flat_map f xs) (flat_map f ys))
 
-list_join : {R : Type 0} (f : Said → List R) (old : List R) (xs ys : List Said) → (old ++ flat_map f xs) ++ flat_map f ys ≡ old ++ flat_map f (xs ++ ys)
+list_join : {R : Type 0} (f : DscRow → List R) (old : List R) (xs ys : List DscRow) → (old ++ flat_map f xs) ++ flat_map f ys ≡ old ++ flat_map f (xs ++ ys)
 list_join f old xs ys = append_assoc old (flat_map f xs) (flat_map f ys) ∙ ap (λ zs. old ++ zs) (sym (flat_map-append f xs ys))
 
 -- some rows, and then others
-pub rows_join : (s : Stated) (xs ys : List Said) → with_rows (with_rows s xs) ys ≡ with_rows s (xs ++ ys)
+pub rows_join : (s : Stated) (xs ys : List DscRow) → with_rows (with_rows s xs) ys ≡ with_rows s (xs ++ ys)
 rows_join s xs ys =
     rw (
       last_join name_in s.keys.name xs ys,
@@ -46,6 +46,6 @@ pub names_push : (skus : List SkuLine) (sku : SkuLine) → names_of (skus ++ sku
 names_push skus sku = map-append sku_name skus (sku ∷ [])
 
 -- the parts of components among some rows, with one more
-pub parts_more : (old : List Part) (rows : List Said) (row : Said) → (old ++ flat_map parts_in rows) ++ parts_in row ≡ old ++ flat_map parts_in (rows ++ row ∷ [])
+pub parts_more : (old : List Part) (rows : List DscRow) (row : DscRow) → (old ++ flat_map parts_in rows) ++ parts_in row ≡ old ++ flat_map parts_in (rows ++ row ∷ [])
 parts_more old rows row =
     append_assoc old (flat_map parts_in rows) (parts_in row) ∙ ap (λ ps. old ++ ps) (sym (flat_push parts_in rows row))

@@ -13,7 +13,7 @@ use Rattle.doc_types.specs.declared.platform.PcdLine.{PcdLine}
 use Rattle.dsc_lines.specs.declared.rows.Begun.{Begun}
 use Rattle.dsc_lines.specs.declared.rows.Part.{Part}
 use Rattle.dsc_lines.specs.declared.rows.Part.TheVariants.{Library, Begins, Tagged, Pcd, FileGuid, Closes}
-use Rattle.dsc_lines.specs.declared.rows.Said.{Said}
+use Rattle.dsc_lines.specs.declared.rows.DscRow.{DscRow}
 use Rattle.dsc_lines.specs.declared.section.Scope.{Scope}
 use Rattle.dsc_lines.specs.Standing.{parts_in}
 
@@ -93,14 +93,14 @@ all_parts lines = flat_map (λ parts. parts) lines
 abbrev pub block_components : Block (List Part) → List Component
 block_components block = built block.first (all_parts block.rest)
 
-abbrev pub line_in : Read Scope Said → List (List Part)
+abbrev pub line_in : Read Scope DscRow → List (List Part)
 line_in (entered at scopes) = []
 line_in (gave rows) = flat_map parts_in rows ∷ []
 
-abbrev pub lines_of : List (Read Scope Said) → List (List Part)
+abbrev pub lines_of : List (Read Scope DscRow) → List (List Part)
 lines_of reads = flat_map line_in reads
 
-abbrev pub components_of : List (Read Scope Said) → List Component
+abbrev pub components_of : List (Read Scope DscRow) → List Component
 components_of reads = flat_map block_components (blocks begins (lines_of reads))
 
 -- the components of all blocks but the last, and the parts of that

@@ -44,8 +44,8 @@ fields_of needed =
       flash = needed.options.flash;
     }
 
-abbrev pub joined : Fields → Listed → Added → PlatformDoc
-joined fields listed added =
+abbrev pub joined_platform : Fields → Listed → Added → PlatformDoc
+joined_platform fields listed added =
     record {
       at = record { path = added.root; line = 0 };
       name = fields.name;

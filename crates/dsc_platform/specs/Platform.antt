@@ -17,7 +17,7 @@ use Rattle.doc_types.specs.declared.platform.PlatformDoc.{PlatformDoc}
 use Rattle.doc_types.specs.declared.platform.Sku as sku_type
 use Rattle.dsc_lines.specs.declared.open_mark.Open.{Open}
 use Rattle.dsc_lines.specs.declared.open_mark.Open.TheVariants.{Shut, Untagged, Tagged}
-use Rattle.dsc_lines.specs.declared.rows.Said.{Said}
+use Rattle.dsc_lines.specs.declared.rows.DscRow.{DscRow}
 use Rattle.dsc_lines.specs.declared.rows.SkuLine.{SkuLine}
 use Rattle.dsc_lines.specs.declared.section.Scope.{Scope}
 use Rattle.dsc_platform.specs.declared.sku_uses.SkuUse.{SkuUse}
@@ -40,7 +40,7 @@ open_fault line Shut = None
 open_fault line Untagged = Some (fault_of BAD_COMPONENT line.at (codes "{"))
 open_fault line (Tagged tag) = Some (fault_of BAD_COMPONENT line.at (codes "{"))
 
-abbrev pub dsc_grammar : Grammar Scope Said
+abbrev pub dsc_grammar : Grammar Scope DscRow
 dsc_grammar =
     record {
       head_faults = λ line head. head_faults line head;
@@ -107,7 +107,7 @@ document_of lines stated components uses =
     required lines stated components uses stated.keys.name stated.keys.guid stated.keys.arches
 
 -- what lines that come to this make
-unfoldable pub platform_made : Lines → List (Read Scope Said) → Result PlatformDoc Fault
+unfoldable pub platform_made : Lines → List (Read Scope DscRow) → Result PlatformDoc Fault
 platform_made lines reads = document_of lines (with_rows nothing (rows_of reads))
     (components_of reads) (uses_of reads)
 

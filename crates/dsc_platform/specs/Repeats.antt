@@ -14,21 +14,21 @@ use Rattle.dsc_lines.specs.SkuNames.{same_key}
 use Rattle.build_base.specs.FaultCodes.{DUPLICATE_COMPONENT}
 
 -- whether an architecture is for all, or the same
-unfoldable pub meets : Arch → Arch → Bool
-meets Common second = true
-meets first Common = true
-meets Ia32 Ia32 = true
-meets X64 X64 = true
-meets Arm Arm = true
-meets Aarch64 Aarch64 = true
-meets Riscv64 Riscv64 = true
-meets Loongarch64 Loongarch64 = true
-meets Ebc Ebc = true
-meets first second = false
+unfoldable pub archs_overlap : Arch → Arch → Bool
+archs_overlap Common second = true
+archs_overlap first Common = true
+archs_overlap Ia32 Ia32 = true
+archs_overlap X64 X64 = true
+archs_overlap Arm Arm = true
+archs_overlap Aarch64 Aarch64 = true
+archs_overlap Riscv64 Riscv64 = true
+archs_overlap Loongarch64 Loongarch64 = true
+archs_overlap Ebc Ebc = true
+archs_overlap first second = false
 
 -- one module, for one architecture
 abbrev pub repeats : Component → Component → Bool
-repeats old component = bytes_eq old.inf component.inf && meets old.arch component.arch
+repeats old component = bytes_eq old.inf component.inf && archs_overlap old.arch component.arch
 
 abbrev pub repeat_fault : List Component → Component → Option Fault
 repeat_fault above component = if list_any (λ old. repeats old component) above

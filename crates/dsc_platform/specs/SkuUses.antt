@@ -11,8 +11,8 @@ use Rattle.meta_lexer.specs.Parts.{field_texts}
 use Rattle.meta_lexer.specs.Words.{same_word}
 use Rattle.doc_reading.specs.Grammar.{Read, entered, gave}
 use Rattle.dsc_lines.specs.declared.rows.KeyValue.TheVariants.{SkuChoice}
-use Rattle.dsc_lines.specs.declared.rows.Said.{Said}
-use Rattle.dsc_lines.specs.declared.rows.Said.TheVariants.{Key, Sku}
+use Rattle.dsc_lines.specs.declared.rows.DscRow.{DscRow}
+use Rattle.dsc_lines.specs.declared.rows.DscRow.TheVariants.{Key, Sku}
 use Rattle.dsc_lines.specs.declared.section.Scope.{Scope}
 use Rattle.dsc_lines.specs.declared.section.Scope.TheVariants as scope
 use Rattle.dsc_platform.specs.declared.sku_uses.SkuUse.{SkuUse}
@@ -30,16 +30,16 @@ parent_uses at name parent = if is_default name then []
     else record { at = at; text = parent; chosen = false } ∷ []
 
 -- a SKU names its parent, and SKUID_IDENTIFIER those of the platform
-abbrev pub row_uses : Said → List SkuUse
+abbrev pub row_uses : DscRow → List SkuUse
 row_uses (Sku line) = parent_uses line.at line.sku.name line.sku.parent
 row_uses (Key (SkuChoice at choice)) = record { at = at; text = choice; chosen = true } ∷ []
 row_uses row = []
 
-abbrev pub uses_in : Read Scope Said → List SkuUse
+abbrev pub uses_in : Read Scope DscRow → List SkuUse
 uses_in (entered at scopes) = flat_map (head_uses at) scopes
 uses_in (gave rows) = flat_map row_uses rows
 
-abbrev pub uses_of : List (Read Scope Said) → List SkuUse
+abbrev pub uses_of : List (Read Scope DscRow) → List SkuUse
 uses_of reads = flat_map uses_in reads
 
 -- DEFAULT is there in any case

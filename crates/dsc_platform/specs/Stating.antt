@@ -8,49 +8,49 @@ use Rattle.doc_types.specs.declared.arch.Arch.{Arch}
 use Rattle.doc_types.specs.declared.platform.LibraryLine.{LibraryLine}
 use Rattle.doc_types.specs.declared.platform.PcdLine.{PcdLine}
 use Rattle.dsc_lines.specs.declared.rows.KeyValue.TheVariants.{Name, Guid, Arches, Output, SkuChoice, Flash}
-use Rattle.dsc_lines.specs.declared.rows.Said.{Said}
-use Rattle.dsc_lines.specs.declared.rows.Said.TheVariants.{Key, Sku, Library, Pcd}
+use Rattle.dsc_lines.specs.declared.rows.DscRow.{DscRow}
+use Rattle.dsc_lines.specs.declared.rows.DscRow.TheVariants.{Key, Sku, Library, Pcd}
 use Rattle.dsc_lines.specs.declared.rows.SkuLine.{SkuLine}
 use Rattle.dsc_platform.specs.declared.stated.Keys.{Keys}
 use Rattle.dsc_platform.specs.declared.stated.Stated.{Stated}
 
-abbrev pub name_in : Said → List (List ℕ)
+abbrev pub name_in : DscRow → List (List ℕ)
 name_in (Key (Name name)) = name ∷ []
 name_in row = []
 
-abbrev pub guid_in : Said → List GuidBytes
+abbrev pub guid_in : DscRow → List GuidBytes
 guid_in (Key (Guid guid)) = guid ∷ []
 guid_in row = []
 
-abbrev pub arches_in : Said → List (List Arch)
+abbrev pub arches_in : DscRow → List (List Arch)
 arches_in (Key (Arches arches)) = arches ∷ []
 arches_in row = []
 
-abbrev pub output_in : Said → List (List ℕ)
+abbrev pub output_in : DscRow → List (List ℕ)
 output_in (Key (Output output)) = output ∷ []
 output_in row = []
 
-abbrev pub choice_in : Said → List (List ℕ)
+abbrev pub choice_in : DscRow → List (List ℕ)
 choice_in (Key (SkuChoice at choice)) = choice ∷ []
 choice_in row = []
 
-abbrev pub flash_in : Said → List (List ℕ)
+abbrev pub flash_in : DscRow → List (List ℕ)
 flash_in (Key (Flash flash)) = flash ∷ []
 flash_in row = []
 
-abbrev pub sku_in : Said → List SkuLine
+abbrev pub sku_in : DscRow → List SkuLine
 sku_in (Sku sku) = sku ∷ []
 sku_in row = []
 
-abbrev pub library_in : Said → List LibraryLine
+abbrev pub library_in : DscRow → List LibraryLine
 library_in (Library library) = library ∷ []
 library_in row = []
 
-abbrev pub pcd_in : Said → List PcdLine
+abbrev pub pcd_in : DscRow → List PcdLine
 pcd_in (Pcd pcd) = pcd ∷ []
 pcd_in row = []
 
-abbrev pub keys_with : Keys → List Said → Keys
+abbrev pub keys_with : Keys → List DscRow → Keys
 keys_with keys rows =
     record {
       name = last_or keys.name (flat_map name_in rows);
@@ -81,7 +81,7 @@ nothing =
     }
 
 -- with more rows
-abbrev pub with_rows : Stated → List Said → Stated
+abbrev pub with_rows : Stated → List DscRow → Stated
 with_rows stated rows =
     record {
       keys = keys_with stated.keys rows;
@@ -97,5 +97,5 @@ abbrev pub names_of : List SkuLine → List (List ℕ)
 names_of skus = map sku_name skus
 
 -- the names of the SKUs that some rows state
-abbrev pub names_in : List Said → List (List ℕ)
+abbrev pub names_in : List DscRow → List (List ℕ)
 names_in rows = names_of (flat_map sku_in rows)

@@ -17,7 +17,7 @@ use doc_reading::Format;
 use doc_types::platform::Component;
 use dsc_lines::lines::line_row;
 use dsc_lines::open_mark::{Open, open_below};
-use dsc_lines::rows::{Part, Said};
+use dsc_lines::rows::{DscRow, Part};
 use dsc_lines::section::{Scope, enter_head};
 use indexmap::IndexMap;
 use meta_lexer::head::Head;
@@ -56,7 +56,7 @@ impl DscFormat {
     }
 }
 
-fn standing_below(standing: Open, rows: &[Said]) -> Open
+fn standing_below(standing: Open, rows: &[DscRow]) -> Open
     ensures { result ≡ last_mark standing (flat_map said_marks rows.now) }
 {
     let mut below = standing;
@@ -124,14 +124,14 @@ fn take_parts(
 impl Format for DscFormat {
     ghost use Rattle.dsc_platform.specs.Platform.{dsc_grammar};
     ghost use Rattle.dsc_platform.specs.Holding.{Holds};
-    ghost use Rattle.dsc_lines.specs.declared.rows.Said.{Said};
+    ghost use Rattle.dsc_lines.specs.declared.rows.DscRow.{DscRow};
     ghost use Rattle.dsc_lines.specs.declared.section.Scope.{Scope};
     ghost use Rattle.doc_reading.specs.Grammar.{Read, gave};
     ghost use Rattle.std.specs.Prelude.{List, ◌++◌};
 
     type Scope = Scope;
 
-    type Row = Said;
+    type Row = DscRow;
 
     ghost grammar = { dsc_grammar };
 
@@ -145,7 +145,7 @@ impl Format for DscFormat {
         enter_head(self.alloc, line, head)
     }
 
-    fn below(&self, line: &Taken, scope: &Scope) -> Result<Option<Said>, Refusal> {
+    fn below(&self, line: &Taken, scope: &Scope) -> Result<Option<DscRow>, Refusal> {
         line_row(self.alloc, line, &self.names, self.standing, scope)
     }
 
@@ -162,8 +162,8 @@ impl Format for DscFormat {
         Ok(())
     }
 
-    fn keep(&mut self, rows: Vec<Said>) -> Result<(), WantOfMemory>
-        ensures { (above : List (Read Scope Said)) → Holds above self.old
+    fn keep(&mut self, rows: Vec<DscRow>) -> Result<(), WantOfMemory>
+        ensures { (above : List (Read Scope DscRow)) → Holds above self.old
             → OnOk result (Holds (above ++ gave rows.items ∷ []) self.new) }
     {
         self.standing = standing_below(self.standing, rows.as_slice());

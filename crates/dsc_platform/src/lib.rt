@@ -2,9 +2,9 @@
 #![tactic(auto)]
 
 pub mod components;
-pub mod far_places;
 pub mod format;
 pub mod named_platform;
+pub mod parent_doubling;
 pub mod parent_places;
 pub mod reading;
 pub mod repeats;

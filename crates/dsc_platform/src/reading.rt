@@ -10,7 +10,7 @@ ghost use Rattle.dsc_platform.specs.Shape.{HasShape};
 ghost use Rattle.dsc_lines.specs.SkuLines.{is_default};
 ghost use Rattle.dsc_lines.specs.SkuNames.{Placed};
 ghost use Rattle.dsc_platform.specs.Stating.{names_of};
-ghost use Rattle.dsc_platform.specs.Making.{needed_values, needed_keys, fields_of, joined};
+ghost use Rattle.dsc_platform.specs.Making.{needed_values, needed_keys, fields_of, joined_platform};
 ghost use Rattle.dsc_platform.specs.Platform.{front_of, skus_of, with_required, whole_fault, document_of, platform_of};
 
 use crate::components::push_block;
@@ -248,9 +248,9 @@ fn added_of(alloc: Global, lines: &Lines, skus: &[SkuLine]) -> Result<Added, Wan
     Ok(Added { root, macros, skus })
 }
 
-fn joined(fields: Fields, listed: Listed, added: Added) -> NamedPlatform
+fn joined_platform(fields: Fields, listed: Listed, added: Added) -> NamedPlatform
     requires { IsPathField fields.output }
-    ensures { result ≡ joined fields listed added }
+    ensures { result ≡ joined_platform fields listed added }
 {
     let Fields {
         name,
@@ -294,7 +294,7 @@ fn make_document(
 {
     let fields = fields_of(alloc, needed)?;
     let added = added_of(alloc, lines, listed.skus.items())?;
-    Ok(joined(fields, listed, added))
+    Ok(joined_platform(fields, listed, added))
 }
 
 // What the lines came to, when the last block of components is made.

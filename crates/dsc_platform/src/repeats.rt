@@ -6,7 +6,7 @@ ghost use Rattle.std.specs.List.{list_any};
 ghost use Rattle.build_base.specs.Answer.{Checks};
 ghost use Rattle.doc_types.specs.declared.platform.Component.{Component as Part};
 ghost use Rattle.dsc_lines.specs.SkuNames.{same_key};
-ghost use Rattle.dsc_platform.specs.Repeats.{meets, repeats, repeat_fault, repeats_fault, Arched};
+ghost use Rattle.dsc_platform.specs.Repeats.{archs_overlap, repeats, repeat_fault, repeats_fault, Arched};
 
 use build_base::fault_codes::DUPLICATE_COMPONENT;
 use build_base::{Refusal, Rows, WantOfMemory, refuse};
@@ -15,9 +15,9 @@ use doc_types::platform::Component;
 use indexmap::IndexMap;
 use std::alloc::Global;
 
-#[tactic(auto, unfolding(crate::specs::Repeats::meets))]
-fn meets(first: Arch, second: Arch) -> bool
-    ensures { result ≡ meets first second }
+#[tactic(auto, unfolding(crate::specs::Repeats::archs_overlap))]
+fn archs_overlap(first: Arch, second: Arch) -> bool
+    ensures { result ≡ archs_overlap first second }
 {
     match (first, second) {
         (Arch::Common, _) => true,
@@ -34,9 +34,9 @@ fn meets(first: Arch, second: Arch) -> bool
 }
 
 fn any_meets(arches: &[Arch], arch: Arch) -> bool
-    ensures { result ≡ list_any (λ a. meets a arch) arches.now }
+    ensures { result ≡ list_any (λ a. archs_overlap a arch) arches.now }
 {
-    arches.iter().any(|other| meets(*other, arch))
+    arches.iter().any(|other| archs_overlap(*other, arch))
 }
 
 // Whether a component repeats one of those in a table.

@@ -11,7 +11,7 @@ ghost use Rattle.dsc_platform.specs.SkuUses.{head_uses, parent_uses, row_uses, i
 use build_base::fault_codes::SKU_UNKNOWN;
 use build_base::together::two;
 use build_base::{Place, Refusal, Rows, Text, WantOfMemory, refuse};
-use dsc_lines::rows::{KeyValue, Said};
+use dsc_lines::rows::{DscRow, KeyValue};
 use dsc_lines::section::Scope;
 use dsc_lines::sku_line::is_default;
 use dsc_lines::sku_names::place_of;
@@ -87,13 +87,13 @@ fn push_parent(
     push_use(alloc, uses, at, parent, false)
 }
 
-fn push_row(alloc: Global, uses: &mut Rows<SkuUse>, row: &Said) -> Result<(), WantOfMemory>
+fn push_row(alloc: Global, uses: &mut Rows<SkuUse>, row: &DscRow) -> Result<(), WantOfMemory>
     ensures { OnOk result (uses.new ≡ uses.old ++ row_uses row.now) }
 {
     match row {
-        Said::Sku(line) => push_parent(alloc, uses, &line.at, &line.sku.name, &line.sku.parent),
-        Said::Key(KeyValue::SkuChoice(at, choice)) => push_use(alloc, uses, at, choice, true),
-        Said::Key(_) | Said::Library(_) | Said::Pcd(_) | Said::Part(_) => Ok(()),
+        DscRow::Sku(line) => push_parent(alloc, uses, &line.at, &line.sku.name, &line.sku.parent),
+        DscRow::Key(KeyValue::SkuChoice(at, choice)) => push_use(alloc, uses, at, choice, true),
+        DscRow::Key(_) | DscRow::Library(_) | DscRow::Pcd(_) | DscRow::Part(_) => Ok(()),
     }
 }
 
@@ -101,7 +101,7 @@ fn push_row(alloc: Global, uses: &mut Rows<SkuUse>, row: &Said) -> Result<(), Wa
 pub(crate) fn push_rows(
     alloc: Global,
     uses: &mut Rows<SkuUse>,
-    rows: &[Said],
+    rows: &[DscRow],
 ) -> Result<(), WantOfMemory>
     ensures { OnOk result (uses.new ≡ uses.old ++ flat_map row_uses rows.now) }
 {

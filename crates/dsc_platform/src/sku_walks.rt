@@ -6,7 +6,7 @@ ghost use Rattle.dsc_platform.specs.FarPlaces.{Unlooped};
 ghost use Rattle.dsc_platform.specs.SkuWalks.{is_loop, loop_fault, loops_from, loops_fault};
 ghost use Rattle.dsc_platform.specs.Stating.{names_of};
 
-use crate::far_places::marks_of;
+use crate::parent_doubling::marks_of;
 use crate::parent_places::{next_of, parents_among};
 use build_base::fault_codes::SKU_LOOP;
 use build_base::{Refusal, refuse};

@@ -3,7 +3,7 @@ ghost use Rattle.std.specs.Prelude.{◌≡◌, ◌++◌, ◌∷◌, [], OnOk};
 ghost use Rattle.std.specs.List.{flat_map};
 ghost use Rattle.dsc_lines.specs.SkuNames.{Placed};
 ghost use Rattle.dsc_lines.specs.Standing.{parts_in};
-ghost use Rattle.dsc_lines.specs.declared.rows.Said.TheVariants.{Key};
+ghost use Rattle.dsc_lines.specs.declared.rows.DscRow.TheVariants.{Key};
 ghost use Rattle.dsc_platform.specs.Stating.{nothing, keys_with, with_rows, names_of};
 
 use build_base::{Guid, Path, Rows, Text, WantOfMemory};
@@ -11,7 +11,7 @@ use doc_types::arch::Arch;
 use doc_types::platform::{LibraryLine, PcdLine};
 use dsc_lines::output_folder::OutputFolder;
 use dsc_lines::platform_name::PlatformName;
-use dsc_lines::rows::{KeyValue, Part, Said, SkuLine};
+use dsc_lines::rows::{DscRow, KeyValue, Part, SkuLine};
 use dsc_lines::sku_names::add_name;
 use indexmap::IndexMap;
 use std::alloc::Global;
@@ -110,7 +110,7 @@ fn keep_row(
     stated: &mut Stated,
     names: &mut IndexMap<Vec<u8>, usize>,
     parts: &mut Vec<Part>,
-    row: Said,
+    row: DscRow,
 ) -> Result<(), WantOfMemory>
     ensures stated { OnOk result (stated.new ≡ with_rows stated.old (row ∷ [])) }
     ensures names { Placed (names_of stated.old.skus) names.old
@@ -118,23 +118,23 @@ fn keep_row(
     ensures parts { OnOk result (parts.new.items ≡ parts.old.items ++ parts_in row) }
 {
     match row {
-        Said::Key(value) => {
+        DscRow::Key(value) => {
             stated.keys.take(value);
             Ok(())
         }
-        Said::Sku(sku) => {
+        DscRow::Sku(sku) => {
             push_sku(alloc, &mut stated.skus, names, sku)?;
             Ok(())
         }
-        Said::Library(library) => {
+        DscRow::Library(library) => {
             stated.libraries.push(library)?;
             Ok(())
         }
-        Said::Pcd(pcd) => {
+        DscRow::Pcd(pcd) => {
             stated.pcds.push(pcd)?;
             Ok(())
         }
-        Said::Part(part) => {
+        DscRow::Part(part) => {
             push_part(parts, part)?;
             Ok(())
         }
@@ -148,7 +148,7 @@ pub(crate) fn keep_rows(
     stated: &mut Stated,
     names: &mut IndexMap<Vec<u8>, usize>,
     parts: &mut Vec<Part>,
-    rows: Vec<Said>,
+    rows: Vec<DscRow>,
 ) -> Result<(), WantOfMemory>
     ensures stated { OnOk result (stated.new ≡ with_rows stated.old rows.items) }
     ensures names { Placed (names_of stated.old.skus) names.old

@@ -14,7 +14,7 @@ use Rattle.edk_build.specs.Statuses.{Causes}
 use Rattle.edk_build.specs.declared.command.Command.{Command}
 use Rattle.edk_build.specs.declared.command.Command.TheVariants.{Replay}
 use Rattle.edk_build.specs.declared.script.ScriptLine.{ScriptLine}
-use Rattle.edk_build.specs.declared.stand.Stand.{Stand}
+use Rattle.edk_build.specs.declared.replay_state.ReplayState.{ReplayState}
 use Rattle.edk_build.specs.declared.status.Status.{Status}
 use Rattle.edk_build.specs.declared.status.Status.TheVariants as answer
 
@@ -28,14 +28,14 @@ AreWell files at tree_failed sink_failed st lines =
     HasNoFault files at lines → (tree_failed → ⊥) → (sink_failed → ⊥) → (st ≡ answer.Done) ⊎ (st ≡ answer.WantOfMemory)
 
 -- a line whose fault ends the replay has one
-ended_faulty : (files : Files) (at : List ℕ) (lines above left : List ScriptLine) (s : Stand) (a : List Key) (outputs : List Output) (b : List Key)
+ended_faulty : (files : Files) (at : List ℕ) (lines above left : List ScriptLine) (s : ReplayState) (a : List Key) (outputs : List Output) (b : List Key)
     → lines ≡ above ++ left → HasNoFault files at lines → EndsAt (Some files) at left answer.FileFault s a outputs b → ⊥
 ended_faulty files at lines above [] s a outputs b w n x = let wrong : answer.FileFault ≡ answer.Done = x.0 in absurd cc
 ended_faulty files at lines above (line ∷ left) s a outputs b w n x =
     let there : Contains lines line = subst (λ z. Contains z line) (sym w) (Contains-append_right above (line ∷ left) line (0, omega arith, refl)) in
     subst (λ z. IsSomeAnd z (λ fault. outputs ≡ fault_outputs fault)) (n line there) x.0
 
-ended_misspelt : (held : Option Files) (at : List ℕ) (left : List ScriptLine) (s : Stand) (a : List Key) (outputs : List Output) (b : List Key)
+ended_misspelt : (held : Option Files) (at : List ℕ) (left : List ScriptLine) (s : ReplayState) (a : List Key) (outputs : List Output) (b : List Key)
     → EndsAt held at left answer.Usage s a outputs b → ⊥
 ended_misspelt held at [] s a outputs b x = let wrong : answer.Usage ≡ answer.Done = x.0 in absurd cc
 ended_misspelt held at (line ∷ left) s a outputs b x = x

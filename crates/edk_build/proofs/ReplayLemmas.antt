@@ -30,10 +30,10 @@ use Rattle.build_words.specs.Fields.{job_fields}
 use Rattle.edk_build.specs.declared.build.Built.{Built}
 use Rattle.build_words.specs.declared.job.Job.{Job}
 use Rattle.edk_build.specs.declared.label.Label.{Label}
-use Rattle.edk_build.specs.declared.script.Order.{Order}
-use Rattle.edk_build.specs.declared.script.Order.TheVariants as order
+use Rattle.edk_build.specs.declared.script.ScriptCommand.{ScriptCommand}
+use Rattle.edk_build.specs.declared.script.ScriptCommand.TheVariants as order
 use Rattle.edk_build.specs.declared.script.ScriptLine.{ScriptLine}
-use Rattle.edk_build.specs.declared.stand.Stand.{Stand}
+use Rattle.edk_build.specs.declared.replay_state.ReplayState.{ReplayState}
 use Rattle.edk_build.specs.declared.status.Status.{Status}
 use Rattle.edk_build.specs.declared.status.Status.TheVariants as status
 use Rattle.edk_build.specs.declared.stop.Stop.{Stop}
@@ -52,8 +52,8 @@ always None P p = tt
 always (Some files) P p = p files
 
 -- one line more was carried out
-done_more : (held : Option Files) (above : List ScriptLine) (line : ScriptLine) (s : Stand) (a : List Key) (front : List Output) (mid : Stand) (now : List Key)
-    (more : List Output) (next : Stand) (b : List Key) → AreDone held above s a front mid now → IsDone held line.order mid now more next b
+done_more : (held : Option Files) (above : List ScriptLine) (line : ScriptLine) (s : ReplayState) (a : List Key) (front : List Output) (mid : ReplayState) (now : List Key)
+    (more : List Output) (next : ReplayState) (b : List Key) → AreDone held above s a front mid now → IsDone held line.order mid now more next b
     → AreDone held (above ++ line ∷ []) s a (front ++ more) next b
 unfolding AreDone
 done_more held [] line s a front mid now more next b d one = (
@@ -76,7 +76,7 @@ done_more held (first ∷ above) line s a front mid now more next b d one = (
 )
 
 -- what a replay has done before the lines that are left
-pub record SoFar (held : Option Files) (lines left : List ScriptLine) (stand : Stand) (a now : List Key) (old new : Option (List Emission)) : Type 0 where
+pub record SoFar (held : Option Files) (lines left : List ScriptLine) (stand : ReplayState) (a now : List Key) (old new : Option (List Emission)) : Type 0 where
   pub above : List ScriptLine
   pub whole : lines ≡ above ++ left
   pub front : List Output
@@ -88,7 +88,7 @@ pub record SoFar (held : Option Files) (lines left : List ScriptLine) (stand : S
 pub none_sound : (cache : List (Entry Key Out)) → cache ≡ [] → AreSound means cache
 none_sound cache e = subst (AreSound means) (sym e) (λ k x h. absurd (omega arith))
 
-pub so_far_begun : (held : Option Files) (lines : List ScriptLine) (stand : Stand) (a : List Key) (old : Option (List Emission)) → stand ≡ start → HaveJobs lines
+pub so_far_begun : (held : Option Files) (lines : List ScriptLine) (stand : ReplayState) (a : List Key) (old : Option (List Emission)) → stand ≡ start → HaveJobs lines
     → SoFar held lines lines stand a a old old
 unfolding AreDone
 so_far_begun held lines stand a old e jobs = record {
@@ -101,7 +101,7 @@ so_far_begun held lines stand a old e jobs = record {
   sound = none_sound stand.cache (ap (λ s. s.cache) e);
 }
 
-pub so_far_more : (held : Option Files) (lines : List ScriptLine) (line : ScriptLine) (left : List ScriptLine) (stand : Stand) (a now : List Key) (next : Stand) (b : List Key) (old mid new : Option (List Emission))
+pub so_far_more : (held : Option Files) (lines : List ScriptLine) (line : ScriptLine) (left : List ScriptLine) (stand : ReplayState) (a now : List Key) (next : ReplayState) (b : List Key) (old mid new : Option (List Emission))
     → SoFar held lines (line ∷ left) stand a now old mid → WasDone held line.order stand now next b mid new → AreSound means next.cache → SoFar held lines left next a b old new
 so_far_more held lines line left stand a now next b old mid new f w sound = record {
   above = f.above ++ line ∷ [];
@@ -126,7 +126,7 @@ written_after status.Usage a b c xs ys s t = Spelled-then a b c xs ys s t
 written_after status.ReadFault a b c xs ys s t = Spelled-then a b c xs ys s t
 written_after status.WantOfMemory a b c xs ys s t = Spelled-then a b c xs ys s t
 
-pub so_far_stopped : (held : Option Files) (at : List ℕ) (lines : List ScriptLine) (line : ScriptLine) (left : List ScriptLine) (stand : Stand) (a now : List Key) (st : Status) (b : List Key) (old mid new : Option (List Emission))
+pub so_far_stopped : (held : Option Files) (at : List ℕ) (lines : List ScriptLine) (line : ScriptLine) (left : List ScriptLine) (stand : ReplayState) (a now : List Key) (st : Status) (b : List Key) (old mid new : Option (List Emission))
     → SoFar held lines (line ∷ left) stand a now old mid → HasStopped held at line st stand now b mid new → Follows held at (Some lines) st a b old new
 so_far_stopped held at lines line left stand a now st b old mid new f h = (
   f.front ++ h.outputs,
@@ -150,7 +150,7 @@ so_far_stopped held at lines line left stand a now st b old mid new f h = (
 behind : (line : ScriptLine) (left : List ScriptLine) → take (length (line ∷ left) - 1) (drop 1 (line ∷ left)) ≡ left
 behind line left = take_all (length (line ∷ left) - 1) left (omega arith)
 
-pub so_far_next : (held held' : Option Files) (lines left : List ScriptLine) (line d : ScriptLine) (stand : Stand) (a now : List Key) (next : Stand) (b : List Key) (old mid new : Option (List Emission))
+pub so_far_next : (held held' : Option Files) (lines left : List ScriptLine) (line d : ScriptLine) (stand : ReplayState) (a now : List Key) (next : ReplayState) (b : List Key) (old mid new : Option (List Emission))
     → 1 ≤ length left → line ≡ get_or left 0 d → held' ≡ held → SoFar held lines left stand a now old mid → WasDone held' line.order stand now next b mid new → AreSound means next.cache
     → SoFar held lines (take (length left - 1) (drop 1 left)) next a b old new
 so_far_next held held' lines [] line d stand a now next b old mid new l e h f w sound = absurd (omega (arith, l))
@@ -159,7 +159,7 @@ so_far_next held held' lines (x ∷ left) line d stand a now next b old mid new 
     (so_far_more held lines x left stand a now next b old mid new f
     (subst (λ z. WasDone held z.order stand now next b mid new) e (subst (λ z. WasDone z line.order stand now next b mid new) h w)) sound)
 
-pub so_far_halted : (held held' : Option Files) (at : List ℕ) (lines left : List ScriptLine) (line d : ScriptLine) (stand : Stand) (a now : List Key) (st : Status) (b : List Key) (old mid new : Option (List Emission))
+pub so_far_halted : (held held' : Option Files) (at : List ℕ) (lines left : List ScriptLine) (line d : ScriptLine) (stand : ReplayState) (a now : List Key) (st : Status) (b : List Key) (old mid new : Option (List Emission))
     → 1 ≤ length left → line ≡ get_or left 0 d → held' ≡ held → SoFar held lines left stand a now old mid → HasStopped held' at line st stand now b mid new
     → Follows held at (Some lines) st a b old new
 so_far_halted held held' at lines [] line d stand a now st b old mid new l e h f s = absurd (omega (arith, l))
@@ -171,7 +171,7 @@ none_left : (left : List ScriptLine) → length left < 1 → left ≡ []
 none_left [] l = refl
 none_left (line ∷ left) l = absurd (omega (arith, l))
 
-pub so_far_ended : (held : Option Files) (at : List ℕ) (lines left : List ScriptLine) (stand : Stand) (a now : List Key) (old new : Option (List Emission))
+pub so_far_ended : (held : Option Files) (at : List ℕ) (lines left : List ScriptLine) (stand : ReplayState) (a now : List Key) (old new : Option (List Emission))
     → length left < 1 → SoFar held lines left stand a now old new → Follows held at (Some lines) status.Done a now old new
 so_far_ended held at lines left stand a now old new l f = (
   f.front,
@@ -190,12 +190,12 @@ so_far_ended held at lines left stand a now old new l f = (
   f.written,
 )
 
-pub was_dropped : (held : Option Files) (path : List ℕ) (s next : Stand) (a : List Key) (old new : Option (List Emission)) → next ≡ after_edit s path None → new ≡ old
+pub was_dropped : (held : Option Files) (path : List ℕ) (s next : ReplayState) (a : List Key) (old new : Option (List Emission)) → next ≡ after_edit s path None → new ≡ old
     → WasDone held (order.Drop path) s a next a old new
 was_dropped held path s next a old new n w = record { outputs = []; done = (n, refl, refl); written = nothing_spelled held old new w }
 
 -- the fault of a line that puts was told
-pub put_told : (held : Option Files) (at : List ℕ) (number : ℕ) (path from : List ℕ) (s : Stand) (st : Status) (a : List Key) (g : Got) (fault : Fault) (old new : Option (List Emission))
+pub put_told : (held : Option Files) (at : List ℕ) (number : ℕ) (path from : List ℕ) (s : ReplayState) (st : Status) (a : List Key) (g : Got) (fault : Fault) (old new : Option (List Emission))
     → IfSome held (λ files. g ≡ got_of file_limit (files from)) → from_fault at number from g ≡ Some fault → IsTold fault st old new
     → HasStopped held at (script_line number (order.Put path from)) st s a a old new
 put_told held at number path from s st a g fault old new got e t =
@@ -214,13 +214,13 @@ put_told held at number path from s st a g fault old new got e t =
 ran_nothing : (held : Option Files) (f : List (List ℕ)) (o : List (Entry Key Out)) (a : List Key) → Ran (setting means held f o) key.All a a
 ran_nothing held f o a = ([], sym (append-nil a), tt, λ w h k c. absurd (omega (arith, c.1)))
 
-begun_nothing : (held : Option Files) (o : Order) (s : Stand) (a : List Key) → HasBegun held o s a a
+begun_nothing : (held : Option Files) (o : ScriptCommand) (s : ReplayState) (a : List Key) → HasBegun held o s a a
 begun_nothing held (order.Put path from) s a = refl
 begun_nothing held (order.Drop path) s a = refl
 begun_nothing held (order.Build job) s a = ran_nothing (over s.edits held) (job_fields job) s.cache a
 
 -- memory was wanting before a line had done anything
-pub stopped_early : (held : Option Files) (at : List ℕ) (line : ScriptLine) (s : Stand) (a : List Key) (old new : Option (List Emission)) → new ≡ old
+pub stopped_early : (held : Option Files) (at : List ℕ) (line : ScriptLine) (s : ReplayState) (a : List Key) (old new : Option (List Emission)) → new ≡ old
     → HasStopped held at line status.WantOfMemory s a a old new
 stopped_early held at line s a old new e = record {
   outputs = [];
@@ -229,19 +229,19 @@ stopped_early held at line s a old new e = record {
 }
 
 -- the world of a build at a stand
-here_at : (files : Files) (s : Stand) (job : Job) (f : List (List ℕ)) → is_job (job_fields job) ≡ true → f ≡ job_fields job → AreSound means s.cache
+here_at : (files : Files) (s : ReplayState) (job : Job) (f : List (List ℕ)) → is_job (job_fields job) ≡ true → f ≡ job_fields job → AreSound means s.cache
     → IsHere (setting means (over s.edits (Some files)) f s.cache) (world_at files s job)
 here_at files s job f j e sound = record { told = refl; fields = sym e; world = j; sound = sound }
 
 -- what `build` promises of a build at a stand that came to its end
-pub record Ended (held : Option Files) (s : Stand) (f : List (List ℕ)) (label : Label) (st : Status) (cache : List (Entry Key Out)) (a b : List Key) (old new : Option (List Emission)) : Type 0 where
+pub record Ended (held : Option Files) (s : ReplayState) (f : List (List ℕ)) (label : Label) (st : Status) (cache : List (Entry Key Out)) (a b : List Key) (old new : Option (List Emission)) : Type 0 where
   pub built : (w : World) → IsHere (setting means (over s.edits held) f s.cache) w → IsBuilt w s.cache label st old new
   pub left : (w : World) → IsHere (setting means (over s.edits held) f s.cache) w → Leaves w s.cache cache
   pub ran : Ran (setting means (over s.edits held) f s.cache) key.All a b
   pub all : RanAll (setting means (over s.edits held) f s.cache) key.All a b
   pub sound : AreSound means s.cache → AreSound means cache
 
-pub was_built : (held : Option Files) (job : Job) (s : Stand) (f : List (List ℕ)) (label : Label) (st : Status) (cache : List (Entry Key Out)) (next : Stand) (a b : List Key) (old new : Option (List Emission))
+pub was_built : (held : Option Files) (job : Job) (s : ReplayState) (f : List (List ℕ)) (label : Label) (st : Status) (cache : List (Entry Key Out)) (next : ReplayState) (a b : List Key) (old new : Option (List Emission))
     → is_job (job_fields job) ≡ true → f ≡ job_fields job → label ≡ label_of (s.builds + 1) → AreSound means s.cache → next ≡ after_build s cache
     → Ended held s f label st cache a b old new → WasDone held (order.Build job) s a next b old new
 was_built None job s f label st cache next a b old new j e l sound n x = record {
@@ -275,12 +275,12 @@ was_built (Some files) job s f label st cache next a b old new j e l sound n x =
     }
 
 -- what `build` promises of one that stopped
-pub record Halted (held : Option Files) (s : Stand) (f : List (List ℕ)) (label : Label) (e : Stop) (a b : List Key) (old new : Option (List Emission)) : Type 0 where
+pub record Halted (held : Option Files) (s : ReplayState) (f : List (List ℕ)) (label : Label) (e : Stop) (a b : List Key) (old new : Option (List Emission)) : Type 0 where
   pub cut : IfWriteFault {A = Built} (Err e) ((w : World) → IsHere (setting means (over s.edits held) f s.cache) w → IsCutShort w s.cache label old new)
   pub unwritten : IfUnwritten {A = Built} (Err e) (new ≡ old)
   pub ran : Ran (setting means (over s.edits held) f s.cache) key.All a b
 
-cut_at : (held : Option Files) (at : List ℕ) (number : ℕ) (job : Job) (s : Stand) (f : List (List ℕ)) (label : Label) (a b : List Key) (old new : Option (List Emission))
+cut_at : (held : Option Files) (at : List ℕ) (number : ℕ) (job : Job) (s : ReplayState) (f : List (List ℕ)) (label : Label) (a b : List Key) (old new : Option (List Emission))
     → is_job (job_fields job) ≡ true → f ≡ job_fields job → label ≡ label_of (s.builds + 1) → AreSound means s.cache
     → ((w : World) → IsHere (setting means (over s.edits held) f s.cache) w → IsCutShort w s.cache label old new)
     → Ran (setting means (over s.edits held) (job_fields job) s.cache) key.All a b
@@ -295,7 +295,7 @@ cut_at (Some files) at number job s f label a b old new j e l sound x r =
       written = subst (λ z. SpelledCut old new (emitted z (outcome w) t.steps (t.needed - t.steps))) l t.written;
     }
 
-pub was_halted : (held : Option Files) (at : List ℕ) (number : ℕ) (job : Job) (s : Stand) (f : List (List ℕ)) (label : Label) (e : Stop) (a b : List Key) (old new : Option (List Emission))
+pub was_halted : (held : Option Files) (at : List ℕ) (number : ℕ) (job : Job) (s : ReplayState) (f : List (List ℕ)) (label : Label) (e : Stop) (a b : List Key) (old new : Option (List Emission))
     → is_job (job_fields job) ≡ true → f ≡ job_fields job → label ≡ label_of (s.builds + 1) → AreSound means s.cache → Halted held s f label e a b old new
     → HasStopped held at (script_line number (order.Build job)) (stop_status e) s a b old new
 was_halted held at number job s f label stop.ReadFault a b old new j q l sound x = record {
@@ -312,16 +312,16 @@ was_halted held at number job s f label stop.WriteFault a b old new j q l sound 
     cut_at held at number job s f label a b old new j q l sound x.cut (same_ran (over s.edits held) f (job_fields job) s.cache s.cache a b q refl x.ran)
 
 -- a refusal that is handed on
-pub stop_as : {A : Type 0} (r : Result A Status) (held : Option Files) (at : List ℕ) (line : ScriptLine) (st : Status) (s : Stand) (a b : List Key) (old new : Option (List Emission))
+pub stop_as : {A : Type 0} (r : Result A Status) (held : Option Files) (at : List ℕ) (line : ScriptLine) (st : Status) (s : ReplayState) (a b : List Key) (old new : Option (List Emission))
     → IsErrAnd r (λ x. x ≡ st) → HasStopped held at line st s a b old new → IfErr r (λ x. HasStopped held at line x s a b old new)
 stop_as (Ok x) held at line st s a b old new e h = tt
 stop_as (Err x) held at line st s a b old new e h = subst (λ z. HasStopped held at line z s a b old new) (sym e) h
 
 -- what is said of an order is said of its line
-pub line_stopped : {A : Type 0} (r : Result A Status) (held : Option Files) (at : List ℕ) (line : ScriptLine) (o : Order) (s : Stand) (a b : List Key) (old new : Option (List Emission))
+pub line_stopped : {A : Type 0} (r : Result A Status) (held : Option Files) (at : List ℕ) (line : ScriptLine) (o : ScriptCommand) (s : ReplayState) (a b : List Key) (old new : Option (List Emission))
     → line.order ≡ o → IfErr r (λ x. HasStopped held at (script_line line.number o) x s a b old new) → IfErr r (λ x. HasStopped held at line x s a b old new)
 line_stopped r held at line o s a b old new e h = subst (λ z. IfErr r (λ x. HasStopped held at (script_line line.number z) x s a b old new)) (sym e) h
 
-pub line_dropped : (held : Option Files) (o : Order) (path : List ℕ) (s next : Stand) (a : List Key) (old : Option (List Emission)) → o ≡ order.Drop path
+pub line_dropped : (held : Option Files) (o : ScriptCommand) (path : List ℕ) (s next : ReplayState) (a : List Key) (old : Option (List Emission)) → o ≡ order.Drop path
     → next ≡ after_edit s path None → WasDone held o s a next a old old
 line_dropped held o path s next a old e n = subst (λ z. WasDone held z s a next a old old) (sym e) (was_dropped held path s next a old old n refl)

@@ -12,8 +12,8 @@ use Rattle.edk_build.specs.Script.{put_of, drop_of, build_of, order_of, content_
 use Rattle.build_words.specs.Jobs.{words_job}
 use Rattle.edk_build.proofs.WordLemmas.{is_job_of}
 use Rattle.build_words.specs.declared.job.Job.{Job}
-use Rattle.edk_build.specs.declared.script.Order.{Order}
-use Rattle.edk_build.specs.declared.script.Order.TheVariants as order
+use Rattle.edk_build.specs.declared.script.ScriptCommand.{ScriptCommand}
+use Rattle.edk_build.specs.declared.script.ScriptCommand.TheVariants as order
 use Rattle.edk_build.specs.declared.script.ScriptLine.{ScriptLine}
 
 after_front : (xs ys : List ScriptLine) (z : Option (List ScriptLine)) → option_map (λ more. xs ++ more) (option_map (λ lines. ys ++ lines) z) ≡ option_map (λ more. (xs ++ ys) ++ more) z
@@ -21,7 +21,7 @@ after_front xs ys None = refl
 after_front xs ys (Some more) = ap Some (sym (append_assoc xs ys more))
 
 -- one line more is in the grammar
-pub lines_more : (lines lines' : List ScriptLine) (all : List Piece) (piece : Piece) (pieces : List Piece) (content : Option Order) (whole : Option (List ScriptLine))
+pub lines_more : (lines lines' : List ScriptLine) (all : List Piece) (piece : Piece) (pieces : List Piece) (content : Option ScriptCommand) (whole : Option (List ScriptLine))
     → option_map (λ more. lines ++ more) (lines_among all) ≡ whole → all ≡ piece ∷ pieces → Some content ≡ line_content piece → lines' ≡ lines ++ lines_at piece.number content
     → option_map (λ more. lines' ++ more) (lines_among pieces) ≡ whole
 unfolding lines_among
@@ -46,21 +46,21 @@ unfolding lines_among
 lines_end lines pieces whole i e =
     ap Some (sym (append-nil lines)) ∙ ap (λ z. option_map (λ more. lines ++ more) (lines_among z)) (sym e) ∙ i
 
-build_has : (words : List (List ℕ)) (z : Option Job) (o : Order) → words_job words ≡ z → option_map order.Build z ≡ Some o → HasJob o
+build_has : (words : List (List ℕ)) (z : Option Job) (o : ScriptCommand) → words_job words ≡ z → option_map order.Build z ≡ Some o → HasJob o
 build_has words None o e h = absurd cc
 build_has words (Some job) o e h =
     let same : order.Build job ≡ o = cc h in subst HasJob same (is_job_of words job e)
 
-put_has : (path from : Option (List ℕ)) (o : Order) → put_of path from ≡ Some o → HasJob o
+put_has : (path from : Option (List ℕ)) (o : ScriptCommand) → put_of path from ≡ Some o → HasJob o
 put_has (Some path) (Some from) o h = let same : order.Put path from ≡ o = cc h in subst HasJob same tt
 put_has (Some path) None o h = absurd cc
 put_has None from o h = absurd cc
 
-drop_has : (path : Option (List ℕ)) (o : Order) → drop_of path ≡ Some o → HasJob o
+drop_has : (path : Option (List ℕ)) (o : ScriptCommand) → drop_of path ≡ Some o → HasJob o
 drop_has (Some path) o h = let same : order.Drop path ≡ o = cc h in subst HasJob same tt
 drop_has None o h = absurd cc
 
-order_has : (words : List (List ℕ)) (o : Order) → order_of words ≡ Some o → HasJob o
+order_has : (words : List (List ℕ)) (o : ScriptCommand) → order_of words ≡ Some o → HasJob o
 unfolding order_of
 order_has [] o h = build_has [] (words_job []) o refl h
 order_has (name ∷ []) o h = build_has (name ∷ []) (words_job (name ∷ [])) o refl h
@@ -77,33 +77,33 @@ order_has (name ∷ path ∷ from ∷ []) o h =
 order_has (name ∷ path ∷ from ∷ word ∷ words) o h =
     build_has (name ∷ path ∷ from ∷ word ∷ words) (words_job (name ∷ path ∷ from ∷ word ∷ words)) o refl h
 
-some_has : (z : Option Order) (content : Option Order) → ((o : Order) → z ≡ Some o → HasJob o) → option_map Some z ≡ Some content → IfSome content HasJob
+some_has : (z : Option ScriptCommand) (content : Option ScriptCommand) → ((o : ScriptCommand) → z ≡ Some o → HasJob o) → option_map Some z ≡ Some content → IfSome content HasJob
 some_has None content f h = absurd cc
 some_has (Some o) content f h = let same : Some o ≡ content = cc h in subst (λ z. IfSome z HasJob) same (f o refl)
 
-content_has : (words : List (List ℕ)) (content : Option Order) → content_of words ≡ Some content → IfSome content HasJob
+content_has : (words : List (List ℕ)) (content : Option ScriptCommand) → content_of words ≡ Some content → IfSome content HasJob
 content_has [] content h = let same : None ≡ content = cc h in subst (λ z. IfSome z HasJob) same tt
 content_has (word ∷ words) content h = some_has (order_of (word ∷ words)) content (λ o e. order_has (word ∷ words) o e) h
 
-plain_has : (text : List ℕ) (content : Option Order) → content_in text ≡ Some content → IfSome content HasJob
+plain_has : (text : List ℕ) (content : Option ScriptCommand) → content_in text ≡ Some content → IfSome content HasJob
 plain_has text content h =
     elim (list_all is_plain text) as (λ b. cond b (content_of (words_of text)) None ≡ Some content → IfSome content HasJob) [
       | true ↦ λ e. content_has (words_of text) content e
       | false ↦ λ e. absurd cc
     ] h
 
-line_has : (piece : Piece) (content : Option Order) → line_content piece ≡ Some content → IfSome content HasJob
+line_has : (piece : Piece) (content : Option ScriptCommand) → line_content piece ≡ Some content → IfSome content HasJob
 line_has piece content h =
     elim (nat_le piece.number 1000) as (λ b. cond b (content_in (without_return piece.bytes)) None ≡ Some content → IfSome content HasJob) [
       | true ↦ λ e. plain_has (without_return piece.bytes) content e
       | false ↦ λ e. absurd cc
     ] h
 
-front_has : (number : ℕ) (content : Option Order) (more : List ScriptLine) → IfSome content HasJob → HaveJobs more → HaveJobs (lines_at number content ++ more)
+front_has : (number : ℕ) (content : Option ScriptCommand) (more : List ScriptLine) → IfSome content HasJob → HaveJobs more → HaveJobs (lines_at number content ++ more)
 front_has number None more c m = m
 front_has number (Some o) more c m = All-cons (λ line. HasJob line.order) (script_line number o) more c m
 
-with_has : (number : ℕ) (x : Option (Option Order)) (y : Option (List ScriptLine)) (lines : List ScriptLine) → ((content : Option Order) → x ≡ Some content → IfSome content HasJob)
+with_has : (number : ℕ) (x : Option (Option ScriptCommand)) (y : Option (List ScriptLine)) (lines : List ScriptLine) → ((content : Option ScriptCommand) → x ≡ Some content → IfSome content HasJob)
     → ((more : List ScriptLine) → y ≡ Some more → HaveJobs more) → with_content number x y ≡ Some lines → HaveJobs lines
 with_has number None y lines f g h = absurd cc
 with_has number (Some content) None lines f g h = absurd cc

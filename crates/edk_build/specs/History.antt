@@ -28,16 +28,16 @@ use Rattle.edk_build.specs.declared.command.Command.{Command}
 use Rattle.edk_build.specs.declared.command.Command.TheVariants as command
 use Rattle.build_words.specs.declared.job.Job.{Job}
 use Rattle.edk_build.specs.declared.label.Label.{Label}
-use Rattle.edk_build.specs.declared.script.Order.{Order}
-use Rattle.edk_build.specs.declared.script.Order.TheVariants.{Put, Drop, Build}
+use Rattle.edk_build.specs.declared.script.ScriptCommand.{ScriptCommand}
+use Rattle.edk_build.specs.declared.script.ScriptCommand.TheVariants.{Put, Drop, Build}
 use Rattle.edk_build.specs.declared.script.ScriptLine.{ScriptLine}
-use Rattle.edk_build.specs.declared.stand.Stand.{Stand}
+use Rattle.edk_build.specs.declared.replay_state.ReplayState.{ReplayState}
 use Rattle.edk_build.specs.declared.status.Status.{Status}
 use Rattle.edk_build.specs.declared.status.Status.TheVariants as answer
 use Rattle.build_base.specs.FaultCodes.{FILE_TOO_LONG, FROM_ABSENT, SCRIPT_ABSENT}
 
 -- before the first line
-abbrev pub start : Stand
+abbrev pub start : ReplayState
 start = record { edits = []; cache = []; builds = 0 }
 
 -- the k-th build, from 1, writes below the folder `k`, and tells its status
@@ -45,7 +45,7 @@ abbrev pub label_of : ℕ → Label
 label_of k = record { folder = Some (decimal k); tells_status = true }
 
 -- after one more edit
-abbrev pub after_edit : Stand → List ℕ → Option (List ℕ) → Stand
+abbrev pub after_edit : ReplayState → List ℕ → Option (List ℕ) → ReplayState
 after_edit s path bytes =
     record {
       edits = s.edits ++ record { path = path; bytes = bytes } ∷ [];
@@ -54,30 +54,30 @@ after_edit s path bytes =
     }
 
 -- after one more build, which left this cache
-abbrev pub after_build : Stand → List (Entry Key Out) → Stand
+abbrev pub after_build : ReplayState → List (Entry Key Out) → ReplayState
 after_build s cache = record { edits = s.edits; cache = cache; builds = s.builds + 1 }
 
 -- the world of a build: the tree's files after the edits
-abbrev pub world_at : Files → Stand → Job → World
+abbrev pub world_at : Files → ReplayState → Job → World
 world_at files s job = world_of (edited s.edits files) job
 
 -- what the next build emits in a world
-pub record Gives (w : World) (s : Stand) (outputs : List Output) : Type 0 where
+pub record Gives (w : World) (s : ReplayState) (outputs : List Output) : Type 0 where
   pub steps : ℕ
   pub needed : ℕ
   pub counted : IsCounted w s.cache steps needed
   pub list : outputs ≡ emitted (label_of (s.builds + 1)) (outcome w) steps (needed - steps)
 
 -- and which cache it leaves
-pub record GivesAndLeaves (w : World) (s : Stand) (outputs : List Output)
+pub record GivesAndLeaves (w : World) (s : ReplayState) (outputs : List Output)
     (cache : List (Entry Key Out)) : Type 0 where
   pub gives : Gives w s outputs
   pub leaves : Leaves w s.cache cache
 
 -- a build came to its end: what it gave, where the tree tells what it holds, and the steps that it
 -- ran
-pub record IsBuild (held : Option Files) (job : Job) (s : Stand) (a : List Key)
-    (outputs : List Output) (next : Stand) (b : List Key) : Type 0 where
+pub record IsBuild (held : Option Files) (job : Job) (s : ReplayState) (a : List Key)
+    (outputs : List Output) (next : ReplayState) (b : List Key) : Type 0 where
   pub told : IfSome held (λ files. GivesAndLeaves (world_at files s job) s outputs next.cache)
   pub ran : Ran (setting means (over s.edits held) (job_fields job) s.cache) key.All a b
   pub all : RanAll (setting means (over s.edits held) (job_fields job) s.cache) key.All a b
@@ -85,13 +85,13 @@ pub record IsBuild (held : Option Files) (job : Job) (s : Stand) (a : List Key)
   pub stands : next ≡ after_build s next.cache
 
 -- a file got the bytes that another one has in the tree
-abbrev pub IsPut : Option Files → List ℕ → List ℕ → Stand → Stand → Type 0
+abbrev pub IsPut : Option Files → List ℕ → List ℕ → ReplayState → ReplayState → Type 0
 IsPut held path from s next =
     (bytes : List ℕ) × IfSome held (λ files. got_of file_limit (files from) ≡ File bytes)
     × (next ≡ after_edit s path (Some bytes))
 
 -- an order was carried out at a stand: what it emitted, the next stand, and what the book became
-abbrev pub IsDone : Option Files → Order → Stand → List Key → List Output → Stand → List Key
+abbrev pub IsDone : Option Files → ScriptCommand → ReplayState → List Key → List Output → ReplayState → List Key
     → Type 0
 IsDone held (Put path from) s a outputs next b = IsPut held path from s next × (outputs ≡ [])
     × (b ≡ a)
@@ -100,11 +100,11 @@ IsDone held (Drop path) s a outputs next b = (next ≡ after_edit s path None) �
 IsDone held (Build job) s a outputs next b = IsBuild held job s a outputs next b
 
 -- lines were carried out, one after the other
-unfoldable pub AreDone : Option Files → List ScriptLine → Stand → List Key → List Output → Stand
+unfoldable pub AreDone : Option Files → List ScriptLine → ReplayState → List Key → List Output → ReplayState
     → List Key → Type 0
 AreDone held [] s a outputs next b = (next ≡ s) × (outputs ≡ []) × (b ≡ a)
 AreDone held (line ∷ lines) s a outputs next b =
-    (front : List Output) × (mid : Stand) × (now : List Key) × (back : List Output)
+    (front : List Output) × (mid : ReplayState) × (now : List Key) × (back : List Output)
     × IsDone held line.order s a front mid now × AreDone held lines mid now back next b
     × (outputs ≡ front ++ back)
 
@@ -123,7 +123,7 @@ from_fault at number from Absent = Some (from_absent at number from)
 from_fault at number from TooLong = Some (too_long from)
 
 -- the fault of an order: bytes are put from no file, or from one that is too long
-abbrev pub order_fault : Files → List ℕ → ℕ → Order → Option Fault
+abbrev pub order_fault : Files → List ℕ → ℕ → ScriptCommand → Option Fault
 order_fault files at number (Put path from) =
     from_fault at number from (got_of file_limit (files from))
 order_fault files at number _ = None
@@ -132,25 +132,25 @@ abbrev pub fault_outputs : Fault → List Output
 fault_outputs fault = text ToErr (fault_text fault) ∷ []
 
 -- the fault of an order is told
-abbrev pub IsFaulty : Option Files → List ℕ → ℕ → Order → List Output → Type 0
+abbrev pub IsFaulty : Option Files → List ℕ → ℕ → ScriptCommand → List Output → Type 0
 IsFaulty held at number order outputs =
     IfSome held (λ files. IsSomeAnd (order_fault files at number order)
     (λ fault. outputs ≡ fault_outputs fault))
 
 -- what an order emits, where the last emission of a run failed
-abbrev pub IsLast : Option Files → List ℕ → ℕ → Order → Stand → List Output → Type 0
+abbrev pub IsLast : Option Files → List ℕ → ℕ → ScriptCommand → ReplayState → List Output → Type 0
 IsLast held at number (Build job) s outputs =
     IfSome held (λ files. Gives (world_at files s job) s outputs)
 IsLast held at number order s outputs = IsFaulty held at number order outputs
 
 -- of an order that wasn't carried out, the book has steps of its build
-abbrev pub HasBegun : Option Files → Order → Stand → List Key → List Key → Type 0
+abbrev pub HasBegun : Option Files → ScriptCommand → ReplayState → List Key → List Key → Type 0
 HasBegun held (Build job) s a b =
     Ran (setting means (over s.edits held) (job_fields job) s.cache) key.All a b
 HasBegun held _ s a b = b ≡ a
 
 -- a replay stopped at an order, which had emitted this
-abbrev pub StopsAt : Option Files → List ℕ → ScriptLine → Status → Stand → List Key → List Output
+abbrev pub StopsAt : Option Files → List ℕ → ScriptLine → Status → ReplayState → List Key → List Output
     → List Key → Type 0
 StopsAt held at line answer.FileFault s a outputs b =
     IsFaulty held at line.number line.order outputs × (b ≡ a)
@@ -163,7 +163,7 @@ StopsAt held at line answer.WantOfMemory s a outputs b = (outputs ≡ [])
 StopsAt held at line _ s a outputs b = ⊥
 
 -- an order was carried out, and what it emitted is written
-pub record WasDone (held : Option Files) (order : Order) (s : Stand) (a : List Key) (next : Stand)
+pub record WasDone (held : Option Files) (order : ScriptCommand) (s : ReplayState) (a : List Key) (next : ReplayState)
     (b : List Key) (old new : Option (List Emission)) : Type 0 where
   pub outputs : List Output
   pub done : IsDone held order s a outputs next b
@@ -176,13 +176,13 @@ Written _ old new outputs = Spelled old new outputs
 
 -- a replay stopped at a line, and what that emitted is written
 pub record HasStopped (held : Option Files) (at : List ℕ) (line : ScriptLine) (status : Status)
-    (s : Stand) (a b : List Key) (old new : Option (List Emission)) : Type 0 where
+    (s : ReplayState) (a b : List Key) (old new : Option (List Emission)) : Type 0 where
   pub outputs : List Output
   pub stopped : StopsAt held at line status s a outputs b
   pub written : IfSome held (λ files. Written status old new outputs)
 
 -- a replay ended with these lines left
-abbrev pub EndsAt : Option Files → List ℕ → List ScriptLine → Status → Stand → List Key
+abbrev pub EndsAt : Option Files → List ℕ → List ScriptLine → Status → ReplayState → List Key
     → List Output → List Key → Type 0
 EndsAt held at [] status s a outputs b = (status ≡ answer.Done) × (outputs ≡ []) × (b ≡ a)
 EndsAt held at (line ∷ lines) status s a outputs b = StopsAt held at line status s a outputs b
@@ -194,7 +194,7 @@ pub record History (held : Option Files) (at : List ℕ) (lines : List ScriptLin
   pub above : List ScriptLine
   pub left : List ScriptLine
   pub whole : lines ≡ above ++ left
-  pub stand : Stand
+  pub stand : ReplayState
   pub now : List Key
   pub front : List Output
   pub back : List Output

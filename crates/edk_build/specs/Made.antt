@@ -8,7 +8,7 @@ use Rattle.edk_build.specs.Emitting.{outputs_of, status_of, emitted}
 use Rattle.edk_build.specs.declared.label.Label.{Label}
 use Rattle.edk_build.specs.declared.made.Made.{Made}
 use Rattle.edk_build.specs.declared.made.Made.TheVariants.{Files, Faulty}
-use Rattle.edk_build.specs.declared.made.Ready.{Ready}
+use Rattle.edk_build.specs.declared.made.PreparedOutputs.{PreparedOutputs}
 use Rattle.edk_build.specs.declared.status.Status.{Status}
 use Rattle.edk_build.specs.declared.status.Status.TheVariants.{Done, FileFault}
 
@@ -20,7 +20,7 @@ abbrev pub made_outputs : Made → List Output
 made_outputs (Files files) = map output_of files
 made_outputs (Faulty message) = text ToErr message ∷ []
 
-abbrev pub ready_outputs : Ready → List Output
+abbrev pub ready_outputs : PreparedOutputs → List Output
 ready_outputs ready = made_outputs ready.made ++ text ToOut ready.summary ∷ []
 
 -- it is that of an outcome
@@ -30,7 +30,7 @@ pub record IsMade (made : Made) (label : Label) (outcome : Result (List FilePair
   pub outputs : made_outputs made ≡ outputs_of label outcome
 
 -- what is emitted is all of it
-pub record IsReady (ready : Ready) (label : Label) (outcome : Result (List FilePair) Fault)
+pub record IsReady (ready : PreparedOutputs) (label : Label) (outcome : Result (List FilePair) Fault)
     (steps reused : ℕ) : Type 0 where
   pub status : made_status ready.made ≡ status_of outcome
   pub outputs : ready_outputs ready ≡ emitted label outcome steps reused

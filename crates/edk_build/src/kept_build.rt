@@ -17,7 +17,7 @@ ghost use Rattle.edk_build.specs.Stops.{IfReadFault, IfUnwritten, IfWriteFault};
 
 use crate::build::{Brought, bring_all};
 use crate::label::Label;
-use crate::made::{Ready, make_ready};
+use crate::made::{PreparedOutputs, make_ready};
 use crate::status::Status;
 use crate::stop::Stop;
 use build_base::{Book, Gate, Keeper, KeeperFailed, Sink, Text, Tree, WantOfMemory};
@@ -39,9 +39,9 @@ struct Loaded {
 
 // What holds of a cache that was read, and whether it is of the newest edition.
 #[tactic(auto, using(crate::proofs::KeptLemmas::least_edition, crate::proofs::KeptLemmas::most_edition))]
-fn adopted(kept: Kept) -> Loaded
+fn adopted_cache(kept: Kept) -> Loaded
     requires { is_edition kept.edition ≡ true }
-    ensures cache { result.cache ≡ adopted kept.edition kept.cache }
+    ensures cache { result.cache ≡ adopted_cache kept.edition kept.cache }
     ensures newest { result.is_text ≡ true → (kept.edition ≡ newest) × (result.cache ≡ kept.cache) }
 {
     let Kept { edition, cache } = kept;
@@ -59,7 +59,7 @@ fn cache_in(alloc: Global, text: &Text) -> Result<Loaded, WantOfMemory>
     ensures text { IfOk result (λ l. l.is_text ≡ true → IsCacheText l.cache text.now) }
 {
     match kept_texts::cache_in(alloc, text)? {
-        Some(kept) => Ok(adopted(kept)),
+        Some(kept) => Ok(adopted_cache(kept)),
         None => Ok(Loaded {
             cache: Cache::new(alloc),
             is_text: false,
@@ -93,7 +93,7 @@ fn load_cache<K: Keeper>(alloc: Global, keeper: &mut K) -> Result<Loaded, Stop>
 
 // Writes what stands ready, and stores the text before the summary, without taking memory.
 fn write_kept<S: Sink, K: Keeper>(
-    ready: &Ready<'_>,
+    ready: &PreparedOutputs<'_>,
     text: &Text,
     sink: &mut S,
     keeper: &mut K,
@@ -125,7 +125,11 @@ fn write_kept<S: Sink, K: Keeper>(
 }
 
 // Writes what stands ready, where what is kept is the text already.
-fn write_again<S: Sink, K: Keeper>(ready: &Ready<'_>, to: &mut S, keeper: &K) -> Result<(), Stop>
+fn write_again<S: Sink, K: Keeper>(
+    ready: &PreparedOutputs<'_>,
+    to: &mut S,
+    keeper: &K,
+) -> Result<(), Stop>
     ensures all { (text : List ℕ) → IsKept (K.kept keeper.now) text
         → OnOk result (WroteAll (made_outputs ready.now.made) ready.now.summary text
         (told (S.written to.old) (K.kept keeper.now) (S.faults to.old) (K.faults keeper.now))

@@ -34,7 +34,7 @@ pub enum Made<'a> {
 
 /// All that a build emits.
 #[derive(Drop)]
-pub struct Ready<'a> {
+pub struct PreparedOutputs<'a> {
     made: Made<'a>,
     summary: Text,
 }
@@ -138,7 +138,7 @@ pub(crate) fn make_ready<'a>(
     cache: &'a Cache<Key, Out>,
     steps: u64,
     reused: u64,
-) -> Result<Ready<'a>, WantOfMemory>
+) -> Result<PreparedOutputs<'a>, WantOfMemory>
     ensures ready { (value : Key → Outcome Out) → AgreesOnGood given.now value cache.now →
         IfOk result (λ r. IsReady r label.now (files_by value given.now) steps reused) }
     ensures made { (value : Key → Outcome Out) → AgreesOnGood given.now value cache.now →
@@ -149,7 +149,7 @@ pub(crate) fn make_ready<'a>(
 {
     let made = make(alloc, label, given, cache)?;
     let summary = summary(alloc, label, made.status(), steps, reused)?;
-    Ok(Ready { made, summary })
+    Ok(PreparedOutputs { made, summary })
 }
 
 /// Writes a text.
@@ -189,7 +189,7 @@ impl Made<'_> {
     }
 }
 
-impl Ready<'_> {
+impl PreparedOutputs<'_> {
     /// The status of a build that writes it.
     pub fn status(&self) -> Status
         ensures { result ≡ made_status self.now.made }

@@ -9,13 +9,13 @@ ghost use Rattle.edk_build.specs.History.{after_edit, WasDone, HasStopped, IsTol
 ghost use Rattle.edk_build.specs.Script.{HasJob, HaveJobs, script_line, script_of};
 ghost use Rattle.edk_build.specs.Statuses.{OnEnd, OnWriteFault, OnUsage, IsUsageTold, Causes};
 ghost use Rattle.build_words.specs.Fields.{job_fields};
-ghost use Rattle.edk_build.specs.declared.script.Order.TheVariants as order;
+ghost use Rattle.edk_build.specs.declared.script.ScriptCommand.TheVariants as order;
 ghost use Rattle.step_pack.specs.declared.key.Key.{Key};
 
 use crate::build::build;
 use crate::made::write_text;
-use crate::script::{Order, ScriptLine, read_script};
-use crate::stand::{Stand, label_of};
+use crate::replay_state::{ReplayState, label_of};
+use crate::script::{ScriptCommand, ScriptLine, read_script};
 use crate::status::Status;
 use crate::usage::tell_usage;
 use build_base::fault::fault_text;
@@ -77,7 +77,12 @@ fn tell_fault<S: Sink>(
 }
 
 // The bytes become the file of a path.
-fn put_bytes(alloc: Global, path: &Path, bytes: Text, stand: Stand) -> Result<Stand, WantOfMemory>
+fn put_bytes(
+    alloc: Global,
+    path: &Path,
+    bytes: Text,
+    stand: ReplayState,
+) -> Result<ReplayState, WantOfMemory>
     ensures { IfOk result (λ next. next ≡ after_edit stand path.now (Some bytes)) }
 {
     let bytes = Shared::new(alloc, bytes)?;
@@ -88,7 +93,7 @@ fn put_bytes(alloc: Global, path: &Path, bytes: Text, stand: Stand) -> Result<St
 }
 
 // From now on there is no file at a path.
-fn drop_file(alloc: Global, path: &Path, stand: Stand) -> Result<Stand, WantOfMemory>
+fn drop_file(alloc: Global, path: &Path, stand: ReplayState) -> Result<ReplayState, WantOfMemory>
     ensures { IfOk result (λ next. next ≡ after_edit stand path.now None) }
 {
     let path = path.copy(alloc)?;
@@ -104,10 +109,10 @@ fn put<T: Tree, S: Sink>(
     number: u64,
     path: &Path,
     from: &Path,
-    stand: Stand,
+    stand: ReplayState,
     tree: &mut T,
     sink: &mut S,
-) -> Result<Stand, Status>
+) -> Result<ReplayState, Status>
     ensures done { (a : List Key) → IfOk result
         (λ next. WasDone (T.held tree.old) (order.Put path.now from.now) stand a next a
         (S.written sink.old) (S.written sink.new)) }
@@ -137,12 +142,12 @@ fn build_next<H: Threads + Sync, T: Tree, S: Sink, G: Gate>(
     rt: &H,
     alloc: Global,
     job: &Job,
-    stand: Stand,
+    stand: ReplayState,
     tree: &mut T,
     sink: &mut S,
     gate: &G,
     book: &mut Book<Key>,
-) -> Result<Stand, Status>
+) -> Result<ReplayState, Status>
     requires job { is_job (job_fields job.now) ≡ true }
     requires sound { AreSound means stand.cache }
     ensures done { IfOk result
@@ -159,7 +164,7 @@ fn build_next<H: Threads + Sync, T: Tree, S: Sink, G: Gate>(
         (λ status. Causes status (T.faults tree.old) (T.faults tree.new) (S.faults sink.old)
         (S.faults sink.new)) }
 {
-    let Stand {
+    let ReplayState {
         edits,
         cache,
         builds,
@@ -173,7 +178,7 @@ fn build_next<H: Threads + Sync, T: Tree, S: Sink, G: Gate>(
     let built = build(
         rt, alloc, &fields, &label, workers, cache, tree, &edits, sink, gate, book,
     )?;
-    Ok(Stand {
+    Ok(ReplayState {
         edits,
         cache: built.cache,
         builds: number,
@@ -186,12 +191,12 @@ fn carry_out<H: Threads + Sync, T: Tree, S: Sink, G: Gate>(
     alloc: Global,
     script: &Path,
     line: &ScriptLine,
-    stand: Stand,
+    stand: ReplayState,
     tree: &mut T,
     sink: &mut S,
     gate: &G,
     book: &mut Book<Key>,
-) -> Result<Stand, Status>
+) -> Result<ReplayState, Status>
     requires job { HasJob line.now.order }
     requires sound { AreSound means stand.cache }
     ensures done { IfOk result
@@ -210,11 +215,11 @@ fn carry_out<H: Threads + Sync, T: Tree, S: Sink, G: Gate>(
         (S.faults sink.new)) }
 {
     match &line.order {
-        Order::Put { path, from } => {
+        ScriptCommand::Put { path, from } => {
             put(alloc, script, line.number, path, from, stand, tree, sink)
         }
-        Order::Drop(path) => Ok(drop_file(alloc, path, stand)?),
-        Order::Build(job) => build_next(rt, alloc, job, stand, tree, sink, gate, book),
+        ScriptCommand::Drop(path) => Ok(drop_file(alloc, path, stand)?),
+        ScriptCommand::Build(job) => build_next(rt, alloc, job, stand, tree, sink, gate, book),
     }
 }
 
@@ -237,7 +242,7 @@ fn replay_lines<H: Threads + Sync, T: Tree, S: Sink, G: Gate>(
     ensures causes { Causes result (T.faults tree.old) (T.faults tree.new) (S.faults sink.old)
         (S.faults sink.new) }
 {
-    let mut stand = Stand::new(alloc);
+    let mut stand = ReplayState::new(alloc);
     let mut left = lines;
     while let [line, rest @ ..] = left {
         match carry_out(rt, alloc, script, line, stand, tree, sink, gate, book) {

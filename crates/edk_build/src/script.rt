@@ -18,7 +18,7 @@ const MOST_LINES: u64 = 1000;
 /// What a line of a script asks for: that a path gets the bytes that another one has in the tree,
 /// that there is no file at a path, or a build.
 #[derive(Drop)]
-pub enum Order {
+pub enum ScriptCommand {
     Put { path: Path, from: Path },
     Drop(Path),
     Build(Job),
@@ -28,10 +28,10 @@ pub enum Order {
 #[derive(Drop)]
 pub struct ScriptLine {
     pub number: u64,
-    pub order: Order,
+    pub order: ScriptCommand,
 }
 
-fn put_of(alloc: Global, path: &[u8], from: &[u8]) -> Result<Option<Order>, WantOfMemory>
+fn put_of(alloc: Global, path: &[u8], from: &[u8]) -> Result<Option<ScriptCommand>, WantOfMemory>
     ensures { IfOk result (λ order. order ≡ put_of (path_field path.now) (path_field from.now)) }
 {
     let Some(path) = path_field(alloc, path)? else {
@@ -40,14 +40,14 @@ fn put_of(alloc: Global, path: &[u8], from: &[u8]) -> Result<Option<Order>, Want
     let Some(from) = path_field(alloc, from)? else {
         return Ok(None);
     };
-    Ok(Some(Order::Put { path, from }))
+    Ok(Some(ScriptCommand::Put { path, from }))
 }
 
-fn drop_of(alloc: Global, path: &[u8]) -> Result<Option<Order>, WantOfMemory>
+fn drop_of(alloc: Global, path: &[u8]) -> Result<Option<ScriptCommand>, WantOfMemory>
     ensures { IfOk result (λ order. order ≡ drop_of (path_field path.now)) }
 {
     match path_field(alloc, path)? {
-        Some(path) => Ok(Some(Order::Drop(path))),
+        Some(path) => Ok(Some(ScriptCommand::Drop(path))),
         None => Ok(None),
     }
 }
@@ -74,18 +74,18 @@ fn strings_of(alloc: Global, words: &[Text]) -> Result<Vec<String>, WantOfMemory
     Ok(strings)
 }
 
-fn build_of(alloc: Global, words: &[Text]) -> Result<Option<Order>, WantOfMemory>
+fn build_of(alloc: Global, words: &[Text]) -> Result<Option<ScriptCommand>, WantOfMemory>
     ensures { IfOk result (λ order. order ≡ build_of words.now) }
 {
     let strings = strings_of(alloc, words)?;
     match words_job(alloc, strings.as_slice())? {
-        Some(job) => Ok(Some(Order::Build(job))),
+        Some(job) => Ok(Some(ScriptCommand::Build(job))),
         None => Ok(None),
     }
 }
 
 #[tactic(auto, unfolding(crate::specs::Script::order_of))]
-fn order_of(alloc: Global, words: &[Text]) -> Result<Option<Order>, WantOfMemory>
+fn order_of(alloc: Global, words: &[Text]) -> Result<Option<ScriptCommand>, WantOfMemory>
     ensures { IfOk result (λ order. order ≡ order_of words.now) }
 {
     match words {
@@ -105,7 +105,7 @@ fn order_of(alloc: Global, words: &[Text]) -> Result<Option<Order>, WantOfMemory
     }
 }
 
-fn content_of(alloc: Global, words: &[Text]) -> Result<Option<Option<Order>>, WantOfMemory>
+fn content_of(alloc: Global, words: &[Text]) -> Result<Option<Option<ScriptCommand>>, WantOfMemory>
     ensures { IfOk result (λ content. content ≡ content_of words.now) }
 {
     if words.is_empty() {
@@ -118,7 +118,7 @@ fn content_of(alloc: Global, words: &[Text]) -> Result<Option<Option<Order>>, Wa
 }
 
 // What a line holds, or nothing where it isn't in the grammar.
-fn content_in(alloc: Global, text: &[u8]) -> Result<Option<Option<Order>>, WantOfMemory>
+fn content_in(alloc: Global, text: &[u8]) -> Result<Option<Option<ScriptCommand>>, WantOfMemory>
     ensures { IfOk result (λ content. content ≡ content_in text.now) }
 {
     if !has_plain_bytes_alone(text) {
@@ -132,7 +132,7 @@ fn line_content(
     alloc: Global,
     number: u64,
     piece: &[u8],
-) -> Result<Option<Option<Order>>, WantOfMemory>
+) -> Result<Option<Option<ScriptCommand>>, WantOfMemory>
     ensures content { (at : ℕ) → IfOk result
         (λ content. content ≡ line_content (piece_of number at piece.now)) }
     ensures few { IfOk result (λ content. IfSome content (λ held. number ≤ 1000)) }
@@ -146,7 +146,7 @@ fn line_content(
 fn push_content(
     lines: &mut Rows<ScriptLine>,
     number: u64,
-    content: Option<Order>,
+    content: Option<ScriptCommand>,
 ) -> Result<(), WantOfMemory>
     ensures { OnOk result (lines.new ≡ lines.old ++ lines_at number content) }
 {

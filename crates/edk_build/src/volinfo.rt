@@ -20,7 +20,7 @@ use std::alloc::Global;
 use volume_reader::list_text;
 
 // The refusal of a file as a whole, with its path as the detail.
-fn refused(alloc: Global, code: u16, path: &Path) -> Refusal
+fn refuse_file(alloc: Global, code: u16, path: &Path) -> Refusal
     ensures { Finds result (Some (fault_of code (whole_file path.now) path.now)) }
 {
     let Ok(path) = path.copy(alloc) else {
@@ -36,8 +36,8 @@ fn listing_got(alloc: Global, path: &Path, got: &Got) -> Result<Text, Refusal>
 {
     match got {
         Got::File(bytes) => list_text(alloc, path, bytes.bytes()),
-        Got::Absent => Err(refused(alloc, FILE_ABSENT, path)),
-        Got::TooLong => Err(refused(alloc, FILE_TOO_LONG, path)),
+        Got::Absent => Err(refuse_file(alloc, FILE_ABSENT, path)),
+        Got::TooLong => Err(refuse_file(alloc, FILE_TOO_LONG, path)),
     }
 }
 

@@ -27,12 +27,12 @@ device_image plan parts = image_of (free_byte plan.erase)
     (region_pieces (free_byte plan.erase) plan.regions parts) plan.size
 
 -- `first sign second`
-abbrev pub compared : ℕ → List ℕ → ℕ → List ℕ
-compared first sign second = decimal first ++ sign ++ decimal second
+abbrev pub comparison_text : ℕ → List ℕ → ℕ → List ℕ
+comparison_text first sign second = decimal first ++ sign ++ decimal second
 
 abbrev pub compared_at : ℕ → Place → ℕ → List ℕ → ℕ → Fault
 compared_at code place first sign second =
-    record { code = code; place = place; detail = compared first sign second }
+    record { code = code; place = place; detail = comparison_text first sign second }
 
 -- the first fault of a region that is to start at a place or later, in a device of this size, and
 -- to hold so many bytes

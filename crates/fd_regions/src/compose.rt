@@ -3,7 +3,7 @@ ghost use Rattle.std.specs.Prelude.{◌≡◌, ◌≤◌, ◌<◌, ◌^◌, ◌+
 ghost use Rattle.std.specs.List.{sum_by};
 ghost use Rattle.build_base.specs.Answer.{AnswersAs, Checks};
 ghost use Rattle.build_base.specs.Runs.{runs_bytes, kept_bytes, are_blank, free_byte, Written};
-ghost use Rattle.fd_regions.specs.Device.{device_of, device_fault, device_image, compared, region_fault};
+ghost use Rattle.fd_regions.specs.Device.{device_of, device_fault, device_image, comparison_text, region_fault};
 
 use crate::contents::Contents;
 use build_base::fault_codes::{DATA_TOO_LONG, REGION_ORDER, REGION_OUTSIDE};
@@ -97,9 +97,10 @@ fn bad(
     second: u128,
 ) -> Result<(), Refusal>
     ensures { Checks result
-        (Some (record { code = code; place = at.now; detail = compared first sign.now second })) }
+        (Some
+            (record { code = code; place = at.now; detail = comparison_text first sign.now second })) }
 {
-    let detail = compared(alloc, first, sign, second)?;
+    let detail = comparison_text(alloc, first, sign, second)?;
     let place = at.copy(alloc)?;
     Err(Refusal::Bad(Fault {
         code,
@@ -108,8 +109,13 @@ fn bad(
     }))
 }
 
-fn compared(alloc: Global, first: u128, sign: &[u8], second: u128) -> Result<Text, WantOfMemory>
-    ensures { IfOk result (λ t. t ≡ compared first sign.now second) }
+fn comparison_text(
+    alloc: Global,
+    first: u128,
+    sign: &[u8],
+    second: u128,
+) -> Result<Text, WantOfMemory>
+    ensures { IfOk result (λ t. t ≡ comparison_text first sign.now second) }
 {
     let mut digits = Buffer::new();
     let mut out = Vec::from_slice(alloc, digits.format(first).as_bytes())?;

@@ -353,7 +353,7 @@ fn worded_line(
     }
 }
 
-fn compressed(alloc: Global, line: &Taken, word: &[u8]) -> Refusal
+fn refuse_compressed(alloc: Global, line: &Taken, word: &[u8]) -> Refusal
     ensures { Finds result
         (least_of (other_macro line.now line.now.text
         ∷ Some (fault_of COMPRESSED_REFUSED line.now.at word.now)
@@ -373,7 +373,7 @@ fn kind_line(alloc: Global, line: &Taken, first: &[u8], text: &[u8]) -> Result<O
     match rule_kind(first) {
         Some(RuleKind::Plain(kind)) => plain_line(alloc, line, kind, first, text),
         Some(RuleKind::Worded(kind)) => worded_line(alloc, line, kind, first, text),
-        Some(RuleKind::Compressed) => Err(compressed(alloc, line, first)),
+        Some(RuleKind::Compressed) => Err(refuse_compressed(alloc, line, first)),
         None => Err(no_rule(alloc, line)),
     }
 }

@@ -141,7 +141,7 @@ fn rule_scope(
     }
 }
 
-fn dotted(alloc: Global, first: &[u8], second: &[u8]) -> Result<Text, WantOfMemory>
+fn dotted_text(alloc: Global, first: &[u8], second: &[u8]) -> Result<Text, WantOfMemory>
     ensures { IfOk result (λ t. t ≡ first.now ++ codes "." ++ second.now) }
 {
     let mut out = Vec::from_slice(alloc, first)?;
@@ -153,7 +153,7 @@ fn dotted(alloc: Global, first: &[u8], second: &[u8]) -> Result<Text, WantOfMemo
 fn two_qualifiers(alloc: Global, arch: &[u8], kind: &[u8]) -> Result<HeadMeaning, WantOfMemory>
     ensures { IfOk result (λ m. m ≡ rule_meaning (arch.now ∷ kind.now ∷ [])) }
 {
-    let name = dotted(alloc, arch, kind)?;
+    let name = dotted_text(alloc, arch, kind)?;
     rule_scope(
         alloc,
         arch_named(arch),
@@ -172,8 +172,8 @@ fn three_qualifiers(
 ) -> Result<HeadMeaning, WantOfMemory>
     ensures { IfOk result (λ m. m ≡ rule_meaning (arch.now ∷ kind.now ∷ template.now ∷ [])) }
 {
-    let rest = dotted(alloc, kind, template)?;
-    let name = dotted(alloc, arch, rest.bytes())?;
+    let rest = dotted_text(alloc, kind, template)?;
+    let name = dotted_text(alloc, arch, rest.bytes())?;
     rule_scope(
         alloc,
         arch_named(arch),

@@ -81,7 +81,7 @@ fn no_statement(alloc: Global, line: &Taken, word: &[u8]) -> Refusal
     )
 }
 
-fn unkeyed(alloc: Global, line: &Taken) -> Refusal
+fn refuse_unkeyed(alloc: Global, line: &Taken) -> Refusal
     ensures { Finds result
         (least_of (unkeyed_faults line.now (volume_word (word_of line.now.text)))) }
 {
@@ -99,7 +99,7 @@ fn plain_line(alloc: Global, line: &Taken) -> Result<Option<Row>, Refusal>
 {
     match key_pair(line.text.bytes()) {
         Some((key, value)) => key_line(alloc, line, key, value),
-        None => Err(unkeyed(alloc, line)),
+        None => Err(refuse_unkeyed(alloc, line)),
     }
 }
 

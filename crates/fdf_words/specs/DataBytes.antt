@@ -13,13 +13,13 @@ byte_field text = option_and_then (λ n. if nat_lt n 256 then Some n else None)
     (number_of (without_blanks text))
 
 -- the bytes of these parts of a text, where each is one
-unfoldable pub listed : List ℕ → List Span → Option (List ℕ)
-listed text [] = Some []
-listed text (span ∷ spans) =
-    option_and_then (λ byte. option_map (λ bytes. byte ∷ bytes) (listed text spans))
+unfoldable pub byte_list : List ℕ → List Span → Option (List ℕ)
+byte_list text [] = Some []
+byte_list text (span ∷ spans) =
+    option_and_then (λ byte. option_map (λ bytes. byte ∷ bytes) (byte_list text spans))
     (byte_field (bytes_at text span))
 
 -- `{ number, number }`
 unfoldable pub data_of : List ℕ → Option (List ℕ)
 data_of text = if stands_between 123 125 text
-    then listed (inner text) (parts_of false 44 (inner text)) else None
+    then byte_list (inner text) (parts_of false 44 (inner text)) else None

@@ -49,18 +49,18 @@ unfoldable pub decimal_of : List ℕ → Option ℕ
 decimal_of text = if list_all is_decimal text then number_of text else None
 
 -- an alignment is at most 2 ^ 31
-abbrev pub scaled : ℕ → Option ℕ → Option ℕ
-scaled unit (Some n) = if nat_le (n * unit) 0x8000_0000 then Some (n * unit) else None
-scaled unit None = None
+abbrev pub scaled_number : ℕ → Option ℕ → Option ℕ
+scaled_number unit (Some n) = if nat_le (n * unit) 0x8000_0000 then Some (n * unit) else None
+scaled_number unit None = None
 
 unfoldable pub alignment_of : List ℕ → Option ℕ
-alignment_of text = scaled (unit_of text) (decimal_of (digits_of text))
+alignment_of text = scaled_number (unit_of text) (decimal_of (digits_of text))
 
 -- of a volume it may also be in units of 2 ^ 30, and is a power of two
 unfoldable pub scaled_of : List ℕ → Option ℕ
 scaled_of text =
     if nat_lt 0 (length text) && (last_byte text == 71)
-    then scaled 0x4000_0000 (decimal_of (take (length text - 1) text)) else alignment_of text
+    then scaled_number 0x4000_0000 (decimal_of (take (length text - 1) text)) else alignment_of text
 
 abbrev pub power_in : Option ℕ → Option ℕ
 power_in (Some n) = if is_power_of_two n then Some n else None

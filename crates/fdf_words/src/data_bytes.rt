@@ -2,7 +2,7 @@
 ghost use Rattle.std.specs.Prelude.{◌≡◌, IfOk, ◌++◌, ◌∷◌, [], OnOk, false};
 ghost use Rattle.std.specs.Option.{option_map};
 ghost use Rattle.meta_lexer.specs.Fields.{parts_of};
-ghost use Rattle.fdf_words.specs.DataBytes.{byte_field, listed, data_of};
+ghost use Rattle.fdf_words.specs.DataBytes.{byte_field, byte_list, data_of};
 
 use build_base::{Text, WantOfMemory};
 use meta_lexer::field::cut;
@@ -35,9 +35,9 @@ fn push_byte(bytes: &mut Vec<u8>, byte: u8) -> Result<(), WantOfMemory>
     }
 }
 
-fn listed(alloc: Global, text: &[u8]) -> Result<Option<Vec<u8>>, WantOfMemory>
+fn byte_list(alloc: Global, text: &[u8]) -> Result<Option<Vec<u8>>, WantOfMemory>
     ensures { IfOk result (λ o. option_map (λ v. v.items) o
-        ≡ listed text.now (parts_of false 44 text.now)) }
+        ≡ byte_list text.now (parts_of false 44 text.now)) }
 {
     let spans = cut(alloc, false, b',', text)?;
     let mut bytes = Vec::new(alloc);
@@ -56,7 +56,7 @@ pub fn data_of(alloc: Global, text: &[u8]) -> Result<Option<Text>, WantOfMemory>
     ensures { IfOk result (λ o. o ≡ data_of text.now) }
 {
     match between(b'{', b'}', text) {
-        Some(inner) => match listed(alloc, inner)? {
+        Some(inner) => match byte_list(alloc, inner)? {
             Some(bytes) => Ok(Some(Text::from_vec(bytes))),
             None => Ok(None),
         },

@@ -2,7 +2,7 @@
 ghost use Rattle.std.specs.Prelude.{◌≡◌, ◌≤◌, length};
 ghost use Rattle.std.specs.Option.{option_map};
 ghost use Rattle.std.specs.List.{list_all, position_or_len};
-ghost use Rattle.fdf_words.specs.Words.{ends_word, word_of, after_word, after_equals, unit_of, digits_of, is_decimal, decimal_of, scaled, alignment_of, scaled_of, power_in, volume_alignment, stated_align, option_named, with_align, with_option, next_option, options_of, before_brace, begins_with, is_close};
+ghost use Rattle.fdf_words.specs.Words.{ends_word, word_of, after_word, after_equals, unit_of, digits_of, is_decimal, decimal_of, scaled_number, alignment_of, scaled_of, power_in, volume_alignment, stated_align, option_named, with_align, with_option, next_option, options_of, before_brace, begins_with, is_close};
 
 use doc_types::volume::Align;
 use meta_lexer::line::trim;
@@ -101,8 +101,8 @@ fn decimal(text: &[u8]) -> Option<u64>
     }
 }
 
-fn scaled(unit: u64, number: Option<u64>) -> Option<u32>
-    ensures { result ≡ scaled unit number }
+fn scaled_number(unit: u64, number: Option<u64>) -> Option<u32>
+    ensures { result ≡ scaled_number unit number }
 {
     match number?.checked_mul(unit) {
         Some(bytes) if bytes <= 0x8000_0000 => Some(bytes as u32),
@@ -116,7 +116,7 @@ pub fn alignment_of(text: &[u8]) -> Option<u32>
     ensures { result ≡ alignment_of text.now }
 {
     let (digits, unit) = digits_and_unit(text);
-    scaled(unit, decimal(digits))
+    scaled_number(unit, decimal(digits))
 }
 
 #[tactic(auto, unfolding(crate::specs::Words::scaled_of))]
@@ -124,7 +124,7 @@ fn scaled_of(text: &[u8]) -> Option<u32>
     ensures { result ≡ scaled_of text.now }
 {
     match text {
-        [digits @ .., b'G'] => scaled(0x4000_0000, decimal(digits)),
+        [digits @ .., b'G'] => scaled_number(0x4000_0000, decimal(digits)),
         _ => alignment_of(text),
     }
 }

@@ -25,10 +25,10 @@ use Rattle.flash_document.specs.Parts.{stated_of, stated_from, stated_below, all
 use Rattle.flash_document.specs.Sets.{is_heads, section_lines}
 use Rattle.flash_document.specs.Volumes.{attributes, is_on, with_flag, flags_of, section_then, sections_in, item_at, items_of, volume_of, rule_sections, rule_with, rule_head, rule_of_lines}
 use Rattle.flash_document.specs.Whole.{volume_in, volumes_of}
-use Rattle.flash_document.specs.declared.stated.Stated.{Stated}
-use Rattle.flash_document.specs.declared.stated.Stated.TheVariants as stated
-use Rattle.flash_document.specs.declared.stated.StatedItem.{StatedItem}
-use Rattle.flash_document.specs.declared.stated.StatedItem.TheVariants as item
+use Rattle.flash_document.specs.declared.stated.FdfSection.{FdfSection}
+use Rattle.flash_document.specs.declared.stated.FdfSection.TheVariants as stated
+use Rattle.flash_document.specs.declared.stated.FdfStatement.{FdfStatement}
+use Rattle.flash_document.specs.declared.stated.FdfStatement.TheVariants as item
 use Rattle.flash_document.specs.declared.stated.StatedVolume.{StatedVolume}
 
 -- what holds of all holds of one
@@ -64,7 +64,7 @@ abbrev pub LineHas : (Row → Type 0) → (Scope → Type 0) → LineRead → Ty
 LineHas P Q (Heads at scopes) = All Q scopes
 LineHas P Q (Body rows) = All P rows
 
-abbrev pub ItemHas : (Row → Type 0) → StatedItem → Type 0
+abbrev pub ItemHas : (Row → Type 0) → FdfStatement → Type 0
 ItemHas P (item.Apriori at pei members) = Unit {0}
 ItemHas P (item.File file) = All (λ s. P (row.Section s)) file.sections
 ItemHas P (item.Inf line) = Unit {0}
@@ -74,7 +74,7 @@ pub record VolumeHas (P : Row → Type 0) (Q : Scope → Type 0) (volume : State
   pub items : All (ItemHas P) volume.items
   pub flags : bit_and volume.flags 2048 ≡ 0
 
-abbrev pub StatedHas : (Row → Type 0) → (Scope → Type 0) → Stated → Type 0
+abbrev pub StatedHas : (Row → Type 0) → (Scope → Type 0) → FdfSection → Type 0
 StatedHas P Q stated.Settings = Unit {0}
 StatedHas P Q (stated.Device device) = Q (scope.Device device.name)
 StatedHas P Q (stated.Volume volume) = VolumeHas P Q volume
@@ -198,13 +198,13 @@ module _ (P : Row → Type 0) (Q : Scope → Type 0) where
       All-append (StatedHas P Q) (stated_below line (section_lines lines)) (all_stated lines)
       (below_has line (section_lines lines) (All-head (LineHas P Q) line lines all) (taken_all (LineHas P Q) (position_or_len is_heads lines) lines later)) (all_have lines later)
 
-  part_volume : (part : Stated) → StatedHas P Q part → All (VolumeHas P Q) (volume_in part)
+  part_volume : (part : FdfSection) → StatedHas P Q part → All (VolumeHas P Q) (volume_in part)
   part_volume stated.Settings h = All-nil (VolumeHas P Q)
   part_volume (stated.Device device) h = All-nil (VolumeHas P Q)
   part_volume (stated.Volume volume) h = All-cons (VolumeHas P Q) volume [] h (All-nil (VolumeHas P Q))
   part_volume (stated.Rule rule) h = All-nil (VolumeHas P Q)
 
-  pub volumes_have : (parts : List Stated) → All (StatedHas P Q) parts → All (VolumeHas P Q) (volumes_of parts)
+  pub volumes_have : (parts : List FdfSection) → All (StatedHas P Q) parts → All (VolumeHas P Q) (volumes_of parts)
   volumes_have [] all = All-nil (VolumeHas P Q)
   volumes_have (part ∷ parts) all =
       All-append (VolumeHas P Q) (volume_in part) (volumes_of parts) (part_volume part (All-head (StatedHas P Q) part parts all)) (volumes_have parts (All-tail (StatedHas P Q) part parts all))

@@ -25,14 +25,14 @@ use Rattle.fdf_words.specs.declared.rows.Scope.TheVariants as scope
 use Rattle.flash_document.specs.Columns.{row_at, column}
 use Rattle.flash_document.specs.Document.{part_device, part_rule, plan_at, item_plan, volume_plan}
 use Rattle.flash_document.specs.Flash.{line_of}
-use Rattle.flash_document.specs.Numbering.{next_in, given, turns, order_of}
+use Rattle.flash_document.specs.Numbering.{next_in, given, turns, topological_order}
 use Rattle.flash_document.specs.Parts.{stated_of, stated_from, stated_below, all_stated}
 use Rattle.flash_document.specs.Sets.{is_heads, section_lines}
 use Rattle.flash_document.specs.Shape.{FewItems}
 use Rattle.flash_document.specs.Volumes.{item_at, items_of, volume_of, rule_sections, rule_with, rule_head, rule_of_lines}
 use Rattle.flash_document.specs.Whole.{volume_in, volumes_of}
 use Rattle.flash_document.specs.declared.held.HeldRegion.{HeldRegion}
-use Rattle.flash_document.specs.declared.stated.Stated.{Stated}
+use Rattle.flash_document.specs.declared.stated.FdfSection.{FdfSection}
 use Rattle.flash_document.specs.declared.stated.StatedVolume.{StatedVolume}
 use Rattle.flash_document.proofs.CarryLemmas.{at_place}
 
@@ -52,7 +52,7 @@ joined : {T : Type 0} (xs ys : List T) (m n : ℕ) → length xs ≤ m → lengt
 joined xs ys m n l k = subst (λ c. c ≤ m + n) (sym (length-append xs ys)) (both_below (length xs) (length ys) m n l k)
 
 -- what a scope states counts at most once, and that only for its own section
-module _ {T : Type 0} (says : Stated → List T) (section : FlashSection)
+module _ {T : Type 0} (says : FdfSection → List T) (section : FlashSection)
     (one : (at : Place) (s : Scope) (k : ℕ) (lines : List LineRead) → length (says (stated_of at s k lines)) ≤ one_scope section s) where
   from_count : (at : Place) (k : ℕ) (scopes : List Scope) (lines : List LineRead) → length (flat_map says (stated_from at k scopes lines)) ≤ count_of (one_scope section) scopes
   from_count at k [] lines = none_more 0
@@ -126,7 +126,7 @@ unfolding turns
 turns_few nests [] order = omega arith
 turns_few nests (n ∷ ns) order = given_few (turns nests ns) (length ns) order (next_in nests order) (turns_few nests ns)
 
-pub order_few : (nests : List (List ℕ)) → length (order_of nests) ≤ length nests
+pub order_few : (nests : List (List ℕ)) → length (topological_order nests) ≤ length nests
 order_few nests =
     let l : length (turns nests nests []) ≤ length nests + 0 = turns_few nests nests [] in
     omega (arith, l)

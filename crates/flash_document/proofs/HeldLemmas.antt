@@ -6,7 +6,7 @@ use Rattle.std.specs.HashMap.{HashMap, get}
 use Rattle.std.specs.Cmp.Lexicographic.{pointwise, same_text}
 use Rattle.flash_document.specs.declared.held.HeldRegion.{HeldRegion}
 use Rattle.flash_document.specs.declared.held.HeldSizes.{HeldSizes}
-use Rattle.flash_document.specs.Names.{folded, same_key}
+use Rattle.flash_document.specs.Names.{lower_case, same_key}
 use Rattle.flash_document.specs.Whole.{other_in, sizes_of, regions_named, held_by}
 use Rattle.flash_document.specs.Held.{with_region, Sizes}
 
@@ -40,17 +40,17 @@ sizes_push (x ∷ xs) r =
     ]
 
 named_push : (key : List ℕ) (rs : List HeldRegion) (r : HeldRegion)
-    → regions_named key (rs ++ r ∷ []) ≡ (if pointwise nat_eq (folded r.name) key then regions_named key rs ++ r ∷ [] else regions_named key rs)
+    → regions_named key (rs ++ r ∷ []) ≡ (if pointwise nat_eq (lower_case r.name) key then regions_named key rs ++ r ∷ [] else regions_named key rs)
 named_push key [] r =
-    elim (pointwise nat_eq (folded r.name) key) as (λ b. (if b then r ∷ [] else []) ≡ (if b then r ∷ [] else [])) [
+    elim (pointwise nat_eq (lower_case r.name) key) as (λ b. (if b then r ∷ [] else []) ≡ (if b then r ∷ [] else [])) [
       | true ↦ refl
       | false ↦ refl
     ]
 named_push key (x ∷ xs) r =
-    ap (λ ys. if pointwise nat_eq (folded x.name) key then x ∷ ys else ys) (named_push key xs r)
-    ∙ elim (pointwise nat_eq (folded x.name) key) as (λ b. (if b then x ∷ (if pointwise nat_eq (folded r.name) key then regions_named key xs ++ r ∷ [] else regions_named key xs) else (if pointwise nat_eq (folded r.name) key then regions_named key xs ++ r ∷ [] else regions_named key xs))
-    ≡ (if pointwise nat_eq (folded r.name) key then (if b then x ∷ regions_named key xs else regions_named key xs) ++ r ∷ [] else (if b then x ∷ regions_named key xs else regions_named key xs))) [
-      | true ↦ in_front (pointwise nat_eq (folded r.name) key) x (regions_named key xs) r
+    ap (λ ys. if pointwise nat_eq (lower_case x.name) key then x ∷ ys else ys) (named_push key xs r)
+    ∙ elim (pointwise nat_eq (lower_case x.name) key) as (λ b. (if b then x ∷ (if pointwise nat_eq (lower_case r.name) key then regions_named key xs ++ r ∷ [] else regions_named key xs) else (if pointwise nat_eq (lower_case r.name) key then regions_named key xs ++ r ∷ [] else regions_named key xs))
+    ≡ (if pointwise nat_eq (lower_case r.name) key then (if b then x ∷ regions_named key xs else regions_named key xs) ++ r ∷ [] else (if b then x ∷ regions_named key xs else regions_named key xs))) [
+      | true ↦ in_front (pointwise nat_eq (lower_case r.name) key) x (regions_named key xs) r
       | false ↦ refl
     ]
   where
@@ -65,13 +65,13 @@ added_at true old found next next' rs r same pushed h = ap Some (same refl) ∙ 
 added_at false old found next next' rs r same pushed h = h
 
 pub sizes_added : {S : Type 0} (above : List HeldRegion) (r : HeldRegion) (m n : HashMap (Vec ℕ) HeldSizes S) (k : Vec ℕ)
-    → k.items ≡ folded r.name → Sizes above m
+    → k.items ≡ lower_case r.name → Sizes above m
     → ((q : Vec ℕ) → get same_key n q ≡ cond (same_key k q) (Some (with_region (get same_key m k) r)) (get same_key m q))
     → Sizes (above ++ r ∷ []) n
 sizes_added above r m n k is h update = λ q.
-    let key : pointwise nat_eq k.items q.items ≡ pointwise nat_eq (folded r.name) q.items = ap (λ x. pointwise nat_eq x q.items) is in
+    let key : pointwise nat_eq k.items q.items ≡ pointwise nat_eq (lower_case r.name) q.items = ap (λ x. pointwise nat_eq x q.items) is in
     update q ∙ ap (λ b. cond b (Some (with_region (get same_key m k) r)) (get same_key m q)) key
-    ∙ added_at (pointwise nat_eq (folded r.name) q.items) (get same_key m q) None (with_region (get same_key m k) r) (with_region (held_by q.items above) r) (regions_named q.items above) r
+    ∙ added_at (pointwise nat_eq (lower_case r.name) q.items) (get same_key m q) None (with_region (get same_key m k) r) (with_region (held_by q.items above) r) (regions_named q.items above) r
     (λ t. ap (λ o. with_region o r) (h k ∙ ap (λ x. held_by x above) (is ∙ same_text _ _ (sym t))))
     (sizes_push (regions_named q.items above) r) (h q)
     ∙ sym (ap sizes_of (named_push q.items above r))

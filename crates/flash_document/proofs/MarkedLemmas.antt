@@ -7,7 +7,7 @@ use Rattle.build_base.specs.First.{or_else}
 use Rattle.build_base.specs.declared.fault.Fault.{Fault}
 use Rattle.build_base.specs.declared.refusal.Refusal.{Refusal}
 use Rattle.build_base.specs.declared.refusal.Refusal.TheVariants.{Bad, WantOfMemory}
-use Rattle.flash_document.specs.declared.stated.Stated.{Stated}
+use Rattle.flash_document.specs.declared.stated.FdfSection.{FdfSection}
 use Rattle.flash_document.specs.Whole.{first_marked}
 
 none_passed : (o rest : Option Fault) → o ≡ None → or_else o rest ≡ rest
@@ -22,7 +22,7 @@ rest_of : {A : Type 0} (x : A) (xs : List A) → take (length (x ∷ xs) - 1) (d
 rest_of x xs = take_all (length (x ∷ xs) - 1) xs (omega arith)
 
 -- a part without a fault is passed
-pub marked_passed : (f : Bool → Stated → Option Fault) (left : List Stated) (marks : List Bool) (part : Stated) (all : Option Fault) → 0 < length left → 0 < length marks → part ≡ get_or left 0 part → f (get_or marks 0 false) part ≡ None → first_marked f left marks ≡ all
+pub marked_passed : (f : Bool → FdfSection → Option Fault) (left : List FdfSection) (marks : List Bool) (part : FdfSection) (all : Option Fault) → 0 < length left → 0 < length marks → part ≡ get_or left 0 part → f (get_or marks 0 false) part ≡ None → first_marked f left marks ≡ all
     → first_marked f (take (length left - 1) (drop 1 left)) (take (length marks - 1) (drop 1 marks)) ≡ all
 marked_passed f [] marks part all l m is none whole = absurd (omega arith)
 marked_passed f (p ∷ ps) [] part all l m is none whole = absurd (omega arith)
@@ -39,7 +39,7 @@ checks_first (Ok x) o rest all err h whole = absurd (cc)
 checks_first (Err e) o rest all err h whole = finds_first e o rest all h whole
 
 -- the first fault that is found is that of the whole
-pub marked_stops : (f : Bool → Stated → Option Fault) (left : List Stated) (marks : List Bool) (part : Stated) (all : Option Fault) (r : Result (Unit {0}) Refusal) → 0 < length left → 0 < length marks → part ≡ get_or left 0 part → is_err r ≡ true → Checks r (f (get_or marks 0 false) part) → first_marked f left marks ≡ all → Checks r all
+pub marked_stops : (f : Bool → FdfSection → Option Fault) (left : List FdfSection) (marks : List Bool) (part : FdfSection) (all : Option Fault) (r : Result (Unit {0}) Refusal) → 0 < length left → 0 < length marks → part ≡ get_or left 0 part → is_err r ≡ true → Checks r (f (get_or marks 0 false) part) → first_marked f left marks ≡ all → Checks r all
 marked_stops f [] marks part all r l m is err h whole = absurd (omega arith)
 marked_stops f (p ∷ ps) [] part all r l m is err h whole = absurd (omega arith)
 marked_stops f (p ∷ ps) (b ∷ bs) part all r l m is err h whole = checks_first r (f b p) (first_marked f ps bs) all err (rw (sym is) h) whole

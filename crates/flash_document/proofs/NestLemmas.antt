@@ -5,8 +5,8 @@ use Rattle.std.specs.List.{All, find, flat_map, range_with_len}
 use Rattle.std.specs.Cmp.Lexicographic.{pointwise, same_text}
 use Rattle.std.specs.Option.{IfSome}
 use Rattle.std.proofs.lemmas.Bool.{cases_Bool, or_cases, and_parts, eqb-true, both_ways}
-use Rattle.flash_document.specs.Names.{folded, place_from, place_of}
-use Rattle.flash_document.specs.Numbering.{has, nest_of, all_among, may_come, next_in, given, turns, order_of}
+use Rattle.flash_document.specs.Names.{lower_case, place_from, place_of}
+use Rattle.flash_document.specs.Numbering.{has, nest_of, all_among, may_come, next_in, given, turns, topological_order}
 use Rattle.flash_document.proofs.TurnLemmas.{all-has}
 
 -- what each volume of an order holds stands before it
@@ -45,16 +45,16 @@ unfolding turns
 turns_ordered nests [] order h = h
 turns_ordered nests (n ∷ ns) order h = given_ordered nests (turns nests ns) order (next_in nests order) (λ longer more. turns_ordered nests ns longer more) h (next_comes nests order)
 
-pub order_ordered : (nests : List (List ℕ)) → IsOrdered nests [] (order_of nests)
+pub order_ordered : (nests : List (List ℕ)) → IsOrdered nests [] (topological_order nests)
 order_ordered nests = turns_ordered nests nests [] tt
 
 -- a place of a name is that of one of them which is this name
 pub place_named : (n : ℕ) (key : List ℕ) (names : List (List ℕ)) (q : ℕ) → place_from n key names ≡ Some q
-    → (i : ℕ) × (q ≡ n + i) × (pointwise nat_eq (folded (get_or names i [])) key ≡ true)
+    → (i : ℕ) × (q ≡ n + i) × (pointwise nat_eq (lower_case (get_or names i [])) key ≡ true)
 unfolding place_from
 place_named n key [] q h = absurd cc
 place_named n key (name ∷ names) q h =
-    elim (cases_Bool (pointwise nat_eq (folded name) key)) [
+    elim (cases_Bool (pointwise nat_eq (lower_case name) key)) [
       | inl t ↦ (0, one n q (sym (ap (λ b. if b then Some n else place_from (n + 1) key names) t) ∙ h), t)
       | inr f ↦
           let (i, e, t) = place_named (n + 1) key names q (sym (ap (λ b. if b then Some n else place_from (n + 1) key names) f) ∙ h) in
@@ -65,18 +65,18 @@ place_named n key (name ∷ names) q h =
     one a b e = let same : a ≡ b = cc in omega (arith, same)
 
 -- among names of which one stands at a number, the place of that name is no greater
-pub named_among : (n : ℕ) (key : List ℕ) (name : ℕ → List ℕ) (above rest : List ℕ) (q : ℕ) → has above q ≡ true → pointwise nat_eq (folded (name q)) key ≡ true
+pub named_among : (n : ℕ) (key : List ℕ) (name : ℕ → List ℕ) (above rest : List ℕ) (q : ℕ) → has above q ≡ true → pointwise nat_eq (lower_case (name q)) key ≡ true
     → (u : ℕ) × (place_from n key (map name (above ++ rest)) ≡ Some u) × (u < n + length above)
 unfolding place_from
 named_among n key name [] rest q h t = absurd (both_ways false refl h)
 named_among n key name (p ∷ above) rest q h t =
-    elim (cases_Bool (pointwise nat_eq (folded (name p)) key)) [
+    elim (cases_Bool (pointwise nat_eq (lower_case (name p)) key)) [
       | inl e ↦ (n, ap (λ b. if b then Some n else place_from (n + 1) key (map name (above ++ rest))) e, omega arith)
       | inr f ↦
           let (u, e, l) = named_among (n + 1) key name above rest q (later f (or_cases (nat_eq p q) (has above q) h)) t in
           (u, ap (λ b. if b then Some n else place_from (n + 1) key (map name (above ++ rest))) f ∙ e, omega (arith, l))
     ]
   where
-    later : pointwise nat_eq (folded (name p)) key ≡ false → (nat_eq p q ≡ true) ⊎ (has above q ≡ true) → has above q ≡ true
-    later f (inl e) = absurd (both_ways _ f (ap (λ x. pointwise nat_eq (folded (name x)) key) (eqb-true p q e) ∙ t))
+    later : pointwise nat_eq (lower_case (name p)) key ≡ false → (nat_eq p q ≡ true) ⊎ (has above q ≡ true) → has above q ≡ true
+    later f (inl e) = absurd (both_ways _ f (ap (λ x. pointwise nat_eq (lower_case (name x)) key) (eqb-true p q e) ∙ t))
     later f (inr h) = h

@@ -21,13 +21,13 @@ use Rattle.fdf_words.specs.declared.rows.SectionBody.{SectionBody}
 use Rattle.fdf_words.specs.declared.rows.SectionBody.TheVariants as body
 use Rattle.fdf_words.specs.declared.rows.SectionLine.{SectionLine}
 use Rattle.flash_document.specs.Document.{body_source, section_plan, file_plan, item_plan, polarity_of, erase_flag, exponent, attributes_of, head_plan, volume_plan, plan_at}
-use Rattle.flash_document.specs.Names.{folded, place_from, place_of}
+use Rattle.flash_document.specs.Names.{lower_case, place_from, place_of}
 use Rattle.flash_document.specs.Numbering.{has, nest_of, all_among}
 use Rattle.flash_document.specs.Shape.{SourceFits, GuidFits, SectionFits, FileFits, ItemFits, ErasedFits, VolumeFits, VolumesFit}
 use Rattle.flash_document.specs.Whole.{place_list, body_names, section_nest, item_nest, nest_in, body_unknown, row_unknown, held_of}
 use Rattle.flash_document.specs.declared.held.HeldRegion.{HeldRegion}
-use Rattle.flash_document.specs.declared.stated.StatedItem.{StatedItem}
-use Rattle.flash_document.specs.declared.stated.StatedItem.TheVariants as item
+use Rattle.flash_document.specs.declared.stated.FdfStatement.{FdfStatement}
+use Rattle.flash_document.specs.declared.stated.FdfStatement.TheVariants as item
 use Rattle.flash_document.specs.declared.stated.StatedVolume.{StatedVolume}
 use Rattle.flash_document.proofs.CarryLemmas.{ItemHas, VolumeHas, at_place}
 use Rattle.flash_document.proofs.NestLemmas.{IsOrdered, place_named, named_among}
@@ -70,10 +70,10 @@ module _ (names : List (List ℕ)) (above rest : List ℕ) (ordered : List (List
       → unwrap_or (place_of ordered name) 0 < length above
   name_below name None e some all = absurd (both_ways false refl some)
   name_below name (Some q) e some all =
-      let (i, same, named) = place_named 0 (folded name) names q e in
-      let at : pointwise nat_eq (folded (get_or names q [])) (folded name) ≡ true = subst (λ k. pointwise nat_eq (folded (get_or names k [])) (folded name) ≡ true) (let s : i ≡ q = omega (arith, same) in s) named in
-      let (u, found, low) = named_among 0 (folded name) (λ p. get_or names p []) above rest q (and_parts (has above q) true all).0 at in
-      let place : place_of ordered name ≡ Some u = ap (place_from 0 (folded name)) told ∙ found in
+      let (i, same, named) = place_named 0 (lower_case name) names q e in
+      let at : pointwise nat_eq (lower_case (get_or names q [])) (lower_case name) ≡ true = subst (λ k. pointwise nat_eq (lower_case (get_or names k [])) (lower_case name) ≡ true) (let s : i ≡ q = omega (arith, same) in s) named in
+      let (u, found, low) = named_among 0 (lower_case name) (λ p. get_or names p []) above rest q (and_parts (has above q) true all).0 at in
+      let place : place_of ordered name ≡ Some u = ap (place_from 0 (lower_case name)) told ∙ found in
       let below : u < length above = omega (arith, low) in
       subst (λ o. unwrap_or o 0 < length above) (sym place) below
 
@@ -100,12 +100,12 @@ module _ (names : List (List ℕ)) (above rest : List ℕ) (ordered : List (List
       })
       (sections_nested sections both.1 (All-tail (λ x. RowFits (row.Section x)) s sections fit) (All-tail (λ x. Known names (row.Section x)) s sections known))
 
-  item_nested : (i : StatedItem) → all_among above (item_nest names i) ≡ true → ItemHas RowFits i → ItemHas (Known names) i → ItemFits (length above) (item_plan ordered i)
+  item_nested : (i : FdfStatement) → all_among above (item_nest names i) ≡ true → ItemHas RowFits i → ItemHas (Known names) i → ItemFits (length above) (item_plan ordered i)
   item_nested (item.Apriori at pei members) all fit known = tt
   item_nested (item.File file) all fit known = sections_nested file.sections all fit known
   item_nested (item.Inf line) all fit known = tt
 
-  items_nested : (items : List StatedItem) → all_among above (flat_map (item_nest names) items) ≡ true → All (ItemHas RowFits) items → All (ItemHas (Known names)) items
+  items_nested : (items : List FdfStatement) → all_among above (flat_map (item_nest names) items) ≡ true → All (ItemHas RowFits) items → All (ItemHas (Known names)) items
       → All (ItemFits (length above)) (map (item_plan ordered) items)
   items_nested [] all fit known = All-nil (ItemFits (length above))
   items_nested (i ∷ items) all fit known =

@@ -3,7 +3,7 @@ use Rattle.std.proofs.Common.{◌≡◌, ℕ, ◌+◌, ◌<◌, ◌≤◌, Bool,
 use Rattle.std.specs.List.{All, find, range_with_len}
 use Rattle.std.specs.Option.{IfSome}
 use Rattle.std.proofs.lemmas.List.Elements.{All-nil, All-push}
-use Rattle.flash_document.specs.Numbering.{may_come, next_in, given, turns, order_of}
+use Rattle.flash_document.specs.Numbering.{may_come, next_in, given, turns, topological_order}
 
 find_below : (test : ℕ → Bool) (a n : ℕ) → IfSome (find test (range_with_len a n)) (λ p. p < a + n)
 find_below test a zero = tt
@@ -37,5 +37,5 @@ turns_below nests (n ∷ ns) order all =
     given_all (λ p. p < length nests) (turns nests ns) order (next_in nests order) (λ longer more. turns_below nests ns longer more) all (next_below nests order)
 
 -- each is the place of a volume
-pub order_below : (nests : List (List ℕ)) → All (λ p. p < length nests) (order_of nests)
+pub order_below : (nests : List (List ℕ)) → All (λ p. p < length nests) (topological_order nests)
 order_below nests = turns_below nests nests [] (All-nil (λ p. p < length nests))

@@ -30,15 +30,15 @@ use Rattle.fdf_words.specs.declared.rows.Content.TheVariants as content
 use Rattle.flash_document.specs.Devices.{capped}
 use Rattle.flash_document.specs.Document.{numbered, ordered_names, kind_numbered, content_kind, region_kind, region_plan, device_plan, part_device, part_rule, plan_at, volume_plan, head_plan, document_of, flash_of_lines}
 use Rattle.flash_document.specs.Flash.{line_of, flash_of}
-use Rattle.flash_document.specs.Names.{folded, place_from, place_of}
-use Rattle.flash_document.specs.Numbering.{order_of}
+use Rattle.flash_document.specs.Names.{lower_case, place_from, place_of}
+use Rattle.flash_document.specs.Numbering.{topological_order}
 use Rattle.flash_document.specs.Parts.{all_stated}
 use Rattle.flash_document.specs.Shape.{HeadFits, KindFits, RegionFits, DeviceFits, SectionFits, NameFits, RuleFits, HasShape}
-use Rattle.flash_document.specs.Whole.{volumes_of, volume_in, names_of, nests_of, nest_in, all_held, held_of, first_size, volume_size, block_of, size_of, size_fault, part_too_large, whole_blocks, unlike, blocks_with, volume_blocks, part_blocks, part_unstated, loop_fault, row_unknown, line_unknown, part_sizes, part_key, twin, is_again, above_with, twin_marks, first_marked, whole_fault}
+use Rattle.flash_document.specs.Whole.{volumes_of, volume_in, names_of, nests_of, nest_in, all_held, held_of, first_size, volume_size, block_of, size_of, size_fault, part_too_large, whole_blocks, check_equal_sizes, blocks_with, volume_blocks, part_blocks, part_unstated, loop_fault, row_unknown, line_unknown, part_sizes, part_key, twin, is_again, above_with, twin_marks, first_marked, whole_fault}
 use Rattle.flash_document.specs.declared.held.HeldRegion.{HeldRegion}
 use Rattle.flash_document.specs.declared.held.HeldSizes.{HeldSizes}
-use Rattle.flash_document.specs.declared.stated.Stated.{Stated}
-use Rattle.flash_document.specs.declared.stated.Stated.TheVariants.{Settings, Device, Volume, Rule}
+use Rattle.flash_document.specs.declared.stated.FdfSection.{FdfSection}
+use Rattle.flash_document.specs.declared.stated.FdfSection.TheVariants.{Settings, Device, Volume, Rule}
 use Rattle.flash_document.specs.declared.stated.StatedDevice.{StatedDevice}
 use Rattle.flash_document.specs.declared.stated.StatedRegion.{StatedRegion}
 use Rattle.flash_document.specs.declared.stated.StatedVolume.{StatedVolume}
@@ -65,7 +65,7 @@ place_below : (n : ℕ) (key : List ℕ) (names : List (List ℕ)) (k : ℕ) →
 unfolding place_from
 place_below n key [] k h = absurd cc
 place_below n key (name ∷ names) k h =
-    elim (pointwise nat_eq (folded name) key) as (λ b. (if b then Some n else place_from (n + 1) key names) ≡ Some k → k < n + length (name ∷ names)) [
+    elim (pointwise nat_eq (lower_case name) key) as (λ b. (if b then Some n else place_from (n + 1) key names) ≡ Some k → k < n + length (name ∷ names)) [
       | true ↦ λ e. subst (λ o. IfSome o (λ m. m < n + length (name ∷ names))) e (omega arith)
       | false ↦ λ e. let below : k < n + 1 + length names = place_below (n + 1) key names k e in omega arith
     ] h
@@ -78,7 +78,7 @@ numbered_fits count (Some k) below =
     fits
 
 content_fits : (names : List (List ℕ)) (stated : Content) → KindFits (length names) (content_kind names stated)
-content_fits names (content.Volume name) = numbered_fits (length names) (place_of names name) (place_below 0 (folded name) names)
+content_fits names (content.Volume name) = numbered_fits (length names) (place_of names name) (place_below 0 (lower_case name) names)
 content_fits names (content.Tree path) = tt
 content_fits names (content.Bytes bytes) = tt
 
@@ -91,13 +91,13 @@ regions_fit names [] = All-nil (RegionFits (length names))
 regions_fit names (region ∷ regions) =
     All-cons (RegionFits (length names)) (region_plan names region) (map (region_plan names) regions) (kind_fits names region.content) (regions_fit names regions)
 
-part_fits : (names : List (List ℕ)) (part : Stated) → All (DeviceFits (length names)) (part_device names part)
+part_fits : (names : List (List ℕ)) (part : FdfSection) → All (DeviceFits (length names)) (part_device names part)
 part_fits names Settings = All-nil (DeviceFits (length names))
 part_fits names (Device device) = All-cons (DeviceFits (length names)) (device_plan names device) [] (regions_fit names device.regions) (All-nil (DeviceFits (length names)))
 part_fits names (Volume volume) = All-nil (DeviceFits (length names))
 part_fits names (Rule rule) = All-nil (DeviceFits (length names))
 
-devices_fit : (names : List (List ℕ)) (parts : List Stated) → All (DeviceFits (length names)) (flat_map (part_device names) parts)
+devices_fit : (names : List (List ℕ)) (parts : List FdfSection) → All (DeviceFits (length names)) (flat_map (part_device names) parts)
 devices_fit names [] = All-nil (DeviceFits (length names))
 devices_fit names (part ∷ parts) =
     All-append (DeviceFits (length names)) (part_device names part) (flat_map (part_device names) parts) (part_fits names part) (devices_fit names parts)
@@ -143,7 +143,7 @@ volume_makes : (regions : List HeldRegion) (again : Bool) (volume : StatedVolume
 volume_makes regions true volume small full once = some_none once
 volume_makes regions false volume small full once = All-cons (Makes regions) volume [] (record { small = small; full = full }) (All-nil (Makes regions))
 
-part_makes : (regions : List HeldRegion) (again : Bool) (part : Stated) → part_too_large regions again part ≡ None → part_blocks regions again part ≡ None → twin again part ≡ None
+part_makes : (regions : List HeldRegion) (again : Bool) (part : FdfSection) → part_too_large regions again part ≡ None → part_blocks regions again part ≡ None → twin again part ≡ None
     → All (Makes regions) (volume_in part)
 part_makes regions again Settings small full once = All-nil (Makes regions)
 part_makes regions again (Device device) small full once = All-nil (Makes regions)
@@ -151,7 +151,7 @@ part_makes regions again (Volume volume) small full once = volume_makes regions 
 part_makes regions again (Rule rule) small full once = All-nil (Makes regions)
 
 -- where no name stands twice, each volume is the first of its name
-all_make : (regions : List HeldRegion) (parts : List Stated) (above : List (List ℕ)) → first_marked (part_too_large regions) parts (twin_marks parts above) ≡ None
+all_make : (regions : List HeldRegion) (parts : List FdfSection) (above : List (List ℕ)) → first_marked (part_too_large regions) parts (twin_marks parts above) ≡ None
     → first_marked (part_blocks regions) parts (twin_marks parts above) ≡ None → first_marked twin parts (twin_marks parts above) ≡ None → All (Makes regions) (volumes_of parts)
 unfolding twin_marks
 all_make regions [] above small full once = All-nil (Makes regions)
@@ -195,7 +195,7 @@ plans_count names regions volumes (p ∷ order) all =
         ]
     one (Some volume) e = refl
 
-numbered_below : (parts : List Stated) → All (λ p. p < length (volumes_of parts)) (numbered parts)
+numbered_below : (parts : List FdfSection) → All (λ p. p < length (volumes_of parts)) (numbered parts)
 numbered_below parts =
     subst (λ n. All (λ p. p < n) (numbered parts)) (length-map (volumes_of parts) (nest_in (names_of parts))) (order_below (nests_of parts))
 
@@ -221,13 +221,13 @@ lines_known names (line ∷ lines) all =
     (lines_known names lines (All-tail (λ l. line_unknown names l ≡ None) line lines all))
 
 -- names of devices, and rules
-device_names : (names : List (List ℕ)) (part : Stated) → StatedHas RowFits ScopeFits part → All NameFits (part_device names part)
+device_names : (names : List (List ℕ)) (part : FdfSection) → StatedHas RowFits ScopeFits part → All NameFits (part_device names part)
 device_names names Settings h = All-nil NameFits
 device_names names (Device device) h = All-cons NameFits (device_plan names device) [] h (All-nil NameFits)
 device_names names (Volume volume) h = All-nil NameFits
 device_names names (Rule rule) h = All-nil NameFits
 
-all_names : (names : List (List ℕ)) (parts : List Stated) → All (StatedHas RowFits ScopeFits) parts → All NameFits (flat_map (part_device names) parts)
+all_names : (names : List (List ℕ)) (parts : List FdfSection) → All (StatedHas RowFits ScopeFits) parts → All NameFits (flat_map (part_device names) parts)
 all_names names [] all = All-nil NameFits
 all_names names (part ∷ parts) all =
     All-append NameFits (part_device names part) (flat_map (part_device names) parts)
@@ -239,20 +239,20 @@ rule_sections_fit (s ∷ sections) all =
     let h = All-head (λ x. RowFits (row.RuleSection x)) s sections all in
     All-cons (SectionFits 0) s sections (record { nested = h.1; guid = h.0 }) (rule_sections_fit sections (All-tail (λ x. RowFits (row.RuleSection x)) s sections all))
 
-rule_fits : (part : Stated) → StatedHas RowFits ScopeFits part → All RuleFits (part_rule part)
+rule_fits : (part : FdfSection) → StatedHas RowFits ScopeFits part → All RuleFits (part_rule part)
 rule_fits Settings h = All-nil RuleFits
 rule_fits (Device device) h = All-nil RuleFits
 rule_fits (Volume volume) h = All-nil RuleFits
 rule_fits (Rule rule) h = All-cons RuleFits rule.rule [] (rule_sections_fit rule.rule.file.sections h) (All-nil RuleFits)
 
-rules_fit : (parts : List Stated) → All (StatedHas RowFits ScopeFits) parts → All RuleFits (flat_map part_rule parts)
+rules_fit : (parts : List FdfSection) → All (StatedHas RowFits ScopeFits) parts → All RuleFits (flat_map part_rule parts)
 rules_fit [] all = All-nil RuleFits
 rules_fit (part ∷ parts) all =
     All-append RuleFits (part_rule part) (flat_map part_rule parts) (rule_fits part (All-head (StatedHas RowFits ScopeFits) part parts all))
     (rules_fit parts (All-tail (StatedHas RowFits ScopeFits) part parts all))
 
 -- as many as the lines may state
-record Few (parts : List Stated) : Type 0 where
+record Few (parts : List FdfSection) : Type 0 where
   devices : (names : List (List ℕ)) → length (flat_map (part_device names) parts) ≤ 65535
   volumes : length (volumes_of parts) ≤ 65535
   rules : length (flat_map part_rule parts) ≤ 65535
@@ -270,12 +270,12 @@ few_lines reads limits =
       items = few_stated reads limits.statements;
     }
 
-few_numbered : (parts : List Stated) → length (volumes_of parts) ≤ 65535 → length (numbered parts) ≤ 65535
+few_numbered : (parts : List FdfSection) → length (volumes_of parts) ≤ 65535 → length (numbered parts) ≤ 65535
 few_numbered parts l =
     no_more (length (numbered parts)) (length (nests_of parts)) 65535 (order_few (nests_of parts))
     (subst (λ n. n ≤ 65535) (sym (length-map (volumes_of parts) (nest_in (names_of parts)))) l)
 
-document_shape : (root : List ℕ) (lines : List LineRead) (parts : List Stated) → parts ≡ all_stated lines → All (LineHas RowFits ScopeFits) lines → Few parts → whole_fault lines parts ≡ None
+document_shape : (root : List ℕ) (lines : List LineRead) (parts : List FdfSection) → parts ≡ all_stated lines → All (LineHas RowFits ScopeFits) lines → Few parts → whole_fault lines parts ≡ None
     → HasShape (document_of root lines parts)
 unfolding whole_fault document_of
 document_shape root lines parts told all few h =

@@ -14,7 +14,7 @@ use Rattle.std.proofs.lemmas.List.{drop_all}
 use Rattle.flash_document.specs.Numbering.{has, nest_of, all_among, may_come, next_in, turns}
 use Rattle.flash_document.specs.Turning.{names, waiting_at, Passed, Waits, Ready, Held, Stands, Standing, StandingBut, unseen}
 use Rattle.flash_document.specs.declared.numbering.Waiting.{Waiting}
-use Rattle.flash_document.specs.declared.numbering.Turns.{Turns}
+use Rattle.flash_document.specs.declared.numbering.Sorter.{Sorter}
 
 -- a test that both holds and doesn't
 clash : {X : Type 0} (b : Bool) → b ≡ true → b ≡ false → X
@@ -50,7 +50,7 @@ pub has-at : (places : List ℕ) (i d : ℕ) → i < length places → has place
 has-at places i d h = list_any_at (λ q. nat_eq q (get_or places i d)) places i d h (eq-eqb _ _ refl)
 
 -- a volume that was looked at may come
-pub settled_ready : (nests : List (List ℕ)) (order : List ℕ) (row : Waiting) (rest : List Waiting) (old new : Turns)
+pub settled_ready : (nests : List (List ℕ)) (order : List ℕ) (row : Waiting) (rest : List Waiting) (old new : Sorter)
     → Standing nests order (row ∷ rest) old
     → all_among order (nest_of nests row.volume) ≡ true
     → new.numbered ≡ old.numbered
@@ -95,7 +95,7 @@ settled_ready nests order row rest old new h all numbered waiting ready = record
         inr (inr (inr (record { on = held.on; free = held.free; held = held.held; waits = ap (λ table. names (waiting_at table held.on) v) waiting ∙ held.waits })))
 
 -- a volume that was looked at waits
-pub settled_waiting : (nests : List (List ℕ)) (order : List ℕ) (row next : Waiting) (rest : List Waiting) (w : ℕ) (old new : Turns)
+pub settled_waiting : (nests : List (List ℕ)) (order : List ℕ) (row next : Waiting) (rest : List Waiting) (w : ℕ) (old new : Sorter)
     → Standing nests order (row ∷ rest) old
     → next.volume ≡ row.volume
     → has order w ≡ false
@@ -171,7 +171,7 @@ settled_waiting nests order row next rest w old new h same free held passed numb
     stands v (inr (inr (inr k))) = inr (inr (inr (stays v k)))
 
 -- the chosen volume has its number, and those that waited for it are to be looked at
-pub numbered_more : (nests : List (List ℕ)) (order : List ℕ) (k : ℕ) (old new : Turns)
+pub numbered_more : (nests : List (List ℕ)) (order : List ℕ) (k : ℕ) (old new : Sorter)
     → StandingBut nests order k old
     → ((q : ℕ) → contains nat_cmp new.numbered q ≡ cond (nat_eq k q) true (contains nat_cmp old.numbered q))
     → new.ready ≡ old.ready
@@ -243,7 +243,7 @@ numbered_more nests order k old new h numbered ready waiting = record {
     stands v (inr (inr (inr (inr w)))) = later v w
 
 -- a volume that may come is among the ready
-ready_there : (nests : List (List ℕ)) (order : List ℕ) (t : Turns) → Standing nests order [] t → (v : ℕ) → v < length nests → may_come nests order v ≡ true → contains nat_cmp t.ready v ≡ true
+ready_there : (nests : List (List ℕ)) (order : List ℕ) (t : Sorter) → Standing nests order [] t → (v : ℕ) → v < length nests → may_come nests order v ≡ true → contains nat_cmp t.ready v ≡ true
 ready_there nests order t h v l m = found (h.all v l)
   where
     both : (not (has order v) ≡ true) × (all_among order (nest_of nests v) ≡ true)
@@ -262,7 +262,7 @@ comes : (nests : List (List ℕ)) (order : List ℕ) (v : ℕ) → Ready nests o
 comes nests order v r = and_from _ _ (not_from_false (has order v) r.free) r.whole
 
 -- the least of the ready is the next
-pub next_least : (nests : List (List ℕ)) (order : List ℕ) (t : Turns) (k : ℕ) → Standing nests order [] t → contains nat_cmp t.ready k ≡ true
+pub next_least : (nests : List (List ℕ)) (order : List ℕ) (t : Sorter) (k : ℕ) → Standing nests order [] t → contains nat_cmp t.ready k ≡ true
     → ((q : ℕ) → contains nat_cmp t.ready q ≡ true → k ≤ q) → next_in nests order ≡ Some k
 unfolding next_in
 next_least nests order t k h there least =
@@ -270,13 +270,13 @@ next_least nests order t k h there least =
     find_least (may_come nests order) 0 (length nests) k (omega arith) (omega (arith, r.there)) (comes nests order k r)
     (λ m a b. false_from_ne_true _ (λ e. let bound = least m (ready_there nests order t h m (omega (arith, b, r.there)) e) in absurd (omega (arith, b, bound))))
 
-pub next_none : (nests : List (List ℕ)) (order : List ℕ) (t : Turns) → Standing nests order [] t → ((q : ℕ) → contains nat_cmp t.ready q ≡ false) → next_in nests order ≡ None
+pub next_none : (nests : List (List ℕ)) (order : List ℕ) (t : Sorter) → Standing nests order [] t → ((q : ℕ) → contains nat_cmp t.ready q ≡ false) → next_in nests order ≡ None
 unfolding next_in
 next_none nests order t h none =
     find_none (may_come nests order) 0 (length nests) (λ m a b. false_from_ne_true _ (λ e. clash _ (ready_there nests order t h m (omega (arith, b)) e) (none m)))
 
 -- without the least of the ready
-pub taken_out : (nests : List (List ℕ)) (order : List ℕ) (k : ℕ) (old new : Turns)
+pub taken_out : (nests : List (List ℕ)) (order : List ℕ) (k : ℕ) (old new : Sorter)
     → Standing nests order [] old
     → contains nat_cmp old.ready k ≡ true
     → new.numbered ≡ old.numbered
@@ -325,7 +325,7 @@ unseen_passed nests i zero l = All-nil (Passed nests [])
 unseen_passed nests i (suc n) l =
     All-cons (Passed nests []) _ (unseen (i + 1) n) (record { there = omega (arith, l); free = refl; passed = refl }) (unseen_passed nests (i + 1) n (omega (arith, l)))
 
-pub begun : (nests : List (List ℕ)) (t : Turns) → t.numbered.keys ≡ [] → t.ready.keys ≡ [] → t.waiting.entries ≡ [] → Standing nests [] (unseen 0 (length nests)) t
+pub begun : (nests : List (List ℕ)) (t : Sorter) → t.numbered.keys ≡ [] → t.ready.keys ≡ [] → t.waiting.entries ≡ [] → Standing nests [] (unseen 0 (length nests)) t
 begun nests t numbered ready waiting = record {
   numbered = λ v. rw numbered refl;
   whole = λ v e. absurd (both_ways false refl e);
@@ -335,7 +335,7 @@ begun nests t numbered ready waiting = record {
   all = λ v l. inr (inr (inl (names_unseen 0 (length nests) v (omega arith) (omega (arith, l)))));
 }
 
-pub unseen_next : (nests : List (List ℕ)) (i n m : ℕ) (t : Turns) → n ≡ suc m → Standing nests [] (unseen i n) t → Standing nests [] (record { volume = i; at = 0 } ∷ unseen (i + 1) m) t
+pub unseen_next : (nests : List (List ℕ)) (i n m : ℕ) (t : Sorter) → n ≡ suc m → Standing nests [] (unseen i n) t → Standing nests [] (record { volume = i; at = 0 } ∷ unseen (i + 1) m) t
 unseen_next nests i n m t e h = subst (λ k. Standing nests [] (unseen i k) t) e h
 
 pub turn_taken : (nests : List (List ℕ)) (order : List ℕ) (i k : ℕ) (nest : List ℕ) → i < length nests → nest ≡ get_or nests i nest → next_in nests order ≡ Some k

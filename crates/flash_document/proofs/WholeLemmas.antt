@@ -25,7 +25,7 @@ use Rattle.flash_document.specs.Numbering.{first_loop}
 use Rattle.flash_document.specs.Tables.{loop_in}
 use Rattle.flash_document.specs.Whole.{volumes_of, names_of, nests_of, nest_in, loop_at, loop_named}
 use Rattle.flash_document.specs.declared.held.HeldRegion.{HeldRegion}
-use Rattle.flash_document.specs.declared.stated.Stated.{Stated}
+use Rattle.flash_document.specs.declared.stated.FdfSection.{FdfSection}
 use Rattle.flash_document.specs.declared.stated.StatedVolume.{StatedVolume}
 
 -- volumes that are lent

@@ -28,26 +28,26 @@ use Rattle.fdf_words.specs.declared.rows.SectionBody.TheVariants as body
 use Rattle.fdf_words.specs.declared.rows.SectionLine.{SectionLine}
 use Rattle.flash_document.specs.declared.held.HeldRegion.{HeldRegion}
 use Rattle.flash_document.specs.declared.held.HeldSizes.{HeldSizes}
-use Rattle.flash_document.specs.declared.stated.Stated.{Stated}
-use Rattle.flash_document.specs.declared.stated.Stated.TheVariants.{Device, Rule}
+use Rattle.flash_document.specs.declared.stated.FdfSection.{FdfSection}
+use Rattle.flash_document.specs.declared.stated.FdfSection.TheVariants.{Device, Rule}
 use Rattle.flash_document.specs.declared.stated.StatedDevice.{StatedDevice}
 use Rattle.flash_document.specs.declared.stated.StatedFile.{StatedFile}
-use Rattle.flash_document.specs.declared.stated.StatedItem.{StatedItem}
-use Rattle.flash_document.specs.declared.stated.StatedItem.TheVariants as stated_item
+use Rattle.flash_document.specs.declared.stated.FdfStatement.{FdfStatement}
+use Rattle.flash_document.specs.declared.stated.FdfStatement.TheVariants as stated_item
 use Rattle.flash_document.specs.declared.stated.StatedRegion.{StatedRegion}
 use Rattle.flash_document.specs.declared.stated.StatedVolume.{StatedVolume}
 use Rattle.flash_document.specs.Names.{place_of}
-use Rattle.flash_document.specs.Numbering.{order_of}
+use Rattle.flash_document.specs.Numbering.{topological_order}
 use Rattle.flash_document.specs.Parts.{all_stated}
 use Rattle.flash_document.specs.Sets.{all_sets}
 use Rattle.flash_document.specs.Whole.{volumes_of, names_of, nests_of, all_held, held_of, block_of, size_of, whole_fault}
 
 -- the volumes, told by their places in the file, in the order of their numbers
-abbrev pub numbered : List Stated → List ℕ
-numbered parts = order_of (nests_of parts)
+abbrev pub numbered : List FdfSection → List ℕ
+numbered parts = topological_order (nests_of parts)
 
 -- their names
-abbrev pub ordered_names : List Stated → List (List ℕ)
+abbrev pub ordered_names : List FdfSection → List (List ℕ)
 ordered_names parts = map (λ p. get_or (names_of parts) p []) (numbered parts)
 
 abbrev pub kind_numbered : Option ℕ → RegionKind
@@ -87,11 +87,11 @@ device_plan names device = record {
   regions = map (region_plan names) device.regions;
 }
 
-abbrev pub part_device : List (List ℕ) → Stated → List DevicePlan
+abbrev pub part_device : List (List ℕ) → FdfSection → List DevicePlan
 part_device names (Device device) = device_plan names device ∷ []
 part_device names stated = []
 
-abbrev pub part_rule : Stated → List RuleDoc
+abbrev pub part_rule : FdfSection → List RuleDoc
 part_rule (Rule rule) = rule.rule ∷ []
 part_rule stated = []
 
@@ -123,7 +123,7 @@ file_plan names file = record {
   sections = map (section_plan names) file.sections;
 }
 
-abbrev pub item_plan : List (List ℕ) → StatedItem → Item
+abbrev pub item_plan : List (List ℕ) → FdfStatement → Item
 item_plan names (stated_item.Apriori at pei members) = item.Apriori at pei members
 item_plan names (stated_item.File file) = item.File (file_plan names file)
 item_plan names (stated_item.Inf line) = item.Inf line
@@ -174,12 +174,12 @@ plan_in names regions volumes p =
     plan_at names regions (option_map (λ v. v.now) (slice_get volumes p))
 
 -- the volumes in the order of their numbers
-abbrev pub volume_plans : List Stated → List VolumePlan
+abbrev pub volume_plans : List FdfSection → List VolumePlan
 volume_plans parts =
     flat_map (λ p. plan_at (ordered_names parts) (all_held parts) (slice_get (volumes_of parts) p))
     (numbered parts)
 
-unfoldable pub document_of : List ℕ → List LineRead → List Stated → FlashDoc
+unfoldable pub document_of : List ℕ → List LineRead → List FdfSection → FlashDoc
 document_of root lines parts = record {
   at = record { path = root; line = 0 };
   sets = all_sets lines;

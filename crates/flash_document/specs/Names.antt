@@ -5,8 +5,8 @@ use Rattle.std.specs.Cmp.Lexicographic.{pointwise}
 use Rattle.std.specs.Global.{Vec}
 use Rattle.std.specs.HashMap.{HashMap, get}
 
-abbrev pub folded : List ℕ → List ℕ
-folded name = map to_ascii_lowercase name
+abbrev pub lower_case : List ℕ → List ℕ
+lower_case name = map to_ascii_lowercase name
 
 abbrev pub same_key : Vec ℕ → Vec ℕ → Bool
 same_key x y = pointwise nat_eq x.items y.items
@@ -14,12 +14,12 @@ same_key x y = pointwise nat_eq x.items y.items
 -- the place of the first name that is a key in lower case
 unfoldable pub place_from : ℕ → List ℕ → List (List ℕ) → Option ℕ
 place_from n key [] = None
-place_from n key (name ∷ names) = if pointwise nat_eq (folded name) key then Some n
+place_from n key (name ∷ names) = if pointwise nat_eq (lower_case name) key then Some n
     else place_from (n + 1) key names
 
 -- the place of the first of some names that is this one
 abbrev pub place_of : List (List ℕ) → List ℕ → Option ℕ
-place_of names name = place_from 0 (folded name) names
+place_of names name = place_from 0 (lower_case name) names
 
 -- a table gives the place of the first of each name
 abbrev pub Places : {S : Type 0} → List (List ℕ) → HashMap (Vec ℕ) ℕ S → Type 0

@@ -34,8 +34,8 @@ turns nests [] order = order
 turns nests (n ∷ ns) order = given (turns nests ns) order (next_in nests order)
 
 -- at each turn comes the first that may
-abbrev pub order_of : List (List ℕ) → List ℕ
-order_of nests = turns nests nests []
+abbrev pub topological_order : List (List ℕ) → List ℕ
+topological_order nests = turns nests nests []
 
 -- a volume holds another, by as many steps from one to the next as there are rows behind the first
 unfoldable pub holds_by : List (List ℕ) → List (List ℕ) → ℕ → ℕ → Bool

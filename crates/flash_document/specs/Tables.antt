@@ -3,7 +3,7 @@ use Rattle.std.specs.Prelude.{◌≡◌, ℕ, List, Option, Some, None, slice_ge
 use Rattle.std.specs.Option.{option_map}
 use Rattle.std.proofs.Common.{Bor}
 use Rattle.build_base.specs.declared.fault.Fault.{Fault}
-use Rattle.flash_document.specs.declared.stated.Stated.{Stated}
+use Rattle.flash_document.specs.declared.stated.FdfSection.{FdfSection}
 use Rattle.flash_document.specs.declared.stated.StatedVolume.{StatedVolume}
 use Rattle.flash_document.specs.declared.whole.Tables.{Tables}
 use Rattle.flash_document.specs.Document.{numbered}
@@ -11,7 +11,7 @@ use Rattle.flash_document.specs.Held.{Sizes}
 use Rattle.flash_document.specs.Names.{Places}
 use Rattle.flash_document.specs.Whole.{names_of, nests_of, all_held, loop_at}
 
-pub record Stands (parts : List Stated) (tables : Tables) : Type 0 where
+pub record Stands (parts : List FdfSection) (tables : Tables) : Type 0 where
   pub names : tables.names ≡ names_of parts
   pub places : Places (names_of parts) tables.places
   pub sizes : Sizes (all_held parts) tables.sizes

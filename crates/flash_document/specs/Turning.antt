@@ -6,7 +6,7 @@ use Rattle.std.specs.BTreeSet.{contains}
 use Rattle.std.specs.Ordering.{nat_cmp}
 use Rattle.flash_document.specs.Numbering.{has, nest_of, all_among}
 use Rattle.flash_document.specs.declared.numbering.Waiting.{Waiting}
-use Rattle.flash_document.specs.declared.numbering.Turns.{Turns}
+use Rattle.flash_document.specs.declared.numbering.Sorter.{Sorter}
 
 -- the volume of one of these is this one
 abbrev pub names : List Waiting → ℕ → Bool
@@ -42,14 +42,14 @@ pub record Held {S : Type 0} (nests : List (List ℕ)) (order : List ℕ)
   pub waits : names (waiting_at table on) v ≡ true
 
 -- where a volume stands: it has a number, it may come, it is still to be looked at, or it waits
-abbrev pub Stands : List (List ℕ) → List ℕ → List Waiting → Turns → ℕ → Type 0
+abbrev pub Stands : List (List ℕ) → List ℕ → List Waiting → Sorter → ℕ → Type 0
 Stands nests order rest turns v =
     (has order v ≡ true)
     ⊎ ((contains nat_cmp turns.ready v ≡ true)
     ⊎ ((names rest v ≡ true) ⊎ Held nests order turns.waiting v))
 
 -- the volumes with numbers, and the others, of which some are still to be looked at
-pub record Standing (nests : List (List ℕ)) (order : List ℕ) (rest : List Waiting) (turns : Turns)
+pub record Standing (nests : List (List ℕ)) (order : List ℕ) (rest : List Waiting) (turns : Sorter)
     : Type 0 where
   pub numbered : (v : ℕ) → contains nat_cmp turns.numbered v ≡ has order v
   pub whole : (v : ℕ) → has order v ≡ true → all_among order (nest_of nests v) ≡ true
@@ -59,7 +59,7 @@ pub record Standing (nests : List (List ℕ)) (order : List ℕ) (rest : List Wa
   pub all : (v : ℕ) → v < length nests → Stands nests order rest turns v
 
 -- all but one, which may come, and is to get its number now
-pub record StandingBut (nests : List (List ℕ)) (order : List ℕ) (chosen : ℕ) (turns : Turns)
+pub record StandingBut (nests : List (List ℕ)) (order : List ℕ) (chosen : ℕ) (turns : Sorter)
     : Type 0 where
   pub numbered : (v : ℕ) → contains nat_cmp turns.numbered v ≡ has order v
   pub whole : (v : ℕ) → has order v ≡ true → all_among order (nest_of nests v) ≡ true

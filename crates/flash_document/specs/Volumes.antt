@@ -17,11 +17,11 @@ use Rattle.fdf_words.specs.declared.rows.FileHead.{FileHead}
 use Rattle.fdf_words.specs.declared.rows.RuleScope.{RuleScope}
 use Rattle.fdf_words.specs.declared.rows.SectionLine.{SectionLine}
 use Rattle.flash_document.specs.declared.stated.StatedVolume.{StatedVolume}
-use Rattle.flash_document.specs.declared.stated.StatedItem.{StatedItem}
-use Rattle.flash_document.specs.declared.stated.StatedItem.TheVariants as item
+use Rattle.flash_document.specs.declared.stated.FdfStatement.{FdfStatement}
+use Rattle.flash_document.specs.declared.stated.FdfStatement.TheVariants as item
 use Rattle.flash_document.specs.declared.stated.StatedFile.{StatedFile}
-use Rattle.flash_document.specs.declared.stated.Stated.{Stated}
-use Rattle.flash_document.specs.declared.stated.Stated.TheVariants as stated
+use Rattle.flash_document.specs.declared.stated.FdfSection.{FdfSection}
+use Rattle.flash_document.specs.declared.stated.FdfSection.TheVariants as stated
 use Rattle.flash_document.specs.Columns.{row_at, column}
 
 abbrev pub settings_in : {T : Type 0} → (VolumeSetting → List T) → Row → List T
@@ -113,14 +113,14 @@ abbrev pub file_with : FileHead → ℕ → List LineRead → StatedFile
 file_with head k lines =
     record { head = head; whole = whole_in k lines; sections = sections_in k lines }
 
-abbrev pub item_at : Option Row → ℕ → List LineRead → List StatedItem
+abbrev pub item_at : Option Row → ℕ → List LineRead → List FdfStatement
 item_at (Some (row.Apriori head)) k lines = item.Apriori head.at head.pei (members_in k lines) ∷ []
 item_at (Some (row.File head)) k lines = item.File (file_with head k lines) ∷ []
 item_at (Some (row.Inf line)) k lines = item.Inf line ∷ []
 item_at row k lines = []
 
 -- the statements, each with what stands in its braces
-abbrev pub items_of : ℕ → List LineRead → List StatedItem
+abbrev pub items_of : ℕ → List LineRead → List FdfStatement
 items_of k [] = []
 items_of k (line ∷ lines) = item_at (row_at k line) k lines ++ items_of k lines
 
@@ -165,7 +165,7 @@ plan_of head sections = record {
   sections = sections;
 }
 
-abbrev pub rule_with : Place → RuleScope → List SectionPlan → Option FileHead → Stated
+abbrev pub rule_with : Place → RuleScope → List SectionPlan → Option FileHead → FdfSection
 rule_with at scope sections None = stated.Settings
 rule_with at scope sections (Some head) = stated.Rule (record {
   name = scope.name;
@@ -181,6 +181,6 @@ rule_with at scope sections (Some head) = stated.Rule (record {
 })
 
 -- a rule's sections are all that stand below its head
-unfoldable pub rule_of_lines : Place → RuleScope → ℕ → List LineRead → Stated
+unfoldable pub rule_of_lines : Place → RuleScope → ℕ → List LineRead → FdfSection
 rule_of_lines at scope k lines =
     rule_with at scope (column rule_sections k lines) (rule_head k lines)

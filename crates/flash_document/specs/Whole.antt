@@ -19,28 +19,28 @@ use Rattle.fdf_words.specs.declared.rows.RegionContent.{RegionContent}
 use Rattle.fdf_words.specs.declared.rows.SectionBody.{SectionBody}
 use Rattle.fdf_words.specs.declared.rows.SectionBody.TheVariants as body
 use Rattle.fdf_words.specs.declared.rows.SectionLine.{SectionLine}
-use Rattle.flash_document.specs.declared.stated.Stated.{Stated}
-use Rattle.flash_document.specs.declared.stated.Stated.TheVariants.{Settings, Device, Volume, Rule}
-use Rattle.flash_document.specs.declared.stated.StatedItem.{StatedItem}
-use Rattle.flash_document.specs.declared.stated.StatedItem.TheVariants as item
+use Rattle.flash_document.specs.declared.stated.FdfSection.{FdfSection}
+use Rattle.flash_document.specs.declared.stated.FdfSection.TheVariants.{Settings, Device, Volume, Rule}
+use Rattle.flash_document.specs.declared.stated.FdfStatement.{FdfStatement}
+use Rattle.flash_document.specs.declared.stated.FdfStatement.TheVariants as item
 use Rattle.flash_document.specs.declared.stated.StatedRegion.{StatedRegion}
 use Rattle.flash_document.specs.declared.stated.StatedVolume.{StatedVolume}
 use Rattle.flash_document.specs.declared.held.HeldRegion.{HeldRegion}
 use Rattle.flash_document.specs.declared.held.HeldSizes.{HeldSizes}
 use Rattle.flash_document.specs.Devices.{capped}
-use Rattle.flash_document.specs.Names.{folded, place_of}
+use Rattle.flash_document.specs.Names.{lower_case, place_of}
 use Rattle.flash_document.specs.Numbering.{first_loop}
 use Rattle.build_base.specs.FaultCodes.{BLOCKS_DIFFER, FDF_MISSING_KEY, FDF_REPEATED_NAME, SIZE_TOO_LARGE, VOLUME_LOOP, VOLUME_TWO_SIZES, VOLUME_UNKNOWN}
 
-abbrev pub volume_in : Stated → List StatedVolume
+abbrev pub volume_in : FdfSection → List StatedVolume
 volume_in (Volume volume) = volume ∷ []
 volume_in stated = []
 
 -- the volumes, in file order
-abbrev pub volumes_of : List Stated → List StatedVolume
+abbrev pub volumes_of : List FdfSection → List StatedVolume
 volumes_of parts = flat_map volume_in parts
 
-abbrev pub names_of : List Stated → List (List ℕ)
+abbrev pub names_of : List FdfSection → List (List ℕ)
 names_of parts = map (λ v. v.name) (volumes_of parts)
 
 abbrev pub name_in : Content → List (List ℕ)
@@ -55,12 +55,12 @@ abbrev pub region_held : Option ℕ → StatedRegion → List HeldRegion
 region_held block region = map (λ name. record { name = name; size = region.size; block = block })
     (held_names region.content)
 
-abbrev pub part_held : Stated → List HeldRegion
+abbrev pub part_held : FdfSection → List HeldRegion
 part_held (Device device) = flat_map (region_held device.first_block) device.regions
 part_held stated = []
 
 -- the regions that hold volumes, each with the first block size of its device
-abbrev pub all_held : List Stated → List HeldRegion
+abbrev pub all_held : List FdfSection → List HeldRegion
 all_held parts = flat_map part_held parts
 
 abbrev pub other_in : ℕ → List HeldRegion → Option ℕ
@@ -77,7 +77,7 @@ sizes_of (region ∷ regions) =
 
 abbrev pub regions_named : List ℕ → List HeldRegion → List HeldRegion
 regions_named key [] = []
-regions_named key (region ∷ regions) = if pointwise nat_eq (folded region.name) key
+regions_named key (region ∷ regions) = if pointwise nat_eq (lower_case region.name) key
     then region ∷ regions_named key regions else regions_named key regions
 
 -- the sizes of the regions that hold the volume of a name, which is given in lower case
@@ -85,12 +85,12 @@ abbrev pub held_by : List ℕ → List HeldRegion → Option HeldSizes
 held_by key regions = sizes_of (regions_named key regions)
 
 abbrev pub held_of : List HeldRegion → StatedVolume → Option HeldSizes
-held_of regions volume = held_by (folded volume.name) regions
+held_of regions volume = held_by (lower_case volume.name) regions
 
 -- the first size that isn't this one
-abbrev pub other_than : ℕ → Option HeldSizes → Option ℕ
-other_than size None = None
-other_than size (Some held) = if held.first == size then held.other else Some held.first
+abbrev pub differing_size : ℕ → Option HeldSizes → Option ℕ
+differing_size size None = None
+differing_size size (Some held) = if held.first == size then held.other else Some held.first
 
 abbrev pub first_size : Option HeldSizes → Option ℕ
 first_size None = None
@@ -118,13 +118,13 @@ abbrev pub unequal : ℕ → ℕ → List ℕ
 unequal first second = decimal first ++ codes " != " ++ decimal second
 
 -- a device has a base address and a size
-abbrev pub unstated : Place → Option ℕ → Option ℕ → Option Fault
-unstated at None size = Some (fault_of FDF_MISSING_KEY at (codes "BaseAddress"))
-unstated at (Some base) None = Some (fault_of FDF_MISSING_KEY at (codes "Size"))
-unstated at (Some base) (Some size) = None
+abbrev pub check_is_stated : Place → Option ℕ → Option ℕ → Option Fault
+check_is_stated at None size = Some (fault_of FDF_MISSING_KEY at (codes "BaseAddress"))
+check_is_stated at (Some base) None = Some (fault_of FDF_MISSING_KEY at (codes "Size"))
+check_is_stated at (Some base) (Some size) = None
 
-abbrev pub part_unstated : Stated → Option Fault
-part_unstated (Device device) = unstated device.at device.base device.size
+abbrev pub part_unstated : FdfSection → Option Fault
+part_unstated (Device device) = check_is_stated device.at device.base device.size
 part_unstated stated = None
 
 -- a volume has at most 0x10000000 bytes
@@ -137,7 +137,7 @@ size_fault at None = None
 abbrev pub held_first : List HeldRegion → Bool → StatedVolume → Option HeldSizes
 held_first regions again volume = if again then None else held_of regions volume
 
-abbrev pub part_too_large : List HeldRegion → Bool → Stated → Option Fault
+abbrev pub part_too_large : List HeldRegion → Bool → FdfSection → Option Fault
 part_too_large regions again (Volume volume) =
     size_fault volume.at (size_of volume (held_first regions again volume))
 part_too_large regions again stated = None
@@ -154,7 +154,7 @@ abbrev pub section_nest : List (List ℕ) → SectionLine → List ℕ
 section_nest names section =
     flat_map (λ name. place_list (place_of names name)) (body_names section.body)
 
-abbrev pub item_nest : List (List ℕ) → StatedItem → List ℕ
+abbrev pub item_nest : List (List ℕ) → FdfStatement → List ℕ
 item_nest names (item.File file) = flat_map (section_nest names) file.sections
 item_nest names item = []
 
@@ -162,7 +162,7 @@ item_nest names item = []
 abbrev pub nest_in : List (List ℕ) → StatedVolume → List ℕ
 nest_in names volume = flat_map (item_nest names) volume.items
 
-abbrev pub nests_of : List Stated → List (List ℕ)
+abbrev pub nests_of : List FdfSection → List (List ℕ)
 nests_of parts = map (nest_in (names_of parts)) (volumes_of parts)
 
 abbrev pub loop_at : Option StatedVolume → Option Fault
@@ -174,7 +174,7 @@ loop_named volumes None = None
 loop_named volumes (Some p) = loop_at (slice_get volumes p)
 
 -- no volume holds itself
-abbrev pub loop_fault : List Stated → Option Fault
+abbrev pub loop_fault : List FdfSection → Option Fault
 loop_fault parts = loop_named (volumes_of parts) (first_loop (nests_of parts))
 
 abbrev pub unknown : List (List ℕ) → Place → List ℕ → Option Fault
@@ -206,9 +206,9 @@ device_blocks at blocks (Some size) = if blocks == size then None
 device_blocks at blocks None = None
 
 -- another size than the first
-abbrev pub unlike : ℕ → Place → ℕ → Option ℕ → Option Fault
-unlike code at size (Some other) = Some (fault_of code at (unequal size other))
-unlike code at size None = None
+abbrev pub check_equal_sizes : ℕ → Place → ℕ → Option ℕ → Option Fault
+check_equal_sizes code at size (Some other) = Some (fault_of code at (unequal size other))
+check_equal_sizes code at size None = None
 
 -- a region's size is a whole number of blocks
 abbrev pub whole_blocks : Place → ℕ → Option ℕ → Option Fault
@@ -219,41 +219,41 @@ whole_blocks at block None = None
 -- a volume's own size is that of each of its regions; without an own size its first region's counts
 abbrev pub blocks_with : Place → Option HeldSizes → ℕ → Option ℕ → Option Fault
 blocks_with at held block (Some blocks) =
-    unlike BLOCKS_DIFFER at (capped (block * blocks)) (other_than (capped (block * blocks)) held)
+    check_equal_sizes BLOCKS_DIFFER at (capped (block * blocks)) (differing_size (capped (block * blocks)) held)
 blocks_with at held block None = whole_blocks at block (first_size held)
 
 abbrev pub volume_blocks : StatedVolume → Option HeldSizes → Option Fault
 volume_blocks volume held = blocks_with volume.at held (block_of volume held) volume.blocks
 
-abbrev pub part_blocks : List HeldRegion → Bool → Stated → Option Fault
+abbrev pub part_blocks : List HeldRegion → Bool → FdfSection → Option Fault
 part_blocks regions again (Device device) = device_blocks device.at device.blocks device.size
 part_blocks regions again (Volume volume) = volume_blocks volume (held_first regions again volume)
 part_blocks regions again stated = None
 
 abbrev pub two_sizes : Place → Option HeldSizes → Option Fault
 two_sizes at None = None
-two_sizes at (Some held) = unlike VOLUME_TWO_SIZES at held.first held.other
+two_sizes at (Some held) = check_equal_sizes VOLUME_TWO_SIZES at held.first held.other
 
 -- the regions that hold a volume have one size
-abbrev pub part_sizes : List HeldRegion → Bool → Stated → Option Fault
+abbrev pub part_sizes : List HeldRegion → Bool → FdfSection → Option Fault
 part_sizes regions again (Volume volume) = two_sizes volume.at (held_first regions again volume)
 part_sizes regions again stated = None
 
 -- a name with the kind of the thing that has it: D, F or R
-abbrev pub part_key : Stated → Option (List ℕ)
+abbrev pub part_key : FdfSection → Option (List ℕ)
 part_key Settings = None
 part_key (Device device) = Some (68 ∷ device.name)
 part_key (Volume volume) = Some (70 ∷ volume.name)
 part_key (Rule rule) = Some (82 ∷ rule.name)
 
-abbrev pub named_twice : Stated → Option Fault
+abbrev pub named_twice : FdfSection → Option Fault
 named_twice Settings = None
 named_twice (Device device) = Some (fault_of FDF_REPEATED_NAME device.at device.name)
 named_twice (Volume volume) = Some (fault_of FDF_REPEATED_NAME volume.at volume.name)
 named_twice (Rule rule) = Some (fault_of FDF_REPEATED_NAME rule.rule.at rule.name)
 
 -- a device, volume or rule whose name one above of its kind has
-abbrev pub twin : Bool → Stated → Option Fault
+abbrev pub twin : Bool → FdfSection → Option Fault
 twin again part = if again then named_twice part else None
 
 abbrev pub is_again : List (List ℕ) → Option (List ℕ) → Bool
@@ -265,20 +265,20 @@ above_with above None = above
 above_with above (Some key) = above ++ key ∷ []
 
 -- of each part whether one above of its kind has its name
-unfoldable pub twin_marks : List Stated → List (List ℕ) → List Bool
+unfoldable pub twin_marks : List FdfSection → List (List ℕ) → List Bool
 twin_marks [] above = []
 twin_marks (part ∷ parts) above =
     is_again above (part_key part) ∷ twin_marks parts (above_with above (part_key part))
 
 -- the first fault of some parts, each with whether one above of its kind has its name
-abbrev pub first_marked : (Bool → Stated → Option Fault) → List Stated → List Bool → Option Fault
+abbrev pub first_marked : (Bool → FdfSection → Option Fault) → List FdfSection → List Bool → Option Fault
 first_marked fault [] marks = None
 first_marked fault (part ∷ parts) [] = None
 first_marked fault (part ∷ parts) (again ∷ marks) =
     or_else (fault again part) (first_marked fault parts marks)
 
 -- the first fault of the whole
-unfoldable pub whole_fault : List LineRead → List Stated → Option Fault
+unfoldable pub whole_fault : List LineRead → List FdfSection → Option Fault
 whole_fault lines parts =
     first_of (
     first_fault part_unstated parts

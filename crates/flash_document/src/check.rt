@@ -7,11 +7,11 @@ ghost use Rattle.meta_lexer.specs.Faults.{first_fault};
 ghost use Rattle.flash_document.specs.declared.held.HeldRegion.{HeldRegion as Part};
 ghost use Rattle.flash_document.specs.Names.{place_of, Places};
 ghost use Rattle.flash_document.specs.Held.{Sizes};
-ghost use Rattle.flash_document.specs.Whole.{other_than, first_size, block_of, size_of, unequal, unstated, part_unstated, size_fault, held_first, part_too_large, all_held, unknown, content_unknown, body_unknown, row_unknown, line_unknown, names_of, device_blocks, unlike, whole_blocks, volume_blocks, part_blocks, two_sizes, part_sizes, loop_fault, part_key, named_twice, twin, is_again, above_with, twin_marks, first_marked, whole_fault};
+ghost use Rattle.flash_document.specs.Whole.{differing_size, first_size, block_of, size_of, unequal, check_is_stated, part_unstated, size_fault, held_first, part_too_large, all_held, unknown, content_unknown, body_unknown, row_unknown, line_unknown, names_of, device_blocks, check_equal_sizes, whole_blocks, volume_blocks, part_blocks, two_sizes, part_sizes, loop_fault, part_key, named_twice, twin, is_again, above_with, twin_marks, first_marked, whole_fault};
 
 use crate::held::{HeldSizes, held_in};
 use crate::names::{add_name, place_in};
-use crate::stated::{Stated, StatedVolume};
+use crate::stated::{FdfSection, StatedVolume};
 use build_base::fault_codes::{
     BLOCKS_DIFFER, FDF_MISSING_KEY, FDF_REPEATED_NAME, SIZE_TOO_LARGE, VOLUME_TWO_SIZES,
     VOLUME_UNKNOWN,
@@ -33,8 +33,8 @@ pub fn first_size(held: Option<HeldSizes>) -> Option<u64>
     }
 }
 
-fn other_than(size: u64, held: Option<HeldSizes>) -> Option<u64>
-    ensures { result ≡ other_than size held }
+fn differing_size(size: u64, held: Option<HeldSizes>) -> Option<u64>
+    ensures { result ≡ differing_size size held }
 {
     match held {
         Some(held) => {
@@ -88,8 +88,13 @@ fn refuse_unequal(alloc: Global, code: u16, at: &Place, first: u64, second: u64)
     }
 }
 
-fn unstated(alloc: Global, at: &Place, base: Option<u64>, size: Option<u64>) -> Result<(), Refusal>
-    ensures { Checks result (unstated at.now base size) }
+fn check_is_stated(
+    alloc: Global,
+    at: &Place,
+    base: Option<u64>,
+    size: Option<u64>,
+) -> Result<(), Refusal>
+    ensures { Checks result (check_is_stated at.now base size) }
 {
     match (base, size) {
         (Some(_), Some(_)) => Ok(()),
@@ -98,17 +103,17 @@ fn unstated(alloc: Global, at: &Place, base: Option<u64>, size: Option<u64>) -> 
     }
 }
 
-fn part_unstated(alloc: Global, part: &Stated) -> Result<(), Refusal>
+fn part_unstated(alloc: Global, part: &FdfSection) -> Result<(), Refusal>
     ensures { Checks result (part_unstated part.now) }
 {
     match part {
-        Stated::Device(device) => unstated(alloc, &device.at, device.base, device.size),
+        FdfSection::Device(device) => check_is_stated(alloc, &device.at, device.base, device.size),
         _ => Ok(()),
     }
 }
 
 /// Refuses the first device without a base address or a size.
-pub(crate) fn check_stated(alloc: Global, parts: &[Stated]) -> Result<(), Refusal>
+pub(crate) fn check_stated(alloc: Global, parts: &[FdfSection]) -> Result<(), Refusal>
     ensures { Checks result (first_fault part_unstated parts.now) }
 {
     for part in parts {
@@ -149,12 +154,12 @@ fn part_too_large(
     alloc: Global,
     sizes: &IndexMap<Vec<u8>, HeldSizes>,
     again: bool,
-    part: &Stated,
+    part: &FdfSection,
 ) -> Result<(), Refusal>
     ensures { (regions : List Part) → Sizes regions sizes.now
         → Checks result (part_too_large regions again part.now) }
 {
-    let Stated::Volume(volume) = part else {
+    let FdfSection::Volume(volume) = part else {
         return Ok(());
     };
     let held = held_first(alloc, sizes, again, volume)?;
@@ -166,7 +171,7 @@ fn part_too_large(
 pub(crate) fn check_sizes(
     alloc: Global,
     sizes: &IndexMap<Vec<u8>, HeldSizes>,
-    parts: &[Stated],
+    parts: &[FdfSection],
     repeats: &[bool],
 ) -> Result<(), Refusal>
     ensures { (regions : List Part) → Sizes regions sizes.now
@@ -276,14 +281,14 @@ fn device_blocks(alloc: Global, at: &Place, blocks: u64, size: Option<u64>) -> R
     }
 }
 
-fn unlike(
+fn check_equal_sizes(
     alloc: Global,
     code: u16,
     at: &Place,
     size: u64,
     other: Option<u64>,
 ) -> Result<(), Refusal>
-    ensures { Checks result (unlike code at.now size other) }
+    ensures { Checks result (check_equal_sizes code at.now size other) }
 {
     match other {
         Some(other) => Err(refuse_unequal(alloc, code, at, size, other)),
@@ -322,8 +327,8 @@ fn volume_blocks(
     match volume.blocks {
         Some(blocks) => {
             let own = block.saturating_mul(blocks);
-            let other = other_than(own, held);
-            unlike(alloc, BLOCKS_DIFFER, &volume.at, own, other)
+            let other = differing_size(own, held);
+            check_equal_sizes(alloc, BLOCKS_DIFFER, &volume.at, own, other)
         }
         None => whole_blocks(alloc, &volume.at, block, first_size(held)),
     }
@@ -333,14 +338,14 @@ fn part_blocks(
     alloc: Global,
     sizes: &IndexMap<Vec<u8>, HeldSizes>,
     again: bool,
-    part: &Stated,
+    part: &FdfSection,
 ) -> Result<(), Refusal>
     ensures { (regions : List Part) → Sizes regions sizes.now
         → Checks result (part_blocks regions again part.now) }
 {
     match part {
-        Stated::Device(device) => device_blocks(alloc, &device.at, device.blocks, device.size),
-        Stated::Volume(volume) => {
+        FdfSection::Device(device) => device_blocks(alloc, &device.at, device.blocks, device.size),
+        FdfSection::Volume(volume) => {
             let held = held_first(alloc, sizes, again, volume)?;
             volume_blocks(alloc, volume, held)
         }
@@ -353,7 +358,7 @@ fn part_blocks(
 pub fn check_blocks(
     alloc: Global,
     sizes: &IndexMap<Vec<u8>, HeldSizes>,
-    parts: &[Stated],
+    parts: &[FdfSection],
     repeats: &[bool],
 ) -> Result<(), Refusal>
     ensures { (regions : List Part) → Sizes regions sizes.now
@@ -379,7 +384,7 @@ fn two_sizes(alloc: Global, at: &Place, held: Option<HeldSizes>) -> Result<(), R
     ensures { Checks result (two_sizes at.now held) }
 {
     match held {
-        Some(held) => unlike(alloc, VOLUME_TWO_SIZES, at, held.first, held.other),
+        Some(held) => check_equal_sizes(alloc, VOLUME_TWO_SIZES, at, held.first, held.other),
         None => Ok(()),
     }
 }
@@ -388,12 +393,12 @@ fn part_sizes(
     alloc: Global,
     sizes: &IndexMap<Vec<u8>, HeldSizes>,
     again: bool,
-    part: &Stated,
+    part: &FdfSection,
 ) -> Result<(), Refusal>
     ensures { (regions : List Part) → Sizes regions sizes.now
         → Checks result (part_sizes regions again part.now) }
 {
-    let Stated::Volume(volume) = part else {
+    let FdfSection::Volume(volume) = part else {
         return Ok(());
     };
     let held = held_first(alloc, sizes, again, volume)?;
@@ -405,7 +410,7 @@ fn part_sizes(
 pub(crate) fn check_regions(
     alloc: Global,
     sizes: &IndexMap<Vec<u8>, HeldSizes>,
-    parts: &[Stated],
+    parts: &[FdfSection],
     repeats: &[bool],
 ) -> Result<(), Refusal>
     ensures { (regions : List Part) → Sizes regions sizes.now
@@ -436,35 +441,35 @@ fn key_with(alloc: Global, kind: u8, name: &Text) -> Result<Text, WantOfMemory>
 }
 
 // A name with the kind of the thing that has it.
-fn part_key(alloc: Global, part: &Stated) -> Result<Option<Text>, WantOfMemory>
+fn part_key(alloc: Global, part: &FdfSection) -> Result<Option<Text>, WantOfMemory>
     ensures { IfOk result (λ key. key ≡ part_key part.now) }
 {
     match part {
-        Stated::Settings => Ok(None),
-        Stated::Device(device) => Ok(Some(key_with(alloc, b'D', &device.name)?)),
-        Stated::Volume(volume) => Ok(Some(key_with(alloc, b'F', &volume.name)?)),
-        Stated::Rule(rule) => Ok(Some(key_with(alloc, b'R', &rule.name)?)),
+        FdfSection::Settings => Ok(None),
+        FdfSection::Device(device) => Ok(Some(key_with(alloc, b'D', &device.name)?)),
+        FdfSection::Volume(volume) => Ok(Some(key_with(alloc, b'F', &volume.name)?)),
+        FdfSection::Rule(rule) => Ok(Some(key_with(alloc, b'R', &rule.name)?)),
     }
 }
 
-fn named_twice(alloc: Global, part: &Stated) -> Result<(), Refusal>
+fn named_twice(alloc: Global, part: &FdfSection) -> Result<(), Refusal>
     ensures { Checks result (named_twice part.now) }
 {
     match part {
-        Stated::Settings => Ok(()),
-        Stated::Device(device) => Err(refuse(
+        FdfSection::Settings => Ok(()),
+        FdfSection::Device(device) => Err(refuse(
             alloc,
             FDF_REPEATED_NAME,
             &device.at,
             device.name.bytes(),
         )),
-        Stated::Volume(volume) => Err(refuse(
+        FdfSection::Volume(volume) => Err(refuse(
             alloc,
             FDF_REPEATED_NAME,
             &volume.at,
             volume.name.bytes(),
         )),
-        Stated::Rule(rule) => Err(refuse(
+        FdfSection::Rule(rule) => Err(refuse(
             alloc,
             FDF_REPEATED_NAME,
             &rule.rule.at,
@@ -496,7 +501,7 @@ fn add_part(
     alloc: Global,
     table: &mut IndexMap<Vec<u8>, usize>,
     above: &mut Rows<Text>,
-    part: &Stated,
+    part: &FdfSection,
 ) -> Result<bool, WantOfMemory>
     ensures found { Places above.old table.old
         → IfOk result (λ again. again ≡ is_again above.old (part_key part.now)) }
@@ -511,7 +516,7 @@ fn add_part(
 
 /// Of each device, volume and rule whether one above of its kind has its name.
 #[tactic(auto, unfolding(crate::specs::Whole::twin_marks))]
-pub(crate) fn twin_marks(alloc: Global, parts: &[Stated]) -> Result<Rows<bool>, WantOfMemory>
+pub(crate) fn twin_marks(alloc: Global, parts: &[FdfSection]) -> Result<Rows<bool>, WantOfMemory>
     ensures { IfOk result (λ marks. marks ≡ twin_marks parts.now []) }
 {
     let mut marks = Rows::new(alloc);
@@ -526,7 +531,7 @@ pub(crate) fn twin_marks(alloc: Global, parts: &[Stated]) -> Result<Rows<bool>, 
     Ok(marks)
 }
 
-fn twin(alloc: Global, again: bool, part: &Stated) -> Result<(), Refusal>
+fn twin(alloc: Global, again: bool, part: &FdfSection) -> Result<(), Refusal>
     ensures { Checks result (twin again part.now) }
 {
     if again {
@@ -536,7 +541,11 @@ fn twin(alloc: Global, again: bool, part: &Stated) -> Result<(), Refusal>
 }
 
 /// Refuses the first device, volume or rule whose name one above of its kind has.
-pub(crate) fn check_twins(alloc: Global, parts: &[Stated], repeats: &[bool]) -> Result<(), Refusal>
+pub(crate) fn check_duplicate_names(
+    alloc: Global,
+    parts: &[FdfSection],
+    repeats: &[bool],
+) -> Result<(), Refusal>
     ensures { Checks result (first_marked twin parts.now repeats.now) }
 {
     let mut left = parts;

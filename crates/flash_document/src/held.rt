@@ -5,8 +5,8 @@ ghost use Rattle.flash_document.specs.declared.held.HeldRegion.{HeldRegion as Pa
 ghost use Rattle.flash_document.specs.Whole.{region_held, part_held, all_held, held_of};
 ghost use Rattle.flash_document.specs.Held.{with_region, Sizes};
 
-use crate::names::folded;
-use crate::stated::{Stated, StatedRegion, StatedVolume};
+use crate::names::lower_case;
+use crate::stated::{FdfSection, StatedRegion, StatedVolume};
 use build_base::{Rows, Same, Text, WantOfMemory};
 use fdf_words::rows::Content;
 use indexmap::IndexMap;
@@ -67,11 +67,15 @@ fn push_regions(
     Ok(())
 }
 
-fn push_part(alloc: Global, held: &mut Rows<HeldRegion>, part: &Stated) -> Result<(), WantOfMemory>
+fn push_part(
+    alloc: Global,
+    held: &mut Rows<HeldRegion>,
+    part: &FdfSection,
+) -> Result<(), WantOfMemory>
     ensures { OnOk result (held.new ≡ held.old ++ part_held part.now) }
 {
     match part {
-        Stated::Device(device) => {
+        FdfSection::Device(device) => {
             push_regions(alloc, held, device.first_block, device.regions.items())
         }
         _ => Ok(()),
@@ -79,7 +83,10 @@ fn push_part(alloc: Global, held: &mut Rows<HeldRegion>, part: &Stated) -> Resul
 }
 
 /// The regions that hold volumes.
-pub(crate) fn all_held(alloc: Global, parts: &[Stated]) -> Result<Rows<HeldRegion>, WantOfMemory>
+pub(crate) fn all_held(
+    alloc: Global,
+    parts: &[FdfSection],
+) -> Result<Rows<HeldRegion>, WantOfMemory>
     ensures { IfOk result (λ held. held ≡ all_held parts.now) }
 {
     let mut held = Rows::new(alloc);
@@ -122,7 +129,7 @@ fn add_region(
     ensures { (above : List Part) → Sizes above sizes.old
         → OnOk result (Sizes (above ++ region.now ∷ []) sizes.new) }
 {
-    let key = folded(alloc, region.name.bytes())?;
+    let key = lower_case(alloc, region.name.bytes())?;
     let size = with_region(sizes.get(&key).copied(), region);
     match sizes.insert(key, size) {
         Ok(_) => Ok(()),
@@ -153,6 +160,6 @@ pub(crate) fn held_in(
     ensures { (regions : List Part) → Sizes regions sizes.now
         → IfOk result (λ held. held ≡ held_of regions volume.now) }
 {
-    let key = folded(alloc, volume.name.bytes())?;
+    let key = lower_case(alloc, volume.name.bytes())?;
     Ok(sizes.get(&key).copied())
 }

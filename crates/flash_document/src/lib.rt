@@ -3,7 +3,6 @@
 
 pub mod check;
 pub mod column;
-pub mod components;
 pub mod device;
 pub mod held;
 pub mod loops;
@@ -15,6 +14,7 @@ pub mod reading;
 pub mod rule;
 pub mod sets;
 pub mod stated;
+pub mod strong_components;
 pub mod volume;
 pub mod volumes;
 pub mod whole;

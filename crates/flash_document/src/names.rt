@@ -1,14 +1,14 @@
 //! Names in lower case, and their places.
 ghost use Rattle.std.specs.Prelude.{◌≡◌, ◌∷◌, ◌++◌, [], ℕ, List, IfOk, OnOk, length};
-ghost use Rattle.flash_document.specs.Names.{folded, place_of, Places};
+ghost use Rattle.flash_document.specs.Names.{lower_case, place_of, Places};
 
 use build_base::{Text, WantOfMemory};
 use indexmap::IndexMap;
 use std::alloc::Global;
 
 /// A name in lower case.
-pub(crate) fn folded(alloc: Global, name: &[u8]) -> Result<Vec<u8>, WantOfMemory>
-    ensures { IfOk result (λ v. v.items ≡ folded name.now) }
+pub(crate) fn lower_case(alloc: Global, name: &[u8]) -> Result<Vec<u8>, WantOfMemory>
+    ensures { IfOk result (λ v. v.items ≡ lower_case name.now) }
 {
     match name.to_ascii_lowercase(alloc) {
         Ok(key) => Ok(key),
@@ -25,7 +25,7 @@ pub fn place_in(
     ensures { (names : List (List ℕ)) → Places names table.now
         → IfOk result (λ n. n ≡ place_of names name.now) }
 {
-    let key = folded(alloc, name)?;
+    let key = lower_case(alloc, name)?;
     Ok(table.get(&key).copied())
 }
 
@@ -39,7 +39,7 @@ pub fn add_name(
     ensures { (above : List (List ℕ)) → place ≡ length above → Places above table.old
         → OnOk result (Places (above ++ name.now ∷ []) table.new) }
 {
-    let key = folded(alloc, name)?;
+    let key = lower_case(alloc, name)?;
     if table.contains_key(&key) {
         return Ok(());
     }

@@ -4,7 +4,7 @@ ghost use Rattle.std.specs.HashMap.{get};
 ghost use Rattle.std.specs.List.{list_any};
 ghost use Rattle.std.specs.BTreeSet.{contains};
 ghost use Rattle.std.specs.Ordering.{nat_cmp};
-ghost use Rattle.flash_document.specs.Numbering.{has, nest_of, all_among, next_in, order_of};
+ghost use Rattle.flash_document.specs.Numbering.{has, nest_of, all_among, next_in, topological_order};
 ghost use Rattle.flash_document.specs.Turning.{Standing, StandingBut, waiting_at};
 ghost use Rattle.flash_document.specs.declared.numbering.Waiting.{Waiting as WaitingRow};
 
@@ -23,7 +23,7 @@ pub struct Waiting {
 /// The volumes with numbers, those that may come next, and those that wait, each by one that it
 /// holds.
 #[derive(Drop)]
-pub struct Turns {
+pub struct Sorter {
     pub alloc: Global,
     pub numbered: BTreeSet<usize>,
     pub ready: BTreeSet<usize>,
@@ -117,7 +117,7 @@ fn take_first(set: &mut BTreeSet<usize>) -> Option<usize>
     }
 }
 
-impl Turns {
+impl Sorter {
     // Looks at a volume: it may come, or waits for the next that it holds.
     fn settle(&mut self, nests: &[Rows<usize>], row: Waiting) -> Result<(), WantOfMemory>
         ensures { (order : List ℕ) (left : List WaitingRow)
@@ -152,10 +152,10 @@ impl Turns {
     }
 
     // All volumes, without numbers.
-    fn begin(alloc: Global, nests: &[Rows<usize>]) -> Result<Turns, WantOfMemory>
+    fn begin(alloc: Global, nests: &[Rows<usize>]) -> Result<Sorter, WantOfMemory>
         ensures { IfOk result (λ turns. Standing nests.now [] [] turns) }
     {
-        let mut turns = Turns {
+        let mut turns = Sorter {
             alloc,
             numbered: BTreeSet::new(alloc),
             ready: BTreeSet::new(alloc),
@@ -194,10 +194,10 @@ impl Turns {
 }
 
 /// The volumes in the order of their numbers.
-pub fn order_of(alloc: Global, nests: &[Rows<usize>]) -> Result<Rows<usize>, WantOfMemory>
-    ensures { IfOk result (λ order. order ≡ order_of nests.now) }
+pub fn topological_order(alloc: Global, nests: &[Rows<usize>]) -> Result<Rows<usize>, WantOfMemory>
+    ensures { IfOk result (λ order. order ≡ topological_order nests.now) }
 {
-    let mut turns = Turns::begin(alloc, nests)?;
+    let mut turns = Sorter::begin(alloc, nests)?;
     let mut order = Rows::new(alloc);
     for _nest in nests {
         let Some(volume) = turns.next() else {

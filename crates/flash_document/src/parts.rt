@@ -6,7 +6,7 @@ ghost use Rattle.flash_document.specs.Parts.{stated_of, stated_from, stated_belo
 use crate::device::device_of;
 use crate::rule::rule_of_lines;
 use crate::sets::section_lines;
-use crate::stated::Stated;
+use crate::stated::FdfSection;
 use crate::volume::volume_of;
 use build_base::{Place, Rows, WantOfMemory};
 use fdf_words::rows::{LineRead, Scope};
@@ -18,20 +18,20 @@ fn stated_of(
     scope: &Scope,
     k: usize,
     lines: &[LineRead],
-) -> Result<Stated, WantOfMemory>
+) -> Result<FdfSection, WantOfMemory>
     ensures { IfOk result (λ s. s ≡ stated_of at.now scope.now k lines.now) }
 {
     match scope {
-        Scope::Settings => Ok(Stated::Settings),
-        Scope::Device(name) => Ok(Stated::Device(device_of(alloc, at, name, k, lines)?)),
-        Scope::Volume(name) => Ok(Stated::Volume(volume_of(alloc, at, name, k, lines)?)),
+        Scope::Settings => Ok(FdfSection::Settings),
+        Scope::Device(name) => Ok(FdfSection::Device(device_of(alloc, at, name, k, lines)?)),
+        Scope::Volume(name) => Ok(FdfSection::Volume(volume_of(alloc, at, name, k, lines)?)),
         Scope::Rule(rule) => rule_of_lines(alloc, at, rule, k, lines),
     }
 }
 
 fn push_stated(
     alloc: Global,
-    parts: &mut Rows<Stated>,
+    parts: &mut Rows<FdfSection>,
     at: &Place,
     scopes: &[Scope],
     lines: &[LineRead],
@@ -47,7 +47,7 @@ fn push_stated(
 // Only at heads are the lines below looked through for the next ones.
 fn push_below(
     alloc: Global,
-    parts: &mut Rows<Stated>,
+    parts: &mut Rows<FdfSection>,
     line: &LineRead,
     below: &[LineRead],
 ) -> Result<(), WantOfMemory>
@@ -63,7 +63,10 @@ fn push_below(
 }
 
 /// What each section states below each of its heads, in file order.
-pub(crate) fn all_stated(alloc: Global, lines: &[LineRead]) -> Result<Rows<Stated>, WantOfMemory>
+pub(crate) fn all_stated(
+    alloc: Global,
+    lines: &[LineRead],
+) -> Result<Rows<FdfSection>, WantOfMemory>
     ensures { IfOk result (λ parts. parts ≡ all_stated lines.now) }
 {
     let mut parts = Rows::new(alloc);

@@ -10,7 +10,9 @@ ghost use Rattle.flash_document.specs.Document.{kind_numbered, content_kind, reg
 use crate::check::{block_of, size_of};
 use crate::held::{HeldSizes, held_in};
 use crate::names::place_in;
-use crate::stated::{Stated, StatedDevice, StatedFile, StatedItem, StatedRegion, StatedVolume};
+use crate::stated::{
+    FdfSection, FdfStatement, StatedDevice, StatedFile, StatedRegion, StatedVolume,
+};
 use build_base::{Rows, Same, WantOfMemory};
 use doc_types::flash::{DevicePlan, Region, RegionKind};
 use doc_types::volume::{FilePlan, Item, RuleDoc, SectionPlan, SectionSource, VolumePlan};
@@ -124,13 +126,13 @@ fn push_device(
     alloc: Global,
     table: &IndexMap<Vec<u8>, usize>,
     devices: &mut Rows<DevicePlan>,
-    part: &Stated,
+    part: &FdfSection,
 ) -> Result<(), WantOfMemory>
     ensures { (names : List (List ℕ)) → Places names table.now
         → OnOk result (devices.new ≡ devices.old ++ part_device names part.now) }
 {
     match part {
-        Stated::Device(device) => devices.push(device_plan(alloc, table, device)?),
+        FdfSection::Device(device) => devices.push(device_plan(alloc, table, device)?),
         _ => Ok(()),
     }
 }
@@ -139,7 +141,7 @@ fn push_device(
 pub(crate) fn device_plans(
     alloc: Global,
     table: &IndexMap<Vec<u8>, usize>,
-    parts: &[Stated],
+    parts: &[FdfSection],
 ) -> Result<Rows<DevicePlan>, WantOfMemory>
     ensures { (names : List (List ℕ)) → Places names table.now
         → IfOk result (λ rows. rows ≡ flat_map (part_device names) parts.now) }
@@ -154,13 +156,13 @@ pub(crate) fn device_plans(
 }
 
 /// The rules.
-pub(crate) fn rules_of(alloc: Global, parts: &[Stated]) -> Result<Rows<RuleDoc>, WantOfMemory>
+pub(crate) fn rules_of(alloc: Global, parts: &[FdfSection]) -> Result<Rows<RuleDoc>, WantOfMemory>
     ensures { IfOk result (λ rows. rows ≡ flat_map part_rule parts.now) }
 {
     let mut rules = Rows::new(alloc);
     let mut left = parts;
     while let [part, rest @ ..] = left {
-        if let Stated::Rule(stated) = part {
+        if let FdfSection::Rule(stated) = part {
             rules.push(stated.rule.copy(alloc)?)?;
         }
         left = rest;
@@ -253,26 +255,26 @@ fn file_plan(
 fn item_plan(
     alloc: Global,
     table: &IndexMap<Vec<u8>, usize>,
-    item: &StatedItem,
+    item: &FdfStatement,
 ) -> Result<Item, WantOfMemory>
     ensures { (names : List (List ℕ)) → Places names table.now
         → IfOk result (λ i. i ≡ item_plan names item.now) }
 {
     match item {
-        StatedItem::Apriori { at, pei, members } => Ok(Item::Apriori {
+        FdfStatement::Apriori { at, pei, members } => Ok(Item::Apriori {
             at: at.copy(alloc)?,
             pei: *pei,
             members: members.copy(alloc)?,
         }),
-        StatedItem::File(file) => Ok(Item::File(file_plan(alloc, table, file)?)),
-        StatedItem::Inf(line) => Ok(Item::Inf(line.copy(alloc)?)),
+        FdfStatement::File(file) => Ok(Item::File(file_plan(alloc, table, file)?)),
+        FdfStatement::Inf(line) => Ok(Item::Inf(line.copy(alloc)?)),
     }
 }
 
 fn item_plans(
     alloc: Global,
     table: &IndexMap<Vec<u8>, usize>,
-    items: &[StatedItem],
+    items: &[FdfStatement],
 ) -> Result<Rows<Item>, WantOfMemory>
     ensures { (names : List (List ℕ)) → Places names table.now
         → IfOk result (λ rows. rows ≡ map (item_plan names) items.now) }

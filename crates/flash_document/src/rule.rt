@@ -5,7 +5,7 @@ ghost use Rattle.flash_document.specs.Columns.{row_at, column};
 ghost use Rattle.flash_document.specs.Volumes.{rule_sections, rule_head, plan_of, rule_with, rule_of_lines};
 
 use crate::column::row_at;
-use crate::stated::{Stated, StatedRule, head_copy};
+use crate::stated::{FdfSection, StatedRule, head_copy};
 use build_base::{Place, Rows, Same, WantOfMemory};
 use doc_types::volume::{FilePlan, RuleDoc, SectionPlan};
 use fdf_words::rows::{FileHead, LineRead, Row, RuleScope};
@@ -72,11 +72,11 @@ fn rule_with(
     scope: &RuleScope,
     sections: Rows<SectionPlan>,
     head: Option<FileHead>,
-) -> Result<Stated, WantOfMemory>
+) -> Result<FdfSection, WantOfMemory>
     ensures { IfOk result (λ s. s ≡ rule_with at.now scope.now sections head) }
 {
     let Some(head) = head else {
-        return Ok(Stated::Settings);
+        return Ok(FdfSection::Settings);
     };
     let rule = RuleDoc {
         at: at.copy(alloc)?,
@@ -85,7 +85,7 @@ fn rule_with(
         template: scope.template.copy(alloc)?,
         file: plan_of(head, sections),
     };
-    Ok(Stated::Rule(StatedRule {
+    Ok(FdfSection::Rule(StatedRule {
         name: scope.name.copy(alloc)?,
         rule,
     }))
@@ -99,7 +99,7 @@ pub(crate) fn rule_of_lines(
     scope: &RuleScope,
     k: usize,
     lines: &[LineRead],
-) -> Result<Stated, WantOfMemory>
+) -> Result<FdfSection, WantOfMemory>
     ensures { IfOk result (λ s. s ≡ rule_of_lines at.now scope.now k lines.now) }
 {
     let sections = sections_of(alloc, k, lines)?;

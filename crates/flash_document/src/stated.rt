@@ -39,7 +39,7 @@ pub struct StatedFile {
 
 /// A statement of a volume.
 #[derive(Drop)]
-pub enum StatedItem {
+pub enum FdfStatement {
     Apriori {
         at: Place,
         pei: bool,
@@ -63,7 +63,7 @@ pub struct StatedVolume {
     pub name_guid: Option<Guid>,
     pub force: bool,
     pub ffs3: bool,
-    pub items: Rows<StatedItem>,
+    pub items: Rows<FdfStatement>,
 }
 
 /// A rule, and its name as it is written.
@@ -75,7 +75,7 @@ pub struct StatedRule {
 
 /// What a section states below one head.
 #[derive(Drop)]
-pub enum Stated {
+pub enum FdfSection {
     Settings,
     Device(StatedDevice),
     Volume(StatedVolume),

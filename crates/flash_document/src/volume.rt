@@ -1,11 +1,11 @@
 //! A volume as its section states it.
 ghost use Rattle.std.specs.Prelude.{◌≡◌, ◌++◌, ◌∷◌, [], IfOk, OnOk, IfSome, IfNone, Some, None, List};
 ghost use Rattle.flash_document.specs.Columns.{row_at};
-ghost use Rattle.flash_document.specs.declared.stated.StatedItem.TheVariants as item;
+ghost use Rattle.flash_document.specs.declared.stated.FdfStatement.TheVariants as item;
 ghost use Rattle.flash_document.specs.Volumes.{is_key, settings_in, last_setting, numbers, switches, rebases, names, systems, is_on, flags_of, members_in, sections_in, whole_in, file_with, items_of, volume_of};
 
 use crate::column::row_at;
-use crate::stated::{StatedFile, StatedItem, StatedVolume, head_copy, section_copy};
+use crate::stated::{FdfStatement, StatedFile, StatedVolume, head_copy, section_copy};
 use build_base::{Guid, Path, Place, Rows, Same, Text, WantOfMemory};
 use doc_types::volume::Member;
 use fdf_words::rows::{
@@ -207,18 +207,18 @@ fn apriori_with(
     head: &AprioriHead,
     k: usize,
     lines: &[LineRead],
-) -> Result<StatedItem, WantOfMemory>
+) -> Result<FdfStatement, WantOfMemory>
     ensures { IfOk result
         (λ made. made ≡ item.Apriori head.now.at head.now.pei (members_in k lines.now)) }
 {
-    Ok(StatedItem::Apriori {
+    Ok(FdfStatement::Apriori {
         at: head.at.copy(alloc)?,
         pei: head.pei,
         members: members_in(alloc, k, lines)?,
     })
 }
 
-fn items_of(alloc: Global, k: usize, lines: &[LineRead]) -> Result<Rows<StatedItem>, WantOfMemory>
+fn items_of(alloc: Global, k: usize, lines: &[LineRead]) -> Result<Rows<FdfStatement>, WantOfMemory>
     ensures { IfOk result (λ rows. rows ≡ items_of k lines.now) }
 {
     let mut items = Rows::new(alloc);
@@ -227,9 +227,9 @@ fn items_of(alloc: Global, k: usize, lines: &[LineRead]) -> Result<Rows<StatedIt
         match row_at(line, k) {
             Some(Row::Apriori(head)) => items.push(apriori_with(alloc, head, k, rest)?)?,
             Some(Row::File(head)) => {
-                items.push(StatedItem::File(file_with(alloc, head, k, rest)?))?;
+                items.push(FdfStatement::File(file_with(alloc, head, k, rest)?))?;
             }
-            Some(Row::Inf(inf)) => items.push(StatedItem::Inf(inf.copy(alloc)?))?,
+            Some(Row::Inf(inf)) => items.push(FdfStatement::Inf(inf.copy(alloc)?))?,
             _ => {}
         }
         left = rest;

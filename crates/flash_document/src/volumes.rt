@@ -11,7 +11,7 @@ ghost use Rattle.flash_document.specs.Document.{plan_in};
 use crate::held::HeldSizes;
 use crate::names::place_in;
 use crate::plan::volume_plan;
-use crate::stated::{Stated, StatedItem, StatedVolume};
+use crate::stated::{FdfSection, FdfStatement, StatedVolume};
 use build_base::{Rows, Same, Text, WantOfMemory};
 use doc_types::volume::VolumePlan;
 use fdf_words::rows::{SectionBody, SectionLine};
@@ -19,13 +19,13 @@ use indexmap::IndexMap;
 use std::alloc::Global;
 
 /// The volumes, in file order.
-pub fn volumes_of(alloc: Global, parts: &[Stated]) -> Result<Vec<&StatedVolume>, WantOfMemory>
+pub fn volumes_of(alloc: Global, parts: &[FdfSection]) -> Result<Vec<&StatedVolume>, WantOfMemory>
     ensures { IfOk result (λ volumes. map (λ v. v.now) volumes.items ≡ volumes_of parts.now) }
 {
     let mut volumes = Vec::new(alloc);
     let mut left = parts;
     while let [part, rest @ ..] = left {
-        if let Stated::Volume(volume) = part {
+        if let FdfSection::Volume(volume) = part {
             match volumes.push(volume) {
                 Ok(()) => {}
                 Err(_) => return Err(WantOfMemory),
@@ -88,13 +88,13 @@ fn push_item(
     alloc: Global,
     table: &IndexMap<Vec<u8>, usize>,
     nest: &mut Rows<usize>,
-    item: &StatedItem,
+    item: &FdfStatement,
 ) -> Result<(), WantOfMemory>
     ensures { (names : List (List ℕ)) → Places names table.now
         → OnOk result (nest.new ≡ nest.old ++ item_nest names item.now) }
 {
     match item {
-        StatedItem::File(file) => push_sections(alloc, table, nest, file.sections.items()),
+        FdfStatement::File(file) => push_sections(alloc, table, nest, file.sections.items()),
         _ => Ok(()),
     }
 }

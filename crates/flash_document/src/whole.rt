@@ -7,22 +7,23 @@ ghost use Rattle.flash_document.specs.Numbering.{first_loop};
 ghost use Rattle.std.specs.List.{flat_map};
 ghost use Rattle.flash_document.specs.Document.{numbered, ordered_names, part_device, volume_plans, document_of, flash_of_lines};
 ghost use Rattle.flash_document.specs.Names.{Places};
-ghost use Rattle.flash_document.specs.declared.stated.Stated.{Stated as Part};
+ghost use Rattle.flash_document.specs.declared.stated.FdfSection.{FdfSection as Part};
 ghost use Rattle.flash_document.specs.Parts.{all_stated};
 ghost use Rattle.flash_document.specs.Tables.{loop_in, Stands};
 
 use crate::check::{
-    check_blocks, check_names, check_regions, check_sizes, check_stated, check_twins, twin_marks,
+    check_blocks, check_duplicate_names, check_names, check_regions, check_sizes, check_stated,
+    twin_marks,
 };
-use crate::components::numbers_of;
 use crate::held::{HeldSizes, all_held, sizes_of};
 use crate::loops::first_loop;
 use crate::names::places_of;
-use crate::numbering::order_of;
+use crate::numbering::topological_order;
 use crate::parts::all_stated;
 use crate::plan::{device_plans, rules_of};
 use crate::sets::all_sets;
-use crate::stated::{Stated, StatedVolume};
+use crate::stated::{FdfSection, StatedVolume};
+use crate::strong_components::component_numbers;
 use crate::volumes::{names_of, nests_of, ordered_names, volume_at, volume_plans, volumes_of};
 use build_base::fault_codes::VOLUME_LOOP;
 use build_base::{Path, Place, Refusal, Rows, Same, Text, WantOfMemory, refuse};
@@ -46,7 +47,7 @@ pub struct Tables {
 
 fn tables_of(
     alloc: Global,
-    parts: &[Stated],
+    parts: &[FdfSection],
     volumes: &[&StatedVolume],
 ) -> Result<Tables, WantOfMemory>
     ensures { map (λ v. v.now) volumes.now ≡ volumes_of parts.now → IfOk result (Stands parts.now) }
@@ -56,7 +57,7 @@ fn tables_of(
     let regions = all_held(alloc, parts)?;
     let sizes = sizes_of(alloc, regions.items())?;
     let nests = nests_of(alloc, &places, volumes)?;
-    let order = order_of(alloc, nests.items())?;
+    let order = topological_order(alloc, nests.items())?;
     Ok(Tables {
         names,
         places,
@@ -81,7 +82,7 @@ fn loop_at(alloc: Global, volumes: &[&StatedVolume], place: usize) -> Result<(),
 fn find_loop(alloc: Global, volumes: &[&StatedVolume], nests: &[Rows<usize>]) -> Result<(), Refusal>
     ensures { Checks result (loop_in volumes.now (first_loop nests.now)) }
 {
-    let numbers = numbers_of(alloc, nests)?;
+    let numbers = component_numbers(alloc, nests)?;
     match first_loop(alloc, nests, numbers.items())? {
         Some(place) => loop_at(alloc, volumes, place),
         None => Ok(()),
@@ -103,7 +104,7 @@ fn check_loops(
 fn check_marked(
     alloc: Global,
     lines: &[LineRead],
-    parts: &[Stated],
+    parts: &[FdfSection],
     volumes: &[&StatedVolume],
     tables: &Tables,
     repeats: &[bool],
@@ -117,13 +118,13 @@ fn check_marked(
     check_names(alloc, &tables.places, lines)?;
     check_blocks(alloc, &tables.sizes, parts, repeats)?;
     check_regions(alloc, &tables.sizes, parts, repeats)?;
-    check_twins(alloc, parts, repeats)
+    check_duplicate_names(alloc, parts, repeats)
 }
 
 fn check_whole(
     alloc: Global,
     lines: &[LineRead],
-    parts: &[Stated],
+    parts: &[FdfSection],
     volumes: &[&StatedVolume],
     tables: &Tables,
 ) -> Result<(), Refusal>
@@ -143,7 +144,7 @@ fn ordered_places(alloc: Global, tables: &Tables) -> Result<IndexMap<Vec<u8>, us
     places_of(alloc, names.items())
 }
 
-fn planned(
+fn planned_volumes(
     alloc: Global,
     places: &IndexMap<Vec<u8>, usize>,
     tables: &Tables,
@@ -173,7 +174,7 @@ fn document_with(
     alloc: Global,
     root: &Path,
     lines: &[LineRead],
-    parts: &[Stated],
+    parts: &[FdfSection],
     devices: Rows<DevicePlan>,
     volumes: Rows<VolumePlan>,
 ) -> Result<FlashDoc, WantOfMemory>
@@ -197,7 +198,7 @@ fn document_of(
     alloc: Global,
     root: &Path,
     lines: &[LineRead],
-    parts: &[Stated],
+    parts: &[FdfSection],
     volumes: &[&StatedVolume],
     tables: &Tables,
 ) -> Result<FlashDoc, WantOfMemory>
@@ -206,16 +207,16 @@ fn document_of(
 {
     let places = ordered_places(alloc, tables)?;
     let devices = device_plans(alloc, &places, parts)?;
-    let volumes = planned(alloc, &places, tables, volumes)?;
+    let volumes = planned_volumes(alloc, &places, tables, volumes)?;
     document_with(alloc, root, lines, parts, devices, volumes)
 }
 
 #[tactic(auto, unfolding(crate::specs::Document::flash_of_lines))]
-fn judged(
+fn document_or_fault(
     alloc: Global,
     root: &Path,
     lines: &[LineRead],
-    parts: &[Stated],
+    parts: &[FdfSection],
     volumes: &[&StatedVolume],
     tables: &Tables,
 ) -> Result<FlashDoc, Refusal>
@@ -231,21 +232,21 @@ fn flash_of_volumes(
     alloc: Global,
     root: &Path,
     lines: &[LineRead],
-    parts: &[Stated],
+    parts: &[FdfSection],
     volumes: &[&StatedVolume],
 ) -> Result<FlashDoc, Refusal>
     ensures { parts.now ≡ all_stated lines.now → map (λ v. v.now) volumes.now ≡ volumes_of parts.now
         → Answers result (flash_of_lines root.now lines.now) }
 {
     let tables = tables_of(alloc, parts, volumes)?;
-    judged(alloc, root, lines, parts, volumes, &tables)
+    document_or_fault(alloc, root, lines, parts, volumes, &tables)
 }
 
 fn flash_of_parts(
     alloc: Global,
     root: &Path,
     lines: &[LineRead],
-    parts: &[Stated],
+    parts: &[FdfSection],
 ) -> Result<FlashDoc, Refusal>
     ensures { parts.now ≡ all_stated lines.now
         → Answers result (flash_of_lines root.now lines.now) }

@@ -15,11 +15,11 @@ use Rattle.step_pack.specs.declared.out.Out.{Out}
 use Rattle.std.specs.Prelude.{ℕ}
 
 -- what can be made of files of their shape alone
-unfoldable pub moved : VolumeHead → List FileImage → Result (List ℕ) Fault
-moved head files = if head_fits head && list_all is_stated files then rebased head files
+unfoldable pub rebased_image : VolumeHead → List FileImage → Result (List ℕ) Fault
+rebased_image head files = if head_fits head && list_all is_stated files then rebased head files
     else Err misfit
 
 -- the volume of a head, whose files the answers are, moved to its base where it is to be
 unfoldable pub based_given : VolumeHead → List (Answer Out) → Result (List ℕ) Fault
-based_given head given = if is_based head then and_then (images_from given 0) (moved head)
+based_given head given = if is_based head then and_then (images_from given 0) (rebased_image head)
     else volume_given head given

@@ -39,18 +39,18 @@ use Rattle.document_rules.specs.VpdLines.{has_vpd}
 use Rattle.build_base.specs.FaultCodes.{VOLUME_UNKNOWN}
 
 -- what a number names, or the fault that it names nothing
-abbrev pub numbered : {A : Type 0} → FlashDoc → Option A → Result A Fault
-numbered flash (Some x) = Ok x
-numbered flash None = Err (fault_of VOLUME_UNKNOWN flash.at [])
+abbrev pub item_of_number : {A : Type 0} → FlashDoc → Option A → Result A Fault
+item_of_number flash (Some x) = Ok x
+item_of_number flash None = Err (fault_of VOLUME_UNKNOWN flash.at [])
 
 abbrev pub volume_at : FlashDoc → ℕ → Result VolumePlan Fault
-volume_at flash v = numbered flash (slice_get flash.volumes v)
+volume_at flash v = item_of_number flash (slice_get flash.volumes v)
 
 abbrev pub item_at : FlashDoc → VolumePlan → ℕ → Result Item Fault
-item_at flash plan i = numbered flash (slice_get plan.items i)
+item_at flash plan i = item_of_number flash (slice_get plan.items i)
 
 abbrev pub device_at : FlashDoc → ℕ → Result DevicePlan Fault
-device_at flash d = numbered flash (slice_get flash.devices d)
+device_at flash d = item_of_number flash (slice_get flash.devices d)
 
 -- what the sections of a module's file hold, and then the file
 abbrev pub sections_stages : VolumeHead → ModulePlan → EdkStages

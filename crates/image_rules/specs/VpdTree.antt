@@ -25,8 +25,8 @@ use Rattle.document_rules.specs.Trees.{EdkStages, given_as, platform_in}
 abbrev pub vpd_asks : List (Ask Key)
 vpd_asks = ask.Part key.Platform ∷ ask.Part key.PlatformPcds ∷ ask.Field 1 ∷ []
 
-abbrev pub placed : PlatformDoc → Values → List Arch → Result Vpd Fault
-placed platform values arches =
+abbrev pub placed_vpd : PlatformDoc → Values → List Arch → Result Vpd Fault
+placed_vpd platform values arches =
     vpd_of (record { platform = platform; values = values; arches = arches })
 
 abbrev pub arches_at : PlatformDoc → List (Answer Out) → Result (List Arch) Fault
@@ -37,7 +37,7 @@ vpd_from given =
     attempt (platform_in given 0) (λ platform.
     attempt (values_at given 1) (λ values.
     attempt (arches_at platform given)
-    (λ arches. end (given_as out.Vpd (placed platform values arches)))))
+    (λ arches. end (given_as out.Vpd (placed_vpd platform values arches)))))
 
 abbrev pub vpd_stages : EdkStages
 vpd_stages = stage vpd_asks vpd_from

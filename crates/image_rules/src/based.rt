@@ -6,7 +6,7 @@ ghost use Rattle.fv_compose.specs.Files.{AreAligned};
 ghost use Rattle.fv_compose.specs.Volume.{HasShape};
 ghost use Rattle.image_rebase.specs.Rebase.{IsBased, rebased};
 ghost use Rattle.image_steps.specs.Asks.{is_based};
-ghost use Rattle.image_rules.specs.Based.{moved, based_given};
+ghost use Rattle.image_rules.specs.Based.{rebased_image, based_given};
 
 use build_base::{Image, Permit, Refusal, Rows};
 use build_stages::{Given, Stop};
@@ -35,15 +35,15 @@ fn image(
     }
 }
 
-#[tactic(auto, unfolding(crate::specs::Based::moved), using(image_steps::proofs::VolumeLemmas::head_shape, image_steps::proofs::VolumeLemmas::files_shape, crate::proofs::BasedLemmas::is_based_head))]
-fn moved(
+#[tactic(auto, unfolding(crate::specs::Based::rebased_image), using(image_steps::proofs::VolumeLemmas::head_shape, image_steps::proofs::VolumeLemmas::files_shape, crate::proofs::BasedLemmas::is_based_head))]
+fn rebased_image(
     alloc: Global,
     permit: Permit,
     head: &VolumeHead,
     files: &Rows<FileImage>,
 ) -> Result<Image, Stop<Key>>
     requires { is_based head.now ≡ true }
-    ensures { GivesIn (λ image. image) result (moved head.now files.now) }
+    ensures { GivesIn (λ image. image) result (rebased_image head.now files.now) }
 {
     if head_fits(head) && are_stated(files.items()) {
         return Ok(image(alloc, permit, head, files)?);
@@ -63,7 +63,7 @@ pub fn based_given(
 {
     if is_based(head) {
         let files = images(alloc, given)?;
-        return moved(alloc, permit, head, &files);
+        return rebased_image(alloc, permit, head, &files);
     }
     volume_given(alloc, permit, head, given)
 }

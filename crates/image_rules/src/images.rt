@@ -4,7 +4,7 @@ ghost use Rattle.std.specs.Option.{option_copied};
 ghost use Rattle.build_base.specs.FaultText.{fault_of};
 ghost use Rattle.build_stages.specs.Gives.{GivesIn};
 ghost use Rattle.document_rules.specs.Trees.{Comes};
-ghost use Rattle.image_rules.specs.ImageTrees.{numbered, volume_at, item_at, device_at, sections_stages, module_from, module_stages, apriori_stages, item_stages, file_from, file_stages, image_by, plan_stages, volume_from, volume_stages, vpd_where, vpd_path, vpd_in, regions_stages, device_from, device_stages};
+ghost use Rattle.image_rules.specs.ImageTrees.{item_of_number, volume_at, item_at, device_at, sections_stages, module_from, module_stages, apriori_stages, item_stages, file_from, file_stages, image_by, plan_stages, volume_from, volume_stages, vpd_where, vpd_path, vpd_in, regions_stages, device_from, device_stages};
 
 use crate::based::based_given;
 use build_base::fault_codes::VOLUME_UNKNOWN;
@@ -31,12 +31,12 @@ use step_engine::Ask;
 use step_pack::{Key, Out};
 
 // What a number names, or the fault that it names nothing.
-fn numbered<'a, A>(
+fn item_of_number<'a, A>(
     alloc: Global,
     flash: &FlashDoc,
     named: Option<&'a A>,
 ) -> Result<&'a A, Stop<Key>>
-    ensures { GivesIn (λ x. x.now) result (numbered flash.now (option_copied named.entry)) }
+    ensures { GivesIn (λ x. x.now) result (item_of_number flash.now (option_copied named.entry)) }
 {
     match named {
         Some(named) => Ok(named),
@@ -51,7 +51,7 @@ fn volume_at<'a>(
 ) -> Result<&'a VolumePlan, Stop<Key>>
     ensures { GivesIn (λ plan. plan.now) result (volume_at flash.now number) }
 {
-    numbered(alloc, flash, flash.volumes.items().get(number as usize))
+    item_of_number(alloc, flash, flash.volumes.items().get(number as usize))
 }
 
 fn item_at<'a>(
@@ -62,7 +62,7 @@ fn item_at<'a>(
 ) -> Result<&'a Item, Stop<Key>>
     ensures { GivesIn (λ item. item.now) result (item_at flash.now plan.now number) }
 {
-    numbered(alloc, flash, plan.items.items().get(number as usize))
+    item_of_number(alloc, flash, plan.items.items().get(number as usize))
 }
 
 fn device_at<'a>(
@@ -72,7 +72,7 @@ fn device_at<'a>(
 ) -> Result<&'a DevicePlan, Stop<Key>>
     ensures { GivesIn (λ plan. plan.now) result (device_at flash.now number) }
 {
-    numbered(alloc, flash, flash.devices.items().get(number as usize))
+    item_of_number(alloc, flash, flash.devices.items().get(number as usize))
 }
 
 // The file of a FILE statement.
@@ -229,7 +229,7 @@ fn image_by(
 }
 
 // The volume of a plan.
-fn planned(
+fn volume_of_plan(
     alloc: Global,
     known: &Known<'_, Key, Out>,
     moved: bool,
@@ -261,7 +261,7 @@ fn volume_from(
 {
     let flash = flash_in(given, 0)?;
     let plan = volume_at(alloc, flash, number)?;
-    planned(alloc, known, moved, number, plan, permit)
+    volume_of_plan(alloc, known, moved, number, plan, permit)
 }
 
 fn numbered_volume(
@@ -291,7 +291,7 @@ pub fn volume(
 }
 
 /// The volume of a number, moved to its base where it is to be.
-pub fn based(
+pub fn rebased_volume(
     alloc: Global,
     known: &Known<'_, Key, Out>,
     number: u32,

@@ -4,7 +4,7 @@ ghost use Rattle.build_stages.specs.Known.{gathered_at};
 ghost use Rattle.document_rules.specs.Fits.{fits};
 ghost use Rattle.document_rules.specs.Trees.{Comes};
 ghost use Rattle.step_pack.specs.Keys.{key_cmp};
-ghost use Rattle.image_rules.specs.VpdTree.{arches_at, placed, vpd_asks, vpd_stages};
+ghost use Rattle.image_rules.specs.VpdTree.{arches_at, placed_vpd, vpd_asks, vpd_stages};
 
 use build_base::{Permit, Rows, Same};
 use build_stages::{Given, Known, Stop, gather};
@@ -23,14 +23,14 @@ use step_pack::{Key, Out};
 use text_steps::report::values_at;
 use vpd_image::{VpdAsk, vpd_of};
 
-fn placed(
+fn placed_vpd(
     alloc: Global,
     permit: Permit,
     platform: &Shared<PlatformDoc>,
     values: &Shared<Values>,
     arches: Rows<Arch>,
 ) -> Result<Vpd, Stop<Key>>
-    ensures { GivesIn (λ vpd. vpd) result (placed platform.now values.now arches) }
+    ensures { GivesIn (λ vpd. vpd) result (placed_vpd platform.now values.now arches) }
 {
     let ask = VpdAsk {
         platform: platform.copy(alloc)?,
@@ -75,5 +75,5 @@ pub fn vpd(alloc: Global, known: &Known<'_, Key, Out>, permit: Permit) -> Result
     let platform = shared_platform(&given, 0)?;
     let values = values_at(&given, 1)?;
     let arches = arches_at(alloc, platform.value(), &given)?;
-    Ok(Out::Vpd(placed(alloc, permit, platform, values, arches)?))
+    Ok(Out::Vpd(placed_vpd(alloc, permit, platform, values, arches)?))
 }

@@ -12,21 +12,21 @@ use Rattle.inf_docs.specs.declared.depex.OpenSection.{OpenSection}
 use Rattle.inf_docs.specs.declared.module.ModuleFormat.{ModuleFormat}
 use Rattle.inf_docs.specs.declared.row.Row.{Row}
 use Rattle.inf_docs.specs.declared.section.Scope.{Scope}
-use Rattle.inf_docs.specs.Depex.{read_terms, opened, last_section, parts_in, block_parts, all_parts, with_terms, line_terms}
+use Rattle.inf_docs.specs.Depex.{read_terms, opened_section, last_section, parts_in, block_parts, all_parts, with_terms, line_terms}
 use Rattle.inf_docs.specs.Modules.{tables_of, document_of, module_made}
 use Rattle.inf_docs.specs.Reading.{Holds}
 
 terms_more : (rest : List (Read Scope Row)) (rows : List Row) → flat_map read_terms (rest ++ gave rows ∷ []) ≡ flat_map read_terms rest ++ line_terms rows
 terms_more rest rows = flat_map-append read_terms rest (gave rows ∷ []) ∙ ap (λ ts. flat_map read_terms rest ++ ts) (append-nil (line_terms rows))
 
-opened_more : (first : Read Scope Row) (terms : List _) (rows : List Row) → opened first (terms ++ line_terms rows) ≡ option_map (with_terms rows) (opened first terms)
+opened_more : (first : Read Scope Row) (terms : List _) (rows : List Row) → opened_section first (terms ++ line_terms rows) ≡ option_map (with_terms rows) (opened_section first terms)
 opened_more (entered at scopes) terms rows = refl
 opened_more (gave others) terms rows = refl
 
 last_with : (block : Option (Block (Read Scope Row))) (rows : List Row)
     → last_section (option_map (λ b. with_line b (gave rows)) block) ≡ option_map (with_terms rows) (last_section block)
 last_with None rows = refl
-last_with (Some block) rows = ap (opened block.first) (terms_more block.rest rows) ∙ opened_more block.first (flat_map read_terms block.rest) rows
+last_with (Some block) rows = ap (opened_section block.first) (terms_more block.rest rows) ∙ opened_more block.first (flat_map read_terms block.rest) rows
 
 -- a line that gives rows
 pub section_more : (above : List (Read Scope Row)) (old new : Option OpenSection) (rows : List Row)
@@ -44,7 +44,7 @@ made_last (Some block) = refl
 
 -- heads
 pub section_begun : (above : List (Read Scope Row)) (at : Place) (scopes : List Scope) (new : Option OpenSection)
-    → new ≡ opened (entered at scopes) [] → new ≡ last_section (last_block are_heads (above ++ entered at scopes ∷ []))
+    → new ≡ opened_section (entered at scopes) [] → new ≡ last_section (last_block are_heads (above ++ entered at scopes ∷ []))
 section_begun above at scopes new n = n ∙ sym (ap last_section (block_first are_heads above (entered at scopes) refl))
 
 pub parts_begun : (above : List (Read Scope Row)) (at : Place) (scopes : List Scope) (section : Option OpenSection) (done new : List DepexPart)

@@ -50,12 +50,12 @@ is_depex Depex = true
 is_depex kind = false
 
 -- a section: its heads' place and scopes, and the terms of its lines
-abbrev pub opened : Read Scope Row → List (List ℕ) → Option OpenSection
-opened (entered at scopes) terms = Some (record { at = at; scopes = scopes; terms = terms })
-opened (gave rows) terms = None
+abbrev pub opened_section : Read Scope Row → List (List ℕ) → Option OpenSection
+opened_section (entered at scopes) terms = Some (record { at = at; scopes = scopes; terms = terms })
+opened_section (gave rows) terms = None
 
 abbrev pub section_in : Block (Read Scope Row) → Option OpenSection
-section_in block = opened block.first (flat_map read_terms block.rest)
+section_in block = opened_section block.first (flat_map read_terms block.rest)
 
 abbrev pub part_of : OpenSection → Scope → List DepexPart
 part_of section scope =

@@ -17,7 +17,7 @@ use Rattle.inf_docs.specs.declared.key.ModuleKey.TheVariants.{BaseName, FileGuid
 use Rattle.inf_docs.specs.declared.row.Row.{Row}
 use Rattle.inf_docs.specs.declared.row.Row.TheVariants as row
 use Rattle.inf_docs.specs.Classes.{class_faults, class_served}
-use Rattle.inf_docs.specs.Names.{name_faults, named}
+use Rattle.inf_docs.specs.Names.{name_faults, name_for}
 use Rattle.build_base.specs.FaultCodes.{BAD_TYPE, INF_BAD_GUID}
 
 -- the keys that are read; of the first four the last line holds, the others may repeat
@@ -59,9 +59,9 @@ value_row line BaseName value = Some (row.BaseName value)
 value_row line FileGuid value = option_map row.FileGuid (guid_of value)
 value_row line Kind value = option_map row.Kind (module_type_named value)
 value_row line Version value = Some (row.Version value)
-value_row line EntryPoint value = Some (row.EntryPoint (named line.at Common value))
-value_row line Constructor value = Some (row.Constructor (named line.at Common value))
-value_row line Destructor value = Some (row.Destructor (named line.at Common value))
+value_row line EntryPoint value = Some (row.EntryPoint (name_for line.at Common value))
+value_row line Constructor value = Some (row.Constructor (name_for line.at Common value))
+value_row line Destructor value = Some (row.Destructor (name_for line.at Common value))
 value_row line LibraryClass value = option_map row.Serves (class_served (field_texts value))
 
 -- a line of another key is read past

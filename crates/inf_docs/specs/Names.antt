@@ -26,8 +26,8 @@ abbrev pub name_faults : Place → List ℕ → List (Option Fault)
 name_faults at text = undefined_macro at text ∷ name_fault at text ∷ []
 
 -- for an architecture
-abbrev pub named : Place → Arch → List ℕ → Named
-named at arch name = record { at = at; arch = arch; name = name }
+abbrev pub name_for : Place → Arch → List ℕ → Named
+name_for at arch name = record { at = at; arch = arch; name = name }
 
 -- the fields behind the first are read past
 abbrev pub first_field : Taken → List ℕ
@@ -37,7 +37,7 @@ unfoldable pub name_line_faults : Taken → List (Option Fault)
 name_line_faults line = of_read_line line (name_faults line.at (first_field line))
 
 unfoldable pub name_line : Taken → Arch → Named
-name_line line arch = named line.at arch (first_field line)
+name_line line arch = name_for line.at arch (first_field line)
 
 -- the path of a package
 abbrev pub path_of : List ℕ → Option (List ℕ)
@@ -50,4 +50,4 @@ package_faults line =
 
 unfoldable pub package_row : Taken → Arch → Option Row
 package_row line arch =
-    option_map (λ path. Package (named line.at arch path)) (path_of (first_field line))
+    option_map (λ path. Package (name_for line.at arch path)) (path_of (first_field line))

@@ -50,20 +50,20 @@ with_type (Some arch) None = Misqualified
 with_type None found = Misqualified
 
 -- no qualifier in [Defines], at most one elsewhere, two in [Depex]
-abbrev pub qualified : SectionKind → List (List ℕ) → Meaning Scope
-qualified kind [] = for_all kind
-qualified Defines (word ∷ words) = Misqualified
-qualified Packages (word ∷ []) = with_arch Packages (arch_named word)
-qualified Classes (word ∷ []) = with_arch Classes (arch_named word)
-qualified GuidNames (word ∷ []) = with_arch GuidNames (arch_named word)
-qualified (Pcds asked) (word ∷ []) = with_arch (Pcds asked) (arch_named word)
-qualified Depex (word ∷ []) = with_arch Depex (arch_named word)
-qualified Depex (word ∷ next ∷ []) = with_type (arch_named word) (module_type_named next)
-qualified kind (word ∷ next ∷ words) = Misqualified
+abbrev pub qualified_section : SectionKind → List (List ℕ) → Meaning Scope
+qualified_section kind [] = for_all kind
+qualified_section Defines (word ∷ words) = Misqualified
+qualified_section Packages (word ∷ []) = with_arch Packages (arch_named word)
+qualified_section Classes (word ∷ []) = with_arch Classes (arch_named word)
+qualified_section GuidNames (word ∷ []) = with_arch GuidNames (arch_named word)
+qualified_section (Pcds asked) (word ∷ []) = with_arch (Pcds asked) (arch_named word)
+qualified_section Depex (word ∷ []) = with_arch Depex (arch_named word)
+qualified_section Depex (word ∷ next ∷ []) = with_type (arch_named word) (module_type_named next)
+qualified_section kind (word ∷ next ∷ words) = Misqualified
 
 -- a section that is read past takes any
 abbrev pub meaning_of : Option (Option SectionKind) → List (List ℕ) → Meaning Scope
-meaning_of (Some (Some kind)) qualifiers = qualified kind qualifiers
+meaning_of (Some (Some kind)) qualifiers = qualified_section kind qualifiers
 meaning_of (Some None) qualifiers = Passed
 meaning_of None qualifiers = Unknown
 

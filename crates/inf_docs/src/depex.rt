@@ -4,7 +4,7 @@ ghost use Rattle.std.specs.List.{flat_map};
 ghost use Rattle.build_base.specs.Answer.{Answers};
 ghost use Rattle.doc_reading.specs.Gathering.{judged};
 ghost use Rattle.doc_reading.specs.Grammar.{entered};
-ghost use Rattle.inf_docs.specs.Depex.{apart, terms_of, terms_faults, has_terms, terms_in, line_terms, opened, with_terms, is_depex, part_of, parts_of, parts_in};
+ghost use Rattle.inf_docs.specs.Depex.{apart, terms_of, terms_faults, has_terms, terms_in, line_terms, opened_section, with_terms, is_depex, part_of, parts_of, parts_in};
 
 use crate::row::Row;
 use crate::section::{Scope, SectionKind};
@@ -34,7 +34,7 @@ fn push_apart(out: &mut Vec<u8>, byte: u8) -> Result<(), WantOfMemory>
     Ok(())
 }
 
-fn spaced(alloc: Global, text: &[u8]) -> Result<Vec<u8>, WantOfMemory>
+fn spaced_words(alloc: Global, text: &[u8]) -> Result<Vec<u8>, WantOfMemory>
     ensures { IfOk result (λ out. out.items ≡ flat_map apart text.now) }
 {
     let mut out = Vec::new(alloc);
@@ -48,7 +48,7 @@ fn spaced(alloc: Global, text: &[u8]) -> Result<Vec<u8>, WantOfMemory>
 fn terms_of(alloc: Global, text: &[u8]) -> Result<Rows<Text>, WantOfMemory>
     ensures { IfOk result (λ terms. terms ≡ terms_of text.now) }
 {
-    let text = spaced(alloc, text)?;
+    let text = spaced_words(alloc, text)?;
     words(alloc, text.as_slice())
 }
 
@@ -128,8 +128,13 @@ pub(crate) fn add_terms(
 }
 
 /// The section of these heads, without a line.
-pub fn opened(alloc: Global, at: &Place, scopes: &[Scope]) -> Result<OpenSection, WantOfMemory>
-    ensures { IfOk result (λ section. opened (entered at.now scopes.now) [] ≡ Some section) }
+pub fn opened_section(
+    alloc: Global,
+    at: &Place,
+    scopes: &[Scope],
+) -> Result<OpenSection, WantOfMemory>
+    ensures { IfOk result
+        (λ section. opened_section (entered at.now scopes.now) [] ≡ Some section) }
 {
     Ok(OpenSection {
         at: at.copy(alloc)?,

@@ -7,7 +7,7 @@ ghost use Rattle.inf_docs.specs.Keys.{guid_faults, type_faults, value_faults, va
 
 use crate::class::{check_class, class_served};
 use crate::key::{ModuleKey, key_named};
-use crate::names::{check_name, named};
+use crate::names::{check_name, name_for};
 use crate::row::Row;
 use build_base::fault_codes::{BAD_TYPE, INF_BAD_GUID};
 use build_base::{Guid, Refusal, Taken, Text, WantOfMemory};
@@ -73,13 +73,13 @@ fn value_row(
         ModuleKey::Kind => Ok(module_type_named(value).map(|found| Row::Kind(found))),
         ModuleKey::Version => Ok(Some(Row::Version(Text::of(alloc, value)?))),
         ModuleKey::EntryPoint => {
-            Ok(Some(Row::EntryPoint(named(alloc, at, Arch::Common, value)?)))
+            Ok(Some(Row::EntryPoint(name_for(alloc, at, Arch::Common, value)?)))
         }
         ModuleKey::Constructor => {
-            Ok(Some(Row::Constructor(named(alloc, at, Arch::Common, value)?)))
+            Ok(Some(Row::Constructor(name_for(alloc, at, Arch::Common, value)?)))
         }
         ModuleKey::Destructor => {
-            Ok(Some(Row::Destructor(named(alloc, at, Arch::Common, value)?)))
+            Ok(Some(Row::Destructor(name_for(alloc, at, Arch::Common, value)?)))
         }
         ModuleKey::LibraryClass => {
             let fields = field_texts(alloc, value)?;

@@ -8,7 +8,7 @@ ghost use Rattle.inf_docs.specs.Reading.{Holds};
 ghost use Rattle.inf_docs.specs.declared.row.Row.{Row as Said};
 ghost use Rattle.inf_docs.specs.declared.section.Scope.{Scope as Entered};
 
-use crate::depex::{OpenSection, add_terms, opened, push_parts, terms_line};
+use crate::depex::{OpenSection, add_terms, opened_section, push_parts, terms_line};
 use crate::key_line::key_line;
 use crate::names::{name_line, package_line};
 use crate::pcd_line::pcd_line;
@@ -117,7 +117,7 @@ impl Format for ModuleFormat {
     fn begin(&mut self, at: &Place, scopes: &[Scope]) -> Result<(), WantOfMemory> {
         let ended = mem::replace(&mut self.section, None);
         push_parts(self.alloc, &mut self.parts, ended)?;
-        self.section = Some(opened(self.alloc, at, scopes)?);
+        self.section = Some(opened_section(self.alloc, at, scopes)?);
         Ok(())
     }
 

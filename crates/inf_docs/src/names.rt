@@ -3,7 +3,7 @@ ghost use Rattle.std.specs.Prelude.{◌≡◌, IfOk};
 ghost use Rattle.build_base.specs.Answer.{Answers, Checks};
 ghost use Rattle.doc_reading.specs.Gathering.{judged};
 ghost use Rattle.doc_reading.specs.Least.{least_of};
-ghost use Rattle.inf_docs.specs.Names.{name_fault, name_faults, named, name_line_faults, name_line, package_faults, package_row};
+ghost use Rattle.inf_docs.specs.Names.{name_fault, name_faults, name_for, name_line_faults, name_line, package_faults, package_row};
 
 use crate::row::Row;
 use build_base::fault_codes::{BAD_NAME, BAD_PATH};
@@ -39,8 +39,8 @@ pub fn check_name(alloc: Global, at: &Place, text: &[u8]) -> Result<(), Refusal>
 }
 
 /// A name for an architecture.
-pub fn named(alloc: Global, at: &Place, arch: Arch, name: &[u8]) -> Result<Named, WantOfMemory>
-    ensures { IfOk result (λ n. n ≡ named at.now arch name.now) }
+pub fn name_for(alloc: Global, at: &Place, arch: Arch, name: &[u8]) -> Result<Named, WantOfMemory>
+    ensures { IfOk result (λ n. n ≡ name_for at.now arch name.now) }
 {
     Ok(Named {
         at: at.copy(alloc)?,
@@ -58,7 +58,7 @@ pub fn name_line(alloc: Global, line: &Taken, arch: Arch) -> Result<Named, Refus
     let fields = field_texts(alloc, line.text.bytes())?;
     let name = first_text(fields.items());
     check_name(alloc, &line.at, name)?;
-    let named = named(alloc, &line.at, arch, name)?;
+    let named = name_for(alloc, &line.at, arch, name)?;
     Ok(named)
 }
 
@@ -74,7 +74,7 @@ pub(crate) fn package_line(alloc: Global, line: &Taken, arch: Arch) -> Result<Op
     least_of_one(wanted(alloc, &path, BAD_PATH, &line.at, field))?;
     match path {
         Some(path) => {
-            let named = named(alloc, &line.at, arch, path.bytes())?;
+            let named = name_for(alloc, &line.at, arch, path.bytes())?;
             Ok(Some(Row::Package(named)))
         }
         None => Ok(None),

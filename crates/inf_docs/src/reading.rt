@@ -79,7 +79,7 @@ fn document(
 }
 
 // The document of what was read, with the parts of the last section.
-fn finished(root: &Path, format: ModuleFormat) -> Result<InfDoc, Refusal>
+fn finished_document(root: &Path, format: ModuleFormat) -> Result<InfDoc, Refusal>
     ensures { Answers result
         (document_of root.now format.tables (format.parts ++ parts_in format.section)) }
 {
@@ -101,7 +101,7 @@ impl Whole for ModuleFormat {
     ghost made = { module_made };
 
     fn finish(self, lines: &Lines) -> Result<InfDoc, Refusal> {
-        finished(&lines.root, self)
+        finished_document(&lines.root, self)
     }
 }
 

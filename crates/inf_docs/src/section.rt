@@ -1,6 +1,6 @@
 //! The sections of a module's description, and what their heads stand for.
 ghost use Rattle.std.specs.Prelude.{◌≡◌};
-ghost use Rattle.inf_docs.specs.Sections.{section_named, scope_for, with_arch, with_type, qualified, meaning_of, head_meaning};
+ghost use Rattle.inf_docs.specs.Sections.{section_named, scope_for, with_arch, with_type, qualified_section, meaning_of, head_meaning};
 
 use build_base::Text;
 use doc_reading::meaning::Meaning;
@@ -89,8 +89,8 @@ fn with_type(arch: Option<Arch>, found: Option<ModuleType>) -> Meaning<Scope>
     }
 }
 
-fn qualified(kind: SectionKind, qualifiers: &[Text]) -> Meaning<Scope>
-    ensures { result ≡ qualified kind qualifiers.now }
+fn qualified_section(kind: SectionKind, qualifiers: &[Text]) -> Meaning<Scope>
+    ensures { result ≡ qualified_section kind qualifiers.now }
 {
     match (kind, qualifiers) {
         (_, []) => scope_for(kind, Arch::Common, None),
@@ -107,7 +107,7 @@ fn meaning_of(section: Option<Option<SectionKind>>, qualifiers: &[Text]) -> Mean
     ensures { result ≡ meaning_of section qualifiers.now }
 {
     match section {
-        Some(Some(kind)) => qualified(kind, qualifiers),
+        Some(Some(kind)) => qualified_section(kind, qualifiers),
         Some(None) => Meaning::Passed,
         None => Meaning::Unknown,
     }

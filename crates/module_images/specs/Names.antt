@@ -61,8 +61,8 @@ rule_names guid folder inf =
     ∷ []
 
 -- a text with them filled in, once, from left to right
-abbrev pub filled : List Macro → List ℕ → List ℕ
-filled names text = replaced Kept names text
+abbrev pub fill_names : List Macro → List ℕ → List ℕ
+fill_names names text = replaced Kept names text
 
 -- the path of the module's own expression: INF_OUTPUT/MODULE_NAME.depex
 unfoldable pub own_depex : List ℕ → InfDoc → List ℕ

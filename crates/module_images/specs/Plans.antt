@@ -25,7 +25,7 @@ use Rattle.doc_types.specs.declared.volume.SectionSource.TheVariants as source
 use Rattle.rule_choice.specs.Modules.{inf_arch}
 use Rattle.rule_choice.specs.Rules.{rule_of}
 use Rattle.module_images.specs.declared.plans.ModulePlan.{ModulePlan}
-use Rattle.module_images.specs.Names.{module_folder, module_guid, rule_names, filled, own_depex}
+use Rattle.module_images.specs.Names.{module_folder, module_guid, rule_names, fill_names, own_depex}
 use Rattle.build_base.specs.FaultCodes.{BAD_PATH, RULE_LINE_REFUSED}
 
 abbrev pub rule_found : Option RuleDoc → Result RuleDoc Fault
@@ -69,10 +69,10 @@ abbrev pub source_filled : InfLine → List Macro → SectionPlan → SectionSou
     → Result SectionSource Fault
 source_filled line names section (source.Tree path) = Err misfit
 source_filled line names section (source.Template text) =
-    template_filled section.at (filled names text)
+    template_filled section.at (fill_names names text)
 source_filled line names section (source.Volume n) = Err misfit
 source_filled line names section (source.Words text) =
-    Ok (source.Words (filled names (stated_text line section.kind text)))
+    Ok (source.Words (fill_names names (stated_text line section.kind text)))
 source_filled line names section (source.Refused text) = Err misfit
 
 abbrev pub with_source : SectionPlan → SectionSource → Result SectionPlan Fault

@@ -18,15 +18,15 @@ requiring sections path = find (requires_path path) sections
 abbrev pub same_key : Vec ℕ → Vec ℕ → Bool
 same_key x y = pointwise nat_eq x.items y.items
 
-abbrev pub picked : {X : Type 0} → List X → Option ℕ → Option X
-picked xs None = None
-picked xs (Some place) = slice_get xs place
+abbrev pub section_at : {X : Type 0} → List X → Option ℕ → Option X
+section_at xs None = None
+section_at xs (Some place) = slice_get xs place
 
 -- a table gives for each path the place of the first section from a place on that requires its file
 abbrev pub IsTableFrom : {S : Type 0} → List SectionPlan → ℕ → HashMap (Vec ℕ) ℕ S → Type 0
 IsTableFrom sections n table =
-    (key : Vec ℕ) → picked sections (get same_key table key) ≡ requiring (drop n sections) key.items
+    (key : Vec ℕ) → section_at sections (get same_key table key) ≡ requiring (drop n sections) key.items
 
 abbrev pub IsTable : {S : Type 0} → List SectionPlan → HashMap (Vec ℕ) ℕ S → Type 0
-IsTable sections table = (key : Vec ℕ) → picked sections (get same_key table key)
+IsTable sections table = (key : Vec ℕ) → section_at sections (get same_key table key)
     ≡ requiring sections key.items

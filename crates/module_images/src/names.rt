@@ -1,7 +1,7 @@
 //! The names that are filled in when a rule is used, and the folder of a module's outputs.
 ghost use Rattle.std.specs.Prelude.{◌≡◌, ◌∷◌, ◌++◌, [], codes, IfOk, OnOk};
 ghost use Rattle.build_texts.specs.Guids.{guid_text};
-ghost use Rattle.module_images.specs.Names.{or_default, build_folder, module_folder, module_guid, named, NAMED_GUID, INF_OUTPUT, MODULE_NAME, INF_VERSION, BUILD_NUMBER, rule_names, filled, own_depex};
+ghost use Rattle.module_images.specs.Names.{or_default, build_folder, module_folder, module_guid, named, NAMED_GUID, INF_OUTPUT, MODULE_NAME, INF_VERSION, BUILD_NUMBER, rule_names, fill_names, own_depex};
 
 use build_base::{Guid, Macro, Path, Rows, Same, Text, WantOfMemory};
 use build_texts::arch_word;
@@ -188,8 +188,8 @@ pub fn rule_names(
 }
 
 /// A text with the names filled in, once, from left to right.
-pub fn filled(alloc: Global, names: &[Macro], text: &[u8]) -> Result<Text, WantOfMemory>
-    ensures { IfOk result (λ t. t ≡ filled names.now text.now) }
+pub fn fill_names(alloc: Global, names: &[Macro], text: &[u8]) -> Result<Text, WantOfMemory>
+    ensures { IfOk result (λ t. t ≡ fill_names names.now text.now) }
 {
     let (files, fixed) = (MacroTable::new(alloc), ListedMacros::of(alloc, names)?);
     let scope = Scope {

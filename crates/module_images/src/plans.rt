@@ -8,7 +8,7 @@ ghost use Rattle.meta_lexer.specs.Faults.{first_fault};
 ghost use Rattle.module_images.specs.Names.{rule_names};
 ghost use Rattle.module_images.specs.Plans.{rule_found, rule_for, refused_source, refused_section, stated_text, template_filled, source_filled, with_source, section_filled, sections_filled, file_by, plan_with, plan_named, plan_by, module_of, module_plan};
 
-use crate::names::{filled, module_folder, module_guid, own_depex, rule_names};
+use crate::names::{fill_names, module_folder, module_guid, own_depex, rule_names};
 use build_base::fault_codes::{BAD_PATH, RULE_LINE_REFUSED};
 use build_base::path::path_field;
 use build_base::{Guid, Macro, Place, Refusal, Rows, Same, Text, WantOfMemory, refuse};
@@ -122,12 +122,12 @@ fn source_filled(
 {
     match &section.source {
         SectionSource::Template(text) => {
-            let text = filled(alloc, names, text.bytes())?;
+            let text = fill_names(alloc, names, text.bytes())?;
             Ok(template_filled(alloc, &section.at, &text)?)
         }
         SectionSource::Words(text) => {
             let text = stated_text(line, section.kind, text);
-            Ok(SectionSource::Words(filled(alloc, names, text.bytes())?))
+            Ok(SectionSource::Words(fill_names(alloc, names, text.bytes())?))
         }
         SectionSource::Tree(_) | SectionSource::Volume(_) | SectionSource::Refused(_) => {
             Err(Stop::Misfit)

@@ -4,7 +4,7 @@ ghost use Rattle.std.specs.Global.{Vec as Bytes};
 ghost use Rattle.std.specs.HashMap.{get};
 ghost use Rattle.std.specs.Option.{option_copied};
 ghost use Rattle.module_images.specs.Asks.{is_path_of};
-ghost use Rattle.module_images.specs.Required.{requires_path, requiring, same_key, picked, IsTable};
+ghost use Rattle.module_images.specs.Required.{requires_path, requiring, same_key, section_at, IsTable};
 
 use build_base::{Path, WantOfMemory};
 use doc_types::volume::{SectionPlan, SectionSource};
@@ -68,8 +68,8 @@ pub fn places_of(
     Ok(places)
 }
 
-fn picked<'a>(sections: &'a [SectionPlan], place: Option<&usize>) -> Option<&'a SectionPlan>
-    ensures { option_copied result ≡ picked sections.now (option_copied place.entry) }
+fn section_at<'a>(sections: &'a [SectionPlan], place: Option<&usize>) -> Option<&'a SectionPlan>
+    ensures { option_copied result ≡ section_at sections.now (option_copied place.entry) }
 {
     match place {
         Some(place) => sections.get(*place),
@@ -88,5 +88,5 @@ pub(crate) fn requiring<'a>(
     ensures { IfOk result (λ section. option_copied section ≡ requiring sections.now path.now) }
 {
     let key = Vec::from_slice(alloc, path)?;
-    Ok(picked(sections, places.get(&key)))
+    Ok(section_at(sections, places.get(&key)))
 }

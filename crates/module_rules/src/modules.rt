@@ -92,7 +92,11 @@ fn round<'a>(
 }
 
 // The libraries of a module of which all descriptions are known that it wants.
-fn chosen(alloc: Global, search: InstanceSearch<'_>, permit: Permit) -> Result<Out, Stop<Key>>
+fn chosen_libraries(
+    alloc: Global,
+    search: InstanceSearch<'_>,
+    permit: Permit,
+) -> Result<Out, Stop<Key>>
     requires closed { wanted search.user search.platform search.infs ≡ [] }
     ensures { GivesIn (λ out. out) result
         (given_as out.Choice
@@ -121,7 +125,7 @@ fn rounds(
     while left > 0 {
         let (wanted, behind) = search.wanted(alloc)?;
         if wanted.items().is_empty() {
-            return chosen(alloc, behind, permit);
+            return chosen_libraries(alloc, behind, permit);
         }
         match round(alloc, known, behind, wanted.items(), permit) {
             Ok((more, again)) => {
@@ -165,7 +169,7 @@ pub fn choice(
     choice_given(alloc, known, module, &given, permit)
 }
 
-fn linked(
+fn linked_modules(
     alloc: Global,
     known: &Known<'_, Key, Out>,
     modules: &[Module],
@@ -179,7 +183,7 @@ fn linked(
     Ok((linked_from(alloc, &given, modules)?, permit))
 }
 
-fn described(
+fn described_modules(
     alloc: Global,
     known: &Known<'_, Key, Out>,
     modules: &[Linked],
@@ -218,8 +222,8 @@ fn modules_parts(
     ensures { Gives (λ x. x.0) result
         (advance_at key_cmp fits known.now (modules_parts modules.now)) }
 {
-    let (linked, permit) = linked(alloc, known, modules, permit)?;
-    let (described, permit) = described(alloc, known, linked.items(), permit)?;
+    let (linked, permit) = linked_modules(alloc, known, modules, permit)?;
+    let (described, permit) = described_modules(alloc, known, linked.items(), permit)?;
     parts(alloc, known, described.items(), permit)
 }
 

@@ -147,7 +147,7 @@ fn heading_in(
 }
 
 // The modules of a build, and then the report.
-fn told(
+fn modules_and_report(
     alloc: Global,
     known: &Known<'_, Key, Out>,
     platform: &Shared<PlatformDoc>,
@@ -175,7 +175,7 @@ fn told_in(
 {
     let modules = told_modules_in(alloc, platform.value(), given)?;
     let heading = heading_in(alloc, platform.value(), given)?;
-    told(alloc, known, platform, heading, modules.items(), permit)
+    modules_and_report(alloc, known, platform, heading, modules.items(), permit)
 }
 
 /// The report of a build.

@@ -13,7 +13,7 @@ use Rattle.build_base.specs.First.{or_else, or_fault, unless}
 use Rattle.doc_types.specs.declared.vpd.Vpd.{Vpd}
 use Rattle.vpd_image.specs.Entries.{Entry}
 use Rattle.vpd_image.specs.Orders.{Apart, apart}
-use Rattle.vpd_image.specs.Places.{Placed, share, shares, end_of, size_of, align_of, written, written_offset, placed_if, offset_by, is_starred, is_free, least_place, placed_before, placed_next, placed_from, placed, placed_by, all_ended, long_fault, overlap_of, overlap_with, overlap_fault, in_order, put_in_order}
+use Rattle.vpd_image.specs.Places.{Placed, share, shares, end_of, size_of, align_of, written_entries, written_offset, placed_if, offset_by, is_starred, is_free, least_place, placed_before, placed_next, placed_from, placed, placed_by, all_ended, long_fault, overlap_of, overlap_with, overlap_fault, in_order, put_in_order}
 use Rattle.vpd_image.specs.Vpd.{place_of, vpd_from, AreApart}
 use Rattle.vpd_image.proofs.OrderLemmas.{all_put}
 use Rattle.vpd_image.proofs.PlaceLemmas.{first_false, second_false, least_free, align_some}
@@ -101,21 +101,21 @@ not_true true h = absurd cc
 
 -- all that is known of entries that are placed so far, and of the written ones below them
 record Goes (fixed above : List Placed) (entries : List Entry) : Type 0 where
-  is : fixed ≡ filter is_fixed above ++ written entries
-  clear : Apart (above ++ written entries)
+  is : fixed ≡ filter is_fixed above ++ written_entries entries
+  clear : Apart (above ++ written_entries entries)
 
 kept_filter : (above rest : List Placed) (p : Placed) → filter is_fixed (above ++ p ∷ []) ++ rest ≡ filter is_fixed above ++ (filter is_fixed (p ∷ []) ++ rest)
 kept_filter above rest p = ap (λ z. z ++ rest) (filter-append is_fixed above (p ∷ [])) ∙ append_assoc (filter is_fixed above) (filter is_fixed (p ∷ [])) rest
 
 goes_on : (fixed above : List Placed) (entry : Entry) (entries : List Entry) (offset : Option ℕ) → written_offset entry ≡ offset
-    → fixed ≡ filter is_fixed above ++ (placed_if entry offset ++ written entries) → Apart (above ++ (placed_if entry offset ++ written entries))
+    → fixed ≡ filter is_fixed above ++ (placed_if entry offset ++ written_entries entries) → Apart (above ++ (placed_if entry offset ++ written_entries entries))
     → Goes fixed (above ++ record { entry = entry; offset = offset_by fixed above entry offset } ∷ []) entries
 unfolding end_of
 goes_on fixed above entry entries (Some offset) e is a =
     let p : Placed = record { entry = entry; offset = offset } in
     record {
-      is = is ∙ sym (kept_filter above (written entries) p ∙ ap (λ z. filter is_fixed above ++ (z ++ written entries)) (one_fixed offset e));
-      clear = subst (λ z. Apart z) (sym (append_assoc above (p ∷ []) (written entries))) a;
+      is = is ∙ sym (kept_filter above (written_entries entries) p ∙ ap (λ z. filter is_fixed above ++ (z ++ written_entries entries)) (one_fixed offset e));
+      clear = subst (λ z. Apart z) (sym (append_assoc above (p ∷ []) (written_entries entries))) a;
     }
   where
     one_fixed : (offset : ℕ) → written_offset entry ≡ Some offset → filter is_fixed (record { entry = entry; offset = offset } ∷ []) ≡ record { entry = entry; offset = offset } ∷ []
@@ -126,15 +126,15 @@ goes_on fixed above entry entries None e is a =
     let p : Placed = record { entry = entry; offset = at } in
     let free : list_any (shares at (at + size)) (placed_before fixed above) ≡ false = not_true (list_any (shares at (at + size)) (placed_before fixed above)) (least_free (placed_before fixed above) (align_of entry.row.datum) size (align_some entry.row.datum)) in
     record {
-      is = is ∙ sym (kept_filter above (written entries) p ∙ ap (λ z. filter is_fixed above ++ (z ++ written entries)) (none_fixed at e));
-      clear = apart_between above (written entries) p a (all_apart p (above ++ written entries) (free_of_all (shares at (at + size)) fixed above (written entries) is free));
+      is = is ∙ sym (kept_filter above (written_entries entries) p ∙ ap (λ z. filter is_fixed above ++ (z ++ written_entries entries)) (none_fixed at e));
+      clear = apart_between above (written_entries entries) p a (all_apart p (above ++ written_entries entries) (free_of_all (shares at (at + size)) fixed above (written_entries entries) is free));
     }
   where
     none_fixed : (offset : ℕ) → written_offset entry ≡ None → filter is_fixed (record { entry = entry; offset = offset } ∷ []) ≡ []
     none_fixed offset e = cc
 
 apart_from : (fixed above : List Placed) (entries : List Entry) → Goes fixed above entries → Apart (placed_from fixed above entries)
-unfolding placed_from placed_next written
+unfolding placed_from placed_next written_entries
 apart_from fixed above [] g = subst (λ z. Apart z) (append-nil above) g.clear
 apart_from fixed above (entry ∷ entries) g =
     apart_from fixed (above ++ placed_next fixed above entry ∷ []) entries (goes_on fixed above entry entries (written_offset entry) refl g.is g.clear)
@@ -143,9 +143,9 @@ apart_nil : Apart []
 unfolding Apart
 apart_nil = tt
 
-pub apart_placed : (entries : List Entry) → overlap_fault [] (written entries) ≡ None → Apart (placed entries)
+pub apart_placed : (entries : List Entry) → overlap_fault [] (written_entries entries) ≡ None → Apart (placed entries)
 unfolding placed
-apart_placed entries h = apart_from (written entries) [] entries (record { is = refl; clear = apart_fixed [] (written entries) apart_nil h })
+apart_placed entries h = apart_from (written_entries entries) [] entries (record { is = refl; clear = apart_fixed [] (written_entries entries) apart_nil h })
 
 -- in the order of their offsets too
 apart_put : (p : Placed) (qs : List Placed) → AllByRecursion (apart p) qs → Apart qs → Apart (put_in_order p qs)
@@ -187,7 +187,7 @@ ended_is all ps None h = ap (or_none all) h
     or_none d (Err e) = d
 ended_is all ps (Some f) h = absurd cc
 
-pub apart_result : (entries : List Entry) (fixed ps : List Placed) → fixed ≡ written entries → overlap_fault [] fixed ≡ None → all_ended (placed_from fixed [] entries) ≡ Ok ps → Apart ps
+pub apart_result : (entries : List Entry) (fixed ps : List Placed) → fixed ≡ written_entries entries → overlap_fault [] fixed ≡ None → all_ended (placed_from fixed [] entries) ≡ Ok ps → Apart ps
 unfolding placed
 apart_result entries fixed ps is none ended =
     subst (λ z. Apart z) (ap (λ f. placed_from f [] entries) (sym is) ∙ ended_is (placed_from fixed [] entries) ps (long_fault (placed_from fixed [] entries)) ended) (apart_placed entries (ap (overlap_fault []) (sym is) ∙ none))
@@ -200,7 +200,7 @@ pub placed_is : (entries : List Entry) (ps : List Placed) → placed_by entries 
 unfolding placed_by
 placed_is entries ps h =
     ended_is (placed entries) ps (long_fault (placed entries))
-    (fault_none (long_fault (written entries)) (all_ended (placed entries)) ps (fault_none (overlap_fault [] (written entries)) (or_fault (long_fault (written entries)) (all_ended (placed entries))) ps h))
+    (fault_none (long_fault (written_entries entries)) (all_ended (placed entries)) ps (fault_none (overlap_fault [] (written_entries entries)) (or_fault (long_fault (written_entries entries)) (all_ended (placed entries))) ps h))
 
 pub made_apart : (vpd : Vpd) (ps : List Placed) → Apart ps → vpd ≡ vpd_from (in_order ps) → AreApart vpd.places
 unfolding vpd_from

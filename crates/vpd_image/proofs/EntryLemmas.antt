@@ -13,10 +13,10 @@ use Rattle.doc_types.specs.declared.arch.Arch.{Arch}
 use Rattle.doc_types.specs.declared.platform.PcdLine.{PcdLine}
 use Rattle.doc_types.specs.declared.values.PcdRow.{PcdRow}
 use Rattle.vpd_image.specs.Entries.{Entry, is_row_of, is_line_of, counts, line_label, row_left, with_row, entry_in, entries}
-use Rattle.vpd_image.specs.Tables.{same_key, picked, IsTableFrom, IsLeft}
+use Rattle.vpd_image.specs.Tables.{same_key, row_at, IsTableFrom, IsLeft}
 
-found_here : {X : Type 0} (p : X → Bool) (x : X) (xs rest : List X) (i : ℕ) (held : Option ℕ) (b : Bool) → p x ≡ b → picked xs (Some i) ≡ Some x → picked xs held ≡ find p rest
-    → picked xs (cond b (Some i) held) ≡ find p (x ∷ rest)
+found_here : {X : Type 0} (p : X → Bool) (x : X) (xs rest : List X) (i : ℕ) (held : Option ℕ) (b : Bool) → p x ≡ b → row_at xs (Some i) ≡ Some x → row_at xs held ≡ find p rest
+    → row_at xs (cond b (Some i) held) ≡ find p (x ∷ rest)
 found_here p x xs rest i held true e here h = here ∙ sym (ap (λ b. cond b (Some x) (find p rest)) e)
 found_here p x xs rest i held false e here h = h ∙ sym (ap (λ b. cond b (Some x) (find p rest)) e)
 
@@ -24,7 +24,7 @@ found_here p x xs rest i held false e here h = h ∙ sym (ap (λ b. cond b (Some
 pub table_more : {S : Type 0} (rows : List PcdRow) (n m : ℕ) (row : PcdRow) (old new : HashMap (Vec ℕ) ℕ S) → m ≡ n + 1 → n < length rows → row ≡ get_or rows n row
     → ((key : Vec ℕ) → get same_key new key ≡ cond (is_row_of key.items row) (Some n) (get same_key old key)) → IsTableFrom rows m old → IsTableFrom rows n new
 table_more rows n m row old new e h is put table = λ key.
-    ap (picked rows) (put key)
+    ap (row_at rows) (put key)
     ∙ found_here (is_row_of key.items) row rows (drop (n + 1) rows) n (get same_key old key) (is_row_of key.items row) refl
     (slice_get-get_or rows n row h ∙ ap (λ (r : PcdRow). Some r) (sym is)) (table key ∙ ap (λ k. find (is_row_of key.items) (drop k rows)) e)
     ∙ sym (ap (find (is_row_of key.items)) (head_drop rows n row h is))

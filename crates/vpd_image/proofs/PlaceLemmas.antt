@@ -19,7 +19,7 @@ use Rattle.doc_types.specs.declared.pcd.Datum.TheVariants.{U8, U16, U32, U64, Bo
 use Rattle.vpd_image.specs.declared.lines.EntryLine.{EntryLine}
 use Rattle.vpd_image.specs.declared.places.PlacedLine.{PlacedLine}
 use Rattle.vpd_image.specs.Entries.{Entry}
-use Rattle.vpd_image.specs.declared.room.Room.{Room}
+use Rattle.vpd_image.specs.declared.free_map.FreeMap.{FreeMap}
 use Rattle.vpd_image.specs.Places.{Placed, share, shares, end_of, size_of, is_free, overlap_of, overlap_with, overlap_fault, end_fault, long_fault, is_starred, placed_before, placed_next, placed_from, all_ended, align_of, first_from, greatest_end, least_place}
 use Rattle.vpd_image.specs.Rooms.{Holds}
 use Rattle.vpd_image.specs.Tables.{entry_view, placed_view}
@@ -56,7 +56,7 @@ pub empty_alone : (above : List Placed) (p : Placed) → size_of p.entry.row ≡
 unfolding end_of
 empty_alone above p e = ap (option_map (overlap_of p)) (find_none (shares p.offset (end_of p)) above (empty_any p.offset (end_of p) above (omega (arith, e))))
 
-pub holds_empty : (placed : List Placed) (p : Placed) (room : Room) → size_of p.entry.row ≡ 0 → Holds placed room → Holds (placed ++ p ∷ []) room
+pub holds_empty : (placed : List Placed) (p : Placed) (room : FreeMap) → size_of p.entry.row ≡ 0 → Holds placed room → Holds (placed ++ p ∷ []) room
 unfolding end_of
 holds_empty placed p room e h = record {
   sound = h.sound;
@@ -208,7 +208,7 @@ refused_long WantOfMemory fixed above p entries whole h none is = tt
 pub ended_whole : (above whole : List Placed) → long_fault above ≡ None → above ≡ whole → all_ended whole ≡ Ok above
 ended_whole above whole none is = ap all_ended (sym is) ∙ ap (λ o. unless o above) none
 
-pub holds_nil : (fixed : List Placed) (room : Room) → Holds fixed room → Holds (placed_before fixed []) room
+pub holds_nil : (fixed : List Placed) (room : FreeMap) → Holds fixed room → Holds (placed_before fixed []) room
 holds_nil fixed room h = rw append-nil h
 
 pub long_none : long_fault [] ≡ None

@@ -16,35 +16,35 @@ use Rattle.std.proofs.lemmas.List.Sorted.{IsNonDecreasingBy-from_all_adjacent}
 use Rattle.doc_types.specs.declared.pcd.Datum.{Datum}
 use Rattle.doc_types.specs.declared.pcd.Datum.TheVariants.{U8, U16, U32, U64, Boolean, Void}
 use Rattle.doc_types.specs.declared.values.PcdRow.{PcdRow}
-use Rattle.vpd_image.specs.declared.room.Room.{Room}
-use Rattle.vpd_image.specs.declared.room.Stretch.{Stretch}
+use Rattle.vpd_image.specs.declared.free_map.FreeMap.{FreeMap}
+use Rattle.vpd_image.specs.declared.free_map.TakenRange.{TakenRange}
 use Rattle.vpd_image.specs.Places.{Placed, share, shares, end_of, size_of, is_free, greatest_end, first_from, least_place, align_of, size_by}
 use Rattle.vpd_image.specs.Rooms.{meets, AreLaid, AreBelow, first_multiple, slot, low_of, least_size, room_limit, IsNext, IsRoom, Holds}
 use Rattle.vpd_image.proofs.ShareLemmas.{share_before, share_behind, share_some, share_longer, share_not, ended_none, behind_none, any_longer, any_more}
 
 -- the ends of stretches rise
-next_end : (at : ℕ) (ss : List Stretch) → AreLaid at ss → (k : ℕ) (d : Stretch) → k + 1 < length ss → (get_or ss k d).end ≤ (get_or ss (k + 1) d).end
+next_end : (at : ℕ) (ss : List TakenRange) → AreLaid at ss → (k : ℕ) (d : TakenRange) → k + 1 < length ss → (get_or ss k d).end ≤ (get_or ss (k + 1) d).end
 unfolding AreLaid
 next_end at [] l k d h = absurd (omega (arith, h))
 next_end at (s ∷ []) l k d h = absurd (omega (arith, h))
 next_end at (s ∷ t ∷ ss) l zero d h = omega (arith, l.2.0, l.2.1)
 next_end at (s ∷ t ∷ ss) l (suc k) d h = simp unary_clauses (simp unary_clauses at (next_end s.end (t ∷ ss) l.2 k d (omega (arith, h))))
 
-pub ends_rise : (ss : List Stretch) → AreLaid 0 ss → IsNonDecreasingBy (λ s. s.end) ss
+pub ends_rise : (ss : List TakenRange) → AreLaid 0 ss → IsNonDecreasingBy (λ s. s.end) ss
 ends_rise ss l = IsNonDecreasingBy-from_all_adjacent (λ s. s.end) ss (next_end 0 ss l)
 
-pub all_passed : (P : Stretch → Type 0) (ss : List Stretch) (i : ℕ) → AllWithin P ss 0 i → AllByRecursion P (take i ss)
+pub all_passed : (P : TakenRange → Type 0) (ss : List TakenRange) (i : ℕ) → AllWithin P ss 0 i → AllByRecursion P (take i ss)
 all_passed P ss i h = recursion_from_All P (take i ss) (λ k d lt. let below : k < i = omega (arith, length-take i ss, lt) in rw (get_or-take i ss k d below) (h k d (omega arith) below))
 
-pub all_left : (P : Stretch → Type 0) (ss : List Stretch) (i : ℕ) → i ≤ length ss → AllWithin P ss i (length ss) → AllByRecursion P (drop i ss)
+pub all_left : (P : TakenRange → Type 0) (ss : List TakenRange) (i : ℕ) → i ≤ length ss → AllWithin P ss i (length ss) → AllByRecursion P (drop i ss)
 all_left P ss i w h = recursion_from_All P (drop i ss) (λ k d lt. let below : i + k < length ss = omega (arith, length-drop i ss, w, lt) in rw (get_or-drop i ss k d) (h (i + k) d (omega arith) below))
 
-pub laid_weaker : (a b : ℕ) (ss : List Stretch) → a ≤ b → AreLaid b ss → AreLaid a ss
+pub laid_weaker : (a b : ℕ) (ss : List TakenRange) → a ≤ b → AreLaid b ss → AreLaid a ss
 unfolding AreLaid
 laid_weaker a b [] h l = tt
 laid_weaker a b (s ∷ ss) h l = (omega (arith, l.0), l.1, l.2)
 
-pub laid_drop : (at i : ℕ) (ss : List Stretch) → AreLaid at ss → AreLaid 0 (drop i ss)
+pub laid_drop : (at i : ℕ) (ss : List TakenRange) → AreLaid at ss → AreLaid 0 (drop i ss)
 unfolding AreLaid
 laid_drop at zero [] l = tt
 laid_drop at (suc i) [] l = tt
@@ -71,7 +71,7 @@ or_true true b h = refl
 or_true false b h = h
 
 -- the next free multiple among stretches
-fits_here : (s : Stretch) (ss : List Stretch) (align size from : ℕ) → s.start < s.end → AreLaid s.end ss → align * from + size ≤ s.start → IsNext (s ∷ ss) align size from from
+fits_here : (s : TakenRange) (ss : List TakenRange) (align size from : ℕ) → s.start < s.end → AreLaid s.end ss → align * from + size ≤ s.start → IsNext (s ∷ ss) align size from from
 fits_here s ss align size from before l fits = record {
   after = omega arith;
   free = rw (share_behind (align * from) (align * from + size) s.start s.end fits) (behind_none (align * from) (align * from + size) s.end ss l (omega arith));
@@ -79,7 +79,7 @@ fits_here s ss align size from before l fits = record {
 }
 
 -- a lower multiple meets the stretch that is passed
-meets_passed : (s : Stretch) (align size from m : ℕ) → 0 < align → 0 < size → s.start < s.end → s.start < align * from + size → from ≤ m → m < max from (div_ceil s.end align) → meets (align * m) (align * m + size) s ≡ true
+meets_passed : (s : TakenRange) (align size from m : ℕ) → 0 < align → 0 < size → s.start < s.end → s.start < align * from + size → from ≤ m → m < max from (div_ceil s.end align) → meets (align * m) (align * m + size) s ≡ true
 meets_passed s align size from m pos some before off a b =
     let lc : m < div_ceil s.end align = less_one from (div_ceil s.end align) m a b in
     let inside : align * m < s.end = before_ceil s.end align m pos lc in
@@ -89,7 +89,7 @@ meets_passed s align size from m pos some before off a b =
     less_one : (x y m : ℕ) → x ≤ m → m < max x y → m < y
     less_one x y m a b = grind (arith, a, b)
 
-passed_here : (s : Stretch) (ss : List Stretch) (align size from r : ℕ) → 0 < align → 0 < size → s.start < s.end → s.start < align * from + size
+passed_here : (s : TakenRange) (ss : List TakenRange) (align size from r : ℕ) → 0 < align → 0 < size → s.start < s.end → s.start < align * from + size
     → IsNext ss align size (max from (div_ceil s.end align)) r → IsNext (s ∷ ss) align size from r
 passed_here s ss align size from r pos some before off i =
     let up : (x y : ℕ) → x ≤ max x y = λ x y. grind arith in
@@ -112,38 +112,38 @@ passed_here s ss align size from r pos some before off i =
         above : (x y : ℕ) → nat_lt x y ≡ false → y ≤ x
         above x y f = grind (arith, nat_tests, f)
 
-by_fit : (s : Stretch) (ss : List Stretch) (align size from : ℕ) → 0 < align → 0 < size → s.start < s.end → AreLaid s.end ss
+by_fit : (s : TakenRange) (ss : List TakenRange) (align size from : ℕ) → 0 < align → 0 < size → s.start < s.end → AreLaid s.end ss
     → IsNext ss align size (max from (div_ceil s.end align)) (first_multiple ss align size (max from (div_ceil s.end align)))
     → (b : Bool) → nat_le (align * from + size) s.start ≡ b
     → IsNext (s ∷ ss) align size from (cond b from (first_multiple ss align size (max from (div_ceil s.end align))))
 by_fit s ss align size from pos some before l i true e = fits_here s ss align size from before l (grind (arith, nat_tests, e))
 by_fit s ss align size from pos some before l i false e = passed_here s ss align size from _ pos some before (grind (arith, nat_tests, e)) i
 
-pub next_among : (ss : List Stretch) (at align size from : ℕ) → AreLaid at ss → 0 < align → 0 < size → IsNext ss align size from (first_multiple ss align size from)
+pub next_among : (ss : List TakenRange) (at align size from : ℕ) → AreLaid at ss → 0 < align → 0 < size → IsNext ss align size from (first_multiple ss align size from)
 unfolding AreLaid first_multiple
 next_among [] at align size from l pos some = record { after = omega arith; free = refl; none = λ m a b. absurd (omega (arith, a, b)) }
 next_among (s ∷ ss) at align size from l pos some =
     by_fit s ss align size from pos some l.1 l.2 (next_among ss s.end align size (max from (div_ceil s.end align)) l.2 pos some) (nat_le (align * from + size) s.start) refl
 
 -- the same among all, where those in front end before
-pub next_behind : (taken : List Stretch) (i align size from : ℕ) → AreLaid 0 taken → 0 < align → 0 < size → AllByRecursion (λ s. s.end ≤ align * from) (take i taken)
+pub next_behind : (taken : List TakenRange) (i align size from : ℕ) → AreLaid 0 taken → 0 < align → 0 < size → AllByRecursion (λ s. s.end ≤ align * from) (take i taken)
     → IsNext taken align size from (first_multiple (drop i taken) align size from)
 next_behind taken i align size from l pos some ended =
     let r : ℕ = first_multiple (drop i taken) align size from in
     let n : IsNext (drop i taken) align size from r = next_among (drop i taken) 0 align size from (laid_drop 0 i taken l) pos some in
     let up : align * from ≤ align * r = mul-le-mul_left align n.after in
-    let parts : (f : Stretch → Bool) → list_any f taken ≡ (list_any f (take i taken) || list_any f (drop i taken)) = λ f. ap (list_any f) (sym (take-append-drop i taken)) ∙ list_any-append f (take i taken) (drop i taken) in
+    let parts : (f : TakenRange → Bool) → list_any f taken ≡ (list_any f (take i taken) || list_any f (drop i taken)) = λ f. ap (list_any f) (sym (take-append-drop i taken)) ∙ list_any-append f (take i taken) (drop i taken) in
     record {
       after = n.after;
       free = parts (meets (align * r) (align * r + size)) ∙ ap (λ b. b || list_any (meets (align * r) (align * r + size)) (drop i taken)) (ended_none (align * r) (align * r + size) (take i taken) (ended_later (align * from) (align * r) (take i taken) up ended)) ∙ n.free;
       none = λ m a b. parts (meets (align * m) (align * m + size)) ∙ or_true (list_any (meets (align * m) (align * m + size)) (take i taken)) (list_any (meets (align * m) (align * m + size)) (drop i taken)) (n.none m a b);
     }
   where
-    ended_later : (a b : ℕ) (ss : List Stretch) → a ≤ b → AllByRecursion (λ s. s.end ≤ a) ss → AllByRecursion (λ s. s.end ≤ b) ss
+    ended_later : (a b : ℕ) (ss : List TakenRange) → a ≤ b → AllByRecursion (λ s. s.end ≤ a) ss → AllByRecursion (λ s. s.end ≤ b) ss
     ended_later a b [] h l = tt
     ended_later a b (s ∷ ss) h l = (omega (arith, l.0, h), ended_later a b ss h l.1)
 
-pub below_drop : (i : ℕ) (ss : List Stretch) → AreBelow ss → AreBelow (drop i ss)
+pub below_drop : (i : ℕ) (ss : List TakenRange) → AreBelow ss → AreBelow (drop i ss)
 below_drop zero [] b = tt
 below_drop (suc i) [] b = tt
 below_drop zero (s ∷ ss) b = b
@@ -153,7 +153,7 @@ below_drop (suc i) (s ∷ ss) b = below_drop i ss b.1
 abbrev pub zeros : List ℕ
 zeros = 0 ∷ 0 ∷ 0 ∷ 0 ∷ 0 ∷ 0 ∷ []
 
-pub holds_none : (room : Room) → room.taken.items ≡ [] → room.lows ≡ zeros → Holds [] room
+pub holds_none : (room : FreeMap) → room.taken.items ≡ [] → room.lows ≡ zeros → Holds [] room
 unfolding AreLaid
 holds_none room e f = record {
   sound = record { laid = rw e tt; below = rw e tt; small = λ d. rw f (zero_small d) };
@@ -176,14 +176,14 @@ holds_none room e f = record {
     zero_not d m lt = omega (arith, zero_at d, lt)
 
 -- what a place parts
-parted : (f : Stretch → Bool) (ss : List Stretch) (i : ℕ) → list_any f ss ≡ (list_any f (take i ss) || list_any f (drop i ss))
+parted : (f : TakenRange → Bool) (ss : List TakenRange) (i : ℕ) → list_any f ss ≡ (list_any f (take i ss) || list_any f (drop i ss))
 parted f ss i = ap (list_any f) (sym (take-append-drop i ss)) ∙ list_any-append f (take i ss) (drop i ss)
 
 -- bytes behind what is ended meet what is left, if anything
-left_meets : (start end i : ℕ) (ss : List Stretch) → AllByRecursion (λ s. s.end ≤ start) (take i ss) → list_any (meets start end) ss ≡ list_any (meets start end) (drop i ss)
+left_meets : (start end i : ℕ) (ss : List TakenRange) → AllByRecursion (λ s. s.end ≤ start) (take i ss) → list_any (meets start end) ss ≡ list_any (meets start end) (drop i ss)
 left_meets start end i ss h = parted (meets start end) ss i ∙ ap (λ b. b || list_any (meets start end) (drop i ss)) (ended_none start end (take i ss) h)
 
-clear_first : (start end : ℕ) (s : Stretch) (ss : List Stretch) → start < end → AreLaid 0 (s ∷ ss) → start < s.end → nat_le end s.start ≡ not (list_any (meets start end) (s ∷ ss))
+clear_first : (start end : ℕ) (s : TakenRange) (ss : List TakenRange) → start < end → AreLaid 0 (s ∷ ss) → start < s.end → nat_le end s.start ≡ not (list_any (meets start end) (s ∷ ss))
 unfolding AreLaid
 clear_first start end s ss some l behind = by_fit (nat_le end s.start) refl
   where
@@ -194,7 +194,7 @@ clear_first start end s ss some l behind = by_fit (nat_le end s.start) refl
         rw (share_behind start end s.start s.end fits, behind_none start end s.end ss l.2 (omega (arith, laid, fits))) refl
     by_fit false e = rw (share_some start end s.start s.end some l.1 behind (grind (arith, nat_tests, e))) refl
 
-pub clear_some : (taken : List Stretch) (i start size : ℕ) (next : Stretch) → AreLaid 0 taken → 0 < size
+pub clear_some : (taken : List TakenRange) (i start size : ℕ) (next : TakenRange) → AreLaid 0 taken → 0 < size
     → AllByRecursion (λ s. s.end ≤ start) (take i taken) → AllByRecursion (λ s. start < s.end) (drop i taken) → i < length taken → next ≡ get_or taken i next
     → nat_le (start + size) next.start ≡ not (list_any (meets start (start + size)) taken)
 clear_some taken i start size next l some before behind within e =
@@ -204,11 +204,11 @@ clear_some taken i start size next l some before behind within e =
     clear_first start (start + size) next (drop (i + 1) taken) (omega (arith, some)) laid first.0
     ∙ ap (λ z. not (list_any (meets start (start + size)) z)) (sym is) ∙ ap not (sym (left_meets start (start + size) i taken before))
 
-pub clear_none : (taken : List Stretch) (i start end : ℕ) → AllByRecursion (λ s. s.end ≤ start) (take i taken) → length taken ≤ i → true ≡ not (list_any (meets start end) taken)
+pub clear_none : (taken : List TakenRange) (i start end : ℕ) → AllByRecursion (λ s. s.end ≤ start) (take i taken) → length taken ≤ i → true ≡ not (list_any (meets start end) taken)
 clear_none taken i start end before past = ap (λ z. not (list_any (meets start end) z)) (sym (drop_all i taken past)) ∙ ap not (sym (left_meets start end i taken before))
 
 -- what is left starts behind bytes that are free
-free_left : (start end : ℕ) (ss : List Stretch) → start < end → AreLaid 0 ss → AllByRecursion (λ s. start < s.end) ss → list_any (meets start end) ss ≡ false → AreLaid end ss
+free_left : (start end : ℕ) (ss : List TakenRange) → start < end → AreLaid 0 ss → AllByRecursion (λ s. start < s.end) ss → list_any (meets start end) ss ≡ false → AreLaid end ss
 unfolding AreLaid
 free_left start end [] some l behind none = tt
 free_left start end (s ∷ ss) some l behind none =
@@ -218,13 +218,13 @@ free_left start end (s ∷ ss) some l behind none =
     first_false true b h = h
     first_false false b h = refl
 
-laid_between : (at start end : ℕ) (front back : List Stretch) → AreLaid at (front ++ back) → at ≤ start → start < end → AllByRecursion (λ s. s.end ≤ start) front → AreLaid end back
+laid_between : (at start end : ℕ) (front back : List TakenRange) → AreLaid at (front ++ back) → at ≤ start → start < end → AllByRecursion (λ s. s.end ≤ start) front → AreLaid end back
     → AreLaid at (front ++ record { start = start; end = end } ∷ back)
 unfolding AreLaid
 laid_between at start end [] back l h some before behind = (h, some, behind)
 laid_between at start end (s ∷ ss) back l h some before behind = (l.0, l.1, laid_between s.end start end ss back l.2 before.0 some before.1 behind)
 
-below_between : (stretch : Stretch) (front back : List Stretch) → AreBelow (front ++ back) → stretch.end ≤ room_limit → AreBelow (front ++ stretch ∷ back)
+below_between : (stretch : TakenRange) (front back : List TakenRange) → AreBelow (front ++ back) → stretch.end ≤ room_limit → AreBelow (front ++ stretch ∷ back)
 below_between stretch [] back b h = (h, b)
 below_between stretch (s ∷ ss) back b h = (b.0, below_between stretch ss back b.1 h)
 
@@ -241,13 +241,13 @@ not_true : (b : Bool) → not b ≡ true → b ≡ false
 not_true false h = refl
 not_true true h = absurd cc
 
-pub holds_put : (placed : List Placed) (p : Placed) (old new : Room) (i start size : ℕ)
+pub holds_put : (placed : List Placed) (p : Placed) (old new : FreeMap) (i start size : ℕ)
     → Holds placed old → is_free placed size start ≡ true → p.offset ≡ start → size_of p.entry.row ≡ size → 0 < size → start + size ≤ room_limit
     → AllByRecursion (λ s. s.end ≤ start) (take i old.taken.items) → AllByRecursion (λ s. start < s.end) (drop i old.taken.items)
     → new.taken.items ≡ insert old.taken.items i (record { start = start; end = start + size }) → new.lows ≡ old.lows → Holds (placed ++ p ∷ []) new
 unfolding end_of
 holds_put placed p old new i start size h free at long some end before behind put lows =
-    let ss : List Stretch = old.taken.items in
+    let ss : List TakenRange = old.taken.items in
     let none : list_any (meets start (start + size)) (drop i ss) ≡ false = sym (left_meets start (start + size) i ss before) ∙ sym (h.same start size) ∙ not_true (list_any (shares start (start + size)) placed) free in
     let back : AreLaid (start + size) (drop i ss) = free_left start (start + size) (drop i ss) (omega (arith, some)) (laid_drop 0 i ss h.sound.laid) behind none in
     let whole : AreLaid 0 (take i ss ++ drop i ss) = rw (take-append-drop i ss) h.sound.laid in
@@ -326,7 +326,7 @@ least_is placed align size n pos free none =
         absurd (both (list_any (shares (align * g) (align * g + size)) placed) (none g (grind (arith, nat_tests, e))) (free_past placed (align * g) size (omega (arith, up))))
 
 -- what two searches among stretches come to
-pub least_found : (placed : List Placed) (room : Room) (datum : Datum) (size low n : ℕ) → Holds placed room → 0 < align_of datum → least_size datum ≤ size
+pub least_found : (placed : List Placed) (room : FreeMap) (datum : Datum) (size low n : ℕ) → Holds placed room → 0 < align_of datum → least_size datum ≤ size
     → IsNext room.taken.items (align_of datum) (least_size datum) (low_of room datum) low → IsNext room.taken.items (align_of datum) size low n
     → align_of datum * n ≡ least_place placed (align_of datum) size
 least_found placed room datum size low n h pos small first second =

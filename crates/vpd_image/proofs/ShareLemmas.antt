@@ -3,7 +3,7 @@ use Rattle.std.proofs.Common.{arith, ◌≡◌, ℕ, ◌+◌, ◌<◌, ◌≤◌
 use Rattle.std.specs.List.{AllByRecursion, list_any}
 use Rattle.std.proofs.lemmas.Bool.Decides.{nat_tests}
 use Rattle.std.proofs.lemmas.List.Folds.{list_any-append}
-use Rattle.vpd_image.specs.declared.room.Stretch.{Stretch}
+use Rattle.vpd_image.specs.declared.free_map.TakenRange.{TakenRange}
 use Rattle.vpd_image.specs.Places.{Placed, share, shares, end_of, size_of}
 use Rattle.vpd_image.specs.Rooms.{meets, AreLaid}
 
@@ -34,12 +34,12 @@ or_true true b h = refl
 or_true false b h = h
 
 -- what is ended isn't met
-pub ended_none : (start end : ℕ) (ss : List Stretch) → AllByRecursion (λ s. s.end ≤ start) ss → list_any (meets start end) ss ≡ false
+pub ended_none : (start end : ℕ) (ss : List TakenRange) → AllByRecursion (λ s. s.end ≤ start) ss → list_any (meets start end) ss ≡ false
 ended_none start end [] h = refl
 ended_none start end (s ∷ ss) h = rw (share_before start end s.start s.end h.0) (ended_none start end ss h.1)
 
 -- nor is what starts behind
-pub behind_none : (start end at : ℕ) (ss : List Stretch) → AreLaid at ss → end ≤ at → list_any (meets start end) ss ≡ false
+pub behind_none : (start end at : ℕ) (ss : List TakenRange) → AreLaid at ss → end ≤ at → list_any (meets start end) ss ≡ false
 unfolding AreLaid
 behind_none start end at [] l h = refl
 behind_none start end at (s ∷ ss) l h =

@@ -71,9 +71,9 @@ placed_if entry None = []
 placed_if entry (Some offset) = record { entry = entry; offset = offset } ∷ []
 
 -- the entries with a written offset
-unfoldable pub written : List Entry → List Placed
-written [] = []
-written (entry ∷ entries) = placed_if entry (written_offset entry) ++ written entries
+unfoldable pub written_entries : List Entry → List Placed
+written_entries [] = []
+written_entries (entry ∷ entries) = placed_if entry (written_offset entry) ++ written_entries entries
 
 -- no byte of these is one of an entry
 abbrev pub is_free : List Placed → ℕ → ℕ → Bool
@@ -115,7 +115,7 @@ placed_from fixed above (entry ∷ entries) =
 
 -- all entries, each at its place, in line order
 unfoldable pub placed : List Entry → List Placed
-placed entries = placed_from (written entries) [] entries
+placed entries = placed_from (written_entries entries) [] entries
 
 -- `start < end` of what two have in common
 unfoldable pub overlap_of : Placed → Placed → Fault
@@ -150,8 +150,8 @@ all_ended all = unless (long_fault all) all
 -- All entries, each at its place, or the first fault. Those with a written offset come first in
 -- both faults.
 unfoldable pub placed_by : List Entry → Result (List Placed) Fault
-placed_by entries = or_fault (overlap_fault [] (written entries))
-    (or_fault (long_fault (written entries)) (all_ended (placed entries)))
+placed_by entries = or_fault (overlap_fault [] (written_entries entries))
+    (or_fault (long_fault (written_entries entries)) (all_ended (placed entries)))
 
 -- before the first that doesn't start before it
 unfoldable pub put_in_order : Placed → List Placed → List Placed

@@ -20,17 +20,17 @@ placed_view p = record { entry = entry_view p.entry; offset = p.offset }
 abbrev pub same_key : Vec ℕ → Vec ℕ → Bool
 same_key x y = pointwise nat_eq x.items y.items
 
-abbrev pub picked : {X : Type 0} → List X → Option ℕ → Option X
-picked xs None = None
-picked xs (Some place) = slice_get xs place
+abbrev pub row_at : {X : Type 0} → List X → Option ℕ → Option X
+row_at xs None = None
+row_at xs (Some place) = slice_get xs place
 
 -- a table gives for each name the place of its first row from a place on
 abbrev pub IsTableFrom : {S : Type 0} → List PcdRow → ℕ → HashMap (Vec ℕ) ℕ S → Type 0
-IsTableFrom rows n table = (key : Vec ℕ) → picked rows (get same_key table key)
+IsTableFrom rows n table = (key : Vec ℕ) → row_at rows (get same_key table key)
     ≡ find (is_row_of key.items) (drop n rows)
 
 -- a table gives for each name the place of the row that the lines below leave to it
 abbrev pub IsLeft : {S : Type 0} → List Arch → List PcdRow → List PcdLine → HashMap (Vec ℕ) ℕ S
     → Type 0
 IsLeft arches rows below table = (key : Vec ℕ)
-    → picked rows (get same_key table key) ≡ row_left arches rows below key.items
+    → row_at rows (get same_key table key) ≡ row_left arches rows below key.items

@@ -4,13 +4,13 @@
 #![tactic(auto)]
 
 pub mod ask;
+mod free_map;
 mod image;
 mod labels;
 mod lines;
 mod order;
 mod places;
 mod placing;
-mod room;
 mod rows;
 mod sizes;
 pub mod vpd;

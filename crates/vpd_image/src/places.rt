@@ -4,13 +4,13 @@ ghost use Rattle.std.specs.Option.{option_map};
 ghost use Rattle.build_base.specs.Answer.{AnswersAs, Checks, Finds};
 ghost use Rattle.build_base.specs.FaultText.{fault_of};
 ghost use Rattle.build_base.specs.First.{unless};
-ghost use Rattle.vpd_image.specs.Places.{Placed, size_of, align_of, end_of, shares, share, placed_if, written, least_place, placed_before, placed_next, placed_from, overlap_of, overlap_with, overlap_fault, end_fault, long_fault};
+ghost use Rattle.vpd_image.specs.Places.{Placed, size_of, align_of, end_of, shares, share, placed_if, written_entries, least_place, placed_before, placed_next, placed_from, overlap_of, overlap_with, overlap_fault, end_fault, long_fault};
 ghost use Rattle.vpd_image.specs.Rooms.{IsRoom, Holds};
 ghost use Rattle.vpd_image.specs.Tables.{entry_view, placed_view};
 ghost use Rattle.build_base.specs.FaultCodes.{VPD_OVERLAP, VPD_TOO_LONG};
 
+use crate::free_map::FreeMap;
 use crate::lines::EntryLine;
-use crate::room::Room;
 use crate::sizes::{offset_in, size_of};
 use build_base::fault_codes::{VPD_OVERLAP, VPD_TOO_LONG};
 use build_base::{Fault, Place, Refusal, Same, Text, WantOfMemory, refuse};
@@ -57,12 +57,13 @@ fn put_written<'a>(
 }
 
 /// The entries with a written offset.
-#[tactic(auto, unfolding(crate::specs::Places::written))]
-pub fn written<'a>(
+#[tactic(auto, unfolding(crate::specs::Places::written_entries))]
+pub fn written_entries<'a>(
     alloc: Global,
     entries: &[EntryLine<'a>],
 ) -> Result<Vec<PlacedLine<'a>>, WantOfMemory>
-    ensures { IfOk result (λ v. map placed_view v.items ≡ written (map entry_view entries.now)) }
+    ensures { IfOk result
+        (λ v. map placed_view v.items ≡ written_entries (map entry_view entries.now)) }
 {
     let mut found = Vec::new(alloc);
     let mut left = entries;
@@ -94,7 +95,7 @@ fn first_shared<'a>(above: &[PlacedLine<'a>], start: u64, end: u64) -> Option<Pl
 }
 
 // `first < second`.
-fn compared(alloc: Global, first: u64, second: u64) -> Result<Text, WantOfMemory>
+fn comparison_text(alloc: Global, first: u64, second: u64) -> Result<Text, WantOfMemory>
     ensures { IfOk result (λ t. t ≡ decimal first ++ codes " < " ++ decimal second) }
 {
     let mut digits = Buffer::new();
@@ -108,7 +109,7 @@ fn refuse_compared(alloc: Global, at: &Place, first: u64, second: u64) -> Refusa
     ensures { Finds result
         (Some (fault_of VPD_OVERLAP at.now (decimal first ++ codes " < " ++ decimal second))) }
 {
-    match compared(alloc, first, second) {
+    match comparison_text(alloc, first, second) {
         Ok(detail) => refuse(alloc, VPD_OVERLAP, at, detail.bytes()),
         Err(_) => Refusal::WantOfMemory,
     }
@@ -141,7 +142,7 @@ fn check_overlap(
 // Takes the bytes of a written entry, if none of them is taken.
 fn take_written(
     alloc: Global,
-    room: &mut Room,
+    room: &mut FreeMap,
     above: &[PlacedLine<'_>],
     placed: &PlacedLine<'_>,
 ) -> Result<(), Refusal>
@@ -166,7 +167,7 @@ fn take_written(
 /// Takes the bytes of all written entries.
 pub(crate) fn take_all_written(
     alloc: Global,
-    room: &mut Room,
+    room: &mut FreeMap,
     fixed: &[PlacedLine<'_>],
 ) -> Result<(), Refusal>
     requires { Holds [] room.old }

@@ -5,16 +5,16 @@ ghost use Rattle.vpd_image.specs.Places.{Placed, size_of, align_of, is_free, lea
 ghost use Rattle.vpd_image.specs.Rooms.{IsRoom, Holds, room_limit, starred_at, ended};
 ghost use Rattle.vpd_image.specs.Tables.{entry_view, placed_view};
 
+use crate::free_map::FreeMap;
 use crate::lines::EntryLine;
 use crate::places::{END_LIMIT, PlacedLine, check_end, refuse_end};
-use crate::room::Room;
 use crate::sizes::{offset_in, size_of};
 use build_base::{Refusal, WantOfMemory};
 use doc_types::values::PcdRow;
 use std::alloc::Global;
 
 // The least place of a row's value.
-fn least(room: &mut Room, row: &PcdRow) -> u64
+fn least(room: &mut FreeMap, row: &PcdRow) -> u64
     requires { IsRoom room.old }
     ensures place { (placed : List Placed) → Holds placed room.old
         → result ≡ least_place placed (align_of row.now.datum) (size_of row.now) }
@@ -29,7 +29,7 @@ fn least(room: &mut Room, row: &PcdRow) -> u64
 }
 
 // Takes bytes that are free, if any.
-fn take(room: &mut Room, start: u64, size: u64) -> Result<(), WantOfMemory>
+fn take(room: &mut FreeMap, start: u64, size: u64) -> Result<(), WantOfMemory>
     requires { start + size ≤ room_limit }
     ensures { (placed : List Placed) (p : Placed) → Holds placed room.old
         → is_free placed size start ≡ true → p.offset ≡ start → size_of p.entry.row ≡ size
@@ -46,7 +46,7 @@ fn take(room: &mut Room, start: u64, size: u64) -> Result<(), WantOfMemory>
 #[tactic(auto, unfolding(crate::specs::Places::end_fault, crate::specs::Places::end_of))]
 fn place_starred<'a>(
     alloc: Global,
-    room: &mut Room,
+    room: &mut FreeMap,
     entry: &EntryLine<'a>,
 ) -> Result<PlacedLine<'a>, Refusal>
     requires { IsRoom room.old }
@@ -88,7 +88,7 @@ fn place_written<'a>(
 #[tactic(auto, unfolding(crate::specs::Places::placed_next))]
 fn place<'a>(
     alloc: Global,
-    room: &mut Room,
+    room: &mut FreeMap,
     fixed: &[PlacedLine<'a>],
     above: &[PlacedLine<'a>],
     entry: &EntryLine<'a>,
@@ -112,7 +112,7 @@ fn place<'a>(
 // Puts the next entry behind those above.
 fn put_next<'a>(
     alloc: Global,
-    room: &mut Room,
+    room: &mut FreeMap,
     fixed: &[PlacedLine<'a>],
     done: &mut Vec<PlacedLine<'a>>,
     entry: &EntryLine<'a>,
@@ -139,7 +139,7 @@ fn put_next<'a>(
 /// All entries, each at its place, in line order, or the first that ends too late.
 pub(crate) fn place_all<'a>(
     alloc: Global,
-    room: &mut Room,
+    room: &mut FreeMap,
     fixed: &[PlacedLine<'a>],
     entries: &[EntryLine<'a>],
 ) -> Result<Vec<PlacedLine<'a>>, Refusal>

@@ -4,7 +4,7 @@ ghost use Rattle.std.specs.Global.{Vec as Bytes};
 ghost use Rattle.std.specs.HashMap.{get};
 ghost use Rattle.std.specs.Option.{option_copied};
 ghost use Rattle.vpd_image.specs.Entries.{is_row_of};
-ghost use Rattle.vpd_image.specs.Tables.{same_key, picked, IsTableFrom};
+ghost use Rattle.vpd_image.specs.Tables.{same_key, row_at, IsTableFrom};
 
 use crate::labels::row_label;
 use build_base::WantOfMemory;
@@ -45,8 +45,8 @@ pub(crate) fn rows_by_label(
     Ok(table)
 }
 
-fn picked<'a>(rows: &'a [PcdRow], place: Option<usize>) -> Option<&'a PcdRow>
-    ensures { option_copied result ≡ picked rows.now place }
+fn row_at<'a>(rows: &'a [PcdRow], place: Option<usize>) -> Option<&'a PcdRow>
+    ensures { option_copied result ≡ row_at rows.now place }
 {
     match place {
         Some(place) => rows.get(place),
@@ -60,9 +60,9 @@ pub(crate) fn take_row<'a>(
     rows: &'a [PcdRow],
     key: &Vec<u8>,
 ) -> Option<&'a PcdRow>
-    ensures row { option_copied result ≡ picked rows.now (get same_key table.old key.now) }
+    ensures row { option_copied result ≡ row_at rows.now (get same_key table.old key.now) }
     ensures others { (other : Bytes ℕ) → get same_key table.new other
         ≡ cond (same_key key.now other) None (get same_key table.old other) }
 {
-    picked(rows, table.swap_remove(key))
+    row_at(rows, table.swap_remove(key))
 }

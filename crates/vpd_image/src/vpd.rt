@@ -2,24 +2,24 @@
 ghost use Rattle.std.specs.Prelude.{◌≡◌, map, IfOk};
 ghost use Rattle.build_base.specs.Answer.{Answers, AnswersAs};
 ghost use Rattle.vpd_image.specs.Orders.{Apart};
-ghost use Rattle.vpd_image.specs.Places.{in_order, placed_by, written};
+ghost use Rattle.vpd_image.specs.Places.{in_order, placed_by, written_entries};
 ghost use Rattle.vpd_image.specs.Tables.{entry_view, placed_view};
 ghost use Rattle.vpd_image.specs.Vpd.{entries_of, vpd_from, vpd_by, vpd_of, AreApart, AreRead, AreReadOf};
 
 use crate::ask::VpdAsk;
+use crate::free_map::FreeMap;
 use crate::image::vpd_from;
 use crate::lines::{EntryLine, entries};
 use crate::order::in_order;
-use crate::places::{PlacedLine, check_ends, take_all_written, written};
+use crate::places::{PlacedLine, check_ends, take_all_written, written_entries};
 use crate::placing::place_all;
-use crate::room::Room;
 use build_base::{Permit, Refusal, WantOfMemory};
 use doc_types::vpd::Vpd;
 use std::alloc::Global;
 
 // What is made of entries at their places.
 #[tactic(auto, using(crate::proofs::ApartLemmas::apart_in_order, crate::proofs::OrderLemmas::rising_in_order))]
-fn made(alloc: Global, placed: Vec<PlacedLine<'_>>) -> Result<Vpd, WantOfMemory>
+fn vpd_of_places(alloc: Global, placed: Vec<PlacedLine<'_>>) -> Result<Vpd, WantOfMemory>
     requires { Apart (map placed_view placed.items) }
     ensures { IfOk result (λ vpd. vpd ≡ vpd_from (in_order (map placed_view placed.entry.items))) }
 {
@@ -34,12 +34,12 @@ fn place_behind<'a>(
     fixed: &[PlacedLine<'a>],
     entries: &[EntryLine<'a>],
 ) -> Result<Vec<PlacedLine<'a>>, Refusal>
-    requires { map placed_view fixed.now ≡ written (map entry_view entries.now) }
+    requires { map placed_view fixed.now ≡ written_entries (map entry_view entries.now) }
     ensures value { AnswersAs (λ v. map placed_view v.items) result
         (placed_by (map entry_view entries.now)) }
     ensures apart { IfOk result (λ v. Apart (map placed_view v.items)) }
 {
-    let mut room = Room::new(alloc);
+    let mut room = FreeMap::new(alloc);
     take_all_written(alloc, &mut room, fixed)?;
     check_ends(alloc, fixed)?;
     let placed = place_all(alloc, &mut room, fixed, entries)?;
@@ -55,7 +55,7 @@ fn place_entries<'a>(
         (placed_by (map entry_view entries.now)) }
     ensures apart { IfOk result (λ v. Apart (map placed_view v.items)) }
 {
-    let fixed = written(alloc, entries)?;
+    let fixed = written_entries(alloc, entries)?;
     place_behind(alloc, fixed.as_slice(), entries)
 }
 
@@ -66,7 +66,7 @@ fn vpd_by(alloc: Global, entries: &[EntryLine<'_>]) -> Result<Vpd, Refusal>
     ensures read { IfOk result (λ vpd. AreReadOf (map entry_view entries.now) vpd) }
 {
     let placed = place_entries(alloc, entries)?;
-    let vpd = made(alloc, placed)?;
+    let vpd = vpd_of_places(alloc, placed)?;
     Ok(vpd)
 }
 

@@ -3,7 +3,7 @@ use Rattle.edk_build.proofs.ReplayLemmas.{stop_as, stopped_early, was_halted, wa
 use Rattle.edk_build.specs.History.{label_of}
 use Rattle.edk_build.specs.Script.{script_line}
 use Rattle.edk_build.specs.Stops.{stop_status}
-use Rattle.edk_build.specs.declared.script.Order.TheVariants as order
+use Rattle.edk_build.specs.declared.script.ScriptCommand.TheVariants as order
 use Rattle.edk_build.specs.declared.status.Status.TheVariants as answer
 use Rattle.edk_build.proofs.replay.build_next.Goals as goal
 

@@ -1,6 +1,6 @@
 use Rattle.std.proofs.Common.{refl}
 use Rattle.edk_build.proofs.ReplayLemmas.{stop_as, stopped_early, line_stopped, line_dropped}
-use Rattle.edk_build.specs.declared.script.Order.TheVariants as order
+use Rattle.edk_build.specs.declared.script.ScriptCommand.TheVariants as order
 use Rattle.edk_build.specs.declared.status.Status.TheVariants as answer
 use Rattle.edk_build.proofs.replay.carry_out.Goals as goal
 

@@ -2,7 +2,7 @@ use Rattle.std.proofs.Common.{ap, refl}
 use Rattle.edk_build.proofs.ReplayLemmas.{stop_as, stopped_early, put_told}
 use Rattle.edk_build.specs.History.{from_fault, from_absent, too_long}
 use Rattle.edk_build.specs.Script.{script_line}
-use Rattle.edk_build.specs.declared.script.Order.TheVariants as order
+use Rattle.edk_build.specs.declared.script.ScriptCommand.TheVariants as order
 use Rattle.edk_build.specs.declared.status.Status.TheVariants as answer
 use Rattle.edk_build.proofs.replay.put.Goals as goal
 

@@ -1,7 +1,7 @@
 use Rattle.std.proofs.Common.{◌≡◌, ◌∙◌, ℕ, List, ap, subst}
 use Rattle.flash_document.specs.Held.{Sizes}
 use Rattle.flash_document.specs.Names.{Places}
-use Rattle.flash_document.specs.Numbering.{order_of}
+use Rattle.flash_document.specs.Numbering.{topological_order}
 use Rattle.flash_document.specs.Whole.{volumes_of, names_of, nests_of}
 use Rattle.flash_document.proofs.WholeLemmas.{names_lent, nests_lent}
 use Rattle.flash_document.proofs.whole.tables_of.Goals as goal
@@ -17,5 +17,5 @@ returns c = λ h.
       places = places;
       sizes = subst (λ rs. Sizes rs c.in_ok-sizes.sizes) (c.items-2.ensures ∙ c.in_ok-regions.ensures) c.in_ok-sizes.ensures;
       nests = nests;
-      order = c.in_ok-order.ensures ∙ ap order_of (c.items-3.ensures ∙ nests);
+      order = c.in_ok-order.ensures ∙ ap topological_order (c.items-3.ensures ∙ nests);
     }

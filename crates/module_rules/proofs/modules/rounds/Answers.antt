@@ -45,10 +45,10 @@ returns-then-is_empty c =
     c.items.ensures ∙ wants s m p c.in_ok-wanted.wanted c.in_ok-wanted.ensures.wanted c.loop-left.invariant.user c.loop-left.invariant.platform in
     let empty : length c.items.result.now ≡ 0 = search rules in
     let none : wanted c.args.«module».now c.args.platform.now c.loop-left.search.infs ≡ [] = none_at c.items.result.now same empty in
-    let gives = subst (λ (r : Result Choice Fault). GivesIn (λ out. out) c.chosen.result (given_as out.Choice r))
-    (chooses s c.in_ok-wanted.behind m p c.in_ok-wanted.ensures.search c.loop-left.invariant.user c.loop-left.invariant.platform) c.chosen.ensures in
-    subst (λ z. Gives (λ out. out) c.chosen.result z) c.loop-left.invariant.rest
-    (choice_ends c.args.known.now m p s.infs c.loop-left.left c.chosen.result some none gives)
+    let gives = subst (λ (r : Result Choice Fault). GivesIn (λ out. out) c.chosen_libraries.result (given_as out.Choice r))
+    (chooses s c.in_ok-wanted.behind m p c.in_ok-wanted.ensures.search c.loop-left.invariant.user c.loop-left.invariant.platform) c.chosen_libraries.ensures in
+    subst (λ z. Gives (λ out. out) c.chosen_libraries.result z) c.loop-left.invariant.rest
+    (choice_ends c.args.known.now m p s.infs c.loop-left.left c.chosen_libraries.result some none gives)
 
 pub returns-in-Err : goal.returns-in-Err
 returns-in-Err c =

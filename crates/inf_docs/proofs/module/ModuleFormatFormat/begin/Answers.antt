@@ -11,7 +11,7 @@ returns c = λ above h.
     let scopes = c.args.scopes.now in
     record {
       tables = h.tables ∙ sym (ap (with_rows no_tables) (rows_same above at scopes));
-      section = section_begun above at scopes _ (sym c.in_ok-opened.ensures);
+      section = section_begun above at scopes _ (sym c.in_ok-opened_section.ensures);
       parts =
           parts_begun above at scopes c.args.self.now.section c.args.self.now.parts _ h.section h.parts
           (c.in_ok-push_parts.ensures ∙ ap (λ o. c.args.self.now.parts ++ parts_in o) c.replace-ended.ensures.value);

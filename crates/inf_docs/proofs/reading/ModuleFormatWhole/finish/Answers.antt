@@ -4,4 +4,4 @@ use Rattle.inf_docs.proofs.SectionLemmas.{module_told}
 use Rattle.inf_docs.proofs.reading.ModuleFormatWhole.finish.Goals as goal
 
 pub returns : goal.returns
-returns c = λ above h. subst (λ outcome. Answers c.finished.result outcome) (module_told c.args.lines.now above c.args.self h) c.finished.ensures
+returns c = λ above h. subst (λ outcome. Answers c.finished_document.result outcome) (module_told c.args.lines.now above c.args.self h) c.finished_document.ensures

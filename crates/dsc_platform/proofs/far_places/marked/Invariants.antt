@@ -1,7 +1,0 @@
-use Rattle.std.proofs.Common.{take}
-use Rattle.std.specs.List.{All}
-use Rattle.dsc_platform.specs.FarPlaces.{IsMarked}
-use Rattle.dsc_platform.proofs.far_places.marked.Given as goal
-
-abbrev pub invariant-loop-place : goal.invariant-loop-place
-invariant-loop-place l = All (IsMarked l.marks.items) (take l.place-index l.far)
