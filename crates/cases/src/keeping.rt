@@ -132,8 +132,8 @@ fn run_next<H: AllocGlobal + Threads + Sync>(
     let (told, left) = run_once(rt, scene, bytes_in(&scene.kept), words)?;
     let word = kept_word(alloc, bytes_in(&scene.kept), bytes_in(&left))?;
     add_line(&mut scene.told.out, &told, word.as_str(), alloc)?;
-    scene.told.files = told.files;
     scene.told.steps = told.steps;
+    scene.told.files = told.into_files();
     scene.kept = left;
     scene.objects = Objects::new(alloc);
     scene.fails.clear();
