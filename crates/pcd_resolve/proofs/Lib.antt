@@ -1,7 +1,9 @@
 pub mod DatumLemmas
 pub mod GroupLemmas
 pub mod MarkLemmas
+pub mod SkuLemmas
 pub mod SortedLemmas
 pub mod SoughtLemmas
+pub mod SourceLemmas
 pub mod UseLemmas
 pub mod WalkLemmas

@@ -7,7 +7,9 @@ ghost use Rattle.meta_lexer.specs.Faults.{first_fault};
 ghost use Rattle.meta_lexer.specs.Numbers.{number_of};
 ghost use Rattle.std.specs.List.{All};
 ghost use Rattle.pcd_values.specs.Skus.{WalkEnds, value_within};
+ghost use Rattle.pcd_resolve.specs.Groups.{Grouped};
 ghost use Rattle.pcd_resolve.specs.Rows.{all_rows};
+ghost use Rattle.pcd_resolve.specs.SkuTables.{stated_sku, AreKnown, AreTables};
 ghost use Rattle.pcd_ranks.specs.Assignments.{by_line};
 ghost use Rattle.pcd_resolve.specs.Platform.{too_great, bad_rest, rest_fault, vpd_fault, default_for, sku_assignments, named_if, valued, source, row_by_source, dynamic_rows};
 ghost use Rattle.pcd_ranks.specs.Assignments.{value_from};
@@ -15,12 +17,15 @@ ghost use Rattle.pcd_ranks.specs.Views.{stated_view, given_view};
 
 use crate::resolve::append;
 use crate::rows::row_of;
+use crate::sku_tables::SkuTables;
+use crate::sku_values::{known_source, lines_by_sku, row_from, sources_of};
 use build_base::fault_codes::BAD_VALUE;
 use build_base::{Place, Refusal, Rows, Same, Text, WantOfMemory, refuse};
 use doc_types::package::DecPcd;
 use doc_types::pcd::{Datum, Kind, PcdSet};
 use doc_types::platform::{Sku, Store};
 use doc_types::values::{PcdRow, SkuRow};
+use indexmap::IndexMap;
 use meta_lexer::numbers::number;
 use pcd_ranks::assign::{Given, by_declaration, by_line, put, put_sets, value_from};
 use pcd_ranks::listing::StatedLine;
@@ -274,19 +279,74 @@ fn row_for<'a>(
     row_by_source(alloc, kind, line, lines, sets, sku.name.bytes(), from)
 }
 
-fn rows_for<'a>(
+// The same, where no source is known: by a walk.
+fn walked_row<'a>(
     alloc: Global,
     kind: Kind,
     line: &'a DecPcd,
     lines: &[StatedLine<'a>],
     sets: &[&'a PcdSet],
-    values: &Rows<SkuRow>,
     skus: &Rows<Sku>,
+    sku: &Sku,
+) -> Result<Rows<PcdRow>, Refusal>
+    requires { WalkEnds skus.now sku.now.name }
+    ensures { Answers result
+        (row_by_source kind line.now (map stated_view lines.now) (map (λ s. s.now) sets.now)
+        sku.now.name (source line.now (map stated_view lines.now) (map (λ s. s.now) sets.now)
+        skus.now sku.now.name)) }
+{
+    let values = valued(alloc, line, lines, sets, skus.items())?;
+    row_for(alloc, kind, line, lines, sets, &values, skus, sku)
+}
+
+// The row of a SKU by what is known of sources.
+fn row_at<'a>(
+    alloc: Global,
+    kind: Kind,
+    line: &'a DecPcd,
+    lines: &[StatedLine<'a>],
+    own: &IndexMap<Vec<u8>, Vec<StatedLine<'a>>>,
+    sets: &[&'a PcdSet],
+    skus: &Rows<Sku>,
+    tables: &SkuTables,
+    known: &[Option<usize>],
+    sku: &Sku,
+) -> Result<Rows<PcdRow>, Refusal>
+    requires walk { WalkEnds skus.now sku.now.name }
+    requires own { Grouped stated_view stated_sku (map stated_view lines.now) own.now }
+    requires tables { AreTables skus.now tables.now }
+    requires known { AreKnown
+        (valued line.now (map stated_view lines.now) (map (λ s. s.now) sets.now) skus.now) skus.now
+        (length tables.now.order.items) known.now }
+    ensures { Answers result
+        (row_by_source kind line.now (map stated_view lines.now) (map (λ s. s.now) sets.now)
+        sku.now.name (source line.now (map stated_view lines.now) (map (λ s. s.now) sets.now)
+        skus.now sku.now.name)) }
+{
+    match known_source(skus, tables, known, &sku.name) {
+        Some(from) => row_from(alloc, kind, line, own, sets, &sku.name, &from.name),
+        None => walked_row(alloc, kind, line, lines, sets, skus, sku),
+    }
+}
+
+fn rows_for<'a>(
+    alloc: Global,
+    kind: Kind,
+    line: &'a DecPcd,
+    lines: &[StatedLine<'a>],
+    own: &IndexMap<Vec<u8>, Vec<StatedLine<'a>>>,
+    sets: &[&'a PcdSet],
+    skus: &Rows<Sku>,
+    tables: &SkuTables,
+    known: &[Option<usize>],
     picked: &[&Sku],
 ) -> Result<Rows<PcdRow>, Refusal>
     requires walks { All (λ s. WalkEnds skus.now s.now.name) picked.now }
-    requires values { values.now ≡ valued line.now (map stated_view lines.now)
-        (map (λ s. s.now) sets.now) skus.now }
+    requires own { Grouped stated_view stated_sku (map stated_view lines.now) own.now }
+    requires tables { AreTables skus.now tables.now }
+    requires known { AreKnown
+        (valued line.now (map stated_view lines.now) (map (λ s. s.now) sets.now) skus.now) skus.now
+        (length tables.now.order.items) known.now }
     ensures { Answers result
         (all_rows
         (map (λ sku. row_by_source kind line.now (map stated_view lines.now)
@@ -296,13 +356,52 @@ fn rows_for<'a>(
 {
     let mut rows = Rows::new(alloc);
     for sku in picked {
-        let more = row_for(alloc, kind, line, lines, sets, values, skus, sku)?;
+        let more = row_at(
+            alloc, kind, line, lines, own, sets, skus, tables, known, sku,
+        )?;
         append(alloc, &mut rows, more.items())?;
     }
     Ok(rows)
 }
 
-/// The rows of a dynamic PCD, one for each chosen SKU.
+// The rows by the lines of each SKU.
+fn rows_by_sku<'a>(
+    alloc: Global,
+    kind: Kind,
+    line: &'a DecPcd,
+    lines: &[StatedLine<'a>],
+    own: &IndexMap<Vec<u8>, Vec<StatedLine<'a>>>,
+    sets: &[&'a PcdSet],
+    skus: &Rows<Sku>,
+    tables: &SkuTables,
+    picked: &[&Sku],
+) -> Result<Rows<PcdRow>, Refusal>
+    requires walks { All (λ s. WalkEnds skus.now s.now.name) picked.now }
+    requires own { Grouped stated_view stated_sku (map stated_view lines.now) own.now }
+    requires tables { AreTables skus.now tables.now }
+    ensures { Answers result
+        (all_rows
+        (map (λ sku. row_by_source kind line.now (map stated_view lines.now)
+        (map (λ s. s.now) sets.now) sku.name
+        (source line.now (map stated_view lines.now) (map (λ s. s.now) sets.now) skus.now sku.name))
+        (map (λ s. s.now) picked.now))) }
+{
+    let known = sources_of(alloc, line, own, sets, skus, tables)?;
+    rows_for(
+        alloc,
+        kind,
+        line,
+        lines,
+        own,
+        sets,
+        skus,
+        tables,
+        known.as_slice(),
+        picked,
+    )
+}
+
+/// The rows of a dynamic PCD, one for each chosen SKU, by the tables of all SKUs.
 #[tactic(auto, unfolding(crate::specs::Platform::dynamic_rows))]
 pub(crate) fn dynamic_rows<'a>(
     alloc: Global,
@@ -311,14 +410,16 @@ pub(crate) fn dynamic_rows<'a>(
     lines: &[StatedLine<'a>],
     sets: &[&'a PcdSet],
     skus: &Rows<Sku>,
+    tables: &SkuTables,
     picked: &[&Sku],
 ) -> Result<Rows<PcdRow>, Refusal>
-    requires { All (λ s. WalkEnds skus.now s.now.name) picked.now }
+    requires walks { All (λ s. WalkEnds skus.now s.now.name) picked.now }
+    requires tables { AreTables skus.now tables.now }
     ensures { Answers result
         (dynamic_rows kind line.now (map stated_view lines.now) (map (λ s. s.now) sets.now) skus.now
         (map (λ s. s.now) picked.now)) }
 {
     vpd_faults(alloc, line.datum, lines)?;
-    let values = valued(alloc, line, lines, sets, skus.items())?;
-    rows_for(alloc, kind, line, lines, sets, &values, skus, picked)
+    let own = lines_by_sku(alloc, lines)?;
+    rows_by_sku(alloc, kind, line, lines, &own, sets, skus, tables, picked)
 }

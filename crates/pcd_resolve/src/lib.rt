@@ -10,6 +10,8 @@ pub mod packages;
 pub mod platform;
 pub mod resolve;
 pub mod rows;
+pub mod sku_tables;
+pub mod sku_values;
 pub mod skus;
 pub mod sorted;
 pub mod sought;

@@ -8,6 +8,7 @@ ghost use Rattle.pcd_ranks.specs.Listing.{stated_in, uses_in};
 ghost use Rattle.pcd_ranks.specs.Names.{serves};
 ghost use Rattle.pcd_resolve.specs.Platform.{SkusEnd, chosen, counts, is_chosen, platform_sets, platform_values, rows_at, rows_by, wanted, words_fault};
 ghost use Rattle.pcd_resolve.specs.Rows.{all_rows, names_of};
+ghost use Rattle.pcd_resolve.specs.SkuTables.{AreTables};
 ghost use Rattle.pcd_resolve.specs.Sought.{found, sought_view};
 ghost use Rattle.pcd_resolve.specs.Tables.{set_name, stated_name, use_name};
 ghost use Rattle.pcd_ranks.specs.Views.{stated_view, use_view};
@@ -16,6 +17,7 @@ use crate::dynamic::dynamic_rows;
 use crate::faults::pcd_faults;
 use crate::groups::group;
 use crate::resolve::append;
+use crate::sku_tables::{SkuTables, tables_of};
 use crate::skus::{chosen, is_all, skus_known};
 use crate::sorted::names_of_modules;
 use crate::sought::{Sought, declaration, sought_of};
@@ -83,6 +85,7 @@ fn rows_by<'a>(
     alloc: Global,
     ask: &'a PlatformAsk,
     sought: &Sought<'_, 'a>,
+    skus: &SkuTables,
     picked: &[&'a Sku],
     lines: &[StatedLine<'a>],
     sets: &[&'a PcdSet],
@@ -90,6 +93,7 @@ fn rows_by<'a>(
 ) -> Result<Rows<PcdRow>, Refusal>
     requires sought { sought_view sought.now ≡ found ask.now sought.now.name.now.items }
     requires kind { sought.now.kind ≡ Some kind }
+    requires skus { AreTables ask.now.platform.skus skus.now }
     requires picked { map (λ s. s.now) picked.now ≡ chosen ask.now }
     requires walks { All (λ s. WalkEnds ask.now.platform.skus s.now.name) picked.now }
     ensures { Answers result
@@ -110,6 +114,7 @@ fn rows_by<'a>(
         lines.as_slice(),
         sets,
         &ask.platform.value().skus,
+        skus,
         picked,
     )
 }
@@ -119,12 +124,14 @@ fn rows_at<'a>(
     alloc: Global,
     ask: &'a PlatformAsk,
     sought: &Sought<'_, 'a>,
+    skus: &SkuTables,
     picked: &[&'a Sku],
     uses: &IndexMap<Vec<u8>, Vec<UseLine<'a>>>,
     lines: &IndexMap<Vec<u8>, Vec<StatedLine<'a>>>,
     sets: &IndexMap<Vec<u8>, Vec<&'a PcdSet>>,
 ) -> Result<Rows<PcdRow>, Refusal>
     requires sought { sought_view sought.now ≡ found ask.now sought.now.name.now.items }
+    requires skus { AreTables ask.now.platform.skus skus.now }
     requires picked { map (λ s. s.now) picked.now ≡ chosen ask.now }
     requires walks { All (λ s. WalkEnds ask.now.platform.skus s.now.name) picked.now }
     requires uses { Grouped use_view use_name (uses_in ask.now.modules) uses.now }
@@ -138,7 +145,16 @@ fn rows_at<'a>(
     let lines = group(lines, pcd);
     pcd_faults(alloc, pcd.as_slice(), group(uses, pcd), lines)?;
     match sought.kind {
-        Some(kind) => rows_by(alloc, ask, sought, picked, lines, group(sets, pcd), kind),
+        Some(kind) => rows_by(
+            alloc,
+            ask,
+            sought,
+            skus,
+            picked,
+            lines,
+            group(sets, pcd),
+            kind,
+        ),
         None => Ok(Rows::new(alloc)),
     }
 }
@@ -147,12 +163,14 @@ fn all_rows<'a>(
     alloc: Global,
     ask: &'a PlatformAsk,
     all: &[Sought<'_, 'a>],
+    skus: &SkuTables,
     picked: &[&'a Sku],
     uses: &IndexMap<Vec<u8>, Vec<UseLine<'a>>>,
     lines: &IndexMap<Vec<u8>, Vec<StatedLine<'a>>>,
     sets: &IndexMap<Vec<u8>, Vec<&'a PcdSet>>,
 ) -> Result<Rows<PcdRow>, Refusal>
     requires sought { All (λ s. sought_view s ≡ found ask.now s.name.now.items) all.now }
+    requires skus { AreTables ask.now.platform.skus skus.now }
     requires picked { map (λ s. s.now) picked.now ≡ chosen ask.now }
     requires walks { All (λ s. WalkEnds ask.now.platform.skus s.now.name) picked.now }
     requires uses { Grouped use_view use_name (uses_in ask.now.modules) uses.now }
@@ -164,7 +182,7 @@ fn all_rows<'a>(
 {
     let mut rows = Rows::new(alloc);
     for sought in all {
-        let more = rows_at(alloc, ask, sought, picked, uses, lines, sets)?;
+        let more = rows_at(alloc, ask, sought, skus, picked, uses, lines, sets)?;
         append(alloc, &mut rows, more.items())?;
     }
     Ok(rows)
@@ -214,11 +232,13 @@ fn rows_by_tables<'a>(
     alloc: Global,
     ask: &'a PlatformAsk,
     names: &[Vec<u8>],
+    skus: &SkuTables,
     picked: &[&'a Sku],
     uses: &IndexMap<Vec<u8>, Vec<UseLine<'a>>>,
     lines: &IndexMap<Vec<u8>, Vec<StatedLine<'a>>>,
     sets: &IndexMap<Vec<u8>, Vec<&'a PcdSet>>,
 ) -> Result<Rows<PcdRow>, Refusal>
+    requires skus { AreTables ask.now.platform.skus skus.now }
     requires picked { map (λ s. s.now) picked.now ≡ chosen ask.now }
     requires walks { All (λ s. WalkEnds ask.now.platform.skus s.now.name) picked.now }
     requires uses { Grouped use_view use_name (uses_in ask.now.modules) uses.now }
@@ -229,7 +249,7 @@ fn rows_by_tables<'a>(
         (map (λ n. n.items) names.now))) }
 {
     let all = sought_of(alloc, ask, names, uses, lines)?;
-    all_rows(alloc, ask, all.as_slice(), picked, uses, lines, sets)
+    all_rows(alloc, ask, all.as_slice(), skus, picked, uses, lines, sets)
 }
 
 // The same, by the tables of the platform's lines and of what is set.
@@ -237,9 +257,11 @@ fn rows_by_uses<'a>(
     alloc: Global,
     ask: &'a PlatformAsk,
     names: &[Vec<u8>],
+    skus: &SkuTables,
     picked: &[&'a Sku],
     uses: &IndexMap<Vec<u8>, Vec<UseLine<'a>>>,
 ) -> Result<Rows<PcdRow>, Refusal>
+    requires skus { AreTables ask.now.platform.skus skus.now }
     requires picked { map (λ s. s.now) picked.now ≡ chosen ask.now }
     requires walks { All (λ s. WalkEnds ask.now.platform.skus s.now.name) picked.now }
     requires uses { Grouped use_view use_name (uses_in ask.now.modules) uses.now }
@@ -249,15 +271,17 @@ fn rows_by_uses<'a>(
 {
     let lines = all_lines(alloc, ask.platform.value())?;
     let sets = sets_of_ask(alloc, ask)?;
-    rows_by_tables(alloc, ask, names, picked, uses, &lines, &sets)
+    rows_by_tables(alloc, ask, names, skus, picked, uses, &lines, &sets)
 }
 
 // The rows of the PCDs that modules use.
 fn rows_of_modules<'a>(
     alloc: Global,
     ask: &'a PlatformAsk,
+    skus: &SkuTables,
     picked: &[&'a Sku],
 ) -> Result<Rows<PcdRow>, Refusal>
+    requires skus { AreTables ask.now.platform.skus skus.now }
     requires picked { map (λ s. s.now) picked.now ≡ chosen ask.now }
     requires walks { All (λ s. WalkEnds ask.now.platform.skus s.now.name) picked.now }
     ensures { Answers result
@@ -266,7 +290,7 @@ fn rows_of_modules<'a>(
 {
     let names = names_of_modules(alloc, ask.modules.items())?;
     let uses = all_uses_by_name(alloc, ask.modules.items())?;
-    rows_by_uses(alloc, ask, names.as_slice(), picked, &uses)
+    rows_by_uses(alloc, ask, names.as_slice(), skus, picked, &uses)
 }
 
 fn values_of(alloc: Global, ask: &PlatformAsk) -> Result<Rows<PcdRow>, Refusal>
@@ -275,8 +299,9 @@ fn values_of(alloc: Global, ask: &PlatformAsk) -> Result<Rows<PcdRow>, Refusal>
         (all_rows (map (rows_at ask.now (uses_in ask.now.modules) (stated_in ask.now.platform))
         (names_of (uses_in ask.now.modules)))) }
 {
+    let skus = tables_of(alloc, ask.platform.value().skus.items())?;
     let picked = chosen_of(alloc, ask)?;
-    rows_of_modules(alloc, ask, picked.as_slice())
+    rows_of_modules(alloc, ask, &skus, picked.as_slice())
 }
 
 #[tactic(auto, unfolding(crate::specs::Platform::words_fault))]
