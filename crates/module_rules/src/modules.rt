@@ -281,7 +281,7 @@ fn pcds_first(
     ensures { Comes known.now (pcds_first given.now) result }
 {
     let platform = shared_platform(given, 0)?;
-    if !skus_end(platform.value().skus.items()) {
+    if !skus_end(alloc, platform.value().skus.items()) {
         return Err(Stop::Misfit);
     }
     let flash = shared_flash(given, 1)?;

@@ -1,3 +1,4 @@
 pub mod SkuLemmas
 pub mod KnownLemmas
+pub mod NearLemmas
 pub mod TakenLemmas

@@ -3,6 +3,7 @@
 
 pub mod asks;
 pub mod choices;
+pub mod near;
 pub mod parts;
 pub mod pcds;
 pub mod settings;
