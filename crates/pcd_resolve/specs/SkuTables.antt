@@ -1,6 +1,6 @@
 -- Tables of SKUs, by which the SKU whose value each one takes is found in one pass. How they are laid
 -- out is this project's own.
-use Rattle.std.specs.Prelude.{◌≡◌, ◌≤◌, ℕ, Bool, nat_eq, find, if◌then◌else◌, List, [], length, drop, map, slice_get, Option, Some, None, codes}
+use Rattle.std.specs.Prelude.{◌≡◌, ◌≤◌, ℕ, Bool, nat_eq, find, if◌then◌else◌, List, [], length, drop, slice_get, Option, Some, None, codes}
 use Rattle.std.specs.Cmp.Lexicographic.{pointwise}
 use Rattle.std.specs.HashMap.{HashMap, get}
 use Rattle.std.specs.Option.{option_map}

@@ -1,4 +1,4 @@
-use Rattle.std.proofs.Common.{◌∙◌, List, ℕ, length, sym, arith}
+use Rattle.std.proofs.Common.{◌∙◌, length, sym}
 use Rattle.std.specs.List.{list_all}
 use Rattle.module_steps.specs.Skus.{reaches, skus_end}
 use Rattle.module_steps.proofs.NearLemmas.{all_passed, all_failed}

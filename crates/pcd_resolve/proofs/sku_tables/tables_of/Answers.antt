@@ -1,4 +1,3 @@
-use Rattle.std.proofs.Common.{arith}
 use Rattle.pcd_resolve.proofs.SkuLemmas.{ups_are, few_of}
 use Rattle.pcd_resolve.proofs.sku_tables.tables_of.Goals as goal
 
