@@ -188,7 +188,7 @@ pub fn rule_names(
 }
 
 /// A text with the names filled in, once, from left to right.
-pub fn fill_names(alloc: Global, names: &[Macro], text: &[u8]) -> Result<Text, WantOfMemory>
+pub(crate) fn fill_names(alloc: Global, names: &[Macro], text: &[u8]) -> Result<Text, WantOfMemory>
     ensures { IfOk result (λ t. t ≡ fill_names names.now text.now) }
 {
     let (files, fixed) = (MacroTable::new(alloc), ListedMacros::of(alloc, names)?);

@@ -27,7 +27,7 @@ pub fn is_default(name: &[u8]) -> bool
 }
 
 /// Whether a place is marked.
-pub fn mark_at(marks: &[bool], place: usize) -> bool
+pub(crate) fn mark_at(marks: &[bool], place: usize) -> bool
     ensures { result ≡ mark_at marks.now place }
 {
     match marks.get(place) {
@@ -93,7 +93,7 @@ fn no_marks(alloc: Global, skus: &[Sku]) -> Result<Vec<bool>, WantOfMemory>
 
 /// Marks the SKUs from which the walk is found to end at DEFAULT. No clause says that all those are
 /// marked from which it ends there.
-pub fn near_marks(
+pub(crate) fn near_marks(
     alloc: Global,
     skus: &[Sku],
     tables: &SkuTables,

@@ -100,7 +100,10 @@ fn up_of(skus: &[Sku], firsts: &IndexMap<Text, usize>, name: &Text) -> Option<us
 }
 
 /// Takes one place more.
-pub fn put_place(places: &mut Vec<Option<usize>>, place: Option<usize>) -> Result<(), WantOfMemory>
+pub(crate) fn put_place(
+    places: &mut Vec<Option<usize>>,
+    place: Option<usize>,
+) -> Result<(), WantOfMemory>
     ensures { OnOk result (places.new.items ≡ places.old.items ++ place ∷ []) }
 {
     match places.push(place) {
@@ -219,7 +222,7 @@ pub fn tables_of(alloc: Global, skus: &[Sku]) -> Result<SkuTables, WantOfMemory>
 }
 
 /// Puts what is found at a place.
-pub fn set_place(places: &mut Vec<Option<usize>>, place: usize, found: Option<usize>)
+pub(crate) fn set_place(places: &mut Vec<Option<usize>>, place: usize, found: Option<usize>)
     ensures { places.new.items ≡ set places.old.items place found }
 {
     if place < places.len() {

@@ -42,7 +42,7 @@ fn add_line<'a>(
 }
 
 /// The lines of one PCD by their SKUs.
-pub fn lines_by_sku<'a>(
+pub(crate) fn lines_by_sku<'a>(
     alloc: Global,
     lines: &[StatedLine<'a>],
 ) -> Result<IndexMap<Vec<u8>, Vec<StatedLine<'a>>>, WantOfMemory>
@@ -142,7 +142,7 @@ fn none_known(alloc: Global, skus: &Rows<Sku>) -> Result<Vec<Option<usize>>, Wan
 }
 
 /// The SKU whose value each SKU takes, where the order finds it.
-pub fn sources_of<'a>(
+pub(crate) fn sources_of<'a>(
     alloc: Global,
     line: &'a DecPcd,
     own: &IndexMap<Vec<u8>, Vec<StatedLine<'a>>>,
@@ -198,7 +198,7 @@ fn sku_at(skus: &Rows<Sku>, place: Option<usize>) -> Option<&Sku>
 }
 
 /// The SKU whose value a SKU takes, where it is known.
-pub fn known_source<'s>(
+pub(crate) fn known_source<'s>(
     skus: &'s Rows<Sku>,
     tables: &SkuTables,
     known: &[Option<usize>],
@@ -215,7 +215,7 @@ pub fn known_source<'s>(
 }
 
 /// The row of a SKU that takes the value of another one.
-pub fn row_from<'a>(
+pub(crate) fn row_from<'a>(
     alloc: Global,
     kind: Kind,
     line: &'a DecPcd,
