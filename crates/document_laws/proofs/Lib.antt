@@ -1,0 +1,3 @@
+pub mod DeviceGiven
+pub mod VolumeGiven
+pub mod RuleGiven
