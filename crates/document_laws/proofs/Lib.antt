@@ -1,3 +1,6 @@
 pub mod DeviceGiven
 pub mod VolumeGiven
 pub mod RuleGiven
+pub mod TextLemmas
+pub mod DeviceForms
+pub mod VolumeForms

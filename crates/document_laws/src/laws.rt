@@ -13,3 +13,100 @@ pub fn flash_lines_give_rows()
         → least_of (line_faults line marks full scope) ≡ None
         → IsSome (line_row line marks scope) }
 {}
+
+ghost use Rattle.std.specs.Prelude.{ℕ, List};
+ghost use Rattle.fdf_words.specs.declared.rows.Row.TheVariants as row;
+ghost use Rattle.fdf_words.specs.declared.rows.Content.{Content};
+ghost use Rattle.fdf_words.specs.declared.rows.DeviceKey.{DeviceKey};
+ghost use Rattle.fdf_words.specs.declared.rows.Scope.TheVariants as scope;
+ghost use Rattle.fdf_lines.specs.Grammar.{rank_of};
+ghost use Rattle.doc_types.specs.declared.pcd.PcdName.{PcdName};
+ghost use Rattle.std.specs.Prelude.{Option};
+ghost use Rattle.document_laws.specs.FlashForms.{IsApriori, IsContent, IsDeviceNumber, IsFile, IsFileMember, IsFilled, IsInf, IsKeyed, IsPlain, IsRegion, IsRegionPcds, IsSet, IsSetting, Says, module_of};
+ghost use Rattle.std.specs.Prelude.{false, true, Some};
+ghost use Rattle.build_base.specs.Guid.{guid_of};
+ghost use Rattle.build_base.specs.declared.guid.Guid.{Guid};
+ghost use Rattle.doc_types.specs.declared.volume.Member.TheVariants as member;
+ghost use Rattle.fdf_words.specs.declared.keys.VolumeWord.TheVariants as word;
+ghost use Rattle.fdf_words.specs.declared.marks.Open.TheVariants.{Shut, InApriori, InFile, InRule};
+ghost use Rattle.fdf_words.specs.declared.rows.VolumeKey.{VolumeKey};
+ghost use Rattle.fdf_words.specs.declared.rows.VolumeSetting.TheVariants as setting;
+ghost use Rattle.fdf_words.specs.declared.words.Options.{Options};
+ghost use Rattle.fdf_volumes.specs.declared.inf_line.InfOptions.{InfOptions};
+ghost use Rattle.fdf_volumes.specs.Statements.{head_with};
+ghost use Rattle.fdf_volumes.specs.VolumeKeys.{is_ffs3, truth_named};
+
+/// In each section a line `SET PCD = value` gives that value to that PCD. In [Defines] all other
+/// lines are read past.
+pub fn set_lines_say()
+    ensures sets { (line : Line) (marks : Marks) (full : Bool) (section : Scope) (pcd : PcdName)
+        (value : List ℕ) → IsSet line pcd value → Says line marks full section
+        (row.Set (record { at = line.at; rank = rank_of section; pcd = pcd; value = value })) }
+    ensures passed { (line : Line) (marks : Marks) (full : Bool) → IsPlain line
+        → Says line marks full scope.Settings row.Passed }
+{}
+
+/// What the lines of a device say.
+pub fn device_lines_say()
+    ensures numbers { (line : Line) (marks : Marks) (full : Bool) (name : List ℕ) (key : DeviceKey)
+        (number : ℕ) (pcd : Option PcdName) → IsDeviceNumber line marks key number pcd
+        → Says line marks full (scope.Device name)
+        (row.Number (record { at = line.at; key = key; number = number; pcd = pcd })) }
+    ensures regions { (line : Line) (marks : Marks) (full : Bool) (name : List ℕ) (offset size : ℕ)
+        → IsRegion line offset size → Says line marks full (scope.Device name)
+        (row.Region (record { at = line.at; offset = offset; size = size })) }
+    ensures pcds { (line : Line) (marks : Marks) (full : Bool) (name : List ℕ) (first : PcdName)
+        (second : Option PcdName) → IsRegionPcds line marks first second
+        → Says line marks full (scope.Device name)
+        (row.Pcds (record { at = line.at; first = first; second = second })) }
+    ensures contents { (line : Line) (marks : Marks) (full : Bool) (name : List ℕ) (filled : Content)
+        → IsContent line marks filled → Says line marks full (scope.Device name)
+        (row.Content (record { at = line.at; content = filled })) }
+{}
+
+/// What the keys of a volume say.
+pub fn volume_keys_say()
+    ensures numbers { (line : Line) (marks : Marks) (full : Bool) (name : List ℕ) (key : VolumeKey)
+        (value : List ℕ) (number : ℕ) → IsKeyed line (word.Number key) value
+        → marks.braces ≡ Shut → IsSetting line key value number
+        → Says line marks full (scope.Volume name) (row.Setting (setting.Number key number)) }
+    ensures names { (line : Line) (marks : Marks) (full : Bool) (name value : List ℕ) (guid : Guid)
+        → IsKeyed line word.NameGuid value → marks.braces ≡ Shut → IsFilled value
+        → guid_of value ≡ Some guid
+        → Says line marks full (scope.Volume name) (row.Setting (setting.NameGuid guid)) }
+    ensures systems { (line : Line) (marks : Marks) (full : Bool) (name value : List ℕ)
+        (guid : Guid) (ffs3 : Bool) → IsKeyed line word.FileSystem value → marks.braces ≡ Shut
+        → IsFilled value → guid_of value ≡ Some guid → is_ffs3 guid ≡ Some ffs3
+        → Says line marks full (scope.Volume name) (row.Setting (setting.FileSystem ffs3)) }
+    ensures forced { (line : Line) (marks : Marks) (full : Bool) (name value : List ℕ) (on : Bool)
+        → IsKeyed line word.ForceRebase value → marks.braces ≡ Shut → IsFilled value
+        → truth_named value ≡ Some on
+        → Says line marks full (scope.Volume name) (row.Setting (setting.ForceRebase on)) }
+    ensures attributes { (line : Line) (marks : Marks) (full : Bool) (name value : List ℕ)
+        (bits : ℕ) (on : Bool) → IsKeyed line (word.Attribute bits) value → marks.braces ≡ Shut
+        → IsFilled value → truth_named value ≡ Some on
+        → Says line marks full (scope.Volume name) (row.Setting (setting.Attribute bits on)) }
+{}
+
+/// What the statements of a volume say that isn't full, and what stands in the braces of an a priori
+/// file.
+pub fn statements_say()
+    ensures aprioris { (line : Line) (marks : Marks) (name : List ℕ) (pei : Bool)
+        → IsApriori line pei → marks.braces ≡ Shut
+        → Says line marks false (scope.Volume name)
+        (row.Apriori (record { at = line.at; pei = pei })) }
+    ensures modules { (line : Line) (marks : Marks) (name : List ℕ) (options : InfOptions)
+        (path : List ℕ) → IsInf line options path → marks.braces ≡ Shut
+        → Says line marks false (scope.Volume name) (row.Inf (module_of line options path)) }
+    ensures files { (line : Line) (marks : Marks) (name : List ℕ) (kind : ℕ) (guid : Guid)
+        (options : Options) → IsFile line kind guid options → marks.braces ≡ Shut
+        → Says line marks false (scope.Volume name)
+        (row.File (head_with line kind (Some guid) options)) }
+    ensures module_members { (line : Line) (marks : Marks) (full : Bool) (name : List ℕ)
+        (options : InfOptions) (path : List ℕ) → IsInf line options path
+        → marks.braces ≡ InApriori → Says line marks full (scope.Volume name)
+        (row.Member (member.Inf (module_of line options path))) }
+    ensures file_members { (line : Line) (marks : Marks) (full : Bool) (name : List ℕ) (guid : Guid)
+        → IsFileMember line guid → marks.braces ≡ InApriori
+        → Says line marks full (scope.Volume name) (row.Member (member.File guid)) }
+{}

@@ -3,4 +3,6 @@
 
 mod laws;
 
-pub use laws::flash_lines_give_rows;
+pub use laws::{
+    device_lines_say, flash_lines_give_rows, set_lines_say, statements_say, volume_keys_say,
+};
