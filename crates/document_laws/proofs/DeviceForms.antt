@@ -127,7 +127,7 @@ number_says line marks full name known number pcd h =
     device_line line marks full name _ h.plain
     (device_pair line marks h.key h.value (device.Number known) _ (pair_found line.text h.key h.value h.pair) h.word_is
     (ap (λ m. judged (numbers.number_faults line f h.key h.value m) (devices.made_number line known (numbers.number_of_field line f h.value))) h.placed
-    ∙ ap₂ (λ fs o. judged fs (devices.made_number line known o)) refl (number_found line f h.value number pcd h.number_is)
+    ∙ ap (λ o. judged (numbers.number_faults line f h.key h.value false) (devices.made_number line known o)) (number_found line f h.value number pcd h.number_is)
     ∙ faultless (numbers.number_faults line f h.key h.value false) (number_faultless line f h.key h.value number pcd h.number_is)))
   where
     faultless : (faults : List (Option Fault)) → least_of faults ≡ None → judged faults (devices.made_number line known (Some (record { number = number; pcd = pcd }))) ≡ Ok (Some (row.Number (record { at = line.at; key = known; number = number; pcd = pcd })))

@@ -4,3 +4,5 @@ pub mod RuleGiven
 pub mod TextLemmas
 pub mod DeviceForms
 pub mod VolumeForms
+pub mod BodyForms
+pub mod RuleForms

@@ -57,10 +57,10 @@ Found : Taken → Open → Bool → Row → Type 0
 Found line braces full r = judged (lines.volume_faults line braces full) (lines.volume_row line braces) ≡ Ok (Some r)
 
 -- a text that isn't empty
-filled_text : (text : List ℕ) → 0 < length text → (length text == 0) ≡ false
+pub filled_text : (text : List ℕ) → 0 < length text → (length text == 0) ≡ false
 filled_text text l = grind (arith, nat_tests)
 
-volume_line : (line : Taken) (marks : Marks) (full : Bool) (name : List ℕ) (braces : Open) (r : Row) → forms.IsPlain line → marks.braces ≡ braces
+pub volume_line : (line : Taken) (marks : Marks) (full : Bool) (name : List ℕ) (braces : Open) (r : Row) → forms.IsPlain line → marks.braces ≡ braces
     → judged (lines.volume_faults line braces full) (lines.volume_row line braces) ≡ Ok (Some r) → forms.Says line marks full (scope.Volume name) r
 volume_line line marks full name braces r h b e =
     plain_line line marks full (scope.Volume name) (Ok (Some r)) h
@@ -68,7 +68,7 @@ volume_line line marks full name braces r h b e =
     (ap (λ o. judged (lines.volume_faults line o full) (lines.volume_row line o)) b ∙ e))
 
 -- by the statement's word
-by_statement : (line : Taken) (braces : Open) (full : Bool) (s : Option Statement) (x : Result (Option Row) Fault) → lines.statement_of line.text ≡ s
+pub by_statement : (line : Taken) (braces : Open) (full : Bool) (s : Option Statement) (x : Result (Option Row) Fault) → lines.statement_of line.text ≡ s
     → judged (lines.faults_in line braces full s) (lines.row_in line braces s) ≡ x → judged (lines.volume_faults line braces full) (lines.volume_row line braces) ≡ x
 unfolding lines.volume_faults lines.volume_row
 by_statement line braces full s x e h = ap (λ s. judged (lines.faults_in line braces full s) (lines.row_in line braces s)) e ∙ h
@@ -79,12 +79,12 @@ not_close (x ∷ xs) e =
     let other : (x == 125) ≡ false = ap (λ t. t && (x == 125)) (sym (lt-ltb 0 (suc (length xs)) (omega arith))) ∙ e in
     and_right (length (x ∷ xs) == 1) (x == 125) other
 
-statement_found : (line : Taken) (known : Statement) (rest : List ℕ) → forms.IsStatement line known rest → lines.statement_of line.text ≡ Some known
+pub statement_found : (line : Taken) (known : Statement) (rest : List ℕ) → forms.IsStatement line known rest → lines.statement_of line.text ≡ Some known
 unfolding lines.statement_of
 statement_found line known rest h =
     rw (not_close line.text h.no_brace, h.no_brace, word_found line.text h.word rest h.worded, h.word_is) refl
 
-after_statement : (line : Taken) (known : Statement) (rest : List ℕ) → forms.IsStatement line known rest → after_word line.text ≡ rest
+pub after_statement : (line : Taken) (known : Statement) (rest : List ℕ) → forms.IsStatement line known rest → after_word line.text ≡ rest
 after_statement line known rest h = rest_found line.text h.word rest h.worded
 
 -- keys

@@ -26,6 +26,8 @@ use Rattle.fdf_words.specs.declared.keys.DeviceWord.{DeviceWord}
 use Rattle.fdf_words.specs.declared.keys.DeviceWord.TheVariants as device
 use Rattle.fdf_words.specs.declared.keys.VolumeWord.{VolumeWord}
 use Rattle.fdf_words.specs.declared.keys.VolumeWord.TheVariants as volume
+use Rattle.fdf_words.specs.declared.marks.Body.{Body}
+use Rattle.fdf_words.specs.declared.marks.Body.TheVariants.{Nothing, Sections, Whole}
 use Rattle.fdf_words.specs.declared.marks.Marks.{Marks}
 use Rattle.fdf_words.specs.declared.marks.Waiting.{Waiting}
 use Rattle.fdf_words.specs.declared.marks.Waiting.TheVariants.{NoRegion, Started, Named}
@@ -42,17 +44,22 @@ use Rattle.fdf_words.specs.declared.words.Options.{Options}
 use Rattle.fdf_words.specs.DataBytes.{data_of}
 use Rattle.fdf_words.specs.DeviceLines.{number_form, misplaced}
 use Rattle.fdf_words.specs.Keys.{device_word, volume_word, is_set}
-use Rattle.fdf_words.specs.Words.{begins_with, word_of, volume_alignment, alignment_of, options_of}
+use Rattle.fdf_words.specs.Words.{begins_with, is_close, word_of, volume_alignment, alignment_of, options_of}
 use Rattle.fdf_volumes.specs.declared.body.SectionWord.{SectionWord}
 use Rattle.fdf_volumes.specs.declared.inf_line.InfOptions.{InfOptions}
 use Rattle.fdf_volumes.specs.declared.volume_line.Statement.{Statement}
 use Rattle.fdf_volumes.specs.declared.volume_line.Statement.TheVariants as statement
 use Rattle.fdf_volumes.specs.Bodies.{section_word}
-use Rattle.fdf_volumes.specs.InfLines.{inf_parts, one_arch, used_arch}
+use Rattle.fdf_volumes.specs.InfLines.{inf_parts, one_arch, used_arch, quoted_front}
 use Rattle.fdf_volumes.specs.Statements.{file_type, apriori_names}
 use Rattle.fdf_volumes.specs.VolumeKeys.{volume_form}
 use Rattle.fdf_volumes.specs.VolumeLines.{statement_named, statement_of}
+use Rattle.fdf_lines.specs.declared.rule_line.RuleKind.{RuleKind}
+use Rattle.fdf_lines.specs.declared.rule_line.RuleKind.TheVariants as kinds
+use Rattle.fdf_lines.specs.declared.rule_options.RuleOptions.{RuleOptions}
 use Rattle.fdf_lines.specs.Grammar.{line_faults, line_row}
+use Rattle.fdf_lines.specs.RuleNumbers.{stated_number}
+use Rattle.fdf_lines.specs.Rules.{holds_other, is_extension, is_string, rule_kind, rule_parts}
 use Rattle.document_laws.specs.LineTexts.{IsSplit, IsPair, IsWorded, IsStated, IsBraced}
 
 -- the line has no fault in its section, and this is its row
@@ -308,6 +315,12 @@ pub record IsSection (line : Line) (align : Align) (known : SectionWord)
   pub kinded : IsWorded text kind_word more
   pub kind_is : section_word kind_word ≡ Some known
 
+-- sections stand at the front of a body or below others
+abbrev pub IsSectionsBody : Body → Type 0
+IsSectionsBody Nothing = Unit {0}
+IsSectionsBody Sections = Unit {0}
+IsSectionsBody Whole = ⊥
+
 -- `= value`, which isn't empty
 pub record IsStatedText (text value : List ℕ) : Type 0 where
   pub stated : IsStated text value
@@ -341,3 +354,85 @@ pub record IsWhole (line : Line) (path : List ℕ) : Type 0 where
   pub plain : IsPlain line
   pub no_section : IsNoSection (statement_of line.text)
   pub path_is : path_field (without_workspace line.text) ≡ Some path
+
+-- a rule's file, behind the word FILE
+pub record IsRuleFile (line : Line) (kind : ℕ) (options : Options) : Type 0 where
+  pub plain : IsPlain line
+  pub word : List ℕ
+  pub rest : List ℕ
+  pub name : List ℕ
+  pub worded : IsWorded line.text word rest
+  pub word_is : same_word word (codes "FILE") ≡ true
+  pub parts : AreFileParts rest kind name options
+  pub named : same_text name (codes "$(NAMED_GUID)") ≡ true
+  pub filled : holds_other line.text ≡ false
+
+-- the word of a section's kind, and what follows it
+pub record IsKind (line : Line) (known : RuleKind) (rest : List ℕ) : Type 0 where
+  pub plain : IsPlain line
+  pub word : List ℕ
+  pub worded : IsWorded line.text word rest
+  pub no_brace : is_close line.text ≡ false
+  pub kind_is : rule_kind word ≡ Some known
+
+-- the kind of a section whose bytes are those of a file
+abbrev pub HoldsFile : RuleKind → ℕ → List ℕ → Type 0
+HoldsFile (kinds.Plain kind) number word = kind ≡ number
+HoldsFile (kinds.Worded kind) number word = (kind ≡ number) × (is_string word ≡ false)
+HoldsFile kinds.Compressed number word = ⊥
+
+-- options of a rule's section, of their forms and each at most once, and the number that they state
+pub record AreRuleOptions (line : Line) (text : List ℕ) (options : RuleOptions) (number : ℕ)
+    (rest : List ℕ) : Type 0 where
+  pub written : List ℕ
+  pub parts : rule_parts text ≡ (options, written, rest)
+  pub right : options.wrong ≡ false
+  pub number_is : stated_number line options.numbered written ≡ Ok number
+
+-- `KIND KIND OPTIONS path`
+pub record IsRulePath (line : Line) (kind : ℕ) (options : RuleOptions) (number : ℕ)
+    (path : List ℕ) : Type 0 where
+  pub known : RuleKind
+  pub rest : List ℕ
+  pub second : List ℕ
+  pub more : List ℕ
+  pub kinded : IsKind line known rest
+  pub worded : IsWorded rest second more
+  pub holds : HoldsFile known kind second
+  pub same : same_word second kinded.word ≡ true
+  pub options_are : AreRuleOptions line more options number path
+  pub some : 0 < length path
+  pub no_extension : is_extension path ≡ false
+  pub filled_before : holds_other (take (length line.text - length path) line.text) ≡ false
+  pub filled_in : holds_other (without_workspace path) ≡ false
+
+-- `KIND KIND OPTIONS |.extension`
+pub record IsRuleExtension (line : Line) (kind : ℕ) (options : RuleOptions) (number : ℕ) : Type 0
+    where
+  pub known : RuleKind
+  pub rest : List ℕ
+  pub second : List ℕ
+  pub more : List ℕ
+  pub path : List ℕ
+  pub kinded : IsKind line known rest
+  pub worded : IsWorded rest second more
+  pub holds : HoldsFile known kind second
+  pub options_are : AreRuleOptions line more options number path
+  pub extension : is_extension path ≡ true
+  pub filled : holds_other line.text ≡ false
+
+-- `KIND STRING ="text" OPTIONS`
+pub record IsRuleText (line : Line) (kind : ℕ) (options : RuleOptions) (number : ℕ)
+    (words : List ℕ) : Type 0 where
+  pub rest : List ℕ
+  pub second : List ℕ
+  pub more : List ℕ
+  pub value : List ℕ
+  pub after : List ℕ
+  pub kinded : IsKind line (kinds.Worded kind) rest
+  pub worded : IsWorded rest second more
+  pub string : is_string second ≡ true
+  pub stated : IsStated more value
+  pub quoted : quoted_front value ≡ Some (words, after)
+  pub options_are : AreRuleOptions line after options number []
+  pub filled : holds_other line.text ≡ false

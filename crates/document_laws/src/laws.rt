@@ -22,7 +22,19 @@ ghost use Rattle.fdf_words.specs.declared.rows.Scope.TheVariants as scope;
 ghost use Rattle.fdf_lines.specs.Grammar.{rank_of};
 ghost use Rattle.doc_types.specs.declared.pcd.PcdName.{PcdName};
 ghost use Rattle.std.specs.Prelude.{Option};
-ghost use Rattle.document_laws.specs.FlashForms.{IsApriori, IsContent, IsDeviceNumber, IsFile, IsFileMember, IsFilled, IsInf, IsKeyed, IsPlain, IsRegion, IsRegionPcds, IsSet, IsSetting, Says, module_of};
+ghost use Rattle.document_laws.specs.FlashForms.{Closes, IsApriori, IsContent, IsDeviceNumber, IsFile, IsFileMember, IsFilled, IsInf, IsKeyed, IsNamedPath, IsPlain, IsRegion, IsRegionPcds, IsRuleExtension, IsRuleFile, IsRulePath, IsRuleText, IsSection, IsSectionsBody, IsSet, IsSetting, IsStatedPath, IsStatedText, IsWhole, Says, module_of};
+ghost use Rattle.doc_types.specs.Standard.{EFI_SECTION_FIRMWARE_VOLUME_IMAGE, EFI_SECTION_FREEFORM_SUBTYPE_GUID};
+ghost use Rattle.doc_types.specs.declared.volume.Align.{Align};
+ghost use Rattle.doc_types.specs.declared.volume.SectionSource.TheVariants.{Template, Words, Refused};
+ghost use Rattle.macro_conditions.specs.Sources.{without_workspace};
+ghost use Rattle.fdf_words.specs.declared.marks.Body.{Body};
+ghost use Rattle.fdf_words.specs.declared.marks.Body.TheVariants.{Nothing};
+ghost use Rattle.fdf_words.specs.declared.rows.RuleScope.{RuleScope};
+ghost use Rattle.fdf_words.specs.declared.rows.SectionBody.TheVariants as body;
+ghost use Rattle.fdf_volumes.specs.declared.body.SectionWord.TheVariants as section;
+ghost use Rattle.fdf_volumes.specs.Bodies.{made_section, words_in_quotes};
+ghost use Rattle.fdf_lines.specs.declared.rule_options.RuleOptions.{RuleOptions};
+ghost use Rattle.fdf_lines.specs.Rules.{made_plan};
 ghost use Rattle.std.specs.Prelude.{false, true, Some};
 ghost use Rattle.build_base.specs.Guid.{guid_of};
 ghost use Rattle.build_base.specs.declared.guid.Guid.{Guid};
@@ -109,4 +121,70 @@ pub fn statements_say()
     ensures file_members { (line : Line) (marks : Marks) (full : Bool) (name : List ℕ) (guid : Guid)
         → IsFileMember line guid → marks.braces ≡ InApriori
         → Says line marks full (scope.Volume name) (row.Member (member.File guid)) }
+{}
+
+/// What the lines in the braces of a file say.
+pub fn bodies_say()
+    ensures paths { (line : Line) (marks : Marks) (full : Bool) (name : List ℕ) (filled : Body)
+        (align : Align) (kind : ℕ) (more path : List ℕ)
+        → IsSection line align (section.Plain kind) more → marks.braces ≡ InFile filled
+        → IsSectionsBody filled → IsStatedPath line more path
+        → Says line marks full (scope.Volume name)
+        (made_section line kind align None (body.Tree path)) }
+    ensures words { (line : Line) (marks : Marks) (full : Bool) (name : List ℕ) (filled : Body)
+        (align : Align) (kind : ℕ) (more value words : List ℕ)
+        → IsSection line align (section.Worded kind) more → marks.braces ≡ InFile filled
+        → IsSectionsBody filled → IsStatedText more value → words_in_quotes value ≡ Some words
+        → IsFilled line.text → Says line marks full (scope.Volume name)
+        (made_section line kind align None (body.Words words)) }
+    ensures worded_paths { (line : Line) (marks : Marks) (full : Bool) (name : List ℕ)
+        (filled : Body) (align : Align) (kind : ℕ) (more path : List ℕ)
+        → IsSection line align (section.Worded kind) more → marks.braces ≡ InFile filled
+        → IsSectionsBody filled → (p : IsStatedPath line more path)
+        → words_in_quotes p.value ≡ None → Says line marks full (scope.Volume name)
+        (made_section line kind align None (body.Tree path)) }
+    ensures volumes { (line : Line) (marks : Marks) (full : Bool) (name : List ℕ) (filled : Body)
+        (align : Align) (more nested : List ℕ) → IsSection line align section.Nested more
+        → marks.braces ≡ InFile filled → IsSectionsBody filled → IsStatedText more nested
+        → IsFilled line.text → Says line marks full (scope.Volume name)
+        (made_section line EFI_SECTION_FIRMWARE_VOLUME_IMAGE align None (body.Volume nested)) }
+    ensures guids { (line : Line) (marks : Marks) (full : Bool) (name : List ℕ) (filled : Body)
+        (align : Align) (more : List ℕ) (guid : Guid) (path : List ℕ)
+        → IsSection line align section.Named more → marks.braces ≡ InFile filled
+        → IsSectionsBody filled → IsNamedPath line more guid path
+        → Says line marks full (scope.Volume name)
+        (made_section line EFI_SECTION_FREEFORM_SUBTYPE_GUID align (Some guid) (body.Tree path)) }
+    ensures wholes { (line : Line) (marks : Marks) (full : Bool) (name path : List ℕ)
+        → IsWhole line path → marks.braces ≡ InFile Nothing
+        → Says line marks full (scope.Volume name) (row.Whole path) }
+    ensures closed { (line : Line) (marks : Marks) (full : Bool) (name : List ℕ) (filled : Body)
+        → Closes line → marks.braces ≡ InFile filled
+        → Says line marks full (scope.Volume name) row.Closes }
+    ensures apriori_closed { (line : Line) (marks : Marks) (full : Bool) (name : List ℕ)
+        → Closes line → marks.braces ≡ InApriori
+        → Says line marks full (scope.Volume name) row.Closes }
+{}
+
+/// What the lines of a rule say.
+pub fn rule_lines_say()
+    ensures files { (line : Line) (marks : Marks) (full : Bool) (rule : RuleScope) (kind : ℕ)
+        (options : Options) → IsRuleFile line kind options → marks.unfiled ≡ true
+        → marks.braces ≡ Shut → Says line marks full (scope.Rule rule)
+        (row.RuleFile (head_with line kind None options)) }
+    ensures paths { (line : Line) (marks : Marks) (full : Bool) (rule : RuleScope) (kind : ℕ)
+        (options : RuleOptions) (number : ℕ) (path : List ℕ)
+        → IsRulePath line kind options number path → marks.braces ≡ InRule
+        → Says line marks full (scope.Rule rule)
+        (made_plan line kind options number (Template (without_workspace path))) }
+    ensures extensions { (line : Line) (marks : Marks) (full : Bool) (rule : RuleScope) (kind : ℕ)
+        (options : RuleOptions) (number : ℕ) → IsRuleExtension line kind options number
+        → marks.braces ≡ InRule → Says line marks full (scope.Rule rule)
+        (made_plan line kind options number (Refused line.text)) }
+    ensures texts { (line : Line) (marks : Marks) (full : Bool) (rule : RuleScope) (kind : ℕ)
+        (options : RuleOptions) (number : ℕ) (words : List ℕ)
+        → IsRuleText line kind options number words → marks.braces ≡ InRule
+        → Says line marks full (scope.Rule rule)
+        (made_plan line kind options number (Words words)) }
+    ensures closed { (line : Line) (marks : Marks) (full : Bool) (rule : RuleScope) → Closes line
+        → marks.braces ≡ InRule → Says line marks full (scope.Rule rule) row.Closes }
 {}

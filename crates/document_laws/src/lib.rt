@@ -4,5 +4,6 @@
 mod laws;
 
 pub use laws::{
-    device_lines_say, flash_lines_give_rows, set_lines_say, statements_say, volume_keys_say,
+    bodies_say, device_lines_say, flash_lines_give_rows, rule_lines_say, set_lines_say,
+    statements_say, volume_keys_say,
 };
