@@ -1,8 +1,14 @@
 pub mod DeviceGiven
 pub mod VolumeGiven
 pub mod RuleGiven
+pub mod ListLemmas
 pub mod TextLemmas
 pub mod DeviceForms
 pub mod VolumeForms
 pub mod BodyForms
 pub mod RuleForms
+pub mod MacroLemmas
+pub mod RelocationLemmas
+pub mod TokenPieceLemmas
+pub mod OptionLemmas
+pub mod FileOptionLemmas

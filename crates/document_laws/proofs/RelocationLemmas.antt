@@ -72,24 +72,26 @@ only_blocks (block ∷ blocks) (suc n) place at bytes l h =
     same : (at : ℕ) (bytes mine : List ℕ) (block : Block) → IsBlock at bytes mine block → block_at at bytes ≡ block
     same at bytes mine block b = (λ i. record { page = sym b.page i; start = sym b.start i; size = (ap (λ s. s - 8) b.size_is ∙ sym b.entries) i })
 
+abbrev ok_of : List Block → Result (List Block) Fault
+ok_of blocks = Ok blocks
+
+same_ok : (xs ys : List Block) → ok_of xs ≡ ok_of ys → xs ≡ ys
+same_ok xs ys e = cc
+
 some_front : (block : Block) (o : Result (List Block) Fault) (blocks : List Block) → with_front (block ∷ []) o ≡ Ok blocks → (rest : List Block) × (o ≡ Ok rest) × (blocks ≡ block ∷ rest)
-some_front block (Ok rest) blocks e = (rest, refl, sym (taken e))
-  where
-    taken : Ok (block ∷ rest) ≡ Ok blocks → block ∷ rest ≡ blocks
-    taken f = cc
+some_front block (Ok rest) blocks e = (rest, refl, sym (same_ok (block ∷ rest) blocks e))
 some_front block (Err fault) blocks e = absurd cc
 
 found_blocks : (n : ℕ) (place : Place) (at : ℕ) (bytes : List ℕ) (blocks : List Block) → length bytes < n → blocks_from n place at bytes ≡ Ok blocks → AreBlocks at bytes blocks
 unfolding blocks_from turn
 found_blocks zero place at bytes blocks l e = absurd (omega (arith, l))
-found_blocks (suc n) place at bytes blocks l e = by (is_end bytes) (is_wrong_size (block_size bytes) (length bytes)) refl refl e
+found_blocks (suc n) place at bytes blocks l e = by (found_blocks n place) (is_end bytes) (is_wrong_size (block_size bytes) (length bytes)) refl refl e
   where
-    nothing : Ok [] ≡ Ok blocks → [] ≡ blocks
-    nothing f = cc
-    by : (s w : Bool) → is_end bytes ≡ s → is_wrong_size (block_size bytes) (length bytes) ≡ w → turn n place at bytes s w ≡ Ok blocks → AreBlocks at bytes blocks
-    by true w s q f = subst (AreBlocks at bytes) (nothing f) (ended bytes s)
-    by false true s q f = absurd cc
-    by false false s q f =
+    by : ((at : ℕ) (bytes : List ℕ) (blocks : List Block) → length bytes < n → blocks_from n place at bytes ≡ Ok blocks → AreBlocks at bytes blocks)
+        → (s w : Bool) → is_end bytes ≡ s → is_wrong_size (block_size bytes) (length bytes) ≡ w → turn n place at bytes s w ≡ Ok blocks → AreBlocks at bytes blocks
+    by again true w s q f = subst (AreBlocks at bytes) (same_ok [] blocks f) (ended bytes s)
+    by again false true s q f = absurd cc
+    by again false false s q f =
         let size = block_size bytes in
         let z = sizes size (length bytes) q in
         let mine = take size bytes in
@@ -98,7 +100,7 @@ found_blocks (suc n) place at bytes blocks l e = by (is_end bytes) (is_wrong_siz
         let whole : bytes ≡ mine ++ rest = sym (take-append-drop size bytes) in
         let count : length bytes ≡ length mine + length rest = ap length whole ∙ length-append mine rest in
         let p = some_front (block_at at bytes) (blocks_from n place (at + size) rest) blocks f in
-        let more : AreBlocks (at + size) rest p.0 = found_blocks n place (at + size) rest p.0 (omega (arith, count, long, z.1, l)) p.1 in
+        let more : AreBlocks (at + size) rest p.0 = again (at + size) rest p.0 (omega (arith, count, long, z.1, l)) p.1 in
         subst (AreBlocks at bytes) (sym p.2)
         (mine, rest, whole, record { size_is = sym long; even = ap (λ s. s % 2) long ∙ z.0; least = subst (λ s. 8 ≤ s) (sym long) z.1; page = refl; start = refl; entries = ap (λ s. s - 8) (sym long) },
         subst (λ s. AreBlocks (at + s) rest p.0) (sym long) more)
