@@ -1,6 +1,6 @@
 -- Lines in the braces of a file, form by form.
-use Rattle.std.proofs.Common.{◌≡◌, ◌<◌, ◌==◌, ◌&&◌, ℕ, Bool, true, false, if◌then◌else◌, List, [], ◌∷◌, length, Option, Some, None, Result, Ok, Err, refl, sym, ap, ap₂, ◌∙◌, codes}
-use Rattle.std.specs.Option.{option_map, option_and_then}
+use Rattle.std.proofs.Common.{◌≡◌, ℕ, Bool, if◌then◌else◌, List, Option, Some, None, Result, Ok, refl, ap, ap₂, ◌∙◌}
+use Rattle.std.specs.Option.{option_map}
 use Rattle.build_base.specs.Guid.{guid_of}
 use Rattle.build_base.specs.Path.{path_field}
 use Rattle.build_base.specs.declared.fault.Fault.{Fault}
@@ -16,14 +16,13 @@ use Rattle.doc_types.specs.declared.volume.Align.TheVariants.{Unset, Auto, Bytes
 use Rattle.fdf_words.specs.declared.marks.Body.{Body}
 use Rattle.fdf_words.specs.declared.marks.Body.TheVariants.{Nothing, Sections, Whole}
 use Rattle.fdf_words.specs.declared.marks.Marks.{Marks}
-use Rattle.fdf_words.specs.declared.marks.Open.{Open}
-use Rattle.fdf_words.specs.declared.marks.Open.TheVariants.{Shut, InApriori, InFile, InRule}
+use Rattle.fdf_words.specs.declared.marks.Open.TheVariants.{InApriori, InFile}
 use Rattle.fdf_words.specs.declared.rows.Row.{Row}
 use Rattle.fdf_words.specs.declared.rows.Row.TheVariants as row
 use Rattle.fdf_words.specs.declared.rows.Scope.TheVariants as scope
 use Rattle.fdf_words.specs.declared.rows.SectionBody.TheVariants as body
 use Rattle.fdf_words.specs.Keys.{is_set}
-use Rattle.fdf_words.specs.Words.{word_of, after_word, after_equals, alignment_of, stated_align}
+use Rattle.fdf_words.specs.Words.{word_of, after_word, after_equals, stated_align}
 use Rattle.fdf_volumes.specs.declared.body.SectionWord.{SectionWord}
 use Rattle.fdf_volumes.specs.declared.body.SectionWord.TheVariants as section
 use Rattle.fdf_volumes.specs.declared.volume_line.Statement.{Statement}

@@ -1,19 +1,16 @@
 -- Lines SET and lines of a device, form by form.
-use Rattle.std.proofs.Common.{◌≡◌, ◌<◌, ◌≤◌, ◌==◌, ◌&&◌, nat_le, ℕ, Bool, true, false, not, if◌then◌else◌, List, [], ◌∷◌, length, Option, Some, None, Result, Ok, Err, refl, sym, ap, ap₂, ◌∙◌, le-leb, codes, decimal, arith}
-use Rattle.std.specs.List.{list_all, position_or_len}
+use Rattle.std.proofs.Common.{◌≡◌, ◌==◌, ◌&&◌, ℕ, Bool, true, false, not, if◌then◌else◌, List, [], ◌∷◌, length, Option, Some, None, Result, Ok, refl, ap, ap₂, ◌∙◌, le-leb, codes, decimal, arith}
 use Rattle.std.proofs.lemmas.Bool.Decides.{nat_tests}
 use Rattle.build_base.specs.FaultCodes.{OPEN_QUOTE, SIZE_TOO_LARGE}
 use Rattle.build_base.specs.FaultText.{fault_of}
-use Rattle.build_base.specs.Path.{path_field}
 use Rattle.build_base.specs.declared.fault.Fault.{Fault}
 use Rattle.build_base.specs.declared.lines.Taken.{Taken}
 use Rattle.meta_lexer.specs.Fields.{ends_quoted}
 use Rattle.meta_lexer.specs.Parts.{field_texts}
 use Rattle.meta_lexer.specs.Words.{halves, holds_macro, same_word}
-use Rattle.macro_conditions.specs.Sources.{without_workspace}
 use Rattle.doc_reading.specs.Gathering.{judged}
 use Rattle.doc_reading.specs.Least.{least_of}
-use Rattle.doc_reading.specs.ValueFields.{number_value, undefined_macro}
+use Rattle.doc_reading.specs.ValueFields.{number_value}
 use Rattle.doc_reading.specs.Values.{of_read_line}
 use Rattle.doc_types.specs.Pcds.{pcd_name_of}
 use Rattle.doc_types.specs.Volumes.{size_limit}
@@ -32,15 +29,13 @@ use Rattle.fdf_words.specs.declared.rows.Row.{Row}
 use Rattle.fdf_words.specs.declared.rows.Row.TheVariants as row
 use Rattle.fdf_words.specs.declared.rows.Scope.{Scope}
 use Rattle.fdf_words.specs.declared.rows.Scope.TheVariants as scope
-use Rattle.fdf_words.specs.DataBytes.{data_of}
 use Rattle.fdf_words.specs.DeviceLines as devices
 use Rattle.fdf_words.specs.Keys.{device_word, key_pair, is_set}
 use Rattle.fdf_words.specs.Numbers as numbers
 use Rattle.fdf_words.specs.SetLines as sets
 use Rattle.fdf_words.specs.Words.{begins_with, word_of, after_word}
 use Rattle.fdf_lines.specs.Grammar.{line_faults, line_row, rank_of, scope_faults, scope_row}
-use Rattle.document_laws.specs.LineTexts.{IsPair}
-use Rattle.document_laws.specs.FlashForms.{Says, IsPlain, IsSet, InLimit, TakesPcd, AreFields, IsNumber, IsDeviceNumber, IsNoNumberKey, IsUnkeyed, NotBoth, IsRegion, ArePcds, IsRegionPcds, IsWaiting, Fills, IsContent}
+use Rattle.document_laws.specs.FlashForms.{Says, IsPlain, IsSet, InLimit, TakesPcd, IsNumber, IsDeviceNumber, IsNoNumberKey, IsUnkeyed, NotBoth, IsRegion, ArePcds, IsRegionPcds, IsWaiting, Fills, IsContent}
 use Rattle.document_laws.proofs.TextLemmas.{pair_found, split_found, word_found, rest_found, no_pair}
 
 -- a line of SET

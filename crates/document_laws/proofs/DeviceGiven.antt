@@ -1,12 +1,10 @@
 -- Lines SET and lines of a device of which no condition holds give rows.
-use Rattle.std.proofs.Common.{◌≡◌, ◌+◌, ◌-◌, ◌==◌, ◌&&◌, ◌||◌, not, ℕ, Bool, true, false, if◌then◌else◌, List, [], ◌∷◌, length, Option, Some, None, option_map, Result, Ok, Err, refl, codes}
-use Rattle.std.specs.Option.{IsSome, option_and_then}
-use Rattle.build_base.specs.FaultCodes.{BAD_INF_LINE, BAD_KEY, BAD_PATH, BAD_REGION, BAD_RULE, COMPRESSED_REFUSED, FDF_BAD_FILE, FDF_BAD_GUID, STATEMENT_REFUSED}
+use Rattle.std.proofs.Common.{◌≡◌, ℕ, Bool, List, [], ◌∷◌, Option, Some, None, option_map, Result, Ok, Err, refl}
+use Rattle.std.specs.Option.{IsSome}
+use Rattle.build_base.specs.FaultCodes.{BAD_KEY, BAD_PATH, BAD_REGION}
 use Rattle.build_base.specs.FaultText.{fault_of}
-use Rattle.build_base.specs.Guid.{guid_of}
 use Rattle.build_base.specs.Path.{path_field}
 use Rattle.build_base.specs.declared.fault.Fault.{Fault}
-use Rattle.build_base.specs.declared.guid.Guid.{Guid}
 use Rattle.build_base.specs.declared.lines.Taken.{Taken}
 use Rattle.meta_lexer.specs.Faults.{first_fault}
 use Rattle.meta_lexer.specs.Parts.{first_text, field_texts}
@@ -14,8 +12,8 @@ use Rattle.meta_lexer.specs.Words.{halves}
 use Rattle.macro_conditions.specs.Sources.{without_workspace}
 use Rattle.doc_reading.specs.Least.{least_of, fault_in}
 use Rattle.doc_reading.specs.ValueFields.{undefined_macro, number_value}
-use Rattle.doc_reading.specs.Values.{wanted, of_read_line}
-use Rattle.doc_reading.proofs.FaultlessLemmas.{least_first, least_rest, least_read, wanted_given}
+use Rattle.doc_reading.specs.Values.{wanted}
+use Rattle.doc_reading.proofs.FaultlessLemmas.{least_first, least_rest, wanted_given}
 use Rattle.doc_types.specs.Pcds.{pcd_name_of}
 use Rattle.doc_types.specs.declared.pcd.PcdName.{PcdName}
 use Rattle.fdf_words.specs.declared.keys.DeviceWord.{DeviceWord}

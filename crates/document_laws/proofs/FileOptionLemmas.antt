@@ -1,5 +1,5 @@
 -- Options of a file, one behind the other.
-use Rattle.std.proofs.Common.{◌≡◌, ◌≤◌, ℕ, zero, suc, ◌+◌, ◌==◌, Bool, true, false, true≢false, if◌then◌else◌, List, [], ◌∷◌, length, Option, Some, None, refl, sym, ap, ap₂, subst, ◌∙◌, arith}
+use Rattle.std.proofs.Common.{◌≡◌, ◌≤◌, ℕ, zero, suc, ◌+◌, ◌==◌, Bool, true, false, if◌then◌else◌, List, [], ◌∷◌, length, Option, Some, None, refl, sym, ap, ap₂, ◌∙◌, arith}
 use Rattle.std.specs.Option.{option_and_then}
 use Rattle.std.proofs.lemmas.Bool.Decides.{nat_tests}
 use Rattle.meta_lexer.specs.Lookup.{lookup}
@@ -11,7 +11,7 @@ use Rattle.fdf_words.specs.declared.words.FileOption.TheVariants.{Fixed, Checksu
 use Rattle.fdf_words.specs.declared.words.Options.{Options}
 use Rattle.fdf_words.specs.Words.{word_of, after_word, option_named, stated_align, is_unset, with_align, with_option, next_option, no_options, options_whole, options_of}
 use Rattle.document_laws.specs.StatedOptions.{IsNewInFile, IsFileOption, AreFileOptions, StatesFile}
-use Rattle.document_laws.proofs.OptionLemmas.{steps, and_step, stays, two_steps}
+use Rattle.document_laws.proofs.OptionLemmas.{steps, stays, two_steps}
 
 abbrev left_of : Bool → ℕ
 left_of false = 1

@@ -1,8 +1,7 @@
 -- Uses of macros in a text.
-use Rattle.std.proofs.Common.{◌≡◌, ◌<◌, ◌≤◌, ℕ, zero, suc, ◌+◌, ◌-◌, ◌==◌, ◌&&◌, not, nat_lt, nat_le, Bool, true, false, true≢false, cond, if◌then◌else◌, List, [], ◌∷◌, ◌++◌, length, length-append, length-take-le, take, drop, get_or, slice_index, take-append-drop, take_at, drop_at, get_or-append-add, append_assoc, append-nil, Option, Some, None, unwrap_or, refl, sym, ap, ap₂, subst, ◌∙◌, lt-ltb, ltb-true, eqb-true, arith}
-use Rattle.std.specs.List.{list_all, prefix_len}
-use Rattle.std.proofs.lemmas.Bool.{and_parts, and_from}
-use Rattle.std.proofs.lemmas.Bool.Decides.{nat_tests}
+use Rattle.std.proofs.Common.{◌≡◌, ◌<◌, ◌≤◌, ℕ, zero, suc, ◌+◌, ◌==◌, ◌&&◌, not, nat_lt, nat_le, Bool, true, false, true≢false, if◌then◌else◌, List, [], ◌∷◌, ◌++◌, length, length-append, length-take-le, take, drop, get_or, slice_index, take-append-drop, take_at, drop_at, get_or-append-add, append_assoc, Option, Some, None, unwrap_or, refl, sym, ap, ap₂, ◌∙◌, lt-ltb, ltb-true, eqb-true, arith}
+use Rattle.std.specs.List.{list_all}
+use Rattle.std.proofs.lemmas.Bool.{and_parts}
 use Rattle.std.proofs.lemmas.List.{drop_more}
 use Rattle.build_base.specs.declared.lines.Macro.{Macro}
 use Rattle.meta_lexer.specs.Tokens.{is_word_byte, word_size}

@@ -1,18 +1,12 @@
 -- Options, one behind the other.
-use Rattle.std.proofs.Common.{◌≡◌, ◌<◌, ◌⊎◌, inl, inr, ℕ, zero, suc, ◌+◌, ◌==◌, Bool, true, false, true≢false, if◌then◌else◌, List, [], ◌∷◌, length, Option, Some, None, is_some, refl, sym, ap, ap₂, subst, ◌∙◌, arith}
-use Rattle.std.specs.Option.{option_map, option_and_then}
-use Rattle.std.proofs.lemmas.Bool.Decides.{nat_tests}
-use Rattle.doc_types.specs.declared.volume.Align.{Align}
-use Rattle.doc_types.specs.declared.volume.Align.TheVariants.{Unset, Auto, Bytes}
-use Rattle.fdf_words.specs.declared.words.FileOption.{FileOption}
-use Rattle.fdf_words.specs.declared.words.FileOption.TheVariants.{Fixed, Checksum, Aligned}
-use Rattle.fdf_words.specs.declared.words.Options.{Options}
+use Rattle.std.proofs.Common.{◌≡◌, ◌<◌, ◌⊎◌, inl, inr, ℕ, zero, suc, ◌+◌, if◌then◌else◌, List, [], ◌∷◌, Option, Some, None, is_some, refl, sym, ap, ap₂, ◌∙◌, arith}
+use Rattle.std.specs.Option.{option_and_then}
 use Rattle.fdf_words.specs.Words as words
 use Rattle.fdf_volumes.specs.declared.inf_line.InfOption.{InfOption}
 use Rattle.fdf_volumes.specs.declared.inf_line.InfOption.TheVariants.{RuleOverride, Use, Version, Ui}
 use Rattle.fdf_volumes.specs.declared.inf_line.InfOptions.{InfOptions}
 use Rattle.fdf_volumes.specs.InfLines as infs
-use Rattle.document_laws.specs.StatedOptions.{IsNew, with_stated, IsValue, IsInfOption, BeginsNoOption, AreInfOptions, StatesInf, IsNewInFile, IsFileOption, AreFileOptions, StatesFile}
+use Rattle.document_laws.specs.StatedOptions.{IsNew, with_stated, IsValue, IsInfOption, BeginsNoOption, AreInfOptions, StatesInf}
 
 -- so many steps
 module _ {S : Type 0} (next : S → List ℕ → Option (S × List ℕ)) where
@@ -170,6 +164,7 @@ inf_walk (suc n) before text after rest l e = by (inf_walk n) (infs.next_inf bef
         let few = fewer before step.option step.value step.is_new in
         let w = again (with_stated before step.option step.value) step.next after rest (omega (arith, few, l)) (ap (steps infs.next_inf n) step.after ∙ f) in
         record { stated = (step.option, step.value) ∷ w.stated; are = (step.is_new, (step.next, step.is_option, w.are)) }
+
     by : ((before : InfOptions) (text : List ℕ) (after : InfOptions) (rest : List ℕ) → left_in before < n → steps infs.next_inf n (before, text) ≡ pair_of (after, rest) → InfWalk before text after rest)
         → (o : Option (InfOptions × List ℕ)) → infs.next_inf before text ≡ o → option_and_then (steps infs.next_inf n) o ≡ pair_of (after, rest) → InfWalk before text after rest
     by again (Some p) s f = on again p s (step_is before text p s) f

@@ -1,5 +1,5 @@
 -- Blocks of relocations, one behind the other.
-use Rattle.std.proofs.Common.{◌≡◌, ◌<◌, ◌≤◌, ◌⊎◌, inl, inr, ℕ, zero, suc, ◌+◌, ◌-◌, ◌*◌, ◌%◌, ◌==◌, ◌||◌, not, nat_lt, Bool, true, false, if◌then◌else◌, List, [], ◌∷◌, ◌++◌, length, length-append, take, drop, take-append-drop, drop_at, length-take-le, subst, Result, Ok, Err, refl, sym, ap, ap₂, ◌∙◌, arith}
+use Rattle.std.proofs.Common.{◌≡◌, ◌<◌, ◌≤◌, inl, inr, ℕ, zero, suc, ◌+◌, ◌-◌, ◌%◌, ◌==◌, ◌||◌, nat_lt, Bool, true, false, if◌then◌else◌, List, [], ◌∷◌, ◌++◌, length, length-append, take, drop, take-append-drop, drop_at, length-take-le, subst, Result, Ok, Err, refl, sym, ap, ap₂, ◌∙◌, arith}
 use Rattle.std.proofs.lemmas.Bool.{or_parts}
 use Rattle.std.proofs.lemmas.Bool.Decides.{nat_tests}
 use Rattle.build_base.specs.First.{with_front}
@@ -7,7 +7,7 @@ use Rattle.build_base.specs.declared.fault.Fault.{Fault}
 use Rattle.build_base.specs.declared.fault.Place.{Place}
 use Rattle.build_base.specs.FaultCodes.{RELOC_BLOCK}
 use Rattle.ffs_sections.specs.Sections.{sized}
-use Rattle.image_rebase.specs.Blocks.{block_page, block_size, is_end, is_wrong_size, block_at, blocks_from, blocks_of, words_of, entry_bytes, entries_in}
+use Rattle.image_rebase.specs.Blocks.{block_size, is_end, is_wrong_size, block_at, blocks_from, blocks_of, words_of, entry_bytes, entries_in}
 use Rattle.image_rebase.specs.declared.blocks.Block.{Block}
 use Rattle.document_laws.specs.RelocationBlocks.{HasNoBlock, IsBlock, AreBlocks, AreWords}
 
@@ -101,9 +101,13 @@ found_blocks (suc n) place at bytes blocks l e = by (found_blocks n place) (is_e
         let count : length bytes ≡ length mine + length rest = ap length whole ∙ length-append mine rest in
         let p = some_front (block_at at bytes) (blocks_from n place (at + size) rest) blocks f in
         let more : AreBlocks (at + size) rest p.0 = again (at + size) rest p.0 (omega (arith, count, long, z.1, l)) p.1 in
-        subst (AreBlocks at bytes) (sym p.2)
-        (mine, rest, whole, record { size_is = sym long; even = ap (λ s. s % 2) long ∙ z.0; least = subst (λ s. 8 ≤ s) (sym long) z.1; page = refl; start = refl; entries = ap (λ s. s - 8) (sym long) },
-        subst (λ s. AreBlocks (at + s) rest p.0) (sym long) more)
+        subst (AreBlocks at bytes) (sym p.2) (
+          mine,
+          rest,
+          whole,
+          record { size_is = sym long; even = ap (λ s. s % 2) long ∙ z.0; least = subst (λ s. 8 ≤ s) (sym long) z.1; page = refl; start = refl; entries = ap (λ s. s - 8) (sym long) },
+          subst (λ s. AreBlocks (at + s) rest p.0) (sym long) more,
+        )
 
 pub blocks_found : (place : Place) (directory : List ℕ) (blocks : List Block) → blocks_of place directory ≡ Ok blocks → AreBlocks 0 directory blocks
 blocks_found place directory blocks e = found_blocks (length directory + 1) place 0 directory blocks (omega arith) e

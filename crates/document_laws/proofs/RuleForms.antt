@@ -1,16 +1,13 @@
 -- Lines of a rule, form by form.
-use Rattle.std.proofs.Common.{◌≡◌, ◌<◌, ◌==◌, ◌&&◌, ◌||◌, not, ℕ, Bool, true, false, if◌then◌else◌, List, [], ◌∷◌, length, Option, Some, None, Result, Ok, Err, refl, sym, ap, ap₂, ◌∙◌, codes}
+use Rattle.std.proofs.Common.{◌≡◌, ◌==◌, ℕ, Bool, true, false, if◌then◌else◌, List, [], ◌∷◌, length, Option, Some, None, Result, Ok, refl, ap, ap₂, ◌∙◌, codes}
 use Rattle.std.specs.Option.{option_and_then}
 use Rattle.build_base.specs.FaultCodes.{UNDEFINED_MACRO}
 use Rattle.build_base.specs.declared.fault.Fault.{Fault}
 use Rattle.build_base.specs.declared.lines.Taken.{Taken}
-use Rattle.meta_lexer.specs.Fields.{ends_quoted}
 use Rattle.meta_lexer.specs.Words.{same_word}
 use Rattle.macro_conditions.specs.Macros.{same_text}
 use Rattle.macro_conditions.specs.Sources.{without_workspace}
 use Rattle.doc_reading.specs.Gathering.{judged}
-use Rattle.doc_reading.specs.Least.{least_of, fault_in}
-use Rattle.doc_types.specs.declared.volume.SectionSource.{SectionSource}
 use Rattle.doc_types.specs.declared.volume.SectionSource.TheVariants.{Template, Words, Refused}
 use Rattle.fdf_words.specs.declared.marks.Marks.{Marks}
 use Rattle.fdf_words.specs.declared.marks.Open.{Open}
@@ -20,7 +17,6 @@ use Rattle.fdf_words.specs.declared.rows.Row.TheVariants as row
 use Rattle.fdf_words.specs.declared.rows.RuleScope.{RuleScope}
 use Rattle.fdf_words.specs.declared.rows.Scope.TheVariants as scope
 use Rattle.fdf_words.specs.declared.words.Options.{Options}
-use Rattle.fdf_words.specs.Keys.{is_set}
 use Rattle.fdf_words.specs.Numbers.{bad_line}
 use Rattle.fdf_words.specs.Words.{is_close, word_of, after_word, after_equals}
 use Rattle.fdf_volumes.specs.InfLines.{quoted_front}

@@ -1,17 +1,15 @@
 -- Lines of a rule, and of a flash description, of which no condition holds give rows.
-use Rattle.std.proofs.Common.{◌≡◌, ◌==◌, ◌&&◌, ℕ, Bool, true, false, if◌then◌else◌, List, [], ◌∷◌, length, Option, Some, None, option_map, Result, Ok, Err, refl, codes}
+use Rattle.std.proofs.Common.{◌≡◌, ℕ, Bool, true, false, if◌then◌else◌, List, [], ◌∷◌, Option, Some, None, Result, Ok, Err, refl}
 use Rattle.std.specs.Option.{IsSome}
 use Rattle.build_base.specs.FaultCodes.{BAD_RULE, COMPRESSED_REFUSED}
 use Rattle.build_base.specs.FaultText.{fault_of}
 use Rattle.build_base.specs.declared.fault.Fault.{Fault}
 use Rattle.build_base.specs.declared.lines.Taken.{Taken}
-use Rattle.macro_conditions.specs.Macros.{same_text}
 use Rattle.doc_reading.specs.Least.{least_of, fault_in}
 use Rattle.doc_reading.specs.Values.{of_read_line}
-use Rattle.doc_reading.proofs.FaultlessLemmas.{least_first, least_rest, least_read}
+use Rattle.doc_reading.proofs.FaultlessLemmas.{least_first, least_read}
 use Rattle.doc_types.specs.declared.volume.SectionSource.{SectionSource}
 use Rattle.doc_types.specs.declared.volume.SectionSource.TheVariants.{Words}
-use Rattle.fdf_words.specs.declared.marks.Body.{Body}
 use Rattle.fdf_words.specs.declared.marks.Marks.{Marks}
 use Rattle.fdf_words.specs.declared.marks.Open.{Open}
 use Rattle.fdf_words.specs.declared.marks.Open.TheVariants.{Shut, InApriori, InFile, InRule}

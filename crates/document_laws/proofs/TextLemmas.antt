@@ -1,5 +1,5 @@
 -- Parts of texts are found again.
-use Rattle.std.proofs.Common.{◌≡◌, ℕ, zero, suc, ◌+◌, ◌-◌, ◌==◌, nat_lt, ◌<◌, ◌&&◌, cond, Bool, true, false, not, if◌then◌else◌, List, [], ◌∷◌, ◌++◌, length, take, drop, get_or, slice_index, reverse, Option, Some, None, append_assoc, append-nil, length-append, take_at, drop_at, get_or-append-add, refl, sym, ap, ap₂, ◌∙◌, lt-ltb, arith}
+use Rattle.std.proofs.Common.{◌≡◌, ℕ, suc, ◌+◌, ◌-◌, ◌==◌, nat_lt, ◌<◌, ◌&&◌, cond, Bool, true, false, not, if◌then◌else◌, List, [], ◌∷◌, ◌++◌, length, take, drop, get_or, slice_index, reverse, Option, Some, None, append_assoc, append-nil, length-append, take_at, drop_at, get_or-append-add, refl, sym, ap, ap₂, ◌∙◌, lt-ltb, arith}
 use Rattle.std.specs.List.{list_all, prefix_len, suffix_len, position_or_len}
 use Rattle.std.proofs.lemmas.Bool.{and_parts, and_from}
 use Rattle.std.proofs.lemmas.Bool.Decides.{nat_tests}
@@ -8,7 +8,7 @@ use Rattle.meta_lexer.specs.Lines.{is_blank, without_blanks}
 use Rattle.meta_lexer.specs.Tokens.{is_word_byte}
 use Rattle.meta_lexer.specs.Words.{halves}
 use Rattle.fdf_words.specs.Keys.{is_key, key_and_value, key_pair}
-use Rattle.fdf_words.specs.Words.{begins_with, ends_word, word_of, after_word, after_equals, before_brace, last_byte}
+use Rattle.fdf_words.specs.Words.{ends_word, word_of, after_word, after_equals, before_brace, last_byte}
 use Rattle.document_laws.proofs.ListLemmas.{prefix_passed, all_weaker, all_both}
 use Rattle.document_laws.specs.LineTexts.{AreBlanks, IsTrim, IsSplit, IsPair, EndsWord, IsWorded, IsStated, IsBraced}
 

@@ -1,17 +1,17 @@
 -- Tokens, one behind the other.
-use Rattle.std.proofs.Common.{◌≡◌, ◌<◌, ◌≤◌, ℕ, zero, suc, ◌+◌, ◌-◌, min, ◌==◌, ◌&&◌, ◌||◌, not, nat_le, Bool, true, false, true≢false, cond, if◌then◌else◌, List, [], ◌∷◌, ◌++◌, length, length-append, fold, take, drop, get_or, slice_index, take_at, drop_at, append_assoc, append-nil, Option, Some, None, Result, Ok, Err, refl, sym, ap, ap₂, subst, ◌∙◌, le-leb, lt-ltb, eqb-true, arith}
+use Rattle.std.proofs.Common.{◌≡◌, ◌<◌, ◌≤◌, ℕ, zero, suc, ◌+◌, min, ◌==◌, ◌&&◌, ◌||◌, not, Bool, true, false, true≢false, cond, if◌then◌else◌, List, [], ◌∷◌, ◌++◌, length, length-append, fold, take, get_or, slice_index, take_at, drop_at, append_assoc, append-nil, Result, Ok, Err, refl, sym, ap, ap₂, subst, ◌∙◌, le-leb, eqb-true, arith}
 use Rattle.std.specs.List.{list_all, prefix_len, position_or_len}
 use Rattle.std.proofs.lemmas.Bool.{and_parts, and_from}
 use Rattle.std.proofs.lemmas.Bool.Decides.{nat_tests}
 use Rattle.meta_lexer.specs.Faults.{Spot}
 use Rattle.meta_lexer.specs.Fields.{ends_quoted, open_quote}
 use Rattle.meta_lexer.specs.Lines.{is_blank}
-use Rattle.meta_lexer.specs.Tokens.{is_word_byte, is_numeral, is_pair, word_size, quoted_size, mark_size, word_kind, Front, front_of, token_at, tokens_after, tokens_of}
+use Rattle.meta_lexer.specs.Tokens.{is_word_byte, is_numeral, is_pair, word_size, quoted_size, mark_size, word_kind, Front, front_of, tokens_after, tokens_of}
 use Rattle.meta_lexer.specs.declared.token.Token.{Token}
 use Rattle.meta_lexer.specs.declared.token.TokenKind.{TokenKind}
 use Rattle.meta_lexer.specs.declared.token.TokenKind.TheVariants.{Word, Number, Quoted, Mark}
 use Rattle.meta_lexer.proofs.TokenLemmas.{front_blank, front_token}
-use Rattle.document_laws.specs.TokenPieces.{EndsAtWord, IsLongest, IsQuotedPiece, BeginsMark, StandsAlone, IsMarkPiece, IsToken, AreTokens}
+use Rattle.document_laws.specs.TokenPieces.{EndsAtWord, IsLongest, IsQuotedPiece, BeginsMark, IsMarkPiece, IsToken, AreTokens}
 use Rattle.document_laws.proofs.ListLemmas.{prefix_passed, all_weaker}
 
 -- quotes
@@ -207,9 +207,10 @@ blanks_passed at (b ∷ bs) xs e =
 
 only : (at : ℕ) (text : List ℕ) (tokens : List Token) → AreTokens at text tokens → (tokens_after at 0 text ≡ tokens) × (ends false text ≡ false)
 unfolding tokens_after
-only at text [] h =
-    (ap (tokens_after at 0) (sym (append-nil text)) ∙ blanks_passed at text [] h,
-    ap (ends false) (sym (append-nil text)) ∙ unquoted_skip false text [] (all_weaker is_blank (λ b. not (b == 34)) blank_no_quote text h))
+only at text [] h = (
+  ap (tokens_after at 0) (sym (append-nil text)) ∙ blanks_passed at text [] h,
+  ap (ends false) (sym (append-nil text)) ∙ unquoted_skip false text [] (all_weaker is_blank (λ b. not (b == 34)) blank_no_quote text h),
+)
 only at text (token ∷ tokens) h =
     let blanks = h.0 in
     let piece = h.1 in
@@ -218,12 +219,13 @@ only at text (token ∷ tokens) h =
     let start = at + length blanks in
     let more = only token.end rest tokens h.8 in
     let end : start + length piece ≡ token.end = ap (λ s. s + length piece) (sym h.6) ∙ sym h.7 in
-    let first : get_or (piece ++ rest) 0 0 ≡ get_or (piece ++ rest) 0 0 = refl in
-    (ap (tokens_after at 0) h.3 ∙ blanks_passed at blanks (piece ++ rest) h.4
-    ∙ sym (front_token start (piece ++ rest) (record { kind = token.kind; size = length piece }) (omega (arith, length-append piece rest, f.some)) f.no_blank f.front f.some)
-    ∙ (λ i. record { kind = token.kind; start = sym h.6 i; end = end i } ∷ tokens_after (end i) 0 (drop_at piece rest (length piece) refl i))
-    ∙ ap (λ ts. token ∷ ts) more.0,
-    ap (ends false) h.3 ∙ unquoted_skip false blanks (piece ++ rest) (all_weaker is_blank (λ b. not (b == 34)) blank_no_quote blanks h.4) ∙ f.same_quotes ∙ more.1)
+    let first : get_or (piece ++ rest) 0 0 ≡ get_or (piece ++ rest) 0 0 = refl in (
+      ap (tokens_after at 0) h.3 ∙ blanks_passed at blanks (piece ++ rest) h.4
+          ∙ sym (front_token start (piece ++ rest) (record { kind = token.kind; size = length piece }) (omega (arith, length-append piece rest, f.some)) f.no_blank f.front f.some)
+          ∙ (λ i. record { kind = token.kind; start = sym h.6 i; end = end i } ∷ tokens_after (end i) 0 (drop_at piece rest (length piece) refl i))
+          ∙ ap (λ ts. token ∷ ts) more.0,
+      ap (ends false) h.3 ∙ unquoted_skip false blanks (piece ++ rest) (all_weaker is_blank (λ b. not (b == 34)) blank_no_quote blanks h.4) ∙ f.same_quotes ∙ more.1,
+    )
 
 -- a token at the front of each text that begins with no blank
 pub record Begins (xs : List ℕ) : Type 0 where
@@ -246,8 +248,10 @@ word_begins b bs w = by (is_numeral (b ∷ cut.piece)) refl
   where
     cut : WordCut bs
     cut = word_cut bs
+
     longest : IsLongest (b ∷ cut.piece) cut.rest
     longest = record { some = omega arith; bytes = and_from (is_word_byte b) (list_all is_word_byte cut.piece) w cut.bytes; longest = cut.longest }
+
     by : (t : Bool) → is_numeral (b ∷ cut.piece) ≡ t → Begins (b ∷ bs)
     by true e = record { kind = Number; piece = b ∷ cut.piece; rest = cut.rest; spelled = ap (λ zs. b ∷ zs) cut.spelled; token = (longest, e) }
     by false e = record { kind = Word; piece = b ∷ cut.piece; rest = cut.rest; spelled = ap (λ zs. b ∷ zs) cut.spelled; token = (longest, e) }

@@ -1,54 +1,41 @@
 -- Lines of a volume, form by form.
-use Rattle.std.proofs.Common.{◌≡◌, ◌<◌, ◌==◌, ◌&&◌, nat_lt, ℕ, suc, Bool, true, false, not, if◌then◌else◌, List, [], ◌∷◌, length, take, slice_index, Option, Some, None, IfSome, unwrap_or, Result, Ok, Err, refl, sym, ap, ap₂, ◌∙◌, lt-ltb, codes, arith}
-use Rattle.std.specs.Option.{IsSome, option_map, option_and_then}
+use Rattle.std.proofs.Common.{◌≡◌, ◌<◌, ◌==◌, ◌&&◌, ℕ, suc, Bool, true, false, List, [], ◌∷◌, length, Option, Some, None, IfSome, Result, Ok, refl, sym, ap, ◌∙◌, lt-ltb, arith}
+use Rattle.std.specs.Option.{IsSome, option_map}
 use Rattle.std.proofs.lemmas.Bool.{and_right}
 use Rattle.std.proofs.lemmas.Bool.Decides.{nat_tests}
 use Rattle.build_base.specs.Guid.{guid_of}
-use Rattle.build_base.specs.Path.{path_field}
 use Rattle.build_base.specs.declared.fault.Fault.{Fault}
 use Rattle.build_base.specs.declared.guid.Guid.{Guid}
 use Rattle.build_base.specs.declared.lines.Taken.{Taken}
 use Rattle.meta_lexer.specs.Lookup.{lookup}
-use Rattle.meta_lexer.specs.Words.{holds_macro, is_identifier, same_word}
-use Rattle.macro_conditions.specs.Sources.{without_workspace}
+use Rattle.meta_lexer.specs.Words.{is_identifier}
 use Rattle.doc_reading.specs.Gathering.{judged}
 use Rattle.doc_reading.specs.Least.{least_of}
 use Rattle.doc_reading.specs.Values.{wanted}
 use Rattle.doc_types.specs.Arches.{arch_named}
-use Rattle.doc_types.specs.Standard.{EFI_SECTION_FIRMWARE_VOLUME_IMAGE, EFI_SECTION_FREEFORM_SUBTYPE_GUID}
 use Rattle.doc_types.specs.declared.arch.Arch.{Arch}
-use Rattle.doc_types.specs.declared.volume.Align.{Align}
-use Rattle.doc_types.specs.declared.volume.Align.TheVariants.{Unset, Auto, Bytes}
 use Rattle.doc_types.specs.declared.volume.Member.TheVariants as member
 use Rattle.fdf_words.specs.declared.keys.VolumeWord.{VolumeWord}
 use Rattle.fdf_words.specs.declared.keys.VolumeWord.TheVariants as volume
-use Rattle.fdf_words.specs.declared.marks.Body.{Body}
-use Rattle.fdf_words.specs.declared.marks.Body.TheVariants.{Nothing, Sections, Whole}
 use Rattle.fdf_words.specs.declared.marks.Marks.{Marks}
 use Rattle.fdf_words.specs.declared.marks.Open.{Open}
-use Rattle.fdf_words.specs.declared.marks.Open.TheVariants.{Shut, InApriori, InFile, InRule}
+use Rattle.fdf_words.specs.declared.marks.Open.TheVariants.{Shut, InApriori}
 use Rattle.fdf_words.specs.declared.rows.Row.{Row}
 use Rattle.fdf_words.specs.declared.rows.Row.TheVariants as row
 use Rattle.fdf_words.specs.declared.rows.Scope.TheVariants as scope
-use Rattle.fdf_words.specs.declared.rows.SectionBody.TheVariants as body
 use Rattle.fdf_words.specs.declared.rows.VolumeKey.{VolumeKey}
 use Rattle.fdf_words.specs.declared.rows.VolumeKey.TheVariants as key
 use Rattle.fdf_words.specs.declared.rows.VolumeSetting.TheVariants as setting
 use Rattle.fdf_words.specs.declared.words.Options.{Options}
-use Rattle.fdf_words.specs.Keys.{key_pair, volume_word}
 use Rattle.fdf_words.specs.Numbers as numbers
-use Rattle.fdf_words.specs.Words.{begins_with, is_close, word_of, after_word, after_equals, before_brace, alignment_of, stated_align, volume_alignment, options_of}
-use Rattle.fdf_volumes.specs.declared.body.SectionWord.{SectionWord}
-use Rattle.fdf_volumes.specs.declared.body.SectionWord.TheVariants as section
+use Rattle.fdf_words.specs.Words.{begins_with, is_close, after_word, before_brace}
 use Rattle.fdf_volumes.specs.declared.inf_line.InfOptions.{InfOptions}
 use Rattle.fdf_volumes.specs.declared.volume_line.Statement.{Statement}
 use Rattle.fdf_volumes.specs.declared.volume_line.Statement.TheVariants as statement
-use Rattle.fdf_volumes.specs.Bodies as bodies
 use Rattle.fdf_volumes.specs.InfLines as infs
 use Rattle.fdf_volumes.specs.Statements as statements
 use Rattle.fdf_volumes.specs.VolumeKeys as keys
 use Rattle.fdf_volumes.specs.VolumeLines as lines
-use Rattle.document_laws.specs.LineTexts.{IsWorded}
 use Rattle.document_laws.specs.FlashForms as forms
 use Rattle.document_laws.proofs.DeviceForms.{plain_line, read_line, number_faultless, number_found}
 use Rattle.document_laws.proofs.TextLemmas.{pair_found, word_found, rest_found, stated_found, brace_found}

@@ -1,5 +1,5 @@
 -- Lines of a volume of which no condition holds give rows.
-use Rattle.std.proofs.Common.{◌≡◌, ◌==◌, ℕ, Bool, true, false, if◌then◌else◌, List, [], ◌∷◌, length, Option, Some, None, option_map, refl}
+use Rattle.std.proofs.Common.{◌≡◌, ◌==◌, ℕ, Bool, true, false, if◌then◌else◌, List, [], ◌∷◌, length, Option, Some, None, refl}
 use Rattle.std.specs.Option.{IsSome}
 use Rattle.build_base.specs.FaultCodes.{BAD_INF_LINE, BAD_KEY, BAD_PATH, COMPRESSED_REFUSED, FDF_BAD_FILE, FDF_BAD_GUID, STATEMENT_REFUSED}
 use Rattle.build_base.specs.FaultText.{fault_of}
@@ -36,7 +36,7 @@ use Rattle.fdf_volumes.specs.InfLines as infs
 use Rattle.fdf_volumes.specs.Statements as statements
 use Rattle.fdf_volumes.specs.VolumeKeys as keys
 use Rattle.fdf_volumes.specs.VolumeLines as lines
-use Rattle.document_laws.proofs.DeviceGiven.{mapped, held, second, number_given}
+use Rattle.document_laws.proofs.DeviceGiven.{mapped, second, number_given}
 
 formed : {X : Type 0} (code : ℕ) (line : Taken) → least_of (statements.no_form_faults code line) ≡ None → X
 formed code line e = second (undefined_macro line.at line.text) (numbers.bad_line code line) e

@@ -25,7 +25,6 @@ use Rattle.doc_types.specs.declared.volume.Align.TheVariants.{Unset, Auto, Bytes
 use Rattle.fdf_words.specs.declared.keys.DeviceWord.{DeviceWord}
 use Rattle.fdf_words.specs.declared.keys.DeviceWord.TheVariants as device
 use Rattle.fdf_words.specs.declared.keys.VolumeWord.{VolumeWord}
-use Rattle.fdf_words.specs.declared.keys.VolumeWord.TheVariants as volume
 use Rattle.fdf_words.specs.declared.marks.Body.{Body}
 use Rattle.fdf_words.specs.declared.marks.Body.TheVariants.{Nothing, Sections, Whole}
 use Rattle.fdf_words.specs.declared.marks.Marks.{Marks}
@@ -408,18 +407,18 @@ pub record IsRulePath (line : Line) (kind : ℕ) (options : RuleOptions) (number
 
 -- `KIND KIND OPTIONS |.extension`
 pub record IsRuleExtension (line : Line) (kind : ℕ) (options : RuleOptions) (number : ℕ) : Type 0
-    where
-  pub known : RuleKind
-  pub rest : List ℕ
-  pub second : List ℕ
-  pub more : List ℕ
-  pub path : List ℕ
-  pub kinded : IsKind line known rest
-  pub worded : IsWorded rest second more
-  pub holds : HoldsFile known kind second
-  pub options_are : AreRuleOptions line more options number path
-  pub extension : is_extension path ≡ true
-  pub filled : holds_other line.text ≡ false
+  where
+    pub known : RuleKind
+    pub rest : List ℕ
+    pub second : List ℕ
+    pub more : List ℕ
+    pub path : List ℕ
+    pub kinded : IsKind line known rest
+    pub worded : IsWorded rest second more
+    pub holds : HoldsFile known kind second
+    pub options_are : AreRuleOptions line more options number path
+    pub extension : is_extension path ≡ true
+    pub filled : holds_other line.text ≡ false
 
 -- `KIND STRING ="text" OPTIONS`
 pub record IsRuleText (line : Line) (kind : ℕ) (options : RuleOptions) (number : ℕ)

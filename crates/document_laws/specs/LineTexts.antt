@@ -1,5 +1,5 @@
 -- How the text of a line is put together of its parts, with any blanks between them.
-use Rattle.std.specs.Prelude.{◌≡◌, ℕ, ◌==◌, Bool, true, false, not, List, [], ◌∷◌, ◌++◌}
+use Rattle.std.specs.Prelude.{◌≡◌, ℕ, ◌==◌, true, false, not, List, [], ◌∷◌, ◌++◌}
 use Rattle.std.specs.List.{list_all, prefix_len, suffix_len}
 use Rattle.meta_lexer.specs.Lines.{is_blank}
 use Rattle.fdf_words.specs.Keys.{is_key}

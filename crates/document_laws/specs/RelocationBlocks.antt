@@ -2,20 +2,21 @@
 -- section 5.6): blocks one behind the other, each of the size that stands in it.
 use Rattle.std.specs.Prelude.{◌≡◌, ◌<◌, ◌≤◌, ◌⊎◌, ℕ, ◌+◌, ◌-◌, ◌*◌, ◌%◌, List, [], ◌∷◌, ◌++◌, length}
 use Rattle.image_rebase.specs.Blocks.{block_page, block_size}
+use Rattle.image_rebase.specs.Standard.{IMAGE_SIZEOF_BASE_RELOCATION}
 use Rattle.image_rebase.specs.declared.blocks.Block.{Block}
 
--- no block stands at the front: fewer than eight bytes are left, or the size is 0
+-- no block stands at the front: fewer bytes than its two fields are left, or the size is 0
 abbrev pub HasNoBlock : List ℕ → Type 0
-HasNoBlock bytes = (length bytes < 8) ⊎ (block_size bytes ≡ 0)
+HasNoBlock bytes = (length bytes < IMAGE_SIZEOF_BASE_RELOCATION) ⊎ (block_size bytes ≡ 0)
 
 -- the block whose bytes begin what is left from an offset on: its page, and where its entries stand
 pub record IsBlock (at : ℕ) (bytes mine : List ℕ) (block : Block) : Type 0 where
   pub size_is : block_size bytes ≡ length mine
   pub even : length mine % 2 ≡ 0
-  pub least : 8 ≤ length mine
+  pub least : IMAGE_SIZEOF_BASE_RELOCATION ≤ length mine
   pub page : block.page ≡ block_page bytes
-  pub start : block.start ≡ at + 8
-  pub entries : block.size ≡ length mine - 8
+  pub start : block.start ≡ at + IMAGE_SIZEOF_BASE_RELOCATION
+  pub entries : block.size ≡ length mine - IMAGE_SIZEOF_BASE_RELOCATION
 
 abbrev pub AreBlocks : ℕ → List ℕ → List Block → Type 0
 AreBlocks at bytes [] = HasNoBlock bytes

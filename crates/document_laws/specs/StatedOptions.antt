@@ -1,7 +1,7 @@
 -- Which options a statement of a volume states (EDK II FDF specification, section 3.7), without
 -- saying how they are found: options one behind the other, each at most once, up to a text that is
 -- none.
-use Rattle.std.specs.Prelude.{◌≡◌, ◌⊎◌, ℕ, Bool, true, false, List, [], ◌∷◌, Option, Some, None}
+use Rattle.std.specs.Prelude.{◌≡◌, ◌⊎◌, ℕ, true, false, List, [], ◌∷◌, Some, None}
 use Rattle.doc_types.specs.declared.volume.Align.TheVariants.{Unset, Bytes}
 use Rattle.fdf_words.specs.declared.words.FileOption.{FileOption}
 use Rattle.fdf_words.specs.declared.words.FileOption.TheVariants.{Fixed, Checksum, Aligned}

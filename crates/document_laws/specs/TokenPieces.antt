@@ -1,6 +1,6 @@
 -- Which tokens a text has, without saying how they are found: blanks and tokens, one behind the
 -- other.
-use Rattle.std.specs.Prelude.{◌≡◌, ◌<◌, ℕ, ◌+◌, ◌==◌, Bool, true, false, not, List, [], ◌∷◌, ◌++◌, length}
+use Rattle.std.specs.Prelude.{◌≡◌, ◌<◌, ℕ, ◌+◌, ◌==◌, true, false, not, List, [], ◌∷◌, ◌++◌, length}
 use Rattle.std.specs.List.{list_all}
 use Rattle.meta_lexer.specs.Lines.{is_blank}
 use Rattle.meta_lexer.specs.Tokens.{is_word_byte, is_numeral, is_pair}

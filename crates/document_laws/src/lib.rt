@@ -1,10 +1,10 @@
 //! Laws of what is read of documents, in plain statements.
 #![tactic(auto)]
 
-mod laws;
+mod flash_lines;
 mod walks;
 
-pub use laws::{
+pub use flash_lines::{
     bodies_say, device_lines_say, flash_lines_give_rows, rule_lines_say, set_lines_say,
     statements_say, volume_keys_say,
 };

@@ -2,20 +2,20 @@
 ghost use Rattle.std.specs.Prelude.{◌≡◌, ℕ, List, Ok, Some};
 ghost use Rattle.build_base.specs.declared.fault.Place.{Place};
 ghost use Rattle.build_base.specs.declared.lines.Macro.{Macro};
-ghost use Rattle.macro_conditions.specs.Macros.{replaced};
+ghost use Rattle.meta_lexer.specs.declared.token.Token.{Token};
+ghost use Rattle.meta_lexer.specs.Tokens.{tokens_of};
 ghost use Rattle.macro_conditions.specs.declared.macros.Undefined.{Undefined};
-ghost use Rattle.image_rebase.specs.Blocks.{blocks_of, entries_in, entry_bytes};
+ghost use Rattle.macro_conditions.specs.Macros.{replaced};
+ghost use Rattle.fdf_words.specs.declared.words.Options.{Options};
+ghost use Rattle.fdf_words.specs.Words.{options_of};
+ghost use Rattle.fdf_volumes.specs.declared.inf_line.InfOptions.{InfOptions};
+ghost use Rattle.fdf_volumes.specs.InfLines.{inf_parts};
 ghost use Rattle.image_rebase.specs.declared.blocks.Block.{Block};
+ghost use Rattle.image_rebase.specs.Blocks.{blocks_of, entries_in, entry_bytes};
 ghost use Rattle.document_laws.specs.MacroUses.{IsReplaced};
 ghost use Rattle.document_laws.specs.RelocationBlocks.{AreBlocks, AreWords};
 ghost use Rattle.document_laws.specs.StatedOptions.{StatesFile, StatesInf};
 ghost use Rattle.document_laws.specs.TokenPieces.{AreTokens};
-ghost use Rattle.fdf_volumes.specs.InfLines.{inf_parts};
-ghost use Rattle.fdf_volumes.specs.declared.inf_line.InfOptions.{InfOptions};
-ghost use Rattle.fdf_words.specs.Words.{options_of};
-ghost use Rattle.fdf_words.specs.declared.words.Options.{Options};
-ghost use Rattle.meta_lexer.specs.Tokens.{tokens_of};
-ghost use Rattle.meta_lexer.specs.declared.token.Token.{Token};
 
 /// A text whose macros are replaced is what its parts stand for, and nothing else is.
 pub fn replaced_texts_are_of_parts()

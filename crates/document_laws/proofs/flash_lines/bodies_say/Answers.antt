@@ -1,5 +1,5 @@
 use Rattle.document_laws.proofs.BodyForms.{path_says, words_says, worded_path_says, nested_says, named_says, whole_says, file_closes, apriori_closes}
-use Rattle.document_laws.proofs.laws.bodies_say.Goals as goal
+use Rattle.document_laws.proofs.flash_lines.bodies_say.Goals as goal
 
 pub returns-clause-paths : goal.returns-clause-paths
 returns-clause-paths c = path_says

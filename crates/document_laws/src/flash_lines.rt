@@ -1,11 +1,40 @@
 //! Laws of a flash description's lines.
-ghost use Rattle.std.specs.Prelude.{◌≡◌, Bool, None};
 ghost use Rattle.std.specs.Option.{IsSome};
+ghost use Rattle.std.specs.Prelude.{◌≡◌, Bool, None, ℕ, List, Option, false, true, Some};
+ghost use Rattle.build_base.specs.declared.guid.Guid.{Guid};
 ghost use Rattle.build_base.specs.declared.lines.Taken.{Taken as Line};
+ghost use Rattle.build_base.specs.Guid.{guid_of};
+ghost use Rattle.macro_conditions.specs.Sources.{without_workspace};
 ghost use Rattle.doc_reading.specs.Least.{least_of};
+ghost use Rattle.doc_types.specs.declared.pcd.PcdName.{PcdName};
+ghost use Rattle.doc_types.specs.declared.volume.Align.{Align};
+ghost use Rattle.doc_types.specs.declared.volume.Member.TheVariants as member;
+ghost use Rattle.doc_types.specs.declared.volume.SectionSource.TheVariants.{Template, Words, Refused};
+ghost use Rattle.doc_types.specs.Standard.{EFI_SECTION_FIRMWARE_VOLUME_IMAGE, EFI_SECTION_FREEFORM_SUBTYPE_GUID};
+ghost use Rattle.fdf_words.specs.declared.keys.VolumeWord.TheVariants as word;
+ghost use Rattle.fdf_words.specs.declared.marks.Body.{Body};
+ghost use Rattle.fdf_words.specs.declared.marks.Body.TheVariants.{Nothing};
 ghost use Rattle.fdf_words.specs.declared.marks.Marks.{Marks};
+ghost use Rattle.fdf_words.specs.declared.marks.Open.TheVariants.{Shut, InApriori, InFile, InRule};
+ghost use Rattle.fdf_words.specs.declared.rows.Content.{Content};
+ghost use Rattle.fdf_words.specs.declared.rows.DeviceKey.{DeviceKey};
+ghost use Rattle.fdf_words.specs.declared.rows.Row.TheVariants as row;
+ghost use Rattle.fdf_words.specs.declared.rows.RuleScope.{RuleScope};
 ghost use Rattle.fdf_words.specs.declared.rows.Scope.{Scope};
-ghost use Rattle.fdf_lines.specs.Grammar.{line_faults, line_row};
+ghost use Rattle.fdf_words.specs.declared.rows.Scope.TheVariants as scope;
+ghost use Rattle.fdf_words.specs.declared.rows.SectionBody.TheVariants as body;
+ghost use Rattle.fdf_words.specs.declared.rows.VolumeKey.{VolumeKey};
+ghost use Rattle.fdf_words.specs.declared.rows.VolumeSetting.TheVariants as setting;
+ghost use Rattle.fdf_words.specs.declared.words.Options.{Options};
+ghost use Rattle.fdf_volumes.specs.declared.body.SectionWord.TheVariants as section;
+ghost use Rattle.fdf_volumes.specs.declared.inf_line.InfOptions.{InfOptions};
+ghost use Rattle.fdf_volumes.specs.Bodies.{made_section, words_in_quotes};
+ghost use Rattle.fdf_volumes.specs.Statements.{head_with};
+ghost use Rattle.fdf_volumes.specs.VolumeKeys.{is_ffs3, truth_named};
+ghost use Rattle.fdf_lines.specs.declared.rule_options.RuleOptions.{RuleOptions};
+ghost use Rattle.fdf_lines.specs.Grammar.{line_faults, line_row, rank_of};
+ghost use Rattle.fdf_lines.specs.Rules.{made_plan};
+ghost use Rattle.document_laws.specs.FlashForms.{Closes, IsApriori, IsContent, IsDeviceNumber, IsFile, IsFileMember, IsFilled, IsInf, IsKeyed, IsNamedPath, IsPlain, IsRegion, IsRegionPcds, IsRuleExtension, IsRuleFile, IsRulePath, IsRuleText, IsSection, IsSectionsBody, IsSet, IsSetting, IsStatedPath, IsStatedText, IsWhole, Says, module_of};
 
 /// A line below a head, of which no condition holds, gives a row.
 pub fn flash_lines_give_rows()
@@ -13,40 +42,6 @@ pub fn flash_lines_give_rows()
         → least_of (line_faults line marks full scope) ≡ None
         → IsSome (line_row line marks scope) }
 {}
-
-ghost use Rattle.std.specs.Prelude.{ℕ, List};
-ghost use Rattle.fdf_words.specs.declared.rows.Row.TheVariants as row;
-ghost use Rattle.fdf_words.specs.declared.rows.Content.{Content};
-ghost use Rattle.fdf_words.specs.declared.rows.DeviceKey.{DeviceKey};
-ghost use Rattle.fdf_words.specs.declared.rows.Scope.TheVariants as scope;
-ghost use Rattle.fdf_lines.specs.Grammar.{rank_of};
-ghost use Rattle.doc_types.specs.declared.pcd.PcdName.{PcdName};
-ghost use Rattle.std.specs.Prelude.{Option};
-ghost use Rattle.document_laws.specs.FlashForms.{Closes, IsApriori, IsContent, IsDeviceNumber, IsFile, IsFileMember, IsFilled, IsInf, IsKeyed, IsNamedPath, IsPlain, IsRegion, IsRegionPcds, IsRuleExtension, IsRuleFile, IsRulePath, IsRuleText, IsSection, IsSectionsBody, IsSet, IsSetting, IsStatedPath, IsStatedText, IsWhole, Says, module_of};
-ghost use Rattle.doc_types.specs.Standard.{EFI_SECTION_FIRMWARE_VOLUME_IMAGE, EFI_SECTION_FREEFORM_SUBTYPE_GUID};
-ghost use Rattle.doc_types.specs.declared.volume.Align.{Align};
-ghost use Rattle.doc_types.specs.declared.volume.SectionSource.TheVariants.{Template, Words, Refused};
-ghost use Rattle.macro_conditions.specs.Sources.{without_workspace};
-ghost use Rattle.fdf_words.specs.declared.marks.Body.{Body};
-ghost use Rattle.fdf_words.specs.declared.marks.Body.TheVariants.{Nothing};
-ghost use Rattle.fdf_words.specs.declared.rows.RuleScope.{RuleScope};
-ghost use Rattle.fdf_words.specs.declared.rows.SectionBody.TheVariants as body;
-ghost use Rattle.fdf_volumes.specs.declared.body.SectionWord.TheVariants as section;
-ghost use Rattle.fdf_volumes.specs.Bodies.{made_section, words_in_quotes};
-ghost use Rattle.fdf_lines.specs.declared.rule_options.RuleOptions.{RuleOptions};
-ghost use Rattle.fdf_lines.specs.Rules.{made_plan};
-ghost use Rattle.std.specs.Prelude.{false, true, Some};
-ghost use Rattle.build_base.specs.Guid.{guid_of};
-ghost use Rattle.build_base.specs.declared.guid.Guid.{Guid};
-ghost use Rattle.doc_types.specs.declared.volume.Member.TheVariants as member;
-ghost use Rattle.fdf_words.specs.declared.keys.VolumeWord.TheVariants as word;
-ghost use Rattle.fdf_words.specs.declared.marks.Open.TheVariants.{Shut, InApriori, InFile, InRule};
-ghost use Rattle.fdf_words.specs.declared.rows.VolumeKey.{VolumeKey};
-ghost use Rattle.fdf_words.specs.declared.rows.VolumeSetting.TheVariants as setting;
-ghost use Rattle.fdf_words.specs.declared.words.Options.{Options};
-ghost use Rattle.fdf_volumes.specs.declared.inf_line.InfOptions.{InfOptions};
-ghost use Rattle.fdf_volumes.specs.Statements.{head_with};
-ghost use Rattle.fdf_volumes.specs.VolumeKeys.{is_ffs3, truth_named};
 
 /// In each section a line `SET PCD = value` gives that value to that PCD. In [Defines] all other
 /// lines are read past.

@@ -1,5 +1,5 @@
 use Rattle.document_laws.proofs.VolumeForms.{setting_says, name_says, system_says, force_says, attribute_says}
-use Rattle.document_laws.proofs.laws.volume_keys_say.Goals as goal
+use Rattle.document_laws.proofs.flash_lines.volume_keys_say.Goals as goal
 
 pub returns-clause-numbers : goal.returns-clause-numbers
 returns-clause-numbers c = setting_says

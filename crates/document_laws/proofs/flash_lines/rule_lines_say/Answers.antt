@@ -1,5 +1,5 @@
 use Rattle.document_laws.proofs.RuleForms.{file_says, rule_path_says, rule_extension_says, rule_text_says, rule_closes}
-use Rattle.document_laws.proofs.laws.rule_lines_say.Goals as goal
+use Rattle.document_laws.proofs.flash_lines.rule_lines_say.Goals as goal
 
 pub returns-clause-files : goal.returns-clause-files
 returns-clause-files c = file_says

@@ -1,5 +1,5 @@
 use Rattle.document_laws.proofs.VolumeForms.{apriori_says, inf_says, file_says, inf_member_says, member_says}
-use Rattle.document_laws.proofs.laws.statements_say.Goals as goal
+use Rattle.document_laws.proofs.flash_lines.statements_say.Goals as goal
 
 pub returns-clause-aprioris : goal.returns-clause-aprioris
 returns-clause-aprioris c = apriori_says

@@ -1,5 +1,5 @@
 use Rattle.document_laws.proofs.DeviceForms.{number_says, region_says, pcds_says, content_says}
-use Rattle.document_laws.proofs.laws.device_lines_say.Goals as goal
+use Rattle.document_laws.proofs.flash_lines.device_lines_say.Goals as goal
 
 pub returns-clause-numbers : goal.returns-clause-numbers
 returns-clause-numbers c = number_says
