@@ -12,3 +12,4 @@ pub mod RelocationLemmas
 pub mod TokenPieceLemmas
 pub mod OptionLemmas
 pub mod FileOptionLemmas
+pub mod RuleOptionLemmas

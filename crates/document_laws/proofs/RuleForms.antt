@@ -29,6 +29,7 @@ use Rattle.fdf_lines.specs.Rules as rules
 use Rattle.document_laws.specs.FlashForms as forms
 use Rattle.document_laws.proofs.BodyForms.{closed_text}
 use Rattle.document_laws.proofs.DeviceForms.{plain_line, read_line}
+use Rattle.document_laws.proofs.RuleOptionLemmas.{rule_states}
 use Rattle.document_laws.proofs.TextLemmas.{word_found, rest_found, stated_found}
 use Rattle.document_laws.proofs.VolumeForms.{filled_text, file_parted}
 
@@ -98,8 +99,8 @@ rule_path_says line marks full rule kind options number path h b =
     let second = word_found h.rest h.second h.more h.worded in
     kind_line line marks full rule h.known h.rest r h.kinded b
     (holding line h.kinded.word h.rest h.second h.known kind r h.holds second
-    (plain_by line kind h.kinded.word h.rest h.second h.more options h.options_are.written path true (Ok (Some r)) second (rest_found h.rest h.second h.more h.worded) h.same h.options_are.parts
-    (path_by line kind options h.options_are.written path number h.options_are.right h.options_are.number_is h.no_extension (filled_text path h.some) (rw (h.filled_before, h.filled_in) refl))))
+    (plain_by line kind h.kinded.word h.rest h.second h.more options h.options_are.written path true (Ok (Some r)) second (rest_found h.rest h.second h.more h.worded) h.same (rule_states h.more options h.options_are.written path h.options_are.parts).0
+    (path_by line kind options h.options_are.written path number (rule_states h.more options h.options_are.written path h.options_are.parts).1 h.options_are.number_is h.no_extension (filled_text path h.some) (rw (h.filled_before, h.filled_in) refl))))
 
 extension_by : (line : Taken) (kind : ℕ) (same : Bool) (options : RuleOptions) (written path : List ℕ) (number : ℕ) → options.wrong ≡ false → stated_number line options.numbered written ≡ Ok number → rules.is_extension path ≡ true → rules.holds_other line.text ≡ false
     → judged (rules.path_faults line same (options, written, path)) (rules.path_row line kind (options, written, path)) ≡ Ok (Some (rules.made_plan line kind options number (Refused line.text)))
@@ -113,8 +114,8 @@ rule_extension_says line marks full rule kind options number h b =
     let same = same_word h.second h.kinded.word in
     kind_line line marks full rule h.known h.rest r h.kinded b
     (holding line h.kinded.word h.rest h.second h.known kind r h.holds second
-    (plain_by line kind h.kinded.word h.rest h.second h.more options h.options_are.written h.path same (Ok (Some r)) second (rest_found h.rest h.second h.more h.worded) refl h.options_are.parts
-    (extension_by line kind same options h.options_are.written h.path number h.options_are.right h.options_are.number_is h.extension h.filled)))
+    (plain_by line kind h.kinded.word h.rest h.second h.more options h.options_are.written h.path same (Ok (Some r)) second (rest_found h.rest h.second h.more h.worded) refl (rule_states h.more options h.options_are.written h.path h.options_are.parts).0
+    (extension_by line kind same options h.options_are.written h.path number (rule_states h.more options h.options_are.written h.path h.options_are.parts).1 h.options_are.number_is h.extension h.filled)))
 
 words_stated : (text value words after : List ℕ) → after_equals text ≡ Some value → quoted_front value ≡ Some (words, after) → rules.stated_words text ≡ Some (words, after)
 unfolding rules.stated_words
@@ -131,5 +132,5 @@ rule_text_says line marks full rule kind options number words h b =
     kind_line line marks full rule (kinds.Worded kind) h.rest r h.kinded b
     (ap (λ t. judged (if t then rules.quoted_faults line (rules.stated_words (after_word h.rest)) else rules.plain_faults line h.kinded.word h.rest) (if t then rules.quoted_row line kind (rules.stated_words (after_word h.rest)) else rules.plain_row line kind h.rest)) (ap rules.is_string (word_found h.rest h.second h.more h.worded) ∙ h.string)
     ∙ ap (λ o. judged (rules.quoted_faults line o) (rules.quoted_row line kind o)) (ap rules.stated_words (rest_found h.rest h.second h.more h.worded) ∙ words_stated h.more h.value words h.after (stated_found h.more h.value h.stated) h.quoted)
-    ∙ ap (λ p. judged (rules.text_faults line p) (rules.text_row line kind words p)) h.options_are.parts
-    ∙ text_by line kind options h.options_are.written words number h.options_are.right h.options_are.number_is h.filled)
+    ∙ ap (λ p. judged (rules.text_faults line p) (rules.text_row line kind words p)) (rule_states h.after options h.options_are.written [] h.options_are.parts).0
+    ∙ text_by line kind options h.options_are.written words number (rule_states h.after options h.options_are.written [] h.options_are.parts).1 h.options_are.number_is h.filled)

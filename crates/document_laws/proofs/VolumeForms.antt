@@ -38,6 +38,8 @@ use Rattle.fdf_volumes.specs.VolumeKeys as keys
 use Rattle.fdf_volumes.specs.VolumeLines as lines
 use Rattle.document_laws.specs.FlashForms as forms
 use Rattle.document_laws.proofs.DeviceForms.{plain_line, read_line, number_faultless, number_found}
+use Rattle.document_laws.proofs.FileOptionLemmas.{file_states}
+use Rattle.document_laws.proofs.OptionLemmas.{inf_states}
 use Rattle.document_laws.proofs.TextLemmas.{pair_found, word_found, rest_found, stated_found, brace_found}
 
 Found : Taken → Open → Bool → Row → Type 0
@@ -150,7 +152,7 @@ inf_faultless : (line : Taken) (options : InfOptions) (path : List ℕ) (h : for
 inf_faultless line options path h = rw (h.filled, filled_text h.field h.some, h.path_is, templated line options.template h.template, used line options.arch h.arch) refl
 
 inf_parted : (line : Taken) (options : InfOptions) (path : List ℕ) (h : forms.IsInf line options path) → infs.inf_parts (after_word line.text) ≡ Some (options, h.field)
-inf_parted line options path h = ap infs.inf_parts (after_statement line statement.Inf h.rest h.statement) ∙ h.parts
+inf_parted line options path h = ap infs.inf_parts (after_statement line statement.Inf h.rest h.statement) ∙ inf_states h.rest options h.field h.parts
 
 inf_faults_none : (line : Taken) (options : InfOptions) (path : List ℕ) → forms.IsInf line options path → least_of (infs.inf_faults line false) ≡ None
 unfolding infs.inf_faults
@@ -181,7 +183,7 @@ inf_member_says line marks full name options path h b =
 pub file_parted : (text : List ℕ) (kind : ℕ) (name : List ℕ) (options : Options) → forms.AreFileParts text kind name options → statements.file_parts text ≡ Some (kind, name, options)
 unfolding statements.file_parts statements.file_front
 file_parted text kind name options h =
-    rw (word_found text h.type_word h.more h.typed, h.kind_is, rest_found text h.type_word h.more h.typed, stated_found h.more h.value h.stated, brace_found h.value h.front h.braced, word_found h.front name h.rest h.named, rest_found h.front name h.rest h.named, h.options_are) refl
+    rw (word_found text h.type_word h.more h.typed, h.kind_is, rest_found text h.type_word h.more h.typed, stated_found h.more h.value h.stated, brace_found h.value h.front h.braced, word_found h.front name h.rest h.named, rest_found h.front name h.rest h.named, file_states h.rest options h.options_are) refl
 
 file_by : (line : Taken) (kind : ℕ) (name : List ℕ) (guid : Guid) (options : Options) → statements.file_parts (after_word line.text) ≡ Some (kind, name, options) → (length name == 0) ≡ false → guid_of name ≡ Some guid → forms.IsFilled line.text
     → judged (statements.file_faults line false) (statements.file_row line) ≡ Ok (Some (row.File (statements.head_with line kind (Some guid) options)))

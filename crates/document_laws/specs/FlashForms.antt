@@ -1,5 +1,5 @@
--- What a line of each form says (EDK II FDF specification, sections 3.3 to 3.8), by the parts of its
--- text.
+-- What a line of each form says (EDK II FDF specification, sections 3.3 to 3.8), by the parts of
+-- its text.
 use Rattle.std.specs.Prelude.{◌≡◌, ◌<◌, ◌≤◌, ℕ, ◌-◌, ◌==◌, Bool, true, false, not, List, [], ◌∷◌, length, take, Option, Some, None, IfSome, unwrap_or, Ok, codes}
 use Rattle.std.specs.List.{list_all}
 use Rattle.std.specs.Option.{IsSome}
@@ -43,13 +43,13 @@ use Rattle.fdf_words.specs.declared.words.Options.{Options}
 use Rattle.fdf_words.specs.DataBytes.{data_of}
 use Rattle.fdf_words.specs.DeviceLines.{number_form, misplaced}
 use Rattle.fdf_words.specs.Keys.{device_word, volume_word, is_set}
-use Rattle.fdf_words.specs.Words.{begins_with, is_close, word_of, volume_alignment, alignment_of, options_of}
+use Rattle.fdf_words.specs.Words.{begins_with, is_close, word_of, volume_alignment, alignment_of}
 use Rattle.fdf_volumes.specs.declared.body.SectionWord.{SectionWord}
 use Rattle.fdf_volumes.specs.declared.inf_line.InfOptions.{InfOptions}
 use Rattle.fdf_volumes.specs.declared.volume_line.Statement.{Statement}
 use Rattle.fdf_volumes.specs.declared.volume_line.Statement.TheVariants as statement
 use Rattle.fdf_volumes.specs.Bodies.{section_word}
-use Rattle.fdf_volumes.specs.InfLines.{inf_parts, one_arch, used_arch, quoted_front}
+use Rattle.fdf_volumes.specs.InfLines.{one_arch, used_arch, quoted_front}
 use Rattle.fdf_volumes.specs.Statements.{file_type, apriori_names}
 use Rattle.fdf_volumes.specs.VolumeKeys.{volume_form}
 use Rattle.fdf_volumes.specs.VolumeLines.{statement_named, statement_of}
@@ -58,7 +58,8 @@ use Rattle.fdf_lines.specs.declared.rule_line.RuleKind.TheVariants as kinds
 use Rattle.fdf_lines.specs.declared.rule_options.RuleOptions.{RuleOptions}
 use Rattle.fdf_lines.specs.Grammar.{line_faults, line_row}
 use Rattle.fdf_lines.specs.RuleNumbers.{stated_number}
-use Rattle.fdf_lines.specs.Rules.{holds_other, is_extension, is_string, rule_kind, rule_parts}
+use Rattle.fdf_lines.specs.Rules.{holds_other, is_extension, is_string, rule_kind}
+use Rattle.document_laws.specs.StatedOptions.{StatesFile, StatesInf, StatesRule}
 use Rattle.document_laws.specs.LineTexts.{IsSplit, IsPair, IsWorded, IsStated, IsBraced}
 
 -- the line has no fault in its section, and this is its row
@@ -229,7 +230,7 @@ pub record IsInf (line : Line) (options : InfOptions) (path : List ℕ) : Type 0
   pub rest : List ℕ
   pub field : List ℕ
   pub statement : IsStatement line statement.Inf rest
-  pub parts : inf_parts rest ≡ Some (options, field)
+  pub parts : StatesInf rest options field
   pub some : 0 < length field
   pub path_is : path_field (without_workspace field) ≡ Some path
   pub template : IfSome options.template (λ name. is_identifier name ≡ true)
@@ -260,7 +261,7 @@ pub record AreFileParts (text : List ℕ) (kind : ℕ) (name : List ℕ)
   pub stated : IsStated more value
   pub braced : IsBraced value front
   pub named : IsWorded front name rest
-  pub options_are : options_of rest ≡ Some options
+  pub options_are : StatesFile rest options
 
 -- `FILE TYPE = GUID OPTIONS {`
 pub record IsFile (line : Line) (kind : ℕ) (guid : Guid) (options : Options) : Type 0 where
@@ -380,12 +381,11 @@ HoldsFile (kinds.Plain kind) number word = kind ≡ number
 HoldsFile (kinds.Worded kind) number word = (kind ≡ number) × (is_string word ≡ false)
 HoldsFile kinds.Compressed number word = ⊥
 
--- options of a rule's section, of their forms and each at most once, and the number that they state
+-- options of a rule's section, and the number that they state
 pub record AreRuleOptions (line : Line) (text : List ℕ) (options : RuleOptions) (number : ℕ)
     (rest : List ℕ) : Type 0 where
   pub written : List ℕ
-  pub parts : rule_parts text ≡ (options, written, rest)
-  pub right : options.wrong ≡ false
+  pub parts : StatesRule text options written rest
   pub number_is : stated_number line options.numbered written ≡ Ok number
 
 -- `KIND KIND OPTIONS path`

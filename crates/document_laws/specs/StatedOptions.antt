@@ -1,7 +1,7 @@
 -- Which options a statement of a volume states (EDK II FDF specification, section 3.7), without
 -- saying how they are found: options one behind the other, each at most once, up to a text that is
 -- none.
-use Rattle.std.specs.Prelude.{◌≡◌, ◌⊎◌, ℕ, true, false, List, [], ◌∷◌, Some, None}
+use Rattle.std.specs.Prelude.{◌≡◌, ◌⊎◌, ℕ, true, false, List, [], ◌∷◌, Option, Some, None}
 use Rattle.doc_types.specs.declared.volume.Align.TheVariants.{Unset, Bytes}
 use Rattle.fdf_words.specs.declared.words.FileOption.{FileOption}
 use Rattle.fdf_words.specs.declared.words.FileOption.TheVariants.{Fixed, Checksum, Aligned}
@@ -10,6 +10,11 @@ use Rattle.fdf_words.specs.Words.{word_of, after_word, after_equals, option_name
 use Rattle.fdf_volumes.specs.declared.inf_line.InfOption.{InfOption}
 use Rattle.fdf_volumes.specs.declared.inf_line.InfOption.TheVariants.{RuleOverride, Use, Version, Ui}
 use Rattle.fdf_volumes.specs.declared.inf_line.InfOptions.{InfOptions}
+use Rattle.fdf_lines.specs.declared.rule_options.RuleOption.{RuleOption}
+use Rattle.fdf_lines.specs.declared.rule_options.RuleOption.TheVariants as rule
+use Rattle.fdf_lines.specs.declared.rule_options.RuleOptions.{RuleOptions}
+use Rattle.fdf_lines.specs.Rules.{rule_option, rule_align, no_rule_options}
+use Rattle.doc_types.specs.declared.volume.Align.{Align}
 use Rattle.fdf_volumes.specs.InfLines.{inf_option, quoted_front, no_inf_options}
 
 -- a module's option that isn't stated above
@@ -87,3 +92,49 @@ AreFileOptions before text (option ∷ options) after =
 pub record StatesFile (text : List ℕ) (options : Options) : Type 0 where
   pub stated : List FileOption
   pub are : AreFileOptions no_options text stated options
+
+-- an option of a rule's section that isn't stated above
+abbrev pub IsNewInRule : RuleOptions → RuleOption → Type 0
+IsNewInRule options rule.Optional = options.optional ≡ false
+IsNewInRule options rule.Aligned = options.align ≡ Unset
+IsNewInRule options rule.BuildNumber = options.numbered ≡ false
+
+-- the options and the build number's word with one option more, and what follows it
+abbrev pub IsRuleOption : List ℕ → RuleOptions → List ℕ → RuleOption → RuleOptions → List ℕ → List ℕ
+    → Type 0
+IsRuleOption text before number rule.Optional after written next =
+    (record before { optional = true } ≡ after) × (number ≡ written) × (after_word text ≡ next)
+IsRuleOption text before number rule.Aligned after written next =
+    (value : List ℕ) × (align : Align) × (after_equals (after_word text) ≡ Some value)
+    × (rule_align (word_of value) ≡ Some align) × (record before { align = align } ≡ after)
+    × (number ≡ written) × (after_word value ≡ next)
+IsRuleOption text before number rule.BuildNumber after written next =
+    (value : List ℕ) × (after_equals (after_word text) ≡ Some value)
+    × (record before { numbered = true } ≡ after) × (word_of value ≡ written)
+    × (after_word value ≡ next)
+
+-- no option has this name and this value
+abbrev pub IsNoRuleOption : Option RuleOption → Option (List ℕ) → Type 0
+IsNoRuleOption None value = Unit {0}
+IsNoRuleOption (Some rule.Optional) value = ⊥
+IsNoRuleOption (Some rule.Aligned) None = Unit {0}
+IsNoRuleOption (Some rule.Aligned) (Some value) = ⊥
+IsNoRuleOption (Some rule.BuildNumber) None = Unit {0}
+IsNoRuleOption (Some rule.BuildNumber) (Some value) = ⊥
+
+-- what is stated between the options `before` and `after`, and what stands behind it
+abbrev pub AreInRule : RuleOptions → List ℕ → List ℕ → List RuleOption → RuleOptions → List ℕ
+    → List ℕ → Type 0
+AreInRule before number text [] after written rest =
+    (before ≡ after) × (number ≡ written) × (text ≡ rest)
+    × IsNoRuleOption (rule_option (word_of text)) (after_equals (after_word text))
+AreInRule before number text (option ∷ options) after written rest =
+    IsNewInRule before option × (rule_option (word_of text) ≡ Some option)
+    × ((between : RuleOptions) × (word : List ℕ) × (next : List ℕ)
+    × IsRuleOption text before number option between word next
+    × AreInRule between word next options after written rest)
+
+-- the options of a rule's section, the word of its build number, and what stands behind them
+pub record StatesRule (text : List ℕ) (options : RuleOptions) (written rest : List ℕ) : Type 0 where
+  pub stated : List RuleOption
+  pub are : AreInRule no_rule_options [] text stated options written rest

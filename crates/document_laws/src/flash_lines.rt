@@ -66,8 +66,8 @@ pub fn device_lines_say()
         (second : Option PcdName) → IsRegionPcds line marks first second
         → Says line marks full (scope.Device name)
         (row.Pcds (record { at = line.at; first = first; second = second })) }
-    ensures contents { (line : Line) (marks : Marks) (full : Bool) (name : List ℕ) (filled : Content)
-        → IsContent line marks filled → Says line marks full (scope.Device name)
+    ensures contents { (line : Line) (marks : Marks) (full : Bool) (name : List ℕ)
+        (filled : Content) → IsContent line marks filled → Says line marks full (scope.Device name)
         (row.Content (record { at = line.at; content = filled })) }
 {}
 
@@ -95,8 +95,8 @@ pub fn volume_keys_say()
         → Says line marks full (scope.Volume name) (row.Setting (setting.Attribute bits on)) }
 {}
 
-/// What the statements of a volume say that isn't full, and what stands in the braces of an a priori
-/// file.
+/// What the statements of a volume say that isn't full, and what stands in the braces of an
+/// a priori file.
 pub fn statements_say()
     ensures aprioris { (line : Line) (marks : Marks) (name : List ℕ) (pei : Bool)
         → IsApriori line pei → marks.braces ≡ Shut

@@ -10,5 +10,6 @@ pub use flash_lines::{
 };
 pub use walks::{
     file_options_are_found, module_options_are_found, relocation_blocks_are_found,
-    relocation_entries_are_words, replaced_texts_are_of_parts, tokens_are_found,
+    relocation_entries_are_words, replaced_texts_are_of_parts, rule_options_are_found,
+    tokens_are_found,
 };
