@@ -2,3 +2,4 @@ pub mod LikeLemmas
 pub mod PlanLemmas
 pub mod FileLemmas
 pub mod MovedLemmas
+pub mod HoldsLemmas

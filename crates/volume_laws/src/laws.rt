@@ -1,8 +1,11 @@
-//! The law of volumes whose modules are moved, and that are read.
-ghost use Rattle.std.specs.Prelude.{◌≡◌, ℕ, List, Ok};
+//! Laws of volumes that are read, and of volumes whose modules are moved.
+ghost use Rattle.std.specs.Prelude.{◌≡◌, ◌↔◌, ℕ, List, Ok, Err};
 ghost use Rattle.doc_types.specs.declared.volume_head.VolumeHead.{VolumeHead};
+ghost use Rattle.volume_reader.specs.declared.listed.VolumeList.{VolumeList};
+ghost use Rattle.volume_reader.specs.Volume.{volume_list};
 ghost use Rattle.volume_reader.specs.Written.{Made, files_of};
 ghost use Rattle.image_rebase.specs.Rebase.{rebased};
+ghost use Rattle.volume_laws.specs.Holds.{Holds, IsWrong};
 ghost use Rattle.volume_laws.specs.Moved.{AreBuilt, IsReadAlike};
 
 /// A volume whose modules are moved reads back as the volume of its files as they are, but for the
@@ -11,4 +14,15 @@ ghost use Rattle.volume_laws.specs.Moved.{AreBuilt, IsReadAlike};
 pub(crate) fn moved_is_read()
     ensures { (head : VolumeHead) (made : List Made) (image : List ℕ) → AreBuilt head made
         → rebased head (files_of made) ≡ Ok image → IsReadAlike head made image }
+{}
+
+/// What is read of a volume is what it holds, and it holds one list of files at most. Its first
+/// wrong file is read where files stand one behind the other up to a place that has none.
+pub fn files_are_read()
+    ensures list { (bytes : List ℕ) (list : VolumeList)
+        → volume_list bytes ≡ Ok list ↔ Holds bytes list }
+    ensures one { (bytes : List ℕ) (list : VolumeList) (other : VolumeList)
+        → Holds bytes list → Holds bytes other → list ≡ other }
+    ensures wrong { (bytes : List ℕ) (place : ℕ)
+        → volume_list bytes ≡ Err place ↔ IsWrong bytes place }
 {}

@@ -1,6 +1,6 @@
-//! What is read of volumes that are made.
+//! What is read of volumes, and of volumes whose modules are moved.
 #![tactic(auto)]
 
 mod laws;
 
-pub use laws::moved_is_read;
+pub use laws::{files_are_read, moved_is_read};
