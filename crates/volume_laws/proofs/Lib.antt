@@ -3,3 +3,6 @@ pub mod PlanLemmas
 pub mod FileLemmas
 pub mod MovedLemmas
 pub mod HoldsLemmas
+pub mod WordLemmas
+pub mod ModuleLemmas
+pub mod MovedFileLemmas

@@ -1,12 +1,17 @@
 //! Laws of volumes that are read, and of volumes whose modules are moved.
-ghost use Rattle.std.specs.Prelude.{◌≡◌, ◌↔◌, ℕ, List, Ok, Err};
+ghost use Rattle.std.specs.Prelude.{◌≡◌, ◌↔◌, ℕ, Bool, List, Ok, Err};
+ghost use Rattle.build_base.specs.declared.fault.Place.{Place};
+ghost use Rattle.doc_types.specs.declared.image.FileImage.{FileImage};
 ghost use Rattle.doc_types.specs.declared.volume_head.VolumeHead.{VolumeHead};
 ghost use Rattle.volume_reader.specs.declared.listed.VolumeList.{VolumeList};
 ghost use Rattle.volume_reader.specs.Volume.{volume_list};
 ghost use Rattle.volume_reader.specs.Written.{Made, files_of};
+ghost use Rattle.image_rebase.specs.Files.{moved_file};
+ghost use Rattle.image_rebase.specs.Moves.{moved_content};
 ghost use Rattle.image_rebase.specs.Rebase.{rebased};
 ghost use Rattle.volume_laws.specs.Holds.{Holds, IsWrong};
 ghost use Rattle.volume_laws.specs.Moved.{AreBuilt, IsReadAlike};
+ghost use Rattle.volume_laws.specs.MovedBytes.{IsMovedContent, IsMovedFile};
 
 /// A volume whose modules are moved reads back as the volume of its files as they are, but for the
 /// sections: its image begins with a volume's header, and what that volume holds are its files and
@@ -25,4 +30,22 @@ pub fn files_are_read()
         → Holds bytes list → Holds bytes other → list ≡ other }
     ensures wrong { (bytes : List ℕ) (place : ℕ)
         → volume_list bytes ≡ Err place ↔ IsWrong bytes place }
+{}
+
+/// A moved file is as long as the file was, and all its bytes stay but those of its modules that may
+/// change, and of the file checksum. Each module's content is moved to the address at which it
+/// lies, and the file checksum is that of the new body.
+pub fn file_is_moved()
+    ensures { (ffs3 : Bool) (base start : ℕ) (file moved : FileImage)
+        → moved_file ffs3 base start file ≡ Ok moved
+        → IsMovedFile ffs3 base start file moved }
+{}
+
+/// The content of a section that is moved is as long as it was. Its ImageBase is its new one, each
+/// word that base relocations name once has the difference of the two bases more, and all bytes but
+/// those of ImageBase and of named words stay.
+pub fn content_is_moved()
+    ensures { (place : Place) (base address kind : ℕ) (content moved : List ℕ)
+        → moved_content place base address kind content ≡ Ok moved
+        → IsMovedContent place address kind content moved }
 {}
