@@ -6,3 +6,4 @@ pub mod HoldsLemmas
 pub mod WordLemmas
 pub mod ModuleLemmas
 pub mod MovedFileLemmas
+pub mod MovedVolumeLemmas

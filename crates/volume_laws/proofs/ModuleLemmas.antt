@@ -1,22 +1,22 @@
 -- A module whose content is moved: its ImageBase, and the words that are named once.
-use Rattle.std.proofs.Common.{◌≡◌, ℕ, ◌+◌, ◌-◌, ◌*◌, ◌%◌, ◌^◌, ◌<◌, ◌≤◌, ◌==◌, ◌&&◌, ◌||◌, not, Bool, true, false, if◌then◌else◌, nat_lt, List, [], ◌∷◌, ◌++◌, length, get_or, slice_index, Option, Some, None, Result, Ok, Err, refl, ap, sym, ◌∙◌, arith, subst}
+use Rattle.std.proofs.Common.{◌≡◌, ℕ, ◌+◌, ◌-◌, ◌*◌, ◌%◌, ◌^◌, ◌<◌, ◌≤◌, ◌==◌, ◌||◌, Bool, true, false, if◌then◌else◌, nat_lt, List, [], ◌∷◌, ◌++◌, length, Option, Some, None, Result, Ok, Err, refl, ap, sym, ◌∙◌, arith, subst}
 use Rattle.std.proofs.lemmas.Bool.Decides.{nat_tests}
 use Rattle.std.specs.List.{list_any}
 use Rattle.byteorder.specs.Endian.{little_from}
-use Rattle.build_base.specs.First.{and_then, or_fault, first_holding, unless}
+use Rattle.build_base.specs.First.{and_then, first_holding, unless}
 use Rattle.build_base.specs.declared.fault.Place.{Place}
 use Rattle.build_base.specs.declared.fault.Fault.{Fault}
 use Rattle.te_images.specs.declared.fault.PeFault.{PeFault}
 use Rattle.te_images.specs.declared.te.TeHead.{TeHead}
 use Rattle.te_images.specs.Pe.{optional_header, is_pe32_plus, size_of_optional_header, section_table, pe_checks}
-use Rattle.te_images.specs.Te.{te_limits, te_checks, te_head_of, te_of}
+use Rattle.te_images.specs.Te.{te_checks, te_head_of, te_of}
 use Rattle.image_rebase.specs.declared.module.Module.{Module}
 use Rattle.image_rebase.specs.declared.blocks.Block.{Block}
-use Rattle.image_rebase.specs.Module.{relocated, base_offset, pe_fields, pe_with, pe_module, is_no_te, te_fields, te_module, module_in}
-use Rattle.image_rebase.specs.Blocks.{directory_in, entries_in}
-use Rattle.image_rebase.specs.Moves.{entry_offset, sum_at, difference, with_base, moved_entries, moved_blocks, moved_words, blocks_fault, moved_by_blocks, module_blocks, moved_to, new_base, base_limit, out_of_range, range_fault, moved_in_range, misplaced, moved_module, moved_with, moved_content}
-use Rattle.image_rebase.specs.Changes.{is_in, names, block_names, base_width, content_changes}
-use Rattle.image_rebase.proofs.SameLemmas.{SameAt, through, past, chosen, same_content}
+use Rattle.image_rebase.specs.Module.{relocated, pe_fields, pe_with, pe_module, is_no_te, te_fields, te_module, module_in}
+use Rattle.image_rebase.specs.Blocks.{directory_in}
+use Rattle.image_rebase.specs.Moves.{sum_at, difference, with_base, moved_entries, moved_blocks, moved_words, blocks_fault, moved_by_blocks, module_blocks, moved_to, new_base, out_of_range, range_fault, moved_in_range, misplaced, moved_module, moved_with, moved_content}
+use Rattle.image_rebase.specs.Changes.{is_in, names, block_names, base_width}
+use Rattle.image_rebase.proofs.SameLemmas.{through, past, chosen, same_content}
 use Rattle.volume_laws.specs.MovedBytes.{IsNamedOnce, IsMovedModule, IsMovedWith, IsMovedContent}
 use Rattle.volume_laws.proofs.WordLemmas.{word_same, number_read, number_kept, word_at, word_width, named_read, same_entries, same_blocks, parted_entries, parted_blocks, parted_any}
 

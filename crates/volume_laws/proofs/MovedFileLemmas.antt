@@ -1,23 +1,21 @@
 -- A file whose modules are moved, byte by byte.
-use Rattle.std.proofs.Common.{◌≡◌, ℕ, ◌+◌, ◌-◌, ◌%◌, ◌<◌, ◌≤◌, ◌==◌, ◌&&◌, ◌||◌, Bool, true, false, if◌then◌else◌, nat_le, List, [], ◌∷◌, ◌++◌, length, get_or, take, drop, slice_index, slice_set, All, Option, Some, None, Result, Ok, Err, refl, ap, sym, ◌∙◌, arith, subst, append_assoc, length-append, length-drop, length-set, drop-drop}
+use Rattle.std.proofs.Common.{◌≡◌, ℕ, ◌+◌, ◌-◌, ◌%◌, ◌<◌, ◌≤◌, ◌==◌, ◌&&◌, ◌||◌, Bool, true, false, if◌then◌else◌, nat_le, List, [], ◌∷◌, ◌++◌, length, get_or, take, drop, slice_set, All, Some, Ok, refl, ap, sym, ◌∙◌, arith, subst, append_assoc, length-append, length-drop, length-set, drop-drop}
 use Rattle.std.proofs.Math.Seq.{drop-append_seam, take-append_seam}
-use Rattle.std.proofs.lemmas.List.{get_or-set_same, get_or_append_left, get_or-take, length-take-le}
+use Rattle.std.proofs.lemmas.List.{get_or-set_same, get_or_append_left, length-take-le}
 use Rattle.std.proofs.lemmas.List.Elements.{All-nil, All-cons, All-weaker}
-use Rattle.std.proofs.lemmas.Bool.Decides.{nat_tests}
 use Rattle.build_base.specs.First.{and_then, with_front}
 use Rattle.build_base.specs.declared.fault.Place.{Place}
-use Rattle.build_base.specs.declared.fault.Fault.{Fault}
 use Rattle.doc_types.specs.declared.image.FileImage.{FileImage}
 use Rattle.ffs_sections.specs.Sums.{zero_byte}
 use Rattle.ffs_sections.specs.File.{head_at}
 use Rattle.volume_reader.specs.declared.listed.ListedSection.{ListedSection}
 use Rattle.volume_reader.specs.Sections.{sections_of}
 use Rattle.image_rebase.specs.Moves.{moved_content}
-use Rattle.image_rebase.specs.Changes.{content_changes, sections_change, file_changes}
-use Rattle.image_rebase.specs.Files.{has_module, content_length, content_in, moved_from, has_checksum, resummed, with_body, file_head, file_body, with_sections, with_found, moved_sections, has_sections, moved_bytes, with_file_bytes, moved_file}
-use Rattle.image_rebase.proofs.SameLemmas.{SameAt, through, same_content}
+use Rattle.image_rebase.specs.Changes.{sections_change, file_changes}
+use Rattle.image_rebase.specs.Files.{has_module, content_length, content_in, moved_from, has_checksum, resummed, with_body, file_head, file_body, with_found, moved_sections, has_sections, moved_bytes, with_file_bytes, moved_file}
+use Rattle.image_rebase.proofs.SameLemmas.{through, same_content}
 use Rattle.image_rebase.proofs.BodyLemmas.{reached, Ordered, ordered_sections, ordered_end, fronted, same_file}
-use Rattle.volume_laws.specs.MovedBytes.{IsMovedContent, IsMovedIn, IsMovedBody, IsMovedFile}
+use Rattle.volume_laws.specs.MovedBytes.{IsMovedIn, IsMovedBody, IsMovedFile}
 use Rattle.volume_laws.proofs.ModuleLemmas.{content_moved}
 
 -- in what is left of a body from a place on, the content of a section is moved

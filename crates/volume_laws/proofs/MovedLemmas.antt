@@ -63,7 +63,7 @@ with_size : {P : Type 0} (head : VolumeHead) (files : List FileImage) (starts : 
 with_size head files starts None e k = absurd cc
 with_size head files starts (Some size) e k = k size (unless_same (place_fault head files size) (places_in head files size) starts e)
 
-some_size : {P : Type 0} (head : VolumeHead) (files : List FileImage) (starts : List ℕ) → places_of head files ≡ Ok starts → ((size : ℕ) → places_in head files size ≡ starts → P) → P
+pub some_size : {P : Type 0} (head : VolumeHead) (files : List FileImage) (starts : List ℕ) → places_of head files ≡ Ok starts → ((size : ℕ) → places_in head files size ≡ starts → P) → P
 unfolding places_of
 some_size head files starts e k =
     through (unless (twice_fault head files) (length_of head files)) (places_with head files) starts e (λ found a b. with_size head files starts found b k)

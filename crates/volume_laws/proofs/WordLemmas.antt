@@ -1,5 +1,5 @@
 -- Numbers that are written over bytes, and words that entries name.
-use Rattle.std.proofs.Common.{◌≡◌, ℕ, zero, suc, ◌+◌, ◌-◌, ◌*◌, ◌%◌, ◌^◌, ◌<◌, ◌≤◌, ◌==◌, ◌&&◌, ◌||◌, Bool, true, false, if◌then◌else◌, List, [], ◌∷◌, ◌++◌, length, get_or, slice_set, Result, Ok, Err, refl, ap, sym, ◌∙◌, arith, length-set, append-nil, subst}
+use Rattle.std.proofs.Common.{◌≡◌, ℕ, zero, suc, ◌+◌, ◌-◌, ◌*◌, ◌^◌, ◌<◌, ◌≤◌, ◌==◌, ◌||◌, Bool, true, false, if◌then◌else◌, List, [], ◌∷◌, ◌++◌, length, get_or, slice_set, Ok, Err, refl, ap, sym, ◌∙◌, arith, length-set, append-nil, subst}
 use Rattle.std.proofs.Math.Nat.{mod-lt}
 use Rattle.std.proofs.lemmas.List.{get_or-set_same, get_or-set_other}
 use Rattle.std.proofs.lemmas.Bool.Decides.{nat_tests}
@@ -10,13 +10,12 @@ use Rattle.byteorder.specs.Numbers.{little_number-reads_back, length-bytes_low_f
 use Rattle.byteorder.proofs.Bytes.{pow256}
 use Rattle.build_base.specs.First.{and_then}
 use Rattle.build_base.specs.declared.fault.Place.{Place}
-use Rattle.build_base.specs.declared.fault.Fault.{Fault}
 use Rattle.image_rebase.specs.declared.blocks.Block.{Block}
 use Rattle.image_rebase.specs.Bytes.{with_bytes, with_number}
 use Rattle.image_rebase.specs.Blocks.{entries_in}
 use Rattle.image_rebase.specs.Moves.{entry_type, entry_offset, width_of, sum_at, lies_outside, outside_fault, word_end, moved_word, moved_by, moved_entries, moved_blocks}
 use Rattle.image_rebase.specs.Changes.{is_in, names, block_names}
-use Rattle.image_rebase.proofs.SameLemmas.{SameAt, same_self, same_then, either, through, chosen}
+use Rattle.image_rebase.proofs.SameLemmas.{SameAt, same_self, same_then, either, through}
 
 -- Bytes that are written over others.
 

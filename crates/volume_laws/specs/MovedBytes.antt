@@ -1,12 +1,15 @@
 -- The bytes of a file whose modules are moved, beside those of the file as it is (UEFI PI
 -- specification, volume 3, sections 3.2.3 and 3.2.4; PE/COFF format, section 5.6).
-use Rattle.std.specs.Prelude.{◌≡◌, ℕ, ◌+◌, ◌-◌, ◌<◌, ◌≤◌, Bool, true, false, List, ◌∷◌, ◌++◌, length, get_or, slice_index, All, Option, Some, None, Ok}
+use Rattle.std.specs.Prelude.{◌≡◌, ℕ, ◌+◌, ◌-◌, ◌<◌, ◌≤◌, Bool, true, false, List, [], ◌∷◌, ◌++◌, length, get_or, slice_index, All, Option, Some, None, Ok}
 use Rattle.std.specs.List.{list_any}
 use Rattle.byteorder.specs.Endian.{little_from}
 use Rattle.build_base.specs.declared.fault.Place.{Place}
 use Rattle.doc_types.specs.declared.image.FileImage.{FileImage}
+use Rattle.doc_types.specs.declared.volume_head.VolumeHead.{VolumeHead}
 use Rattle.ffs_sections.specs.Sums.{zero_byte}
 use Rattle.ffs_sections.specs.File.{head_at}
+use Rattle.fv_compose.specs.Places.{places_of}
+use Rattle.fv_compose.specs.Volume.{volume_of}
 use Rattle.volume_reader.specs.declared.listed.ListedSection.{ListedSection}
 use Rattle.volume_reader.specs.Sections.{sections_of}
 use Rattle.image_rebase.specs.declared.module.Module.{Module}
@@ -16,6 +19,7 @@ use Rattle.image_rebase.specs.Blocks.{directory_in, entries_in}
 use Rattle.image_rebase.specs.Moves.{entry_type, entry_offset, width_of, sum_at, difference, new_base, module_blocks}
 use Rattle.image_rebase.specs.Changes.{is_in, names, block_names, base_width, content_changes, file_changes}
 use Rattle.image_rebase.specs.Files.{has_module, content_in, has_checksum, has_sections, file_head, file_body}
+use Rattle.image_rebase.specs.Rebase.{base_of}
 
 -- At this place of a content stands a word of so many bytes that an entry of these blocks names. No
 -- other entry names a byte of it, and none is one of ImageBase.
@@ -86,3 +90,19 @@ pub record IsMovedFile (ffs3 : Bool) (base start : ℕ) (file moved : FileImage)
       → has_sections file.bytes ≡ true
       → sections_of ffs3 0 (file_body file.bytes) ≡ Some sections
       → IsMovedBody file.at (base + start + head_at file.bytes) sections file.bytes moved.bytes
+
+-- files that stand at these places are moved, one by one
+unfoldable pub AreMovedFiles : Bool → ℕ → List FileImage → List ℕ → List FileImage → Type 0
+AreMovedFiles ffs3 base [] [] [] = Unit {0}
+AreMovedFiles ffs3 base (file ∷ files) (start ∷ starts) (moved ∷ more) =
+    IsMovedFile ffs3 base start file moved × AreMovedFiles ffs3 base files starts more
+AreMovedFiles ffs3 base files starts moved = ⊥
+
+-- The image is the volume of the files, each moved to where it stands in the volume of the files as
+-- they are.
+pub record IsMovedVolume (head : VolumeHead) (files : List FileImage) (image : List ℕ) : Type 0 where
+  pub starts : List ℕ
+  pub places : places_of head files ≡ Ok starts
+  pub moved : List FileImage
+  pub each : AreMovedFiles head.ffs3 (base_of head) files starts moved
+  pub whole : volume_of head moved ≡ Ok image

@@ -11,7 +11,7 @@ ghost use Rattle.image_rebase.specs.Moves.{moved_content};
 ghost use Rattle.image_rebase.specs.Rebase.{rebased};
 ghost use Rattle.volume_laws.specs.Holds.{Holds, IsWrong};
 ghost use Rattle.volume_laws.specs.Moved.{AreBuilt, IsReadAlike};
-ghost use Rattle.volume_laws.specs.MovedBytes.{IsMovedContent, IsMovedFile};
+ghost use Rattle.volume_laws.specs.MovedBytes.{IsMovedContent, IsMovedFile, IsMovedVolume};
 
 /// A volume whose modules are moved reads back as the volume of its files as they are, but for the
 /// sections: its image begins with a volume's header, and what that volume holds are its files and
@@ -48,4 +48,12 @@ pub fn content_is_moved()
     ensures { (place : Place) (base address kind : ℕ) (content moved : List ℕ)
         → moved_content place base address kind content ≡ Ok moved
         → IsMovedContent place address kind content moved }
+{}
+
+/// A volume whose modules are moved is the volume of its files, each of which is moved to where it
+/// stands in the volume of the files as they are.
+pub fn volume_is_moved()
+    ensures { (head : VolumeHead) (files : List FileImage) (image : List ℕ)
+        → rebased head files ≡ Ok image
+        → IsMovedVolume head files image }
 {}

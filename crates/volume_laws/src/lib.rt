@@ -3,4 +3,4 @@
 
 mod laws;
 
-pub use laws::{content_is_moved, file_is_moved, files_are_read, moved_is_read};
+pub use laws::{content_is_moved, file_is_moved, files_are_read, moved_is_read, volume_is_moved};
