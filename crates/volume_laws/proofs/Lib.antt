@@ -5,5 +5,6 @@ pub mod MovedLemmas
 pub mod HoldsLemmas
 pub mod WordLemmas
 pub mod ModuleLemmas
+pub mod BaseLemmas
 pub mod MovedFileLemmas
 pub mod MovedVolumeLemmas

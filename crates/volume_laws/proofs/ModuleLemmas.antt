@@ -58,7 +58,7 @@ base_end : (plus : Bool) → offset_by plus + width_by plus ≡ 0x20
 base_end true = refl
 base_end false = refl
 
-relocated_is : (found m : Module) → relocated found ≡ Some m → found ≡ m
+pub relocated_is : (found m : Module) → relocated found ≡ Some m → found ≡ m
 relocated_is found m e = elim (found.size == 0) as (λ b. (if b then None else Some found) ≡ Some m → found ≡ m) [ true ↦ λ o. absurd cc | false ↦ λ o. cc ] e
 
 pe_based : (content : List ℕ) (head : Result TeHead PeFault) (m : Module) → te_of content ≡ head → pe_with content head ≡ Some m → HasBase content m

@@ -12,6 +12,9 @@ use Rattle.fv_compose.specs.Places.{places_of}
 use Rattle.fv_compose.specs.Volume.{volume_of}
 use Rattle.volume_reader.specs.declared.listed.ListedSection.{ListedSection}
 use Rattle.volume_reader.specs.Sections.{sections_of}
+use Rattle.te_images.specs.Standard.{E_LFANEW}
+use Rattle.te_images.specs.Pe.{optional_header}
+use Rattle.image_rebase.specs.Standard.{EFI_SECTION_PE32}
 use Rattle.image_rebase.specs.declared.module.Module.{Module}
 use Rattle.image_rebase.specs.declared.blocks.Block.{Block}
 use Rattle.image_rebase.specs.Module.{module_in}
@@ -63,6 +66,14 @@ pub record IsMovedContent (place : Place) (address kind : ℕ) (content moved : 
   pub byte : (k d : ℕ) → content_changes place kind content k ≡ false
       → get_or moved k d ≡ get_or content k d
   pub module_is : IsMovedWith place address content moved (module_in kind content)
+
+-- A move leaves the fields by which a PE32 image tells where its ImageBase stands: the place of its
+-- headers, and the magic of its optional header.
+pub record KeepsFields (place : Place) (content : List ℕ) : Type 0 where
+  pub headers : (k : ℕ) → is_in E_LFANEW 4 k ≡ true
+      → content_changes place EFI_SECTION_PE32 content k ≡ false
+  pub magic : (k : ℕ) → is_in (optional_header content) 2 k ≡ true
+      → content_changes place EFI_SECTION_PE32 content k ≡ false
 
 -- in a body that lies at an address, the content of this section is moved to where it lies
 abbrev pub IsMovedIn : Place → ℕ → List ℕ → List ℕ → ListedSection → Type 0

@@ -1,17 +1,21 @@
 //! Laws of volumes that are read, and of volumes whose modules are moved.
-ghost use Rattle.std.specs.Prelude.{◌≡◌, ◌↔◌, ℕ, Bool, List, Ok, Err};
+ghost use Rattle.std.specs.Prelude.{◌≡◌, ◌↔◌, ℕ, ◌-◌, Bool, true, is_some, List, Ok, Err};
+ghost use Rattle.byteorder.specs.Endian.{little_from};
 ghost use Rattle.build_base.specs.declared.fault.Place.{Place};
 ghost use Rattle.doc_types.specs.declared.image.FileImage.{FileImage};
 ghost use Rattle.doc_types.specs.declared.volume_head.VolumeHead.{VolumeHead};
 ghost use Rattle.volume_reader.specs.declared.listed.VolumeList.{VolumeList};
 ghost use Rattle.volume_reader.specs.Volume.{volume_list};
 ghost use Rattle.volume_reader.specs.Written.{Made, files_of};
+ghost use Rattle.te_images.specs.Pe.{image_base};
 ghost use Rattle.image_rebase.specs.Files.{moved_file};
+ghost use Rattle.image_rebase.specs.Module.{module_in, stripped_size};
 ghost use Rattle.image_rebase.specs.Moves.{moved_content};
 ghost use Rattle.image_rebase.specs.Rebase.{rebased};
+ghost use Rattle.image_rebase.specs.Standard.{EFI_SECTION_PE32, EFI_SECTION_TE, EFI_TE_IMAGE_HEADER_SIZE};
 ghost use Rattle.volume_laws.specs.Holds.{Holds, IsWrong};
 ghost use Rattle.volume_laws.specs.Moved.{AreBuilt, IsReadAlike};
-ghost use Rattle.volume_laws.specs.MovedBytes.{IsMovedContent, IsMovedFile, IsMovedVolume};
+ghost use Rattle.volume_laws.specs.MovedBytes.{IsMovedContent, IsMovedFile, IsMovedVolume, KeepsFields};
 
 /// A volume whose modules are moved reads back as the volume of its files as they are, but for the
 /// sections: its image begins with a volume's header, and what that volume holds are its files and
@@ -56,4 +60,19 @@ pub fn volume_is_moved()
     ensures { (head : VolumeHead) (files : List FileImage) (image : List ℕ)
         → rebased head files ≡ Ok image
         → IsMovedVolume head files image }
+{}
+
+/// The ImageBase of a module that is moved is the address of relative address 0. In a PE32 image
+/// that is where its content lies. The content of a TE image begins with its header, in place of the
+/// first StrippedSize bytes.
+pub fn image_base_is_moved()
+    ensures pe { (place : Place) (base address : ℕ) (content moved : List ℕ)
+        → is_some (module_in EFI_SECTION_PE32 content) ≡ true → KeepsFields place content
+        → moved_content place base address EFI_SECTION_PE32 content ≡ Ok moved
+        → image_base moved ≡ address }
+    ensures te { (place : Place) (base address : ℕ) (content moved : List ℕ)
+        → is_some (module_in EFI_SECTION_TE content) ≡ true
+        → moved_content place base address EFI_SECTION_TE content ≡ Ok moved
+        → little_from 0x10 8 moved
+        ≡ address - (stripped_size content - EFI_TE_IMAGE_HEADER_SIZE) }
 {}
