@@ -4,6 +4,8 @@ pub mod FileLemmas
 pub mod MovedLemmas
 pub mod HoldsLemmas
 pub mod WordLemmas
+pub mod HeadLemmas
+pub mod SectionsLemmas
 pub mod ModuleLemmas
 pub mod BaseLemmas
 pub mod MovedFileLemmas

@@ -17,6 +17,8 @@ use Rattle.image_rebase.proofs.SameLemmas.{through, same_content}
 use Rattle.image_rebase.proofs.BodyLemmas.{reached, Ordered, ordered_sections, ordered_end, fronted, same_file}
 use Rattle.volume_laws.specs.MovedBytes.{IsMovedIn, IsMovedBody, IsMovedFile}
 use Rattle.volume_laws.proofs.ModuleLemmas.{content_moved}
+use Rattle.volume_laws.proofs.HeadLemmas.{head_long, nineteen_stays, head_same}
+use Rattle.volume_laws.proofs.SectionsLemmas.{sections_same}
 
 -- in what is left of a body from a place on, the content of a section is moved
 record Stands (place : Place) (base address : ℕ) (body : List ℕ) (at : ℕ) (left : List ℕ) (section : ListedSection) : Type 0 where
@@ -89,31 +91,6 @@ stands_from place base address body at [] left o e = All-nil (StandsIf place bas
 stands_from place base address body at (section ∷ sections) left o e =
     stands_section (has_module section) place base address body at section sections left refl o (λ next tail p q. stands_from place base address body next sections tail p q) e
 
--- The header of a moved file is as long.
-
-none_of : (a b c : Bool) → ((a && false) || (b && false && c)) ≡ false
-none_of true true c = refl
-none_of true false c = refl
-none_of false true c = refl
-none_of false false c = refl
-
-head_past : (bytes : List ℕ) → nat_le (head_at bytes) 19 ≡ false
-unfolding head_at
-head_past bytes = elim (get_or bytes 19 0 % 2 == 1) as (λ b. nat_le (if b then 32 else 24) 19 ≡ false) [ true ↦ refl | false ↦ refl ]
-
-head_long : (bytes : List ℕ) → 24 ≤ head_at bytes
-unfolding head_at
-head_long bytes = elim (get_or bytes 19 0 % 2 == 1) as (λ b. 24 ≤ (if b then 32 else 24)) [ true ↦ omega arith | false ↦ omega arith ]
-
-nineteen_stays : (ffs3 : Bool) (place : Place) (bytes : List ℕ) → file_changes ffs3 place bytes 19 ≡ false
-unfolding file_changes
-nineteen_stays ffs3 place bytes =
-    rw (head_past bytes) (none_of (has_checksum (file_head bytes)) (has_sections bytes) (sections_change place (file_body bytes) (19 - head_at bytes) (sections_of ffs3 0 (file_body bytes))))
-
-head_same : (old new : List ℕ) → get_or new 19 0 ≡ get_or old 19 0 → head_at new ≡ head_at old
-unfolding head_at
-head_same old new e = ap (λ z. if z % 2 == 1 then 32 else 24) e
-
 -- Its checksum is that of its body.
 
 sum_long : (head body : List ℕ) → length (resummed head body) ≡ length head
@@ -172,5 +149,6 @@ file_moved ffs3 base start file moved e =
       align = refl;
       size = (same_file ffs3 file.at base (base + start) file.bytes bytes 0 a).size;
       byte = λ k d h. (same_file ffs3 file.at base (base + start) file.bytes bytes k a).byte h d;
+      lists = λ place. sections_same ffs3 file.at base (base + start) file.bytes bytes place a;
       body = λ sections h t f. body_moved ffs3 file.at base (base + start) file.bytes bytes sections a h t f;
     }))

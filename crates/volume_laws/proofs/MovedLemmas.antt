@@ -1,5 +1,5 @@
 -- What is read of a volume whose modules are moved.
-use Rattle.std.proofs.Common.{◌≡◌, ℕ, List, [], ◌∷◌, length, All, Option, Some, None, Result, Ok, refl, ap, ◌∙◌, subst}
+use Rattle.std.proofs.Common.{◌≡◌, ℕ, List, [], ◌∷◌, length, map, All, Option, Some, None, Result, Ok, refl, ap, sym, ◌∙◌, subst}
 use Rattle.std.proofs.lemmas.List.Elements.{All-nil, All-cons, All-head, All-tail}
 use Rattle.build_base.specs.First.{unless, with_front}
 use Rattle.build_base.specs.declared.fault.Fault.{Fault}
@@ -9,13 +9,17 @@ use Rattle.fv_compose.specs.Header.{first_end}
 use Rattle.fv_compose.specs.Turns.{next_end}
 use Rattle.fv_compose.specs.Volume.{place_fault, twice_fault, length_of, volume_of}
 use Rattle.fv_compose.specs.Places.{placed_at, placed_from, places_in, places_with, places_of}
+use Rattle.volume_reader.specs.declared.listed.VolumeList.{VolumeList}
+use Rattle.volume_reader.specs.Volume.{volume_list}
 use Rattle.volume_reader.specs.Written.{Made, files_of, IsMade, IsWritten, written_list}
 use Rattle.volume_reader.proofs.WrittenLemmas.{written_head, written_found, written_listed}
 use Rattle.image_rebase.specs.Files.{moved_file, moved_files}
 use Rattle.image_rebase.specs.Rebase.{base_of, moved_volume, rebased}
 use Rattle.image_rebase.proofs.SameLemmas.{through}
 use Rattle.image_rebase.proofs.BodyLemmas.{fronted}
-use Rattle.volume_laws.specs.Moved.{AreBuilt, IsReadAlike}
+use Rattle.image_rebase.specs.Changes.{Stays, StaysBut}
+use Rattle.image_rebase.proofs.VolumeLemmas.{stays_but}
+use Rattle.volume_laws.specs.Moved.{bare, IsAlike, AreBuilt, IsReadAlike}
 use Rattle.volume_laws.proofs.LikeLemmas.{AreLike, like_list}
 use Rattle.volume_laws.proofs.FileLemmas.{IsMoved, file_moved}
 
@@ -24,7 +28,7 @@ record AreMoved (head : VolumeHead) (made : List Made) (files : List FileImage) 
   now : List Made
   files_are : files_of now ≡ files
   made_are : All (IsMade head) now
-  like : AreLike made now
+  like : AreLike head.ffs3 made now
 
 none_moved : (head : VolumeHead) → AreMoved head [] []
 unfolding AreLike
@@ -51,7 +55,7 @@ all_moved head base size at (one ∷ made) files a e =
     fronted (file ∷ []) rest files c
     (λ more d j.
     subst (AreMoved head (one ∷ made)) j
-    (one_moved head one made file more (file_moved head one head.ffs3 base start file (All-head (IsMade head) one made a) b)
+    (one_moved head one made file more (file_moved head one base start file (All-head (IsMade head) one made a) b)
     (all_moved head base size (next_end at one.file) made more (All-tail (IsMade head) one made a) d))))
 
 -- places are those of a volume of some length
@@ -69,32 +73,59 @@ some_size head files starts e k =
     through (unless (twice_fault head files) (length_of head files)) (places_with head files) starts e (λ found a b. with_size head files starts found b k)
 
 -- the image of files that were moved is that of a volume that is written
-read_alike : (head : VolumeHead) (made : List Made) (files : List FileImage) (image : List ℕ) → AreBuilt head made → AreMoved head made files → volume_of head files ≡ Ok image → IsReadAlike head made image
-read_alike head made files image b m v =
-    let w : IsWritten head m.now image = record {
-      shape = b.shape;
-      attributes = b.attributes;
-      erased = b.erased;
-      name = b.name;
-      files = m.made_are;
-      image = ap (volume_of head) m.files_are ∙ v;
-    } in
-    record {
-      head_is = written_head head m.now image w;
-      found = written_found head m.now image w;
-      list = written_list head m.now (length image);
-      read = written_listed head m.now image w;
-      alike = like_list head made m.now (length image) m.like;
-    }
+written_by : (head : VolumeHead) (made : List Made) (files : List FileImage) (image : List ℕ) → AreBuilt head made → (m : AreMoved head made files) → volume_of head files ≡ Ok image → IsWritten head m.now image
+written_by head made files image b m v = record {
+  shape = b.shape;
+  attributes = b.attributes;
+  erased = b.erased;
+  name = b.name;
+  files = m.made_are;
+  image = ap (volume_of head) m.files_are ∙ v;
+}
 
-pub moved_read : (head : VolumeHead) (made : List Made) (image : List ℕ) → AreBuilt head made → rebased head (files_of made) ≡ Ok image → IsReadAlike head made image
+moved_written : {P : Type 0} (head : VolumeHead) (made : List Made) (image : List ℕ) → AreBuilt head made → rebased head (files_of made) ≡ Ok image
+    → ((now : List Made) → IsWritten head now image → AreLike head.ffs3 made now → P) → P
 unfolding rebased moved_volume
-moved_read head made image b e =
+moved_written head made image b e k =
     through (places_of head (files_of made)) (moved_volume head (files_of made)) image e
     (λ starts o p.
     through (moved_files head.ffs3 (base_of head) (files_of made) starts) (volume_of head) image p
     (λ files m v.
     some_size head (files_of made) starts o
     (λ size s.
-    read_alike head made files image b
-    (all_moved head (base_of head) size (first_end head.name_guid) made files b.files (ap (moved_files head.ffs3 (base_of head) (files_of made)) s ∙ m)) v)))
+    let all : AreMoved head made files =
+    all_moved head (base_of head) size (first_end head.name_guid) made files b.files (ap (moved_files head.ffs3 (base_of head) (files_of made)) s ∙ m) in
+    k all.now (written_by head made files image b all v) all.like)))
+
+alike_of : (list other : VolumeList) → list ≡ other → IsAlike list other
+alike_of list other e = record {
+  length = ap (λ l. l.length) e;
+  ffs3 = ap (λ l. l.ffs3) e;
+  files = ap (λ l. map bare l.files) e;
+  free = ap (λ l. l.free) e;
+}
+
+pub moved_read : (head : VolumeHead) (made : List Made) (image : List ℕ) → AreBuilt head made → rebased head (files_of made) ≡ Ok image → IsReadAlike head made image
+moved_read head made image b e =
+    moved_written head made image b e
+    (λ now w l. record {
+      head_is = written_head head now image w;
+      found = written_found head now image w;
+      list = written_list head now (length image);
+      read = written_listed head now image w;
+      alike = alike_of (written_list head now (length image)) (written_list head made (length image)) (like_list head made now (length image) l);
+    })
+
+listed_as : (head : VolumeHead) (made : List Made) (image : List ℕ) → AreBuilt head made → rebased head (files_of made) ≡ Ok image → volume_list image ≡ Ok (written_list head made (length image))
+listed_as head made image b e =
+    moved_written head made image b e (λ now w l. written_listed head now image w ∙ ap (λ z. Ok z) (like_list head made now (length image) l))
+
+-- the volume of the files as they are
+plain_written : (head : VolumeHead) (made : List Made) (plain : List ℕ) → AreBuilt head made → volume_of head (files_of made) ≡ Ok plain → IsWritten head made plain
+plain_written head made plain b v = record { shape = b.shape; attributes = b.attributes; erased = b.erased; name = b.name; files = b.files; image = v }
+
+pub moved_listed : (head : VolumeHead) (made : List Made) (image plain : List ℕ) → AreBuilt head made → rebased head (files_of made) ≡ Ok image → volume_of head (files_of made) ≡ Ok plain
+    → volume_list image ≡ volume_list plain
+moved_listed head made image plain b e v =
+    let stays : Stays head (files_of made) plain image = subst (StaysBut head (files_of made) image) v (stays_but head (files_of made) image e) in
+    listed_as head made image b e ∙ ap (λ n. Ok (written_list head made n)) stays.size ∙ sym (written_listed head made plain (plain_written head made plain b v))

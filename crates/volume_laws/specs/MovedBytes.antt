@@ -88,8 +88,9 @@ pub record IsMovedBody (place : Place) (address : ℕ) (sections : List ListedSe
   pub check : has_checksum (file_head bytes) ≡ true
       → slice_index moved 0x11 ≡ zero_byte (file_body moved)
 
--- The file that stands at this place of a volume with this base is moved. It is as long, and all
--- bytes stay but those of its modules that may change, and of the file checksum.
+-- The file that stands at this place of a volume with this base is moved. It is as long, it has the
+-- same sections in the same places, and all bytes stay but those of its modules that may change, and
+-- of the file checksum.
 pub record IsMovedFile (ffs3 : Bool) (base start : ℕ) (file moved : FileImage) : Type 0 where
   pub at : moved.at ≡ file.at
   pub guid : moved.guid ≡ file.guid
@@ -97,6 +98,8 @@ pub record IsMovedFile (ffs3 : Bool) (base start : ℕ) (file moved : FileImage)
   pub size : length moved.bytes ≡ length file.bytes
   pub byte : (k d : ℕ) → file_changes ffs3 file.at file.bytes k ≡ false
       → get_or moved.bytes k d ≡ get_or file.bytes k d
+  pub lists : (place : ℕ) → sections_of ffs3 place (file_body moved.bytes)
+      ≡ sections_of ffs3 place (file_body file.bytes)
   pub body : (sections : List ListedSection) → head_at file.bytes ≤ length file.bytes
       → has_sections file.bytes ≡ true
       → sections_of ffs3 0 (file_body file.bytes) ≡ Some sections

@@ -4,6 +4,7 @@ ghost use Rattle.byteorder.specs.Endian.{little_from};
 ghost use Rattle.build_base.specs.declared.fault.Place.{Place};
 ghost use Rattle.doc_types.specs.declared.image.FileImage.{FileImage};
 ghost use Rattle.doc_types.specs.declared.volume_head.VolumeHead.{VolumeHead};
+ghost use Rattle.fv_compose.specs.Volume.{volume_of};
 ghost use Rattle.volume_reader.specs.declared.listed.VolumeList.{VolumeList};
 ghost use Rattle.volume_reader.specs.Volume.{volume_list};
 ghost use Rattle.volume_reader.specs.Written.{Made, files_of};
@@ -23,6 +24,15 @@ ghost use Rattle.volume_laws.specs.MovedBytes.{IsMovedContent, IsMovedFile, IsMo
 pub(crate) fn moved_is_read()
     ensures { (head : VolumeHead) (made : List Made) (image : List ℕ) → AreBuilt head made
         → rebased head (files_of made) ≡ Ok image → IsReadAlike head made image }
+{}
+
+/// What is read of a volume whose modules are moved is what is read of the volume of its files as
+/// they are: its length, its files in their places, with their names, types, sizes and sections, and
+/// the free bytes behind them.
+pub fn moved_is_read_as_it_was()
+    ensures { (head : VolumeHead) (made : List Made) (image plain : List ℕ) → AreBuilt head made
+        → rebased head (files_of made) ≡ Ok image → volume_of head (files_of made) ≡ Ok plain
+        → volume_list image ≡ volume_list plain }
 {}
 
 /// What is read of a volume is what it holds, and it holds one list of files at most. Its first
