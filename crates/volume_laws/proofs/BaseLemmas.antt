@@ -2,10 +2,9 @@
 use Rattle.std.proofs.Common.{◌≡◌, ℕ, ◌+◌, ◌-◌, ◌==◌, Bool, true, false, if◌then◌else◌, List, Option, Some, None, Result, Ok, Err, is_some, refl, ap, sym, ◌∙◌, arith, subst}
 use Rattle.byteorder.specs.Endian.{little_from}
 use Rattle.build_base.specs.declared.fault.Place.{Place}
-use Rattle.build_base.specs.declared.fault.Fault.{Fault}
 use Rattle.te_images.specs.declared.fault.PeFault.{PeFault}
 use Rattle.te_images.specs.declared.te.TeHead.{TeHead}
-use Rattle.te_images.specs.Pe.{number_at, e_lfanew, optional_header, magic, is_pe32_plus, image_base}
+use Rattle.te_images.specs.Pe.{number_at, e_lfanew, optional_header, is_pe32_plus, image_base}
 use Rattle.te_images.specs.Te.{te_of}
 use Rattle.image_rebase.specs.declared.module.Module.{Module}
 use Rattle.image_rebase.specs.Module.{relocated, pe_fields, pe_with, pe_module, stripped_size, is_no_te, te_fields, te_module, module_in}

@@ -1,5 +1,5 @@
 -- The files of a volume that is read stand one behind the other, and no other list of files does.
-use Rattle.std.proofs.Common.{◌≡◌, ℕ, zero, suc, ◌+◌, ◌-◌, ◌%◌, ◌<◌, ◌≤◌, ◌==◌, ◌&&◌, Bool, true, false, if◌then◌else◌, List, [], ◌∷◌, length, get_or, take, drop, Result, Ok, Err, refl, ap, sym, ◌∙◌, ◌↔◌, arith, length-drop, subst}
+use Rattle.std.proofs.Common.{◌≡◌, ℕ, zero, suc, ◌+◌, ◌-◌, ◌%◌, ◌<◌, ◌≤◌, ◌==◌, Bool, true, false, if◌then◌else◌, List, [], ◌∷◌, length, get_or, take, drop, Result, Ok, Err, refl, ap, sym, ◌∙◌, ◌↔◌, arith, length-drop, subst}
 use Rattle.std.proofs.lemmas.Bool.Decides.{nat_tests}
 use Rattle.std.proofs.lemmas.List.Folds.{list_all_at}
 use Rattle.build_base.specs.Runs.{free_byte}
@@ -9,9 +9,9 @@ use Rattle.fv_compose.proofs.PlaceLemmas.{up_after}
 use Rattle.volume_reader.specs.declared.listed.Listed.{Listed}
 use Rattle.volume_reader.specs.declared.listed.VolumeList.{VolumeList}
 use Rattle.volume_reader.specs.Head.{fv_length, header_length, is_ffs3, erase_polarity}
-use Rattle.volume_reader.specs.Files.{file_state, stated_size, has_header, has_state, has_size, has_check, is_file, listed_file}
+use Rattle.volume_reader.specs.Files.{file_state, stated_size, has_header, has_state, has_size, is_file, listed_file}
 use Rattle.volume_reader.specs.Volume.{with_files, are_erased, held_from, list_of, volume_list}
-use Rattle.volume_laws.specs.Holds.{IsFileAt, IsFreeFrom, IsWrongAt, AreFilesFrom, none, some, IsWrongFrom, here, later, Holds, IsWrong}
+use Rattle.volume_laws.specs.Holds.{AreFilesFrom, none, some, IsWrongFrom, here, later, Holds, IsWrong}
 
 -- what a walk finds, a type that the reader doesn't name for others
 abbrev Found : {A E : Type 0} → Result A E → Type 0

@@ -1,5 +1,5 @@
 -- A file whose modules are moved, byte by byte.
-use Rattle.std.proofs.Common.{◌≡◌, ℕ, ◌+◌, ◌-◌, ◌%◌, ◌<◌, ◌≤◌, ◌==◌, ◌&&◌, ◌||◌, Bool, true, false, if◌then◌else◌, nat_le, List, [], ◌∷◌, ◌++◌, length, get_or, take, drop, slice_set, All, Some, Ok, refl, ap, sym, ◌∙◌, arith, subst, append_assoc, length-append, length-drop, length-set, drop-drop}
+use Rattle.std.proofs.Common.{◌≡◌, ℕ, ◌+◌, ◌-◌, ◌<◌, ◌≤◌, Bool, true, false, if◌then◌else◌, List, [], ◌∷◌, ◌++◌, length, get_or, take, drop, slice_set, All, Some, Ok, refl, ap, sym, ◌∙◌, arith, subst, append_assoc, length-append, length-drop, length-set, drop-drop}
 use Rattle.std.proofs.Math.Seq.{drop-append_seam, take-append_seam}
 use Rattle.std.proofs.lemmas.List.{get_or-set_same, get_or_append_left, length-take-le}
 use Rattle.std.proofs.lemmas.List.Elements.{All-nil, All-cons, All-weaker}
@@ -11,14 +11,13 @@ use Rattle.ffs_sections.specs.File.{head_at}
 use Rattle.volume_reader.specs.declared.listed.ListedSection.{ListedSection}
 use Rattle.volume_reader.specs.Sections.{sections_of}
 use Rattle.image_rebase.specs.Moves.{moved_content}
-use Rattle.image_rebase.specs.Changes.{sections_change, file_changes}
 use Rattle.image_rebase.specs.Files.{has_module, content_length, content_in, moved_from, has_checksum, resummed, with_body, file_head, file_body, with_found, moved_sections, has_sections, moved_bytes, with_file_bytes, moved_file}
 use Rattle.image_rebase.proofs.SameLemmas.{through, same_content}
 use Rattle.image_rebase.proofs.BodyLemmas.{reached, Ordered, ordered_sections, ordered_end, fronted, same_file}
 use Rattle.volume_laws.specs.MovedBytes.{IsMovedIn, IsMovedBody, IsMovedFile}
 use Rattle.volume_laws.proofs.ModuleLemmas.{content_moved}
 use Rattle.volume_laws.proofs.HeadLemmas.{head_long, nineteen_stays, head_same}
-use Rattle.volume_laws.proofs.SectionsLemmas.{sections_same}
+use Rattle.volume_laws.proofs.SectionsLemmas.{sections_same, outside_stays}
 
 -- in what is left of a body from a place on, the content of a section is moved
 record Stands (place : Place) (base address : ℕ) (body : List ℕ) (at : ℕ) (left : List ℕ) (section : ListedSection) : Type 0 where
@@ -148,6 +147,7 @@ file_moved ffs3 base start file moved e =
       guid = refl;
       align = refl;
       size = (same_file ffs3 file.at base (base + start) file.bytes bytes 0 a).size;
+      outside = λ k d o. (same_file ffs3 file.at base (base + start) file.bytes bytes k a).byte (outside_stays ffs3 file.at file.bytes k o) d;
       byte = λ k d h. (same_file ffs3 file.at base (base + start) file.bytes bytes k a).byte h d;
       lists = λ place. sections_same ffs3 file.at base (base + start) file.bytes bytes place a;
       body = λ sections h t f. body_moved ffs3 file.at base (base + start) file.bytes bytes sections a h t f;

@@ -1,12 +1,11 @@
 -- A file whose modules are moved has the same sections in the same places.
-use Rattle.std.proofs.Common.{◌≡◌, ℕ, zero, suc, ◌+◌, ◌-◌, ◌<◌, ◌≤◌, ◌==◌, ◌&&◌, ◌||◌, Bool, true, false, if◌then◌else◌, nat_le, min, List, [], ◌∷◌, ◌++◌, length, get_or, take, drop, Option, Some, None, Result, Ok, Err, refl, ap, sym, ◌∙◌, arith, subst, append_assoc, length-drop, length-take}
+use Rattle.std.proofs.Common.{◌≡◌, ◌≢◌, ℕ, zero, suc, ◌+◌, ◌-◌, ◌<◌, ◌≤◌, ◌==◌, ◌&&◌, ◌||◌, Bool, true, false, if◌then◌else◌, nat_le, min, List, [], ◌∷◌, ◌++◌, length, get_or, take, drop, All, Option, Some, None, Ok, refl, ap, sym, ◌∙◌, arith, subst, append_assoc, length-drop, length-take, ne_eqb}
 use Rattle.std.proofs.lemmas.Bool.Decides.{nat_tests}
 use Rattle.std.proofs.lemmas.List.{get_or-drop, get_or-take, ext_get_or}
+use Rattle.std.proofs.lemmas.List.Elements.{All-head, All-tail}
 use Rattle.std.specs.List.{list_any, list_all}
 use Rattle.std.specs.Option.{option_map}
-use Rattle.byteorder.specs.Endian.{little_from}
 use Rattle.build_base.specs.declared.fault.Place.{Place}
-use Rattle.build_base.specs.declared.fault.Fault.{Fault}
 use Rattle.ffs_sections.specs.Sections.{up4}
 use Rattle.ffs_sections.specs.File.{head_at}
 use Rattle.volume_reader.specs.declared.listed.ListedSection.{ListedSection}
@@ -14,8 +13,9 @@ use Rattle.volume_reader.specs.Sections.{short_size, section_kind, extended_size
 use Rattle.volume_reader.proofs.SectionLemmas.{four_least}
 use Rattle.image_rebase.specs.Changes.{is_in, content_changes, section_changes, sections_change, file_changes}
 use Rattle.image_rebase.specs.Files.{has_module, content_length, content_in, has_checksum, has_sections, file_head, file_body, moved_sections, with_found, moved_bytes}
-use Rattle.image_rebase.proofs.SameLemmas.{SameAt, either}
+use Rattle.image_rebase.proofs.SameLemmas.{either}
 use Rattle.image_rebase.proofs.BodyLemmas.{same_file}
+use Rattle.volume_laws.specs.MovedBytes.{IsOutside}
 use Rattle.volume_laws.proofs.HeadLemmas.{head_long, nineteen_stays, head_same}
 use Rattle.volume_laws.proofs.WordLemmas.{word_same, parted_any}
 
@@ -319,3 +319,52 @@ sections_same ffs3 place base address bytes moved p e =
       | true ↦ λ o. same_found ffs3 place base address bytes moved p (sections_of ffs3 0 (file_body bytes)) e refl o
       | false ↦ λ o. let s : bytes ≡ moved = cc in ap (λ z. sections_of ffs3 p (file_body z)) (sym s)
     ] e
+
+-- A place outside of modules and of the file checksum stays.
+
+no_check : (a : Bool) (k : ℕ) → (a ≡ true → k ≢ 0x11) → (a && k == 0x11) ≡ false
+no_check true k h = ne_eqb k 0x11 (h refl)
+no_check false k h = refl
+
+shifted : (head start count k : ℕ) → head ≤ k → is_in (head + start) count k ≡ false → is_in start count (k - head) ≡ false
+unfolding is_in
+shifted head start count k h e = grind (arith, nat_tests, h, e)
+
+not_held : (head k : ℕ) (section : ListedSection) → head ≤ k → (has_module section ≡ true → is_in (head + section.start) (content_length section) k ≡ false) → holds (k - head) section ≡ false
+not_held head k section h o =
+    elim (has_module section) as (λ b. has_module section ≡ b → (b && is_in section.start (content_length section) (k - head)) ≡ false) [
+      | true ↦ λ t. shifted head section.start (content_length section) k h (o t)
+      | false ↦ λ t. refl
+    ] refl
+
+abbrev IsApart : ℕ → ℕ → ListedSection → Type 0
+IsApart head k section = has_module section ≡ true → is_in (head + section.start) (content_length section) k ≡ false
+
+none_held : (head k : ℕ) (sections : List ListedSection) → head ≤ k → All (IsApart head k) sections → list_any (holds (k - head)) sections ≡ false
+none_held head k [] h a = refl
+none_held head k (x ∷ xs) h a =
+    neither (holds (k - head) x) (list_any (holds (k - head)) xs) (not_held head k x h (All-head (IsApart head k) x xs a)) (none_held head k xs h (All-tail (IsApart head k) x xs a))
+
+none_changed : (place : Place) (body : List ℕ) (head k : ℕ) (found : Option (List ListedSection)) → head ≤ k → ((sections : List ListedSection) → found ≡ Some sections → All (IsApart head k) sections)
+    → sections_change place body (k - head) found ≡ false
+none_changed place body head k None h a = refl
+none_changed place body head k (Some sections) h a =
+    any_less (holds (k - head)) (section_changes place body (k - head)) sections (held_same place body (k - head)) (none_held head k sections h (a sections refl))
+
+part_stays : (a b c : Bool) → (b ≡ true → c ≡ false) → (a && b && c) ≡ false
+part_stays a true c h = no_list a true c (h refl)
+part_stays true false c h = refl
+part_stays false false c h = refl
+
+at_least : (a b : ℕ) → nat_le a b ≡ true → a ≤ b
+at_least a b h = grind (arith, nat_tests, h)
+
+pub outside_stays : (ffs3 : Bool) (place : Place) (bytes : List ℕ) (k : ℕ) → IsOutside ffs3 bytes k → file_changes ffs3 place bytes k ≡ false
+unfolding file_changes
+outside_stays ffs3 place bytes k o =
+    let head : ℕ = head_at bytes in
+    let found : Option (List ListedSection) = sections_of ffs3 0 (file_body bytes) in
+    neither (has_checksum (file_head bytes) && k == 0x11) (has_sections bytes && nat_le head k && sections_change place (file_body bytes) (k - head) found)
+    (no_check (has_checksum (file_head bytes)) k o.check)
+    (part_stays (has_sections bytes) (nat_le head k) (sections_change place (file_body bytes) (k - head) found)
+    (λ h. none_changed place (file_body bytes) head k found (at_least head k h) o.contents))

@@ -1,6 +1,6 @@
 -- The bytes of a file whose modules are moved, beside those of the file as it is (UEFI PI
 -- specification, volume 3, sections 3.2.3 and 3.2.4; PE/COFF format, section 5.6).
-use Rattle.std.specs.Prelude.{◌≡◌, ℕ, ◌+◌, ◌-◌, ◌<◌, ◌≤◌, Bool, true, false, List, [], ◌∷◌, ◌++◌, length, get_or, slice_index, All, Option, Some, None, Ok}
+use Rattle.std.specs.Prelude.{◌≡◌, ◌≢◌, ℕ, ◌+◌, ◌-◌, ◌<◌, ◌≤◌, Bool, true, false, List, [], ◌∷◌, ◌++◌, length, get_or, slice_index, All, Option, Some, None, Ok}
 use Rattle.std.specs.List.{list_any}
 use Rattle.byteorder.specs.Endian.{little_from}
 use Rattle.build_base.specs.declared.fault.Place.{Place}
@@ -21,7 +21,7 @@ use Rattle.image_rebase.specs.Module.{module_in}
 use Rattle.image_rebase.specs.Blocks.{directory_in, entries_in}
 use Rattle.image_rebase.specs.Moves.{entry_type, entry_offset, width_of, sum_at, difference, new_base, module_blocks}
 use Rattle.image_rebase.specs.Changes.{is_in, names, block_names, base_width, content_changes, file_changes}
-use Rattle.image_rebase.specs.Files.{has_module, content_in, has_checksum, has_sections, file_head, file_body}
+use Rattle.image_rebase.specs.Files.{has_module, content_length, content_in, has_checksum, has_sections, file_head, file_body}
 use Rattle.image_rebase.specs.Rebase.{base_of}
 
 -- At this place of a content stands a word of so many bytes that an entry of these blocks names. No
@@ -88,14 +88,24 @@ pub record IsMovedBody (place : Place) (address : ℕ) (sections : List ListedSe
   pub check : has_checksum (file_head bytes) ≡ true
       → slice_index moved 0x11 ≡ zero_byte (file_body moved)
 
+-- This place of a file is not that of a file checksum of its body, and no module's content has it.
+pub record IsOutside (ffs3 : Bool) (bytes : List ℕ) (k : ℕ) : Type 0 where
+  pub check : has_checksum (file_head bytes) ≡ true → k ≢ 0x11
+  pub contents : (sections : List ListedSection)
+      → sections_of ffs3 0 (file_body bytes) ≡ Some sections
+      → All (λ section. has_module section ≡ true
+      → is_in (head_at bytes + section.start) (content_length section) k ≡ false) sections
+
 -- The file that stands at this place of a volume with this base is moved. It is as long, it has the
--- same sections in the same places, and all bytes stay but those of its modules that may change, and
--- of the file checksum.
+-- same sections in the same places, and all bytes outside of its modules and of the file checksum
+-- stay. Within a module only those change that it names.
 pub record IsMovedFile (ffs3 : Bool) (base start : ℕ) (file moved : FileImage) : Type 0 where
   pub at : moved.at ≡ file.at
   pub guid : moved.guid ≡ file.guid
   pub align : moved.align ≡ file.align
   pub size : length moved.bytes ≡ length file.bytes
+  pub outside : (k d : ℕ) → IsOutside ffs3 file.bytes k
+      → get_or moved.bytes k d ≡ get_or file.bytes k d
   pub byte : (k d : ℕ) → file_changes ffs3 file.at file.bytes k ≡ false
       → get_or moved.bytes k d ≡ get_or file.bytes k d
   pub lists : (place : ℕ) → sections_of ffs3 place (file_body moved.bytes)

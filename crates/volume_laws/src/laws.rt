@@ -46,9 +46,9 @@ pub fn files_are_read()
         → volume_list bytes ≡ Err place ↔ IsWrong bytes place }
 {}
 
-/// A moved file is as long as the file was, and all its bytes stay but those of its modules that may
-/// change, and of the file checksum. Each module's content is moved to the address at which it
-/// lies, and the file checksum is that of the new body.
+/// A moved file is as long as the file was, has the same sections in the same places, and all its
+/// bytes outside of its modules and of the file checksum stay. Each module's content is moved to the
+/// address at which it lies, and the file checksum is that of the new body.
 pub fn file_is_moved()
     ensures { (ffs3 : Bool) (base start : ℕ) (file moved : FileImage)
         → moved_file ffs3 base start file ≡ Ok moved
