@@ -351,10 +351,10 @@ none_changed place body head k None h a = refl
 none_changed place body head k (Some sections) h a =
     any_less (holds (k - head)) (section_changes place body (k - head)) sections (held_same place body (k - head)) (none_held head k sections h (a sections refl))
 
-part_stays : (a b c : Bool) → (b ≡ true → c ≡ false) → (a && b && c) ≡ false
-part_stays a true c h = no_list a true c (h refl)
+part_stays : (a b c : Bool) → (a ≡ true → b ≡ true → c ≡ false) → (a && b && c) ≡ false
+part_stays true true c h = h refl refl
 part_stays true false c h = refl
-part_stays false false c h = refl
+part_stays false b c h = refl
 
 at_least : (a b : ℕ) → nat_le a b ≡ true → a ≤ b
 at_least a b h = grind (arith, nat_tests, h)
@@ -367,4 +367,4 @@ outside_stays ffs3 place bytes k o =
     neither (has_checksum (file_head bytes) && k == 0x11) (has_sections bytes && nat_le head k && sections_change place (file_body bytes) (k - head) found)
     (no_check (has_checksum (file_head bytes)) k o.check)
     (part_stays (has_sections bytes) (nat_le head k) (sections_change place (file_body bytes) (k - head) found)
-    (λ h. none_changed place (file_body bytes) head k found (at_least head k h) o.contents))
+    (λ t h. none_changed place (file_body bytes) head k found (at_least head k h) (λ sections f. o.contents sections t f)))

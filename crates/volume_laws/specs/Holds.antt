@@ -9,7 +9,8 @@ use Rattle.volume_reader.specs.Files.{is_file, listed_file}
 use Rattle.volume_reader.specs.Volume.{are_erased}
 
 -- A file stands at this place of a volume, and this row tells it.
-pub record IsFileAt (ffs3 : Bool) (erase : ℕ) (volume : List ℕ) (place : ℕ) (row : Listed) : Type 0 where
+pub record IsFileAt (ffs3 : Bool) (erase : ℕ) (volume : List ℕ) (place : ℕ) (row : Listed)
+    : Type 0 where
   pub file : is_file ffs3 erase (drop place volume) ≡ true
   pub told : row ≡ listed_file ffs3 place (drop place volume)
 
@@ -23,10 +24,11 @@ pub record IsWrongAt (ffs3 : Bool) (erase : ℕ) (volume : List ℕ) (place : �
   pub file : is_file ffs3 erase (drop place volume) ≡ false
   pub erased : are_erased erase (drop place volume) ≡ false
 
--- From an end on these are a volume's files, and so many bytes are free behind them. Each stands at
--- the least multiple of 8 from the end of the one before it on, and behind the last the bytes are
--- erased from the least multiple of 8 on.
-pub data AreFilesFrom (ffs3 : Bool) (erase : ℕ) (volume : List ℕ) : ℕ → List Listed → ℕ → Type 0 where
+-- These are a volume's files from an end on, and so many bytes are free behind them. Each file
+-- starts at the least multiple of 8 from the end before it on. So do the free bytes, which are
+-- erased.
+pub data AreFilesFrom (ffs3 : Bool) (erase : ℕ) (volume : List ℕ)
+    : ℕ → List Listed → ℕ → Type 0 where
   none : (end free : ℕ) → IsFreeFrom erase volume (up 8 end) free
       → AreFilesFrom ffs3 erase volume end [] free
   some : (end free : ℕ) (row : Listed) (rows : List Listed)

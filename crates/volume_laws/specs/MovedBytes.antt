@@ -26,7 +26,8 @@ use Rattle.image_rebase.specs.Rebase.{base_of}
 
 -- At this place of a content stands a word of so many bytes that an entry of these blocks names. No
 -- other entry names a byte of it, and none is one of ImageBase.
-pub record IsNamedOnce (m : Module) (directory : List ℕ) (blocks : List Block) (at width : ℕ) : Type 0 where
+pub record IsNamedOnce (m : Module) (directory : List ℕ) (blocks : List Block) (at width : ℕ)
+    : Type 0 where
   pub before : List Block
   pub block : Block
   pub after : List Block
@@ -44,9 +45,10 @@ pub record IsNamedOnce (m : Module) (directory : List ℕ) (blocks : List Block)
       → list_any (names m.skip block.page k) (front ++ back) ≡ false
   pub no_base : (k : ℕ) → is_in at width k ≡ true → is_in m.base_at (base_width m) k ≡ false
 
--- The content of a module is moved to this address. Its ImageBase is the address of relative address
--- 0, and each word that is named once has the difference of the new ImageBase and the old more.
-pub record IsMovedModule (place : Place) (m : Module) (address : ℕ) (content moved : List ℕ) : Type 0 where
+-- The content of a module is moved to this address. Its ImageBase is the address of relative
+-- address 0. Each word that is named once has the difference of the new ImageBase and the old more.
+pub record IsMovedModule (place : Place) (m : Module) (address : ℕ) (content moved : List ℕ)
+    : Type 0 where
   pub blocks : List Block
   pub found : module_blocks place m content ≡ Ok blocks
   pub base : little_from m.base_at (base_width m) moved ≡ new_base m address
@@ -83,7 +85,8 @@ IsMovedIn place address body moved section = has_module section ≡ true
 
 -- The body of a file with these sections, which lies at an address: each module among them is moved
 -- to where it lies, and the header has the file checksum of the new body.
-pub record IsMovedBody (place : Place) (address : ℕ) (sections : List ListedSection) (bytes moved : List ℕ) : Type 0 where
+pub record IsMovedBody (place : Place) (address : ℕ) (sections : List ListedSection)
+    (bytes moved : List ℕ) : Type 0 where
   pub contents : All (IsMovedIn place address (file_body bytes) (file_body moved)) sections
   pub check : has_checksum (file_head bytes) ≡ true
       → slice_index moved 0x11 ≡ zero_byte (file_body moved)
@@ -91,14 +94,14 @@ pub record IsMovedBody (place : Place) (address : ℕ) (sections : List ListedSe
 -- This place of a file is not that of a file checksum of its body, and no module's content has it.
 pub record IsOutside (ffs3 : Bool) (bytes : List ℕ) (k : ℕ) : Type 0 where
   pub check : has_checksum (file_head bytes) ≡ true → k ≢ 0x11
-  pub contents : (sections : List ListedSection)
+  pub contents : (sections : List ListedSection) → has_sections bytes ≡ true
       → sections_of ffs3 0 (file_body bytes) ≡ Some sections
       → All (λ section. has_module section ≡ true
       → is_in (head_at bytes + section.start) (content_length section) k ≡ false) sections
 
 -- The file that stands at this place of a volume with this base is moved. It is as long, it has the
 -- same sections in the same places, and all bytes outside of its modules and of the file checksum
--- stay. Within a module only those change that it names.
+-- stay. Within a module those alone change that it names.
 pub record IsMovedFile (ffs3 : Bool) (base start : ℕ) (file moved : FileImage) : Type 0 where
   pub at : moved.at ≡ file.at
   pub guid : moved.guid ≡ file.guid
@@ -124,7 +127,8 @@ AreMovedFiles ffs3 base files starts moved = ⊥
 
 -- The image is the volume of the files, each moved to where it stands in the volume of the files as
 -- they are.
-pub record IsMovedVolume (head : VolumeHead) (files : List FileImage) (image : List ℕ) : Type 0 where
+pub record IsMovedVolume (head : VolumeHead) (files : List FileImage) (image : List ℕ)
+    : Type 0 where
   pub starts : List ℕ
   pub places : places_of head files ≡ Ok starts
   pub moved : List FileImage

@@ -27,16 +27,16 @@ pub(crate) fn moved_is_read()
 {}
 
 /// What is read of a volume whose modules are moved is what is read of the volume of its files as
-/// they are: its length, its files in their places, with their names, types, sizes and sections, and
-/// the free bytes behind them.
+/// they are. That is its length, its files with their places, names, types, sizes and sections, and
+/// how many bytes are free.
 pub fn moved_is_read_as_it_was()
     ensures { (head : VolumeHead) (made : List Made) (image plain : List ℕ) → AreBuilt head made
         → rebased head (files_of made) ≡ Ok image → volume_of head (files_of made) ≡ Ok plain
         → volume_list image ≡ volume_list plain }
 {}
 
-/// What is read of a volume is what it holds, and it holds one list of files at most. Its first
-/// wrong file is read where files stand one behind the other up to a place that has none.
+/// What is read of a volume is what it holds, and a volume holds one list of files at most. The
+/// place of a wrong file is read where files stand one behind the other up to that place.
 pub fn files_are_read()
     ensures list { (bytes : List ℕ) (list : VolumeList)
         → volume_list bytes ≡ Ok list ↔ Holds bytes list }
@@ -46,18 +46,18 @@ pub fn files_are_read()
         → volume_list bytes ≡ Err place ↔ IsWrong bytes place }
 {}
 
-/// A moved file is as long as the file was, has the same sections in the same places, and all its
-/// bytes outside of its modules and of the file checksum stay. Each module's content is moved to the
-/// address at which it lies, and the file checksum is that of the new body.
+/// A moved file is as long as the file was, and has the same sections in the same places. All its
+/// bytes outside of its modules and of the file checksum stay. Each module's content is moved to
+/// the address at which it lies. The file checksum is that of the new body.
 pub fn file_is_moved()
     ensures { (ffs3 : Bool) (base start : ℕ) (file moved : FileImage)
         → moved_file ffs3 base start file ≡ Ok moved
         → IsMovedFile ffs3 base start file moved }
 {}
 
-/// The content of a section that is moved is as long as it was. Its ImageBase is its new one, each
-/// word that base relocations name once has the difference of the two bases more, and all bytes but
-/// those of ImageBase and of named words stay.
+/// The content of a section that is moved is as long as it was, and its ImageBase is the new one.
+/// Each word that base relocations name once has the difference of the two bases more. All bytes
+/// but those of ImageBase and of named words stay.
 pub fn content_is_moved()
     ensures { (place : Place) (base address kind : ℕ) (content moved : List ℕ)
         → moved_content place base address kind content ≡ Ok moved
@@ -73,8 +73,8 @@ pub fn volume_is_moved()
 {}
 
 /// The ImageBase of a module that is moved is the address of relative address 0. In a PE32 image
-/// that is where its content lies. The content of a TE image begins with its header, in place of the
-/// first StrippedSize bytes.
+/// that is where its content lies. The content of a TE image begins with its header, in place of
+/// the first StrippedSize bytes.
 pub fn image_base_is_moved()
     ensures pe { (place : Place) (base address : ℕ) (content moved : List ℕ)
         → is_some (module_in EFI_SECTION_PE32 content) ≡ true → KeepsFields place content

@@ -1,8 +1,8 @@
 -- Resolved rows fit their places.
-use Rattle.std.proofs.Common.{◌≡◌, ℕ, ◌≤◌, Bool, true, false, if◌then◌else◌, nat_lt, List, [], ◌∷◌, ◌++◌, length, map, filter, All, Option, Some, None, Result, Ok, Err, refl, ap, sym, arith, subst}
+use Rattle.std.proofs.Common.{◌≡◌, ℕ, ◌≤◌, Bool, true, false, if◌then◌else◌, nat_lt, List, [], ◌∷◌, ◌++◌, length, map, filter, codes, cond, All, Option, Some, None, Result, Ok, Err, refl, ap, sym, arith, subst}
 use Rattle.std.specs.Int.{w16, w32, w64, to_le_bytes}
 use Rattle.std.proofs.lemmas.Bool.Decides.{nat_tests}
-use Rattle.std.proofs.lemmas.List.Elements.{All-nil, All-cons, All-append}
+use Rattle.std.proofs.lemmas.List.Elements.{All-nil, All-cons, All-head, All-tail, All-append}
 use Rattle.build_base.specs.First.{and_then, or_fault, with_front}
 use Rattle.build_base.specs.FaultCodes.{DOES_NOT_FIT}
 use Rattle.build_base.specs.FaultText.{fault_of}
@@ -13,7 +13,10 @@ use Rattle.meta_lexer.specs.Words.{holds_macro}
 use Rattle.macro_conditions.specs.declared.expression.Value.{Value}
 use Rattle.macro_conditions.specs.declared.expression.Value.TheVariants.{Number, Word}
 use Rattle.macro_conditions.specs.Expressions.{value_of_text}
+use Rattle.std.specs.Str.{bytes_eq}
+use Rattle.doc_types.specs.declared.asks.ModuleAsk.{ModuleAsk}
 use Rattle.doc_types.specs.declared.asks.PlatformAsk.{PlatformAsk}
+use Rattle.doc_types.specs.declared.choice.Module.{Module}
 use Rattle.doc_types.specs.declared.package.DecPcd.{DecPcd}
 use Rattle.doc_types.specs.declared.pcd.Datum.{Datum}
 use Rattle.doc_types.specs.declared.pcd.Datum.TheVariants.{U8, U16, U32, U64, Boolean, Void}
@@ -23,11 +26,12 @@ use Rattle.doc_types.specs.declared.platform.Sku.{Sku}
 use Rattle.doc_types.specs.declared.values.PcdRow.{PcdRow}
 use Rattle.doc_types.specs.declared.values.Values.{Values}
 use Rattle.pcd_values.specs.Parsing.{width, bytes_of, fitting, number_bytes, number_value, parsed}
-use Rattle.pcd_ranks.specs.Names.{is_void, is_dynamic}
-use Rattle.pcd_ranks.specs.Listing.{Use, Stated, uses_in, uses_of, stated_in, stated_for}
-use Rattle.pcd_ranks.specs.Assignments.{Assignment, sets_of, value_from, max_from}
+use Rattle.pcd_ranks.specs.Names.{dotted, is_void, is_dynamic}
+use Rattle.pcd_ranks.specs.Listing.{Use, Stated, uses_in, uses_of, uses_of_module, stated_in, stated_for, declared_in}
+use Rattle.pcd_ranks.specs.Assignments.{Assignment, assignments, sets_of, value_from, max_from}
 use Rattle.pcd_resolve.specs.Faults.{checked_kind}
-use Rattle.pcd_resolve.specs.Rows.{stated_max, void_max, maximum, row, row_by, row_from, row_of, names_of, all_rows, joined}
+use Rattle.pcd_resolve.specs.Kinds.{declaration}
+use Rattle.pcd_resolve.specs.Rows.{stated_max, void_max, maximum, row, row_by, row_from, row_of, rows_named, fixed_row, rows_by_kind, rows_of, names_of, all_rows, joined, sets_in, rows_in, module_values}
 use Rattle.pcd_resolve.specs.Platform.{counts, chosen, words_fault, vpd_fault, sku_assignments, source, row_by_source, dynamic_rows, rows_declared, declaration_among, rows_by, platform_sets, rows_at, platform_values}
 use Rattle.vpd_image.specs.Places.{size_by, size_of}
 use Rattle.vpd_laws.specs.Sized.{IsSized}
@@ -177,3 +181,45 @@ values_sized ask values e =
     let found : Result (List PcdRow) Fault = all_rows (map f (names_of (uses_in ask.modules))) in
     joined_sized found values (λ rows a. all_sized f (names_of (uses_in ask.modules)) rows (λ pcd some b. pcd_sized ask (uses_in ask.modules) (stated_in ask.platform) pcd some b) a)
     (past (words_fault ask) (joined found) values e)
+
+-- The rows of a module.
+
+kept_sized : (test : PcdRow → Bool) (rows : List PcdRow) → AreSized rows → AreSized (filter test rows)
+kept_sized test [] a = none_sized
+kept_sized test (row ∷ rows) a =
+    elim (test row) as (λ b. AreSized (cond b (row ∷ filter test rows) (filter test rows))) [
+      | true ↦ All-cons IsSized row (filter test rows) (All-head IsSized row rows a) (kept_sized test rows (All-tail IsSized row rows a))
+      | false ↦ kept_sized test rows (All-tail IsSized row rows a)
+    ]
+
+fixed_sized : (user : Module) (uses : List Use) (lines : List Stated) (sets : List PcdSet) (kind : Kind) (found : Option DecPcd) (rows : List PcdRow) → fixed_row user uses lines sets kind found ≡ Ok rows → AreSized rows
+fixed_sized user uses lines sets kind None rows e = let s : [] ≡ rows = cc in same_sized [] rows none_sized s
+fixed_sized user uses lines sets kind (Some line) rows e = row_sized kind line (codes "DEFAULT") (assignments user line uses lines sets) rows e
+
+by_kind_sized : (user : Module) (uses : List Use) (lines : List Stated) (declared : List DecPcd) (sets : List PcdSet) (dynamic : List PcdRow) (found : Option Kind) (rows : List PcdRow) → AreSized dynamic
+    → rows_by_kind user uses lines declared sets dynamic found ≡ Ok rows → AreSized rows
+by_kind_sized user uses lines declared sets dynamic None rows a e = let s : [] ≡ rows = cc in same_sized [] rows none_sized s
+by_kind_sized user uses lines declared sets dynamic (Some kind) rows a e =
+    elim (is_dynamic kind) as (λ b. (if b then Ok dynamic else fixed_row user uses lines sets kind (declaration kind declared)) ≡ Ok rows → AreSized rows) [
+      | true ↦ λ o. let s : dynamic ≡ rows = cc in same_sized dynamic rows a s
+      | false ↦ λ o. fixed_sized user uses lines sets kind (declaration kind declared) rows o
+    ] e
+
+named_sized : (pcd : List ℕ) (user : Module) (uses : List Use) (lines : List Stated) (declared : List DecPcd) (sets : List PcdSet) (dynamic rows : List PcdRow) → AreSized dynamic
+    → rows_of pcd user uses lines declared sets dynamic ≡ Ok rows → AreSized rows
+unfolding rows_of
+named_sized pcd user uses lines declared sets dynamic rows a e =
+    through (checked_kind pcd uses lines) (rows_by_kind user uses lines declared sets dynamic) rows e (λ found b c. by_kind_sized user uses lines declared sets dynamic found rows a c)
+
+used_sized : (ask : ModuleAsk) (uses : List Use) (lines : List Stated) (pcd : List ℕ) (rows : List PcdRow) → AreSized ask.dynamic.rows → rows_in ask uses lines pcd ≡ Ok rows → AreSized rows
+unfolding rows_in
+used_sized ask uses lines pcd rows a e =
+    named_sized pcd ask.parts.«module» (uses_of pcd uses) (stated_for pcd lines) (declared_in ask.parts pcd) (sets_of pcd (sets_in ask)) (rows_named pcd ask.dynamic.rows) rows
+    (kept_sized (λ row. bytes_eq (dotted row.pcd) pcd) ask.dynamic.rows a) e
+
+pub module_sized : (ask : ModuleAsk) (values : Values) → AreSized ask.dynamic.rows → module_values ask ≡ Ok values → AreSized values.rows
+unfolding module_values
+module_sized ask values a e =
+    let f : List ℕ → Result (List PcdRow) Fault = rows_in ask (uses_of_module ask.parts) (stated_in ask.platform) in
+    joined_sized (all_rows (map f (names_of (uses_of_module ask.parts)))) values
+    (λ rows b. all_sized f (names_of (uses_of_module ask.parts)) rows (λ pcd some c. used_sized ask (uses_of_module ask.parts) (stated_in ask.platform) pcd some a c) b) e
