@@ -3,6 +3,7 @@ pub mod PlanLemmas
 pub mod FileLemmas
 pub mod MovedLemmas
 pub mod HoldsLemmas
+pub mod ListLemmas
 pub mod WordLemmas
 pub mod HeadLemmas
 pub mod SectionsLemmas

@@ -1,3 +1,4 @@
 pub mod Moved
 pub mod Holds
+pub mod Sections
 pub mod MovedBytes

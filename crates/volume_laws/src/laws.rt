@@ -1,11 +1,13 @@
 //! Laws of volumes that are read, and of volumes whose modules are moved.
-ghost use Rattle.std.specs.Prelude.{◌≡◌, ◌↔◌, ℕ, ◌-◌, Bool, true, is_some, List, Ok, Err};
+ghost use Rattle.std.specs.Prelude.{◌≡◌, ◌↔◌, ℕ, ◌-◌, Bool, true, is_some, List, Some, Ok, Err};
 ghost use Rattle.byteorder.specs.Endian.{little_from};
 ghost use Rattle.build_base.specs.declared.fault.Place.{Place};
 ghost use Rattle.doc_types.specs.declared.image.FileImage.{FileImage};
 ghost use Rattle.doc_types.specs.declared.volume_head.VolumeHead.{VolumeHead};
 ghost use Rattle.fv_compose.specs.Volume.{volume_of};
+ghost use Rattle.volume_reader.specs.declared.listed.ListedSection.{ListedSection};
 ghost use Rattle.volume_reader.specs.declared.listed.VolumeList.{VolumeList};
+ghost use Rattle.volume_reader.specs.Sections.{sections_of};
 ghost use Rattle.volume_reader.specs.Volume.{volume_list};
 ghost use Rattle.volume_reader.specs.Written.{Made, files_of};
 ghost use Rattle.te_images.specs.Pe.{image_base};
@@ -16,6 +18,7 @@ ghost use Rattle.image_rebase.specs.Rebase.{rebased};
 ghost use Rattle.image_rebase.specs.Standard.{EFI_SECTION_PE32, EFI_SECTION_TE, EFI_TE_IMAGE_HEADER_SIZE};
 ghost use Rattle.volume_laws.specs.Holds.{Holds, IsWrong};
 ghost use Rattle.volume_laws.specs.Moved.{AreBuilt, IsReadAlike};
+ghost use Rattle.volume_laws.specs.Sections.{AreSectionsFrom};
 ghost use Rattle.volume_laws.specs.MovedBytes.{IsMovedContent, IsMovedFile, IsMovedVolume, KeepsFields};
 
 /// A volume whose modules are moved reads back as the volume of its files as they are, but for the
@@ -44,6 +47,16 @@ pub fn files_are_read()
         → Holds bytes list → Holds bytes other → list ≡ other }
     ensures wrong { (bytes : List ℕ) (place : ℕ)
         → volume_list bytes ≡ Err place ↔ IsWrong bytes place }
+{}
+
+/// What is read of a file's body are its sections, one behind the other, and a body has one list of
+/// sections at most.
+pub fn sections_are_read()
+    ensures list { (ffs3 : Bool) (place : ℕ) (body : List ℕ) (rows : List ListedSection)
+        → sections_of ffs3 place body ≡ Some rows ↔ AreSectionsFrom ffs3 place body 0 rows }
+    ensures one { (ffs3 : Bool) (place : ℕ) (body : List ℕ) (rows others : List ListedSection)
+        → AreSectionsFrom ffs3 place body 0 rows → AreSectionsFrom ffs3 place body 0 others
+        → rows ≡ others }
 {}
 
 /// A moved file is as long as the file was, and has the same sections in the same places. All its
