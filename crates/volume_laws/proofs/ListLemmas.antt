@@ -1,12 +1,12 @@
 -- The sections of a body that is read stand one behind the other, and no other list of sections does.
-use Rattle.std.proofs.Common.{◌≡◌, ◌↔◌, ℕ, zero, suc, ◌+◌, ◌-◌, ◌<◌, ◌≤◌, ◌==◌, ◌&&◌, Bool, true, false, if◌then◌else◌, List, [], ◌∷◌, length, drop, Option, Some, None, refl, ap, sym, ◌∙◌, arith, subst, length-drop, ne_eqb, eq-eqb}
+use Rattle.std.proofs.Common.{◌≡◌, ◌↔◌, ℕ, zero, suc, ◌+◌, ◌-◌, ◌<◌, ◌≤◌, ◌==◌, Bool, true, false, if◌then◌else◌, List, [], ◌∷◌, length, drop, Option, Some, None, refl, ap, sym, ◌∙◌, arith, subst, length-drop, eq-eqb}
 use Rattle.std.proofs.lemmas.Bool.Decides.{nat_tests}
 use Rattle.std.specs.Option.{option_map}
 use Rattle.ffs_sections.specs.Sections.{up4}
 use Rattle.volume_reader.specs.declared.listed.ListedSection.{ListedSection}
 use Rattle.volume_reader.specs.Sections.{section_size, is_section, listed_section, follows, sections_from, sections_of}
 use Rattle.volume_reader.proofs.SectionLemmas.{size_within, size_least}
-use Rattle.volume_laws.specs.Sections.{IsSectionAt, AreSectionsFrom, last, next}
+use Rattle.volume_laws.specs.Sections.{AreSectionsFrom, last, next}
 
 abbrev row_at : Bool → ℕ → List ℕ → ℕ → ListedSection
 row_at ffs3 place body at = listed_section ffs3 (place + up4 at) (drop (up4 at) body)
