@@ -4,7 +4,7 @@ use Rattle.std.proofs.lemmas.Bool.Decides.{nat_tests}
 use Rattle.std.proofs.lemmas.List.Sorted.{IsPartitionPoint-from_clause, IsPartitionedBy-leb}
 use Rattle.std.specs.Prelude.{nat_le}
 use Rattle.vpd_image.proofs.RoomLemmas.{ends_rise, all_passed, all_left}
-use Rattle.vpd_image.proofs.free_map.passed.Goals as goal
+use Rattle.vpd_image.proofs.free_map.count_passed.Goals as goal
 
 pub returns-clause-before : goal.returns-clause-before
 returns-clause-before c = λ l.
