@@ -16,7 +16,7 @@ use Rattle.doc_types.specs.declared.vpd.Vpd.{Vpd}
 use Rattle.vpd_image.specs.declared.ask.VpdAsk.{VpdAsk}
 use Rattle.vpd_image.specs.Entries.{Entry, counts, line_label, is_row_of, is_line_of, row_left, with_row, entry_in, entries}
 use Rattle.vpd_image.specs.Orders.{Apart}
-use Rattle.vpd_image.specs.Places.{Placed, size_of, end_of, padded, greatest_end, written, placed_next, placed_from, placed, placed_by, overlap_fault, long_fault, all_ended, put_in_order, in_order}
+use Rattle.vpd_image.specs.Places.{Placed, size_of, end_of, padded, greatest_end, written_entries, placed_next, placed_from, placed, placed_by, overlap_fault, long_fault, all_ended, put_in_order, in_order}
 use Rattle.vpd_image.specs.Vpd.{entry_bytes, piece_of, image_with, place_of, read_at, vpd_from, vpd_by, entries_of, vpd_of}
 use Rattle.vpd_image.proofs.ApartLemmas.{apart_placed, apart_in_order, placed_is}
 use Rattle.vpd_image.proofs.OrderLemmas.{rising_in_order}
@@ -38,7 +38,7 @@ entries_from fixed above (entry ∷ all) =
 
 pub entries_placed : (all : List Entry) → map (λ p. p.entry) (placed all) ≡ all
 unfolding placed
-entries_placed all = entries_from (written all) [] all
+entries_placed all = entries_from (written_entries all) [] all
 
 all_of_map : (P : Entry → Type 0) (ps : List Placed) → All P (map (λ p. p.entry) ps) → All (λ p. P p.entry) ps
 all_of_map P [] a = All-nil (λ p. P p.entry)
@@ -175,7 +175,7 @@ fault_first (Some f) outcome x e = absurd cc
 placed_apart : (all : List Entry) (ps : List Placed) → placed_by all ≡ Ok ps → Apart ps
 unfolding placed_by
 placed_apart all ps e =
-    let n : overlap_fault [] (written all) ≡ None = fault_first (overlap_fault [] (written all)) (or_fault (long_fault (written all)) (all_ended (placed all))) ps e in
+    let n : overlap_fault [] (written_entries all) ≡ None = fault_first (overlap_fault [] (written_entries all)) (or_fault (long_fault (written_entries all)) (all_ended (placed all))) ps e in
     subst Apart (placed_is all ps e) (apart_placed all n)
 
 made_read : (all : List Entry) (ps : List Placed) → All HasSized all → placed_by all ≡ Ok ps → All (IsReadAt (image_with (in_order ps))) ps
