@@ -98,7 +98,7 @@ fn bad(
 ) -> Result<(), Refusal>
     ensures { Checks result
         (Some
-            (record { code = code; place = at.now; detail = comparison_text first sign.now second })) }
+        (record { code = code; place = at.now; detail = comparison_text first sign.now second })) }
 {
     let detail = comparison_text(alloc, first, sign, second)?;
     let place = at.copy(alloc)?;
