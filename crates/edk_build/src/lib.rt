@@ -11,15 +11,15 @@ pub mod laws;
 pub mod made;
 pub mod replay;
 pub mod replay_state;
-pub mod run;
 pub mod script;
 pub mod selftest;
 pub mod status;
 pub mod stop;
 pub mod summary;
+pub mod top_call;
 pub mod usage;
 pub mod volinfo;
 pub mod words;
 
-pub use run::run;
 pub use status::Status;
+pub use top_call::run;

@@ -7,7 +7,7 @@ use Rattle.edk_build.proofs.SelftestLemmas.{selftest_early}
 use Rattle.edk_build.proofs.WordLemmas.{is_command_job}
 use Rattle.edk_build.specs.Commands.{command_of}
 use Rattle.edk_build.specs.History.{IsReplayComplete}
-use Rattle.edk_build.proofs.run.run.Goals as goal
+use Rattle.edk_build.proofs.top_call.run.Goals as goal
 
 pub build_kept-requires-clause-job : goal.build_kept-requires-clause-job
 build_kept-requires-clause-job g c κs within =
