@@ -41,7 +41,7 @@ struct Loaded {
 #[tactic(auto, using(crate::proofs::KeptLemmas::least_edition, crate::proofs::KeptLemmas::most_edition))]
 fn adopted_cache(kept: Kept) -> Loaded
     requires { is_edition kept.edition ≡ true }
-    ensures cache { result.cache ≡ adopted_cache kept.edition kept.cache }
+    ensures cache { result.cache ≡ adopted kept.edition kept.cache }
     ensures newest { result.is_text ≡ true → (kept.edition ≡ newest) × (result.cache ≡ kept.cache) }
 {
     let Kept { edition, cache } = kept;
