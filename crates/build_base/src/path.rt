@@ -109,7 +109,7 @@ pub fn is_path(text: &[u8]) -> bool
 }
 
 impl Path {
-    fn made(text: Text) -> Path
+    fn from_checked(text: Text) -> Path
         requires { IsPath text }
         ensures { result ≡ text }
     {
@@ -127,7 +127,7 @@ impl Path {
             return Err(PathRefusal::BadPath);
         }
         match Text::of(alloc, text) {
-            Ok(text) => Ok(Path::made(text)),
+            Ok(text) => Ok(Path::from_checked(text)),
             Err(_) => Err(PathRefusal::WantOfMemory),
         }
     }
@@ -138,7 +138,7 @@ impl Path {
             (λ p. (p ≡ text) × (is_path text ≡ true)) }
     {
         if is_path(text.bytes()) {
-            Some(Path::made(text))
+            Some(Path::from_checked(text))
         } else {
             None
         }
@@ -169,7 +169,7 @@ impl Path {
     {
         let mut bytes = Vec::from_slice(alloc, self.bytes())?;
         push_segment(&mut bytes, more.bytes())?;
-        Ok(Path::made(Text::of(alloc, bytes.as_slice())?))
+        Ok(Path::from_checked(Text::of(alloc, bytes.as_slice())?))
     }
 }
 
@@ -197,7 +197,7 @@ impl Path {
         if size == 0 {
             return Ok(None);
         }
-        Ok(Some(Path::made(Text::of(alloc, &bytes[..size - 1])?)))
+        Ok(Some(Path::from_checked(Text::of(alloc, &bytes[..size - 1])?)))
     }
 }
 

@@ -19,7 +19,7 @@ use Rattle.meta_lexer.specs.Faults.{first_fault}
 use Rattle.meta_lexer.specs.GuidBraces.{guid_of_braces}
 use Rattle.meta_lexer.specs.Numbers.{number_of}
 use Rattle.meta_lexer.specs.Parts.{field_texts}
-use Rattle.meta_lexer.specs.Words.{halves, is_identifier}
+use Rattle.meta_lexer.specs.Words.{split_once, is_identifier}
 use Rattle.dec_docs.specs.declared.key_line.DecKey.{DecKey}
 use Rattle.dec_docs.specs.declared.key_line.DecKey.TheVariants as key
 use Rattle.dec_docs.specs.declared.section.DecSection.{DecSection}
@@ -49,7 +49,7 @@ guid_field_given line arch field None e = absurd (bad (least_rest (undefined_mac
 
 guid_given : (line : Taken) (arch : Arch) → least_of (guids.guid_line_faults line) ≡ None → IsSome (guids.guid_line_row line arch)
 unfolding guids.guid_line_faults guids.guid_line_row
-guid_given line arch e = guid_field_given line arch (guids.guid_field line) (halves 61 (guids.guid_field line)) (least_read line _ e)
+guid_given line arch e = guid_field_given line arch (guids.guid_field line) (split_once 61 (guids.guid_field line)) (least_read line _ e)
 
 -- a PCD's line
 made : (line : Taken) (arch : Arch) (kind : Kind) (pcd : Option PcdName) (default : List ℕ) (datum : Option Datum) (token : List ℕ) (number : Option ℕ) (missing : Fault)

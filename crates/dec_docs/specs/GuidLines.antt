@@ -7,7 +7,7 @@ use Rattle.build_base.specs.declared.guid.Guid.{Guid as GuidBytes}
 use Rattle.build_base.specs.declared.lines.Taken.{Taken}
 use Rattle.meta_lexer.specs.GuidBraces.{guid_of_braces}
 use Rattle.meta_lexer.specs.Parts.{first_text, field_texts}
-use Rattle.meta_lexer.specs.Words.{halves, is_identifier}
+use Rattle.meta_lexer.specs.Words.{split_once, is_identifier}
 use Rattle.doc_reading.specs.ValueFields.{undefined_macro}
 use Rattle.doc_reading.specs.Values.{wanted, of_read_line}
 use Rattle.doc_types.specs.declared.arch.Arch.{Arch}
@@ -49,7 +49,7 @@ guid_field line = first_text (field_texts line.text)
 -- in the first field; others are read past
 unfoldable pub guid_line_faults : Taken → List (Option Fault)
 guid_line_faults line = of_read_line line
-    (field_faults line (guid_field line) (halves 61 (guid_field line)))
+    (field_faults line (guid_field line) (split_once 61 (guid_field line)))
 
 unfoldable pub guid_line_row : Taken → Arch → Option DecRow
-guid_line_row line arch = field_row line arch (halves 61 (guid_field line))
+guid_line_row line arch = field_row line arch (split_once 61 (guid_field line))

@@ -5,7 +5,7 @@ use Rattle.build_base.specs.FaultText.{fault_of}
 use Rattle.build_base.specs.Guid.{guid_of}
 use Rattle.build_base.specs.declared.fault.Fault.{Fault}
 use Rattle.build_base.specs.declared.lines.Taken.{Taken}
-use Rattle.meta_lexer.specs.Words.{halves}
+use Rattle.meta_lexer.specs.Words.{split_once}
 use Rattle.doc_reading.specs.SegmentNames.{segment_name}
 use Rattle.doc_reading.specs.Least.{fault_in}
 use Rattle.doc_reading.specs.ValueFields.{undefined_macro}
@@ -47,7 +47,7 @@ pair_row (Some p) = key_row (key_named p.0) p.1
 pair_row None = None
 
 unfoldable pub key_line_faults : Taken → List (Option Fault)
-key_line_faults line = pair_faults line (halves 61 line.text)
+key_line_faults line = pair_faults line (split_once 61 line.text)
 
 unfoldable pub key_line_row : Taken → Option DecRow
-key_line_row line = pair_row (halves 61 line.text)
+key_line_row line = pair_row (split_once 61 line.text)

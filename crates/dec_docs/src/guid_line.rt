@@ -1,6 +1,6 @@
 //! The line of a GUID.
 ghost use Rattle.std.specs.Prelude.{◌≡◌, IfOk};
-ghost use Rattle.meta_lexer.specs.Words.{halves};
+ghost use Rattle.meta_lexer.specs.Words.{split_once};
 ghost use Rattle.meta_lexer.specs.GuidBraces.{guid_of_braces};
 ghost use Rattle.build_base.specs.Answer.{Answers, Checks};
 ghost use Rattle.doc_reading.specs.Gathering.{judged};
@@ -16,7 +16,7 @@ use doc_types::arch::Arch;
 use doc_types::depex::NamedGuid;
 use meta_lexer::guid_braces::guid_of_braces;
 use meta_lexer::parts::{field_texts, first_text};
-use meta_lexer::words::{halves, is_identifier};
+use meta_lexer::words::{is_identifier, split_once};
 use std::alloc::Global;
 
 fn check_words(alloc: Global, line: &Taken, name: &[u8], value: &[u8]) -> Result<(), Refusal>
@@ -68,10 +68,10 @@ fn guid_field(
     arch: Arch,
     field: &[u8],
 ) -> Result<Option<DecRow>, Refusal>
-    ensures { Answers result (judged (field_faults line.now field.now (halves 61 field.now))
-        (field_row line.now arch (halves 61 field.now))) }
+    ensures { Answers result (judged (field_faults line.now field.now (split_once 61 field.now))
+        (field_row line.now arch (split_once 61 field.now))) }
 {
-    match halves(b'=', field) {
+    match split_once(b'=', field) {
         Some((name, value)) => {
             let guid = guid_of_braces(value);
             least_of_two(

@@ -12,7 +12,7 @@ use doc_reading::segment_name::segment_name;
 use doc_reading::value_fields::{open_quote, undefined_macro};
 use doc_reading::values::wanted;
 use meta_lexer::lookup;
-use meta_lexer::words::halves;
+use meta_lexer::words::split_once;
 use std::alloc::Global;
 
 /// A key of [Defines] that is read.
@@ -67,7 +67,7 @@ fn key_said(
 pub fn key_line(alloc: Global, line: &Taken) -> Result<Option<DecRow>, Refusal>
     ensures { Answers result (judged (key_line_faults line.now) (key_line_row line.now)) }
 {
-    match halves(b'=', line.text.bytes()) {
+    match split_once(b'=', line.text.bytes()) {
         Some((key, value)) => key_said(alloc, line, key_named(key), value),
         None => Ok(None),
     }

@@ -7,7 +7,7 @@ use Rattle.build_base.specs.declared.fault.Fault.{Fault}
 use Rattle.build_base.specs.declared.lines.Taken.{Taken}
 use Rattle.meta_lexer.specs.Fields.{ends_quoted}
 use Rattle.meta_lexer.specs.Parts.{field_texts}
-use Rattle.meta_lexer.specs.Words.{halves, holds_macro, same_word}
+use Rattle.meta_lexer.specs.Words.{split_once, holds_macro, same_word}
 use Rattle.doc_reading.specs.Gathering.{judged}
 use Rattle.doc_reading.specs.Least.{least_of}
 use Rattle.doc_reading.specs.ValueFields.{number_value}
@@ -46,7 +46,7 @@ set_line : (line : Taken) → same_word (word_of line.text) (codes "SET") ≡ tr
 unfolding is_set
 set_line line e f = ap₂ (λ a b. a && not b) e f
 
-set_parts : (line : Taken) (rank : ℕ) (name value : List ℕ) (pcd : PcdName) → halves 61 (after_word line.text) ≡ Some (name, value) → pcd_name_of name ≡ Some pcd → (length value == 0) ≡ false → holds_macro name ≡ false → holds_macro value ≡ false
+set_parts : (line : Taken) (rank : ℕ) (name value : List ℕ) (pcd : PcdName) → split_once 61 (after_word line.text) ≡ Some (name, value) → pcd_name_of name ≡ Some pcd → (length value == 0) ≡ false → holds_macro name ≡ false → holds_macro value ≡ false
     → judged (sets.set_faults line) (sets.set_row line rank) ≡ Ok (Some (row.Set (record { at = line.at; rank = rank; pcd = pcd; value = value })))
 unfolding sets.set_faults sets.set_row
 set_parts line rank name value pcd h p l m n = rw (h, p, l, m, n) refl
@@ -60,7 +60,7 @@ set_says line marks full s pcd value h =
     let some : (length value == 0) ≡ false = (let l = h.some in grind (arith, nat_tests)) in
     ap (λ t. judged (if t then of_read_line line (sets.set_faults line) else scope_faults line marks full s) (if t then sets.set_row line (rank_of s) else scope_row line marks s)) set
     ∙ ap (λ fs. judged fs (sets.set_row line (rank_of s))) (closed_line line (sets.set_faults line) h.closed)
-    ∙ set_parts line (rank_of s) h.name value pcd (ap (halves 61) rest ∙ split_found h.rest h.name value h.split) h.pcd_is some h.name_filled h.value_filled
+    ∙ set_parts line (rank_of s) h.name value pcd (ap (split_once 61) rest ∙ split_found h.rest h.name value h.split) h.pcd_is some h.name_filled h.value_filled
 
 -- any other line
 pub plain_line : (line : Taken) (marks : Marks) (full : Bool) (s : Scope) (x : Result (Option Row) Fault) → IsPlain line → judged (scope_faults line marks full s) (scope_row line marks s) ≡ x → judged (line_faults line marks full s) (line_row line marks s) ≡ x

@@ -8,7 +8,7 @@ use Rattle.build_base.specs.declared.fault.Fault.{Fault}
 use Rattle.build_base.specs.declared.lines.Taken.{Taken}
 use Rattle.meta_lexer.specs.Faults.{first_fault}
 use Rattle.meta_lexer.specs.Parts.{first_text, field_texts}
-use Rattle.meta_lexer.specs.Words.{halves}
+use Rattle.meta_lexer.specs.Words.{split_once}
 use Rattle.macro_conditions.specs.Sources.{without_workspace}
 use Rattle.doc_reading.specs.Least.{least_of, fault_in}
 use Rattle.doc_reading.specs.ValueFields.{undefined_macro, number_value}
@@ -56,7 +56,7 @@ set_by line rank text None e = second (undefined_macro line.at text) (fault_of B
 
 pub set_given : (line : Taken) (rank : ℕ) → least_of (sets.set_faults line) ≡ None → IsSome (sets.set_row line rank)
 unfolding sets.set_faults sets.set_row
-set_given line rank e = set_by line rank (after_word line.text) (halves 61 (after_word line.text)) e
+set_given line rank e = set_by line rank (after_word line.text) (split_once 61 (after_word line.text)) e
 
 -- a line of a device
 numbered : (value : Result ℕ Fault) (pcd : Option PcdName) (rest : List (Option Fault)) → least_of (fault_in value ∷ rest) ≡ None → IsSome (numbers.numbered value pcd)

@@ -6,7 +6,7 @@ use Rattle.std.proofs.lemmas.Bool.Decides.{nat_tests}
 use mathlib.Core.List.{reverse_aux, reverse_aux-append}
 use Rattle.meta_lexer.specs.Lines.{is_blank, without_blanks}
 use Rattle.meta_lexer.specs.Tokens.{is_word_byte}
-use Rattle.meta_lexer.specs.Words.{halves}
+use Rattle.meta_lexer.specs.Words.{split_once}
 use Rattle.fdf_words.specs.Keys.{is_key, key_and_value, key_pair}
 use Rattle.fdf_words.specs.Words.{ends_word, word_of, after_word, after_equals, before_brace, last_byte}
 use Rattle.document_laws.proofs.ListLemmas.{prefix_passed, all_weaker, all_both}
@@ -121,17 +121,17 @@ no_pair text e =
 halves_at : ℕ → List ℕ → Option (List ℕ × List ℕ)
 halves_at i text = if nat_lt i (length text) then Some (without_blanks (take i text), without_blanks (drop (i + 1) text)) else None
 
-halves_split : (zs rest : List ℕ) → list_all (λ b. not (b == 61)) zs ≡ true → halves 61 (zs ++ (61 ∷ rest)) ≡ Some (without_blanks zs, without_blanks rest)
-unfolding halves halves_at
+halves_split : (zs rest : List ℕ) → list_all (λ b. not (b == 61)) zs ≡ true → split_once 61 (zs ++ (61 ∷ rest)) ≡ Some (without_blanks zs, without_blanks rest)
+unfolding split_once halves_at
 halves_split zs rest e =
     ap (λ i. halves_at i (zs ++ (61 ∷ rest))) (equals_at zs rest e)
     ∙ ap (λ t. if t then Some (without_blanks (take (length zs) (zs ++ (61 ∷ rest))), without_blanks (drop (length zs + 1) (zs ++ (61 ∷ rest)))) else None) (below zs rest 61)
     ∙ ap₂ (λ a b. Some (without_blanks a, without_blanks b)) (take_at zs (61 ∷ rest) (length zs) refl) (dropped zs rest 61)
 
-pub split_found : (text name value : List ℕ) → IsSplit text name value → halves 61 text ≡ Some (name, value)
+pub split_found : (text name value : List ℕ) → IsSplit text name value → split_once 61 text ≡ Some (name, value)
 split_found text name value h =
     let front = all_both (λ b. not (b == 61)) name h.before h.unequal (all_weaker is_blank (λ b. not (b == 61)) blank_not_equals h.before h.blank_before) in
-    ap (halves 61) (h.spelled ∙ sym (append_assoc name h.before (61 ∷ (h.behind ++ value))))
+    ap (split_once 61) (h.spelled ∙ sym (append_assoc name h.before (61 ∷ (h.behind ++ value))))
     ∙ halves_split (name ++ h.before) (h.behind ++ value) front
     ∙ ap₂ (λ a b. Some (a, b)) (trim_end name h.before h.trim_name h.blank_before) (trim_front h.behind value h.blank_behind h.trim_value)
 

@@ -10,7 +10,7 @@ use Rattle.build_base.specs.declared.lines.Taken.{Taken}
 use Rattle.meta_lexer.specs.Lines.{without_blanks}
 use Rattle.meta_lexer.specs.Lookup.{lookup}
 use Rattle.meta_lexer.specs.Parts.{field_texts}
-use Rattle.meta_lexer.specs.Words.{halves, same_word}
+use Rattle.meta_lexer.specs.Words.{split_once, same_word}
 use Rattle.macro_conditions.specs.Sources.{without_workspace}
 use Rattle.doc_reading.specs.ValueFields.{undefined_macro}
 use Rattle.doc_reading.specs.Values.{wanted, of_read_line}
@@ -104,13 +104,13 @@ define_part arch None = None
 -- a line below a tag is judged as one of the section of its name
 abbrev pub tagged_faults : Taken → Tag → List (Option Fault)
 tagged_faults line Libraries = library_faults line
-tagged_faults line Defines = define_faults line (halves 61 line.text)
+tagged_faults line Defines = define_faults line (split_once 61 line.text)
 tagged_faults line (Pcds kind stored) = pcd_faults line stored
 tagged_faults line Passed = []
 
 abbrev pub tagged_part : Taken → Arch → Tag → Option Part
 tagged_part line arch Libraries = option_map part.Library (library_of line arch None)
-tagged_part line arch Defines = define_part arch (halves 61 line.text)
+tagged_part line arch Defines = define_part arch (split_once 61 line.text)
 tagged_part line arch (Pcds kind stored) =
     option_map part.Pcd (pcd_of line kind stored arch (codes "DEFAULT"))
 tagged_part line arch Passed = None

@@ -8,7 +8,7 @@ use Rattle.build_base.specs.declared.fault.Fault.{Fault}
 use Rattle.build_base.specs.declared.fault.Place.{Place}
 use Rattle.build_base.specs.declared.lines.Taken.{Taken}
 use Rattle.meta_lexer.specs.Lookup.{lookup}
-use Rattle.meta_lexer.specs.Words.{halves}
+use Rattle.meta_lexer.specs.Words.{split_once}
 use Rattle.macro_conditions.specs.Sources.{without_workspace}
 use Rattle.doc_reading.specs.SegmentNames.{segment_name}
 use Rattle.doc_reading.specs.Least.{fault_in}
@@ -91,7 +91,7 @@ halves_row line None = None
 
 -- `KEY = VALUE`; a line without `=` is read past
 unfoldable pub key_line_faults : Taken → List (Option Fault)
-key_line_faults line = halves_faults line (halves 61 line.text)
+key_line_faults line = halves_faults line (split_once 61 line.text)
 
 unfoldable pub key_line_row : Taken → Option DscRow
-key_line_row line = halves_row line (halves 61 line.text)
+key_line_row line = halves_row line (split_once 61 line.text)

@@ -4,7 +4,7 @@ ghost use Rattle.std.specs.Option.{option_map};
 ghost use Rattle.dsc_lines.specs.declared.rows.Part.{Part as Row};
 ghost use Rattle.dsc_lines.specs.declared.rows.Part.TheVariants.{Tagged};
 ghost use Rattle.build_base.specs.Answer.{Answers};
-ghost use Rattle.meta_lexer.specs.Words.{halves};
+ghost use Rattle.meta_lexer.specs.Words.{split_once};
 ghost use Rattle.doc_reading.specs.Least.{least_of};
 ghost use Rattle.doc_reading.specs.Gathering.{judged};
 ghost use Rattle.dsc_lines.specs.ComponentLines.{form_of, tag_named, inf_text, is_file_guid, out_of_place, begun_faults, made_begun, begun_part, define_faults, define_part, tagged_faults, tagged_part, found_faults, misplaced_faults, shut_faults, shut_part, untagged_faults, untagged_part, below_faults, below_part, standing_faults, standing_part, component_faults, component_part};
@@ -27,7 +27,7 @@ use macro_conditions::known::without_workspace;
 use meta_lexer::line::trim;
 use meta_lexer::lookup;
 use meta_lexer::parts::field_texts;
-use meta_lexer::words::{halves, same_word};
+use meta_lexer::words::{same_word, split_once};
 use std::alloc::Global;
 
 /// What a line of [Components] is by its first and last bytes.
@@ -170,10 +170,10 @@ fn is_file_guid(key: &[u8]) -> bool
 
 fn define_part(alloc: Global, line: &Taken, arch: Arch) -> Result<Option<Part>, Refusal>
     ensures { Answers result
-        (judged (define_faults line.now (halves 61 line.now.text))
-        (define_part arch (halves 61 line.now.text))) }
+        (judged (define_faults line.now (split_once 61 line.now.text))
+        (define_part arch (split_once 61 line.now.text))) }
 {
-    let Some((key, value)) = halves(b'=', line.text.bytes()) else {
+    let Some((key, value)) = split_once(b'=', line.text.bytes()) else {
         return Ok(None);
     };
     if !is_file_guid(key) {

@@ -15,7 +15,7 @@ use doc_reading::value_fields::{open_quote, path_value, text_value, undefined_ma
 use doc_reading::values::wanted;
 use macro_conditions::known::without_workspace;
 use meta_lexer::lookup;
-use meta_lexer::words::halves;
+use meta_lexer::words::split_once;
 use std::alloc::Global;
 
 /// A key of [Defines] that is read.
@@ -119,7 +119,7 @@ fn pair_said(
 pub fn key_line(alloc: Global, line: &Taken) -> Result<Option<DscRow>, Refusal>
     ensures { Answers result (judged (key_line_faults line.now) (key_line_row line.now)) }
 {
-    match halves(b'=', line.text.bytes()) {
+    match split_once(b'=', line.text.bytes()) {
         Some((key, value)) => pair_said(alloc, line, key_named(key), value),
         None => Ok(None),
     }

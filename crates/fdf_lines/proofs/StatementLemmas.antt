@@ -12,7 +12,7 @@ use Rattle.build_base.specs.declared.lines.Taken.{Taken}
 use Rattle.macro_conditions.specs.Sources.{without_workspace}
 use Rattle.meta_lexer.specs.Fields.{ends_quoted}
 use Rattle.meta_lexer.specs.Parts.{field_texts}
-use Rattle.meta_lexer.specs.Words.{halves}
+use Rattle.meta_lexer.specs.Words.{split_once}
 use Rattle.doc_reading.specs.Gathering.{given_in, judged}
 use Rattle.doc_reading.specs.Least.{lesser, least_of}
 use Rattle.doc_reading.specs.ValueFields.{number_value, undefined_macro}
@@ -85,7 +85,7 @@ set_halves line rank (Some p) = set_made line rank (pcd_name_of p.0) p.1
 
 set_states : (line : Taken) (rank : ℕ) → states (setting.set_row line rank) ≡ false
 unfolding setting.set_row
-set_states line rank = set_halves line rank (halves 61 (after_word line.text))
+set_states line rank = set_halves line rank (split_once 61 (after_word line.text))
 
 -- those of a device
 

@@ -32,7 +32,7 @@ use fdf_words::number::no_form;
 use fdf_words::rows::{Row, SectionBody, SectionLine};
 use fdf_words::words::{after_equals, first_word, stated_align};
 use macro_conditions::known::without_workspace;
-use meta_lexer::head::between;
+use meta_lexer::head::strip_delimiters;
 use meta_lexer::lookup;
 use meta_lexer::words::same_word;
 use std::alloc::Global;
@@ -94,7 +94,7 @@ fn has_no_quote(text: &[u8]) -> bool
 fn words_in_quotes(text: &[u8]) -> Option<&[u8]>
     ensures { option_map (λ t. t.now) result ≡ words_in_quotes text.now }
 {
-    match between(b'"', b'"', text) {
+    match strip_delimiters(b'"', b'"', text) {
         Some(inner) => {
             if has_no_quote(inner) {
                 Some(inner)

@@ -3,7 +3,7 @@ use Rattle.std.specs.Prelude.{ℕ, ◌==◌, if◌then◌else◌, List, [], ◌�
 use Rattle.build_base.specs.FaultText.{fault_of}
 use Rattle.build_base.specs.declared.fault.Fault.{Fault}
 use Rattle.build_base.specs.declared.lines.Taken.{Taken}
-use Rattle.meta_lexer.specs.Words.{halves}
+use Rattle.meta_lexer.specs.Words.{split_once}
 use Rattle.doc_reading.specs.ValueFields.{undefined_macro}
 use Rattle.doc_types.specs.Pcds.{pcd_name_of}
 use Rattle.doc_types.specs.declared.pcd.PcdName.{PcdName}
@@ -42,7 +42,7 @@ halves_row line rank (Some p) = made_set line rank (pcd_name_of p.0) p.1
 halves_row line rank None = None
 
 unfoldable pub set_faults : Taken → List (Option Fault)
-set_faults line = halves_faults line (after_word line.text) (halves 61 (after_word line.text))
+set_faults line = halves_faults line (after_word line.text) (split_once 61 (after_word line.text))
 
 unfoldable pub set_row : Taken → ℕ → Option Row
-set_row line rank = halves_row line rank (halves 61 (after_word line.text))
+set_row line rank = halves_row line rank (split_once 61 (after_word line.text))

@@ -5,8 +5,8 @@ ghost use Rattle.meta_lexer.specs.Fields.{parts_of};
 ghost use Rattle.fdf_words.specs.DataBytes.{byte_field, byte_list, data_of};
 
 use build_base::{Text, WantOfMemory};
-use meta_lexer::field::cut;
-use meta_lexer::head::{between, bytes_at};
+use meta_lexer::field::split_unquoted;
+use meta_lexer::head::{bytes_at, strip_delimiters};
 use meta_lexer::line::trim;
 use meta_lexer::numbers::number;
 use std::alloc::Global;
@@ -39,7 +39,7 @@ fn byte_list(alloc: Global, text: &[u8]) -> Result<Option<Vec<u8>>, WantOfMemory
     ensures { IfOk result (λ o. option_map (λ v. v.items) o
         ≡ byte_list text.now (parts_of false 44 text.now)) }
 {
-    let spans = cut(alloc, false, b',', text)?;
+    let spans = split_unquoted(alloc, false, b',', text)?;
     let mut bytes = Vec::new(alloc);
     for span in &spans {
         match byte_field(bytes_at(text, span)) {
@@ -55,7 +55,7 @@ fn byte_list(alloc: Global, text: &[u8]) -> Result<Option<Vec<u8>>, WantOfMemory
 pub fn data_of(alloc: Global, text: &[u8]) -> Result<Option<Text>, WantOfMemory>
     ensures { IfOk result (λ o. o ≡ data_of text.now) }
 {
-    match between(b'{', b'}', text) {
+    match strip_delimiters(b'{', b'}', text) {
         Some(inner) => match byte_list(alloc, inner)? {
             Some(bytes) => Ok(Some(Text::from_vec(bytes))),
             None => Ok(None),

@@ -13,7 +13,7 @@ use build_base::{Refusal, Same, Taken, Text, WantOfMemory, refuse};
 use doc_reading::least_check::least_of_three;
 use doc_reading::value_fields::undefined_macro;
 use doc_types::pcd::{PcdName, PcdSet, pcd_name_of};
-use meta_lexer::words::halves;
+use meta_lexer::words::split_once;
 use std::alloc::Global;
 
 fn check_parts(
@@ -93,7 +93,7 @@ pub fn set_line(alloc: Global, line: &Taken, rank: u8) -> Result<Option<Row>, Re
     ensures { Answers result (judged (set_faults line.now) (set_row line.now rank)) }
 {
     let (_, rest) = first_word(line.text.bytes());
-    match halves(b'=', rest) {
+    match split_once(b'=', rest) {
         Some((name, value)) => parts_row(alloc, line, rank, name, value),
         None => Err(no_key(alloc, line, told_of(line, rest), rest)),
     }

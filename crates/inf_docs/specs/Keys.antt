@@ -11,7 +11,7 @@ use Rattle.doc_types.specs.ModuleTypes.{module_type_named}
 use Rattle.doc_types.specs.declared.arch.Arch.TheVariants.{Common}
 use Rattle.meta_lexer.specs.Lookup.{lookup}
 use Rattle.meta_lexer.specs.Parts.{field_texts}
-use Rattle.meta_lexer.specs.Words.{halves}
+use Rattle.meta_lexer.specs.Words.{split_once}
 use Rattle.inf_docs.specs.declared.key.ModuleKey.{ModuleKey}
 use Rattle.inf_docs.specs.declared.key.ModuleKey.TheVariants.{BaseName, FileGuid, Kind, Version, EntryPoint, Constructor, Destructor, LibraryClass}
 use Rattle.inf_docs.specs.declared.row.Row.{Row}
@@ -83,7 +83,7 @@ pair_row line (Some pair) = key_row line (key_named pair.0) pair.1
 pair_row line None = None
 
 unfoldable pub key_line_faults : Taken → List (Option Fault)
-key_line_faults line = pair_faults line (halves 61 line.text)
+key_line_faults line = pair_faults line (split_once 61 line.text)
 
 unfoldable pub key_line_row : Taken → Option Row
-key_line_row line = pair_row line (halves 61 line.text)
+key_line_row line = pair_row line (split_once 61 line.text)

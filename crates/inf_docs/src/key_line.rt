@@ -17,7 +17,7 @@ use doc_reading::values::wanted;
 use doc_types::arch::Arch;
 use doc_types::module_type::module_type_named;
 use meta_lexer::parts::field_texts;
-use meta_lexer::words::halves;
+use meta_lexer::words::split_once;
 use std::alloc::Global;
 
 fn check_guid(alloc: Global, line: &Taken, value: &[u8]) -> Result<(), Refusal>
@@ -114,7 +114,7 @@ fn key_row(
 pub fn key_line(alloc: Global, line: &Taken) -> Result<Option<Row>, Refusal>
     ensures { Answers result (judged (key_line_faults line.now) (key_line_row line.now)) }
 {
-    match halves(b'=', line.text.bytes()) {
+    match split_once(b'=', line.text.bytes()) {
         Some((key, value)) => key_row(alloc, line, key_named(key), value),
         None => Ok(None),
     }

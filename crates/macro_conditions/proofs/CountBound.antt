@@ -9,8 +9,8 @@ use Rattle.build_base.specs.declared.outside.Got.{Got}
 use Rattle.build_base.specs.declared.outside.Got.TheVariants.{File, Absent, TooLong}
 use Rattle.build_base.specs.Path.{path_field, folder_of}
 use Rattle.meta_lexer.specs.Lines.{TextLine}
-use Rattle.macro_conditions.specs.declared.directive.Kind.{Kind}
-use Rattle.macro_conditions.specs.declared.directive.Kind.TheVariants.{Act, If, Elseif, Else, Endif}
+use Rattle.macro_conditions.specs.declared.directive.Directive.{Directive}
+use Rattle.macro_conditions.specs.declared.directive.Directive.TheVariants.{Act, If, Elseif, Else, Endif}
 use Rattle.macro_conditions.specs.Directives.{kind_of, is_include}
 use Rattle.macro_conditions.specs.Sources.{Source, places, in_folder, Located, wanted, missing, over_limit, there, at_place, or_located, located, without_workspace}
 use Rattle.macro_conditions.specs.LineTree.{Items, nothing, plain, stray, choice, Branches, unclosed, closed, further, append, Cut, ended, cut, Gathered, ended_by, gather_last, parted_by, gather, before, with_line, parsed, strayed, tree_of}
@@ -46,7 +46,7 @@ module _ (price : ℕ) where
   cost-append (stray l t) u = cost-append t u
   cost-append (choice l b bs t) u = omega (arith, cost-append t u)
 
-  cost_ended : (q : Kind) (t : Items) (k : Line) (r : Cut) (g : Gathered) → cost_gathered g ≡ cost_cut r → cost_gathered (ended_by q t k r g) ≡ cost t + cost_cut r
+  cost_ended : (q : Directive) (t : Items) (k : Line) (r : Cut) (g : Gathered) → cost_gathered g ≡ cost_cut r → cost_gathered (ended_by q t k r g) ≡ cost t + cost_cut r
   cost_ended Endif t k r g h = omega arith
   cost_ended Else t k r g h = omega (arith, h, cost-append t (stray k g.body))
   cost_ended Elseif t k r g h = omega (arith, h, cost-append t (stray k g.body))
@@ -57,7 +57,7 @@ module _ (price : ℕ) where
   cost_last (ended t) = omega arith
   cost_last (cut t k r) = cost_ended (kind_of k.text) t k r (gather_last r) (cost_last r)
 
-  cost_parted : (q : Kind) (t : Items) (k : Line) (r : Cut) (g last : Gathered) → cost_gathered g ≡ cost_cut r → cost_gathered last ≡ cost_cut r → cost_gathered (parted_by q t k r g last) ≡ cost t + cost_cut r
+  cost_parted : (q : Directive) (t : Items) (k : Line) (r : Cut) (g last : Gathered) → cost_gathered g ≡ cost_cut r → cost_gathered last ≡ cost_cut r → cost_gathered (parted_by q t k r g last) ≡ cost t + cost_cut r
   cost_parted Endif t k r g last h i = omega arith
   cost_parted Else t k r g last h i = omega (arith, i)
   cost_parted Elseif t k r g last h i = omega (arith, h)
@@ -76,7 +76,7 @@ module _ (price : ℕ) where
   cost_choice l b bs (ended t) = refl
   cost_choice l b bs (cut t k r) = omega arith
 
-  cost_line : (q : Kind) (l : Line) (c : Cut) → cost_cut (with_line q l c) ≤ price + cost_cut c
+  cost_line : (q : Directive) (l : Line) (c : Cut) → cost_cut (with_line q l c) ≤ price + cost_cut c
   cost_line Act l c = omega (arith, cost_plain l c)
   cost_line If l c = omega (arith, cost_choice l (gather c).body (gather c).branches (gather c).rest, cost_gather c)
   cost_line Elseif l c = omega arith

@@ -1,9 +1,9 @@
 -- The stack comes to what the tree comes to.
 use Rattle.std.proofs.Common.{◌≡◌, Bool, true, false, cond, List, [], ◌∷◌, Some, None, Result, Ok, Err, refl, sym, ap, ◌∙◌}
 use Rattle.build_base.specs.declared.lines.Taken.{Taken as Line}
-use Rattle.macro_conditions.specs.declared.directive.Kind.{Kind}
+use Rattle.macro_conditions.specs.declared.directive.Directive.{Directive}
 use Rattle.macro_conditions.specs.Directives.{kind_of}
-use Rattle.macro_conditions.specs.declared.directive.Kind.TheVariants.{Act, If, Elseif, Else, Endif}
+use Rattle.macro_conditions.specs.declared.directive.Directive.TheVariants.{Act, If, Elseif, Else, Endif}
 use Rattle.macro_conditions.specs.LineTree.{Items, nothing, plain, stray, choice, Branches, unclosed, closed, further, append, Cut, ended, cut, Gathered, whole, ended_by, gather_last, parted_by, gather, before, opened, with_line, parsed, strayed, tree_of}
 use Rattle.macro_conditions.specs.LineMeaning.{Acts, ◌>>=◌, taken, skipped, passed, chosen, is_unclosed, unclosed_line, at_end, file_of}
 use Rattle.macro_conditions.specs.LineStack.{Mode, taking, waiting, passing, Frame, State, is_taking, active, mode_by, frame, open_frame, next_mode, turned, shut, step_by, step, outermost, run}
@@ -31,7 +31,7 @@ module _ {E F : Type 0} (a : Acts E F) where
   carried false t e = skipped a t e
 
   -- what a directive does that belongs to an `!if` above
-  abbrev closes : Kind → List Frame → E → Line → Result (State E) F
+  abbrev closes : Directive → List Frame → E → Line → Result (State E) F
   closes Endif fs e k = shut a fs e k
   closes Else fs e k = turned a true fs e k
   closes _ fs e k = turned a false fs e k
@@ -95,7 +95,7 @@ module _ {E F : Type 0} (a : Acts E F) where
   falls_ended last t l m fs e = ap (λ r. r >>= (λ x. at_end a (outermost fs (Some l)) x)) (sym (moded_end m t e))
 
   -- the line k after the items t, with the kind as a variable
-  abbrev Turns : Bool → Kind → Items → Line → Cut → Gathered → Type 0
+  abbrev Turns : Bool → Directive → Items → Line → Cut → Gathered → Type 0
   Turns last q t k r g = (l : Line) (m : Mode) (fs : List Frame) (e : E) → carried (is_taking m) t e >>= (λ x. closes q (held l m last ∷ fs) x k >>= (λ s. under s.frames r s.found)) ≡ moded m g.body g.branches e >>= (λ x. follows (is_unclosed g.branches) l fs g.rest x)
 
   turns_endif : (last : Bool) (t : Items) (k : Line) (r : Cut) → Turns last Endif t k r (record { body = t; branches = closed k; rest = r })
@@ -104,7 +104,7 @@ module _ {E F : Type 0} (a : Acts E F) where
   turns_stray : (t : Items) (k : Line) (g : Gathered) (l : Line) (m : Mode) (fs : List Frame) (e : E) → carried (is_taking m) t e >>= (λ x. Err (a.unbalanced k)) ≡ moded m (append t (stray k g.body)) g.branches e >>= (λ x. follows (is_unclosed g.branches) l fs g.rest x)
   turns_stray t k g l m fs e = sym (stray_moded m t g.body k g.branches e (λ x. follows (is_unclosed g.branches) l fs g.rest x))
 
-  last_by : (q : Kind) (t : Items) (k : Line) (r : Cut) (g : Gathered) → Turns true q t k r (ended_by q t k r g)
+  last_by : (q : Directive) (t : Items) (k : Line) (r : Cut) (g : Gathered) → Turns true q t k r (ended_by q t k r g)
   last_by Endif t k r g = turns_endif true t k r
   last_by Else t k r g = turns_stray t k g
   last_by Elseif t k r g = turns_stray t k g
@@ -140,7 +140,7 @@ module _ {E F : Type 0} (a : Acts E F) where
       ∙ bind_same (next_mode a m k x) (λ n. under (held l n last ∷ fs) r x) (λ n. moded n g.body g.branches x >>= (λ y. follows (is_unclosed g.branches) l fs g.rest y)) (λ n. falls l n fs x))
       ∙ further_by m t k g.body g.branches e (λ y. follows (is_unclosed g.branches) l fs g.rest y)
 
-  parts_by : (q : Kind) (t : Items) (k : Line) (r : Cut) (g last : Gathered) → Falls false r g → Falls true r last → Turns false q t k r (parted_by q t k r g last)
+  parts_by : (q : Directive) (t : Items) (k : Line) (r : Cut) (g last : Gathered) → Falls false r g → Falls true r last → Turns false q t k r (parted_by q t k r g last)
   parts_by Endif t k r g last f h = turns_endif false t k r
   parts_by Else t k r g last f h = turns_more true t k r last h
   parts_by Elseif t k r g last f h = turns_more false t k r g f
@@ -155,7 +155,7 @@ module _ {E F : Type 0} (a : Acts E F) where
   abbrev Ends : Gathered → Type 0
   Ends g = is_unclosed g.branches ≡ true → g.rest ≡ ended nothing
 
-  ends_last : (q : Kind) (t : Items) (k : Line) (r : Cut) (g : Gathered) → Ends g → Ends (ended_by q t k r g)
+  ends_last : (q : Directive) (t : Items) (k : Line) (r : Cut) (g : Gathered) → Ends g → Ends (ended_by q t k r g)
   ends_last Endif t k r g h = λ e. cc
   ends_last Else t k r g h = h
   ends_last Elseif t k r g h = h
@@ -166,7 +166,7 @@ module _ {E F : Type 0} (a : Acts E F) where
   unclosed_last (ended t) = λ e. refl
   unclosed_last (cut t k r) = ends_last (kind_of k.text) t k r (gather_last r) (unclosed_last r)
 
-  ends_more : (q : Kind) (t : Items) (k : Line) (r : Cut) (g last : Gathered) → Ends g → Ends last → Ends (parted_by q t k r g last)
+  ends_more : (q : Directive) (t : Items) (k : Line) (r : Cut) (g last : Gathered) → Ends g → Ends last → Ends (parted_by q t k r g last)
   ends_more Endif t k r g last h i = λ e. cc
   ends_more Else t k r g last h i = i
   ends_more Elseif t k r g last h i = h
@@ -246,10 +246,10 @@ module _ {E F : Type 0} (a : Acts E F) where
   plain_under l fs e (ended t) = plain_step (active fs) l t e (λ x. at_end a (outermost fs (unclosed_line t)) x)
   plain_under l fs e (cut t k r) = plain_step (active fs) l t e (λ x. closes (kind_of k.text) fs x k >>= (λ s. under s.frames r s.found))
 
-  closer_under : (l : Line) (fs : List Frame) (e : E) (c : Cut) (q : Kind) → q ≡ (kind_of l.text) → closes q fs e l >>= (λ s. go_on c s) ≡ under fs (cut nothing l c) e
+  closer_under : (l : Line) (fs : List Frame) (e : E) (c : Cut) (q : Directive) → q ≡ (kind_of l.text) → closes q fs e l >>= (λ s. go_on c s) ≡ under fs (cut nothing l c) e
   closer_under l fs e c q is = ap (λ k. closes k fs e l >>= (λ s. go_on c s)) is ∙ ap (λ r. r >>= (λ x. closes (kind_of l.text) fs x l >>= (λ s. go_on c s))) (sym (carried_nothing (active fs) e))
 
-  one_step : (q : Kind) (l : Line) (fs : List Frame) (e : E) (c : Cut) → q ≡ (kind_of l.text) → step_by a q fs e l >>= (λ s. go_on c s) ≡ under fs (with_line q l c) e
+  one_step : (q : Directive) (l : Line) (fs : List Frame) (e : E) (c : Cut) → q ≡ (kind_of l.text) → step_by a q fs e l >>= (λ s. go_on c s) ≡ under fs (with_line q l c) e
   one_step Act l fs e c is = stay_step (active fs) (a.act l e) fs e c ∙ plain_under l fs e c
   one_step If l fs e c is =
       bind_assoc (open_frame a fs l e) (λ m. opened_state fs e l m) (λ s. go_on c s) ∙ if_step (active fs) l fs e c refl ∙ sym (choice_under l fs (gather c) e (unclosed_rest c))
@@ -274,7 +274,7 @@ module _ {E F : Type 0} (a : Acts E F) where
   runs [] s = ap (λ r. r >>= (λ x. at_end a (outermost s.frames None) x)) (sym (carried_nothing (active s.frames) s.found))
   runs (l ∷ ls) s = run_bind (step a s l) ls ∙ bind_same (step a s l) (λ n. run a (Ok n) ls) (λ n. go_on (parsed ls) n) (λ n. runs ls n) ∙ one_step (kind_of l.text) l s.frames s.found (parsed ls) refl
 
-  closes_none : (q : Kind) (k : Line) (x : E) → closes q [] x k ≡ Err (a.unbalanced k)
+  closes_none : (q : Directive) (k : Line) (x : E) → closes q [] x k ≡ Err (a.unbalanced k)
   closes_none Endif k x = refl
   closes_none Else k x = refl
   closes_none Elseif k x = refl

@@ -1,8 +1,8 @@
 -- Lines have one tree: what is found of a tree that is written out is that tree.
 use Rattle.std.proofs.Common.{◌≡◌, Bool, true, false, cond, List, [], ◌∷◌, ◌++◌, append_assoc, append-nil, refl, sym, ◌∙◌, ap, subst}
 use Rattle.build_base.specs.declared.lines.Taken.{Taken as Line}
-use Rattle.macro_conditions.specs.declared.directive.Kind.{Kind}
-use Rattle.macro_conditions.specs.declared.directive.Kind.TheVariants.{Act, If, Elseif, Else, Endif}
+use Rattle.macro_conditions.specs.declared.directive.Directive.{Directive}
+use Rattle.macro_conditions.specs.declared.directive.Directive.TheVariants.{Act, If, Elseif, Else, Endif}
 use Rattle.macro_conditions.specs.Directives.{kind_of}
 use Rattle.macro_conditions.specs.LineTree.{Items, nothing, plain, stray, choice, Branches, unclosed, closed, further, append, written, written_branches, Cut, ended, cut, Gathered, whole, ended_by, gather_last, more, parted_by, gather, before, opened, with_line, parsed, strayed, tree_of}
 use Rattle.macro_conditions.specs.TreesOfLines.{Standing, outside, branch, last, IsAstray, IsFurther, standing_below, is_open, is_unclosed, Stand, StandBehind, IsTreeOf}
@@ -23,28 +23,28 @@ gathered_in last c = gather_last c
 abbrev with_body : Items → Branches → Cut → Gathered
 with_body t bs r = record { body = t; branches = bs; rest = r }
 
-parted_plain : (q : Kind) (l : Line) (t : Items) (k : Line) (r : Cut) (g final : Gathered) → parted_by q (plain l t) k r g final ≡ with_body (plain l (parted_by q t k r g final).body) (parted_by q t k r g final).branches (parted_by q t k r g final).rest
+parted_plain : (q : Directive) (l : Line) (t : Items) (k : Line) (r : Cut) (g final : Gathered) → parted_by q (plain l t) k r g final ≡ with_body (plain l (parted_by q t k r g final).body) (parted_by q t k r g final).branches (parted_by q t k r g final).rest
 parted_plain Act l t k r g final = refl
 parted_plain If l t k r g final = refl
 parted_plain Elseif l t k r g final = refl
 parted_plain Else l t k r g final = refl
 parted_plain Endif l t k r g final = refl
 
-parted_choice : (q : Kind) (l : Line) (b : Items) (cs : Branches) (t : Items) (k : Line) (r : Cut) (g final : Gathered) → parted_by q (choice l b cs t) k r g final ≡ with_body (choice l b cs (parted_by q t k r g final).body) (parted_by q t k r g final).branches (parted_by q t k r g final).rest
+parted_choice : (q : Directive) (l : Line) (b : Items) (cs : Branches) (t : Items) (k : Line) (r : Cut) (g final : Gathered) → parted_by q (choice l b cs t) k r g final ≡ with_body (choice l b cs (parted_by q t k r g final).body) (parted_by q t k r g final).branches (parted_by q t k r g final).rest
 parted_choice Act l b cs t k r g final = refl
 parted_choice If l b cs t k r g final = refl
 parted_choice Elseif l b cs t k r g final = refl
 parted_choice Else l b cs t k r g final = refl
 parted_choice Endif l b cs t k r g final = refl
 
-ended_plain : (q : Kind) (l : Line) (t : Items) (k : Line) (r : Cut) (g : Gathered) → ended_by q (plain l t) k r g ≡ with_body (plain l (ended_by q t k r g).body) (ended_by q t k r g).branches (ended_by q t k r g).rest
+ended_plain : (q : Directive) (l : Line) (t : Items) (k : Line) (r : Cut) (g : Gathered) → ended_by q (plain l t) k r g ≡ with_body (plain l (ended_by q t k r g).body) (ended_by q t k r g).branches (ended_by q t k r g).rest
 ended_plain Act l t k r g = refl
 ended_plain If l t k r g = refl
 ended_plain Elseif l t k r g = refl
 ended_plain Else l t k r g = refl
 ended_plain Endif l t k r g = refl
 
-ended_choice : (q : Kind) (l : Line) (b : Items) (cs : Branches) (t : Items) (k : Line) (r : Cut) (g : Gathered) → ended_by q (choice l b cs t) k r g ≡ with_body (choice l b cs (ended_by q t k r g).body) (ended_by q t k r g).branches (ended_by q t k r g).rest
+ended_choice : (q : Directive) (l : Line) (b : Items) (cs : Branches) (t : Items) (k : Line) (r : Cut) (g : Gathered) → ended_by q (choice l b cs t) k r g ≡ with_body (choice l b cs (ended_by q t k r g).body) (ended_by q t k r g).branches (ended_by q t k r g).rest
 ended_choice Act l b cs t k r g = refl
 ended_choice If l b cs t k r g = refl
 ended_choice Elseif l b cs t k r g = refl
@@ -83,7 +83,7 @@ IsWithin outside = ⊥
 IsWithin branch = Unit {0}
 IsWithin last = Unit {0}
 
-stray_ended : (q : Kind) (l : Line) (c : Cut) (g : Gathered) → IsAstray last q → ended_by q nothing l c g ≡ with_body (stray l g.body) g.branches g.rest
+stray_ended : (q : Directive) (l : Line) (c : Cut) (g : Gathered) → IsAstray last q → ended_by q nothing l c g ≡ with_body (stray l g.body) g.branches g.rest
 stray_ended Act l c g a = absurd a
 stray_ended If l c g a = absurd a
 stray_ended Elseif l c g a = refl
@@ -112,7 +112,7 @@ never_if outside a = a
 never_if branch a = a
 never_if last a = a
 
-stray_line : (s : Standing) (q : Kind) (l : Line) (c : Cut) → IsAstray s q → with_line q l c ≡ cut nothing l c
+stray_line : (s : Standing) (q : Directive) (l : Line) (c : Cut) → IsAstray s q → with_line q l c ≡ cut nothing l c
 stray_line s Act l c a = absurd (never_plain s a)
 stray_line s If l c a = absurd (never_if s a)
 stray_line s Elseif l c a = refl
@@ -120,21 +120,21 @@ stray_line s Else l c a = refl
 stray_line s Endif l c a = refl
 
 -- a further branch of a conditional
-further_line : (q : Kind) (l : Line) (body : Items) (bs : Branches) (c r : Cut) → IsFurther branch q → gathered_in (standing_below q) c ≡ with_body body bs r → gather (with_line q l c) ≡ parted_by (kind_of l.text) nothing l c (gather c) (gather_last c)
+further_line : (q : Directive) (l : Line) (body : Items) (bs : Branches) (c r : Cut) → IsFurther branch q → gathered_in (standing_below q) c ≡ with_body body bs r → gather (with_line q l c) ≡ parted_by (kind_of l.text) nothing l c (gather c) (gather_last c)
 further_line Act l body bs c r f e = absurd f
 further_line If l body bs c r f e = absurd f
 further_line Elseif l body bs c r f e = refl
 further_line Else l body bs c r f e = refl
 further_line Endif l body bs c r f e = absurd f
 
-further_parted : (q : Kind) (l : Line) (body : Items) (bs : Branches) (c r : Cut) → IsFurther branch q → gathered_in (standing_below q) c ≡ with_body body bs r → parted_by q nothing l c (gather c) (gather_last c) ≡ with_body nothing (further l body bs) r
+further_parted : (q : Directive) (l : Line) (body : Items) (bs : Branches) (c r : Cut) → IsFurther branch q → gathered_in (standing_below q) c ≡ with_body body bs r → parted_by q nothing l c (gather c) (gather_last c) ≡ with_body nothing (further l body bs) r
 further_parted Act l body bs c r f e = absurd f
 further_parted If l body bs c r f e = absurd f
 further_parted Elseif l body bs c r f e = ap (more nothing l) e
 further_parted Else l body bs c r f e = ap (more nothing l) e
 further_parted Endif l body bs c r f e = absurd f
 
-within_below : (q : Kind) → IsWithin (standing_below q)
+within_below : (q : Directive) → IsWithin (standing_below q)
 within_below Act = tt
 within_below If = tt
 within_below Elseif = tt

@@ -1,15 +1,15 @@
 -- In the tree of a file's lines each line stands where its kind may stand.
 use Rattle.std.proofs.Common.{◌≡◌, Bool, true, false, cond, List, [], ◌∷◌, refl, sym, ◌∙◌, ap, subst}
 use Rattle.build_base.specs.declared.lines.Taken.{Taken as Line}
-use Rattle.macro_conditions.specs.declared.directive.Kind.{Kind}
-use Rattle.macro_conditions.specs.declared.directive.Kind.TheVariants.{Act, If, Elseif, Else, Endif}
+use Rattle.macro_conditions.specs.declared.directive.Directive.{Directive}
+use Rattle.macro_conditions.specs.declared.directive.Directive.TheVariants.{Act, If, Elseif, Else, Endif}
 use Rattle.macro_conditions.specs.Directives.{kind_of}
 use Rattle.macro_conditions.specs.LineTree.{Items, nothing, plain, stray, choice, Branches, unclosed, closed, further, append, Cut, ended, cut, Gathered, whole, ended_by, gather_last, more, parted_by, gather, before, opened, with_line, parsed, strayed, tree_of}
 use Rattle.macro_conditions.specs.TreesOfLines.{Standing, outside, branch, last, IsAstray, IsFurther, standing_below, is_open, is_unclosed, Stand, StandBehind, IsTreeOf}
 use Rattle.macro_conditions.proofs.TreeWritten.{written_tree}
 
 -- an `!elseif`, an `!else` or an `!endif`
-abbrev pub Parts : Kind → Type 0
+abbrev pub Parts : Directive → Type 0
 Parts Act = ⊥
 Parts If = ⊥
 Parts Elseif = Unit {0}
@@ -85,7 +85,7 @@ good_stray t k g h o a i = record {
   rest = i.rest;
 }
 
-good_ended_by : (q : Kind) (t : Items) (k : Line) (r : Cut) (g : Gathered) → kind_of k.text ≡ q → Parts q → Stand branch t → is_open t ≡ false → IsGood r → IsGathered last g → IsGathered last (ended_by q t k r g)
+good_ended_by : (q : Directive) (t : Items) (k : Line) (r : Cut) (g : Gathered) → kind_of k.text ≡ q → Parts q → Stand branch t → is_open t ≡ false → IsGood r → IsGathered last g → IsGathered last (ended_by q t k r g)
 good_ended_by Act t k r g e p h o c i = absurd p
 good_ended_by If t k r g e p h o c i = absurd p
 good_ended_by Elseif t k r g e p h o c i = good_stray t k g h o (subst (IsAstray last) (sym e) tt) i
@@ -97,7 +97,7 @@ good_last (ended t) h = good_whole last t h
 good_last (cut t k r) h = good_ended_by (kind_of k.text) t k r (gather_last r) refl h.2 h.0 h.1 h.3 (good_last r h.3)
 
 -- a further branch
-good_more : (q : Kind) (t : Items) (k : Line) (g : Gathered) → kind_of k.text ≡ q → IsFurther branch q → Stand branch t → is_open t ≡ false → IsGathered (standing_below q) g → IsGathered branch (more t k g)
+good_more : (q : Directive) (t : Items) (k : Line) (g : Gathered) → kind_of k.text ≡ q → IsFurther branch q → Stand branch t → is_open t ≡ false → IsGathered (standing_below q) g → IsGathered branch (more t k g)
 good_more q t k g e f h o i = record {
   body = h;
   ends = λ d. absurd (no_way (is_open t) o d);
@@ -106,7 +106,7 @@ good_more q t k g e f h o i = record {
   rest = i.rest;
 }
 
-good_parted_by : (q : Kind) (t : Items) (k : Line) (r : Cut) (g final : Gathered) → kind_of k.text ≡ q → Parts q → Stand branch t → is_open t ≡ false → IsGood r → IsGathered branch g → IsGathered last final → IsGathered branch (parted_by q t k r g final)
+good_parted_by : (q : Directive) (t : Items) (k : Line) (r : Cut) (g final : Gathered) → kind_of k.text ≡ q → Parts q → Stand branch t → is_open t ≡ false → IsGood r → IsGathered branch g → IsGathered last final → IsGathered branch (parted_by q t k r g final)
 good_parted_by Act t k r g final e p h o c i j = absurd p
 good_parted_by If t k r g final e p h o c i j = absurd p
 good_parted_by Elseif t k r g final e p h o c i j = good_more Elseif t k g e tt h o i
@@ -139,10 +139,10 @@ good_choice l body bs (cut t k r) e b o s v h =
 good_opened : (l : Line) (g : Gathered) → kind_of l.text ≡ If → IsGathered branch g → IsGood (opened l g)
 good_opened l g e h = good_choice l g.body g.branches g.rest e h.body h.ends h.branches h.over h.rest
 
-good_part : (q : Kind) (l : Line) (c : Cut) → kind_of l.text ≡ q → Parts q → IsGood c → IsGood (cut nothing l c)
+good_part : (q : Directive) (l : Line) (c : Cut) → kind_of l.text ≡ q → Parts q → IsGood c → IsGood (cut nothing l c)
 good_part q l c e p h = (tt, refl, subst Parts (sym e) p, h)
 
-good_line : (q : Kind) (l : Line) (c : Cut) → kind_of l.text ≡ q → IsGood c → IsGood (with_line q l c)
+good_line : (q : Directive) (l : Line) (c : Cut) → kind_of l.text ≡ q → IsGood c → IsGood (with_line q l c)
 good_line Act l c e h = good_plain l c e h
 good_line If l c e h = good_opened l (gather c) e (good_gather c h)
 good_line Elseif l c e h = good_part Elseif l c e tt h
@@ -153,7 +153,7 @@ good_parsed : (ls : List Line) → IsGood (parsed ls)
 good_parsed [] = tt
 good_parsed (l ∷ ls) = good_line (kind_of l.text) l (parsed ls) refl (good_parsed ls)
 
-part_astray : (q : Kind) → Parts q → IsAstray outside q
+part_astray : (q : Directive) → Parts q → IsAstray outside q
 part_astray Act p = absurd p
 part_astray If p = absurd p
 part_astray Elseif p = tt

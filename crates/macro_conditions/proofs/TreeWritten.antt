@@ -1,9 +1,9 @@
 -- The items of the tree, written out, are the lines.
 use Rattle.std.proofs.Common.{◌≡◌, List, [], ◌∷◌, ◌++◌, append_assoc, append-nil, refl, ap, ◌∙◌}
 use Rattle.build_base.specs.declared.lines.Taken.{Taken as Line}
-use Rattle.macro_conditions.specs.declared.directive.Kind.{Kind}
+use Rattle.macro_conditions.specs.declared.directive.Directive.{Directive}
 use Rattle.macro_conditions.specs.Directives.{kind_of}
-use Rattle.macro_conditions.specs.declared.directive.Kind.TheVariants.{Act, If, Elseif, Else, Endif}
+use Rattle.macro_conditions.specs.declared.directive.Directive.TheVariants.{Act, If, Elseif, Else, Endif}
 use Rattle.macro_conditions.specs.LineTree.{Items, nothing, plain, stray, choice, Branches, append, Cut, ended, cut, Gathered, ended_by, gather_last, more, parted_by, gather, before, with_line, parsed, strayed, tree_of, written, written_branches}
 
 abbrev written_cut : Cut → List Line
@@ -22,7 +22,7 @@ written-append (choice l b bs t) u = ap (λ ls. l ∷ (written b ++ (written_bra
 straying : (t : Items) (k : Line) (r : Cut) (g : Gathered) → written_gathered g ≡ written_cut r → written (append t (stray k g.body)) ++ (written_branches g.branches ++ written_cut g.rest) ≡ written t ++ k ∷ written_cut r
 straying t k r g h = ap (λ ls. ls ++ (written_branches g.branches ++ written_cut g.rest)) (written-append t (stray k g.body)) ∙ append_assoc (written t) (k ∷ written g.body) (written_branches g.branches ++ written_cut g.rest) ∙ ap (λ ls. written t ++ k ∷ ls) h
 
-written_ended : (q : Kind) (t : Items) (k : Line) (r : Cut) (g : Gathered) → written_gathered g ≡ written_cut r → written_gathered (ended_by q t k r g) ≡ written t ++ k ∷ written_cut r
+written_ended : (q : Directive) (t : Items) (k : Line) (r : Cut) (g : Gathered) → written_gathered g ≡ written_cut r → written_gathered (ended_by q t k r g) ≡ written t ++ k ∷ written_cut r
 written_ended Endif t k r g h = refl
 written_ended Else t k r g h = straying t k r g h
 written_ended Elseif t k r g h = straying t k r g h
@@ -36,7 +36,7 @@ written_last (cut t k r) = written_ended (kind_of k.text) t k r (gather_last r) 
 parting : (t : Items) (k : Line) (r : Cut) (g : Gathered) → written_gathered g ≡ written_cut r → written_gathered (more t k g) ≡ written t ++ k ∷ written_cut r
 parting t k r g h = ap (λ ls. written t ++ k ∷ ls) (append_assoc (written g.body) (written_branches g.branches) (written_cut g.rest) ∙ h)
 
-written_parted : (q : Kind) (t : Items) (k : Line) (r : Cut) (g last : Gathered) → written_gathered g ≡ written_cut r → written_gathered last ≡ written_cut r → written_gathered (parted_by q t k r g last) ≡ written t ++ k ∷ written_cut r
+written_parted : (q : Directive) (t : Items) (k : Line) (r : Cut) (g last : Gathered) → written_gathered g ≡ written_cut r → written_gathered last ≡ written_cut r → written_gathered (parted_by q t k r g last) ≡ written t ++ k ∷ written_cut r
 written_parted Endif t k r g last h i = refl
 written_parted Else t k r g last h i = parting t k r last i
 written_parted Elseif t k r g last h i = parting t k r g h
@@ -55,7 +55,7 @@ before_choice : (l : Line) (b : Items) (bs : Branches) (c : Cut) → written_cut
 before_choice l b bs (ended t) = refl
 before_choice l b bs (cut t k r) = simp append_assoc
 
-written_line : (q : Kind) (l : Line) (c : Cut) → written_cut (with_line q l c) ≡ l ∷ written_cut c
+written_line : (q : Directive) (l : Line) (c : Cut) → written_cut (with_line q l c) ≡ l ∷ written_cut c
 written_line Act l c = before_plain l c
 written_line If l c = before_choice l (gather c).body (gather c).branches (gather c).rest ∙ ap (λ ls. l ∷ ls) (written_gather c)
 written_line Elseif l c = refl

@@ -4,10 +4,10 @@ use Rattle.std.specs.Prelude.{ℕ, ◌+◌, Bool, ◌&&◌, ◌||◌, ◌==◌, 
 use Rattle.meta_lexer.specs.Lines.{without_blanks}
 use Rattle.meta_lexer.specs.Tokens.{word_size}
 use Rattle.meta_lexer.specs.Lookup.{lookup}
-use Rattle.meta_lexer.specs.Words.{same_word, is_identifier, halves}
+use Rattle.meta_lexer.specs.Words.{same_word, is_identifier, split_once}
 use Rattle.macro_conditions.specs.Macros.{use_at}
-use Rattle.macro_conditions.specs.declared.directive.Kind.{Kind}
-use Rattle.macro_conditions.specs.declared.directive.Kind.TheVariants.{Act, If, Elseif, Else, Endif}
+use Rattle.macro_conditions.specs.declared.directive.Directive.{Directive}
+use Rattle.macro_conditions.specs.declared.directive.Directive.TheVariants.{Act, If, Elseif, Else, Endif}
 
 -- the word at the front of a text, and what follows it
 abbrev pub first_word : List ℕ → List ℕ
@@ -27,17 +27,17 @@ unfoldable pub directive_rest : List ℕ → List ℕ
 directive_rest text = after_word (drop 1 text)
 
 -- the directives of conditionals; their words count without regard to case
-abbrev pub directives : List (List ℕ × Kind)
+abbrev pub directives : List (List ℕ × Directive)
 directives =
     (codes "if", If) ∷ (codes "ifdef", If) ∷ (codes "ifndef", If) ∷ (codes "elseif", Elseif) ∷
     (codes "else", Else) ∷ (codes "endif", Endif) ∷ []
 
 -- what a directive does to the conditionals
-unfoldable pub kind_by : List ℕ → Kind
+unfoldable pub kind_by : List ℕ → Directive
 kind_by word = unwrap_or (lookup directives word) Act
 
 -- what a line does to the conditionals
-unfoldable pub kind_of : List ℕ → Kind
+unfoldable pub kind_of : List ℕ → Directive
 kind_of text = if is_directive text then kind_by (directive_word text) else Act
 
 -- `!include`
@@ -55,7 +55,7 @@ named (Some pair) = if is_identifier pair.0 then Some pair else None
 
 -- the name and the value of a definition, around the first `=`
 unfoldable pub definition_of : List ℕ → Option (List ℕ × List ℕ)
-definition_of text = named (halves 61 (after_word text))
+definition_of text = named (split_once 61 (after_word text))
 
 abbrev pub whole_use : List ℕ → Option ℕ → Option (List ℕ)
 whole_use text None = None

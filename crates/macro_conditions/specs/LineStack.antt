@@ -1,9 +1,9 @@
 -- The same with a stack, line by line.
 use Rattle.std.specs.Prelude.{Bool, true, false, if◌then◌else◌, List, [], ◌∷◌, Option, Some, None, Result, Ok, Err}
 use Rattle.build_base.specs.declared.lines.Taken.{Taken as Line}
-use Rattle.macro_conditions.specs.declared.directive.Kind.{Kind}
+use Rattle.macro_conditions.specs.declared.directive.Directive.{Directive}
 use Rattle.macro_conditions.specs.Directives.{kind_of}
-use Rattle.macro_conditions.specs.declared.directive.Kind.TheVariants.{Act, If, Elseif, Else, Endif}
+use Rattle.macro_conditions.specs.declared.directive.Directive.TheVariants.{Act, If, Elseif, Else, Endif}
 use Rattle.macro_conditions.specs.LineMeaning.{Acts, ◌>>=◌, at_end}
 
 -- a branch is taken, or none was yet, or none is taken any more
@@ -67,7 +67,7 @@ module _ {E F : Type 0} (a : Acts E F) where
   shut [] e l = Err (a.unbalanced l)
   shut (f ∷ fs) e l = Ok (record { frames = fs; found = e })
 
-  abbrev pub step_by : Kind → List Frame → E → Line → Result (State E) F
+  abbrev pub step_by : Directive → List Frame → E → Line → Result (State E) F
   step_by Act fs e l = if active fs
       then (a.act l e >>= (λ x. Ok (record { frames = fs; found = x })))
       else Ok (record { frames = fs; found = e })

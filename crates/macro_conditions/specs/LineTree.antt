@@ -1,9 +1,9 @@
 -- The tree of the conditionals of a file.
 use Rattle.std.specs.Prelude.{List, [], ◌∷◌, ◌++◌}
 use Rattle.build_base.specs.declared.lines.Taken.{Taken as Line}
-use Rattle.macro_conditions.specs.declared.directive.Kind.{Kind}
+use Rattle.macro_conditions.specs.declared.directive.Directive.{Directive}
 use Rattle.macro_conditions.specs.Directives.{kind_of}
-use Rattle.macro_conditions.specs.declared.directive.Kind.TheVariants.{Act, If, Elseif, Else, Endif}
+use Rattle.macro_conditions.specs.declared.directive.Directive.TheVariants.{Act, If, Elseif, Else, Endif}
 
 mutual
   -- lines one after the other, with whole conditionals among them
@@ -55,7 +55,7 @@ pub record Gathered : Type 0 where
 abbrev pub whole : Items → Gathered
 whole t = record { body = t; branches = unclosed; rest = ended nothing }
 
-abbrev pub ended_by : Kind → Items → Line → Cut → Gathered → Gathered
+abbrev pub ended_by : Directive → Items → Line → Cut → Gathered → Gathered
 ended_by Endif t k r g = record { body = t; branches = closed k; rest = r }
 ended_by _ t k r g =
     record { body = append t (stray k g.body); branches = g.branches; rest = g.rest }
@@ -68,7 +68,7 @@ gather_last (cut t k r) = ended_by (kind_of k.text) t k r (gather_last r)
 abbrev pub more : Items → Line → Gathered → Gathered
 more t k g = record { body = t; branches = further k g.body g.branches; rest = g.rest }
 
-abbrev pub parted_by : Kind → Items → Line → Cut → Gathered → Gathered → Gathered
+abbrev pub parted_by : Directive → Items → Line → Cut → Gathered → Gathered → Gathered
 parted_by Endif t k r g last = record { body = t; branches = closed k; rest = r }
 parted_by Else t k r g last = more t k last
 parted_by _ t k r g last = more t k g
@@ -86,7 +86,7 @@ before f (cut t k r) = cut (f t) k r
 abbrev pub opened : Line → Gathered → Cut
 opened l g = before (choice l g.body g.branches) g.rest
 
-abbrev pub with_line : Kind → Line → Cut → Cut
+abbrev pub with_line : Directive → Line → Cut → Cut
 with_line Act l c = before (plain l) c
 with_line If l c = opened l (gather c)
 with_line Elseif l c = cut nothing l c

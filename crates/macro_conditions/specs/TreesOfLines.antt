@@ -2,8 +2,8 @@
 -- kind may stand, and where the file ends within a conditional nothing stands behind it.
 use Rattle.std.specs.Prelude.{◌≡◌, Bool, true, false, if◌then◌else◌, List}
 use Rattle.build_base.specs.declared.lines.Taken.{Taken as Line}
-use Rattle.macro_conditions.specs.declared.directive.Kind.{Kind}
-use Rattle.macro_conditions.specs.declared.directive.Kind.TheVariants.{Act, If, Elseif, Else, Endif}
+use Rattle.macro_conditions.specs.declared.directive.Directive.{Directive}
+use Rattle.macro_conditions.specs.declared.directive.Directive.TheVariants.{Act, If, Elseif, Else, Endif}
 use Rattle.macro_conditions.specs.Directives.{kind_of}
 use Rattle.macro_conditions.specs.LineTree.{Items, nothing, plain, stray, choice, Branches, unclosed, closed, further, written}
 
@@ -16,7 +16,7 @@ pub data Standing : Type 0 where
 
 -- an `!elseif`, an `!else` or an `!endif` belongs to no `!if` outside of all conditionals, and a
 -- further `!elseif` or `!else` to none in the branch of an `!else`
-abbrev pub IsAstray : Standing → Kind → Type 0
+abbrev pub IsAstray : Standing → Directive → Type 0
 IsAstray outside Elseif = Unit {0}
 IsAstray outside Else = Unit {0}
 IsAstray outside Endif = Unit {0}
@@ -25,12 +25,12 @@ IsAstray last Else = Unit {0}
 IsAstray _ _ = ⊥
 
 -- only behind the branch of an `!if` or an `!elseif` another one follows
-abbrev pub IsFurther : Standing → Kind → Type 0
+abbrev pub IsFurther : Standing → Directive → Type 0
 IsFurther branch Elseif = Unit {0}
 IsFurther branch Else = Unit {0}
 IsFurther _ _ = ⊥
 
-abbrev pub standing_below : Kind → Standing
+abbrev pub standing_below : Directive → Standing
 standing_below Else = last
 standing_below _ = branch
 

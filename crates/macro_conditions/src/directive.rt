@@ -7,11 +7,11 @@ use crate::macros::use_at;
 use meta_lexer::line::trim;
 use meta_lexer::lookup;
 use meta_lexer::token::word_size;
-use meta_lexer::words::{halves, is_identifier, same_word};
+use meta_lexer::words::{is_identifier, same_word, split_once};
 
 /// What a line does to the conditionals. A line that acts is any but their directives.
 #[derive(Clone, Copy, PartialEq, Eq)]
-pub enum Kind {
+pub enum Directive {
     Act,
     If,
     Elseif,
@@ -61,34 +61,34 @@ pub fn directive_rest(text: &[u8]) -> &[u8]
     after_word(behind_mark(text))
 }
 
-const DIRECTIVES: [(&[u8], Kind); 6] = [
-    (b"if", Kind::If),
-    (b"ifdef", Kind::If),
-    (b"ifndef", Kind::If),
-    (b"elseif", Kind::Elseif),
-    (b"else", Kind::Else),
-    (b"endif", Kind::Endif),
+const DIRECTIVES: [(&[u8], Directive); 6] = [
+    (b"if", Directive::If),
+    (b"ifdef", Directive::If),
+    (b"ifndef", Directive::If),
+    (b"elseif", Directive::Elseif),
+    (b"else", Directive::Else),
+    (b"endif", Directive::Endif),
 ];
 
 #[tactic(auto, unfolding(crate::specs::Directives::kind_by))]
-fn kind_by(word: &[u8]) -> Kind
+fn kind_by(word: &[u8]) -> Directive
     ensures { result ≡ kind_by word.now }
 {
     match lookup(&DIRECTIVES, word) {
         Some(kind) => kind,
-        None => Kind::Act,
+        None => Directive::Act,
     }
 }
 
 /// What a line does to the conditionals.
 #[tactic(auto, unfolding(crate::specs::Directives::kind_of))]
-pub fn kind_of(text: &[u8]) -> Kind
+pub fn kind_of(text: &[u8]) -> Directive
     ensures { result ≡ kind_of text.now }
 {
     if is_directive(text) {
         kind_by(directive_word(text))
     } else {
-        Kind::Act
+        Directive::Act
     }
 }
 
@@ -114,7 +114,7 @@ pub fn is_definition(text: &[u8]) -> bool
 pub fn definition_of(text: &[u8]) -> Option<(&[u8], &[u8])>
     ensures { option_map (λ p. (p.0.now, p.1.now)) result ≡ definition_of text.now }
 {
-    match halves(b'=', after_word(text)) {
+    match split_once(b'=', after_word(text)) {
         Some((name, value)) if is_identifier(name) => Some((name, value)),
         _ => None,
     }

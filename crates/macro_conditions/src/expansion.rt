@@ -14,7 +14,7 @@ ghost use Rattle.macro_conditions.specs.Worlds.{told, AgreesWith, HoldsIn};
 ghost use Rattle.macro_conditions.specs.Work.{source_view, located_view, env_of, left_last, state_of, Halts, stop_in, Agrees, Expands};
 
 use crate::conditional::{active, close, end, open, turn};
-use crate::directive::{Kind, directive_rest, is_include, kind_of};
+use crate::directive::{Directive, directive_rest, is_include, kind_of};
 use crate::known::{Known, Located, answer, locate, without_workspace};
 use crate::macros::{Undefined, replace};
 use crate::table::{ListedMacros, MacroTable};
@@ -149,11 +149,11 @@ fn one_line<'a>(
     ensures open_files { OnOk result (work.new.open_files.items ≡ work.old.open_files.items) }
 {
     match kind_of(line.text) {
-        Kind::If => open(alloc, given.fixed, work, frames, line),
-        Kind::Elseif => turn(alloc, given.fixed, work, frames, false, line),
-        Kind::Else => turn(alloc, given.fixed, work, frames, true, line),
-        Kind::Endif => close(alloc, given.fixed, work, frames, line),
-        Kind::Act => {
+        Directive::If => open(alloc, given.fixed, work, frames, line),
+        Directive::Elseif => turn(alloc, given.fixed, work, frames, false, line),
+        Directive::Else => turn(alloc, given.fixed, work, frames, true, line),
+        Directive::Endif => close(alloc, given.fixed, work, frames, line),
+        Directive::Act => {
             if !active(frames) {
                 return Ok(());
             }

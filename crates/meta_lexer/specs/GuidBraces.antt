@@ -6,7 +6,7 @@ use Rattle.build_base.specs.declared.guid.Guid.{Guid}
 use Rattle.meta_lexer.specs.Heads.{inner, stands_between}
 use Rattle.meta_lexer.specs.Lines.{without_blanks}
 use Rattle.meta_lexer.specs.Numbers.{number_of}
-use Rattle.meta_lexer.specs.Words.{halves}
+use Rattle.meta_lexer.specs.Words.{split_once}
 
 -- a number below a limit, without the blanks around it
 unfoldable pub number_below : ℕ → List ℕ → Option ℕ
@@ -16,7 +16,7 @@ number_below limit text = option_and_then (λ n. if nat_lt n limit then Some n e
 -- the number before the first comma, and what follows the comma
 unfoldable pub first_below : ℕ → List ℕ → Option (ℕ × List ℕ)
 first_below limit text = option_and_then (λ p. option_map (λ n. (n, p.1)) (number_below limit p.0))
-    (halves 44 text)
+    (split_once 44 text)
 
 -- what stands in braces, without the blanks around them
 unfoldable pub in_braces : List ℕ → Option (List ℕ)

@@ -19,8 +19,8 @@ is_identifier xs = nat_lt 0 (length xs) && nat_le (length xs) 64 && list_all is_
     && not (begins_with_digit xs)
 
 -- two texts around the first mark, without their outer blanks
-unfoldable pub halves : ℕ → List ℕ → Option (List ℕ × List ℕ)
-halves mark xs =
+unfoldable pub split_once : ℕ → List ℕ → Option (List ℕ × List ℕ)
+split_once mark xs =
     let i = position_or_len (λ b. b == mark) xs in
     if nat_lt i (length xs) then Some (without_blanks (take i xs), without_blanks (drop (i + 1) xs))
     else None

@@ -91,7 +91,12 @@ fn push(found: &mut Vec<Span>, start: u64, end: u64) -> Result<(), WantOfMemory>
 
 /// The parts between marks that stand outside quotes, and outside parentheses and braces where
 /// these nest.
-pub fn cut(alloc: Global, nests: bool, mark: u8, text: &[u8]) -> Result<Vec<Span>, WantOfMemory>
+pub fn split_unquoted(
+    alloc: Global,
+    nests: bool,
+    mark: u8,
+    text: &[u8],
+) -> Result<Vec<Span>, WantOfMemory>
     ensures parts { IfOk result (λ v. v.items ≡ parts_of nests mark text.now) }
     ensures within { IfOk result (λ v. All (IsWithin text.now) v.items) }
 {
@@ -127,5 +132,5 @@ pub fn fields(alloc: Global, text: &[u8]) -> Result<Vec<Span>, LexRefusal>
             end: text.len() as u64,
         });
     }
-    Ok(cut(alloc, true, b'|', text)?)
+    Ok(split_unquoted(alloc, true, b'|', text)?)
 }

@@ -3,10 +3,10 @@ ghost use Rattle.std.specs.Prelude.{◌≡◌, ◌<◌, ◌^◌, IfSome};
 ghost use Rattle.std.specs.Option.{option_map};
 ghost use Rattle.meta_lexer.specs.GuidBraces.{number_below, first_below, in_braces, bytes_listed, guid_of_fields, guid_of_braces};
 
-use crate::head::between;
+use crate::head::strip_delimiters;
 use crate::line::trim;
 use crate::numbers::number;
-use crate::words::halves;
+use crate::words::split_once;
 use build_base::Guid;
 
 #[tactic(auto, unfolding(crate::specs::GuidBraces::number_below))]
@@ -26,7 +26,7 @@ fn first_below(limit: u64, text: &[u8]) -> Option<(u64, &[u8])>
     ensures number { option_map (λ p. (p.0, p.1.now)) result ≡ first_below limit text.now }
     ensures below { IfSome result (λ p. p.0 < limit) }
 {
-    let (front, rest) = halves(b',', text)?;
+    let (front, rest) = split_once(b',', text)?;
     let number = number_below(limit, front)?;
     Some((number, rest))
 }
@@ -35,7 +35,7 @@ fn first_below(limit: u64, text: &[u8]) -> Option<(u64, &[u8])>
 fn in_braces(text: &[u8]) -> Option<&[u8]>
     ensures { option_map (λ t. t.now) result ≡ in_braces text.now }
 {
-    between(b'{', b'}', trim(text))
+    strip_delimiters(b'{', b'}', trim(text))
 }
 
 #[tactic(auto, unfolding(crate::specs::GuidBraces::bytes_listed))]

@@ -6,7 +6,7 @@ ghost use Rattle.meta_lexer.specs.Faults.{Gives};
 ghost use Rattle.meta_lexer.specs.Fields.{bytes_at, IsWithin};
 ghost use Rattle.meta_lexer.specs.Heads.{inner, stands_between, is_quoted, unquoted, part_at, head_of, heads_of, is_head, are_heads, begins_section, section_of};
 
-use crate::field::{Span, cut, ends_quoted};
+use crate::field::{Span, ends_quoted, split_unquoted};
 use crate::line::trim;
 use crate::refusal::LexRefusal;
 use build_base::fault_codes::BAD_SECTION;
@@ -20,7 +20,7 @@ pub struct Head {
 }
 
 /// What stands between the two bytes, where a text begins and ends with them.
-pub fn between(first: u8, last: u8, text: &[u8]) -> Option<&[u8]>
+pub fn strip_delimiters(first: u8, last: u8, text: &[u8]) -> Option<&[u8]>
     ensures { option_map (λ t. t.now) result
         ≡ (if stands_between first last text.now then Some (inner text.now) else None) }
 {
@@ -43,7 +43,7 @@ fn within_quotes(text: &[u8]) -> Option<&[u8]>
     ensures { option_map (λ t. t.now) result
         ≡ (if is_quoted text.now then Some (inner text.now) else None) }
 {
-    match between(b'"', b'"', text) {
+    match strip_delimiters(b'"', b'"', text) {
         Some(inner) => {
             if has_no_quote(inner) {
                 Some(inner)
@@ -78,7 +78,7 @@ pub fn bytes_at<'a>(text: &'a [u8], span: &Span) -> &'a [u8]
 fn make_head(alloc: Global, text: &[u8]) -> Result<Head, WantOfMemory>
     ensures { IfOk result (λ h. h ≡ head_of text.now) }
 {
-    let spans = cut(alloc, false, b'.', text)?;
+    let spans = split_unquoted(alloc, false, b'.', text)?;
     let mut parts = Rows::new(alloc);
     for span in &spans {
         let part = unquoted(trim(bytes_at(text, span)));
@@ -91,7 +91,7 @@ fn make_head(alloc: Global, text: &[u8]) -> Result<Head, WantOfMemory>
 fn heads(alloc: Global, text: &[u8]) -> Result<Rows<Head>, WantOfMemory>
     ensures { IfOk result (λ hs. hs ≡ heads_of text.now) }
 {
-    let spans = cut(alloc, false, b',', text)?;
+    let spans = split_unquoted(alloc, false, b',', text)?;
     let mut heads = Rows::new(alloc);
     for span in &spans {
         heads.push(make_head(alloc, bytes_at(text, span))?)?;
@@ -133,7 +133,7 @@ pub fn section_head(alloc: Global, text: &[u8]) -> Result<Option<Rows<Head>>, Le
     if !begins_section(text) {
         return Ok(None);
     }
-    if let Some(inner) = between(b'[', b']', text) {
+    if let Some(inner) = strip_delimiters(b'[', b']', text) {
         if !ends_quoted(inner) {
             let heads = heads(alloc, inner)?;
             if all_heads(heads.items()) {

@@ -51,7 +51,7 @@ fn feed_at(rest: &[u8]) -> usize
 
 /// The first piece, and what follows its line feed.
 #[tactic(auto, using(crate::proofs::PieceLemmas::pieces_cut, crate::proofs::PieceLemmas::pieces_last))]
-pub fn cut(rest: &[u8]) -> (&[u8], &[u8])
+pub fn split_line(rest: &[u8]) -> (&[u8], &[u8])
     requires { 0 < length (without_return rest.now) }
     ensures pieces { (n at : ℕ) → pieces_from n at rest.now
         ≡ record { number = n; start = at; bytes = result.0.now }
@@ -183,7 +183,7 @@ pub fn lines(alloc: Global, bytes: &[u8]) -> Result<Vec<Line<'_>>, LexRefusal>
     let mut rest = bytes;
     while !is_end(rest) {
         let start = (bytes.len() - rest.len()) as u64;
-        let (piece, after) = cut(rest);
+        let (piece, after) = split_line(rest);
         found.push(line_of(number, start, piece)?)?;
         number += 1;
         rest = after;

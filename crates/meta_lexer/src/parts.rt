@@ -4,7 +4,7 @@ ghost use Rattle.std.specs.List.{slice_split};
 ghost use Rattle.meta_lexer.specs.Lines.{is_blank};
 ghost use Rattle.meta_lexer.specs.Parts.{first_text, field_texts, word_at, words_among, words_of};
 
-use crate::field::cut;
+use crate::field::split_unquoted;
 use crate::head::bytes_at;
 use crate::line::{is_blank, trim};
 use build_base::{Rows, Text, WantOfMemory};
@@ -25,7 +25,7 @@ pub fn first_text(texts: &[Text]) -> &[u8]
 pub fn field_texts(alloc: Global, text: &[u8]) -> Result<Rows<Text>, WantOfMemory>
     ensures { IfOk result (λ fields. fields ≡ field_texts text.now) }
 {
-    let spans = cut(alloc, true, b'|', text)?;
+    let spans = split_unquoted(alloc, true, b'|', text)?;
     let mut fields = Rows::new(alloc);
     for span in &spans {
         let field = trim(bytes_at(text, span));

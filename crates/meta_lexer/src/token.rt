@@ -7,7 +7,7 @@ ghost use Rattle.meta_lexer.specs.Tokens.{is_word_byte, are_digits, is_numeral, 
 ghost use Rattle.meta_lexer.specs.Fields.{IsWithin};
 
 use crate::field::{Span, ends_quoted, last_quote};
-use crate::head::{between, has_no_quote};
+use crate::head::{has_no_quote, strip_delimiters};
 use crate::line::is_blank;
 use crate::numbers::digit;
 use crate::refusal::LexRefusal;
@@ -216,7 +216,7 @@ pub fn tokens(alloc: Global, text: &[u8]) -> Result<Vec<Token>, LexRefusal>
 pub fn quoted(text: &[u8]) -> Option<Span>
     ensures { result ≡ quoted_of text.now }
 {
-    if let Some(inner) = between(b'"', b'"', text) {
+    if let Some(inner) = strip_delimiters(b'"', b'"', text) {
         if has_no_quote(inner) {
             return Some(Span {
                 start: 1,

@@ -3,7 +3,7 @@ ghost use Rattle.std.specs.Prelude.{◌≡◌, ◌≤◌, ◌<◌, ◌==◌, len
 ghost use Rattle.std.specs.Option.{option_map};
 ghost use Rattle.std.specs.List.{list_all, position_or_len};
 ghost use Rattle.meta_lexer.specs.Tokens.{is_word_byte};
-ghost use Rattle.meta_lexer.specs.Words.{same_word, begins_with_digit, is_identifier, halves, holds_macro};
+ghost use Rattle.meta_lexer.specs.Words.{same_word, begins_with_digit, is_identifier, split_once, holds_macro};
 
 use crate::line::trim;
 use crate::token::is_word_byte;
@@ -52,9 +52,9 @@ fn place(mark: u8, text: &[u8]) -> usize
 }
 
 /// The texts before and after the first mark, without their outer blanks.
-#[tactic(auto, unfolding(crate::specs::Words::halves))]
-pub fn halves(mark: u8, text: &[u8]) -> Option<(&[u8], &[u8])>
-    ensures { option_map (λ p. (p.0.now, p.1.now)) result ≡ halves mark text.now }
+#[tactic(auto, unfolding(crate::specs::Words::split_once))]
+pub fn split_once(mark: u8, text: &[u8]) -> Option<(&[u8], &[u8])>
+    ensures { option_map (λ p. (p.0.now, p.1.now)) result ≡ split_once mark text.now }
 {
     let i = place(mark, text);
     if i < text.len() {

@@ -3,8 +3,8 @@ use Rattle.std.proofs.lemmas.Grind.{common_steps}
 use Rattle.std.proofs.lemmas.List.Elements.{All-nil, All-push}
 use Rattle.meta_lexer.specs.Fields.{IsWithin, spans, pieces_outside, nothing_open, open_view}
 use Rattle.meta_lexer.proofs.FieldLemmas.{step_mark, step_other, last_field, at_start}
-use Rattle.meta_lexer.proofs.field.cut.Goals as goal
-use Rattle.meta_lexer.proofs.field.cut.Goals.{then-separates+in_ok-push, else-separates}
+use Rattle.meta_lexer.proofs.field.split_unquoted.Goals as goal
+use Rattle.meta_lexer.proofs.field.split_unquoted.Goals.{then-separates+in_ok-push, else-separates}
 
 pub loop-i-init : goal.loop-i-init
 loop-i-init c = record {

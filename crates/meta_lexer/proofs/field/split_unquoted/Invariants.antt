@@ -2,7 +2,7 @@ use Rattle.std.proofs.Common.{◌≡◌, ◌≤◌, ◌++◌, take, drop, fold}
 use Rattle.std.specs.List.{All}
 use Rattle.meta_lexer.specs.Fields.{spans, pieces_outside, after, nothing_open, open_view, IsWithin}
 use Rattle.meta_lexer.proofs.FieldLemmas.{spans_from}
-use Rattle.meta_lexer.proofs.field.cut.Given as goal
+use Rattle.meta_lexer.proofs.field.split_unquoted.Given as goal
 
 abbrev pub invariant-loop-i : goal.invariant-loop-i
 invariant-loop-i l = record {
