@@ -8,7 +8,7 @@ use Rattle.build_base.specs.declared.guid.Guid.{Guid as GuidBytes}
 use Rattle.build_base.specs.declared.lines.Taken.{Taken}
 use Rattle.doc_reading.specs.Least.{least_of}
 use Rattle.doc_reading.specs.ValueFields.{undefined_macro}
-use Rattle.doc_reading.specs.Values.{wanted}
+use Rattle.doc_reading.specs.Values.{require}
 use Rattle.doc_reading.proofs.FaultlessLemmas.{least_first, least_rest, least_read, wanted_given}
 use Rattle.doc_types.specs.Pcds.{datum_named, pcd_name_of}
 use Rattle.doc_types.specs.declared.arch.Arch.{Arch}
@@ -33,7 +33,7 @@ use Rattle.build_base.specs.FaultCodes.{BAD_NUMBER, BAD_TOKEN, DEC_BAD_GUID}
 
 -- a GUID's line
 named : (line : Taken) (arch : Arch) (name : List ℕ) (guid : Option GuidBytes) (t : Bool) (one other : Fault)
-    → (if t then wanted guid one else Some other) ≡ None → IsSome (guids.named_guid line arch name guid)
+    → (if t then require guid one else Some other) ≡ None → IsSome (guids.named_guid line arch name guid)
 named line arch name (Some guid) true one other e = refl
 named line arch name None true one other e = absurd cc
 named line arch name guid false one other e = absurd cc
@@ -53,7 +53,7 @@ guid_given line arch e = guid_field_given line arch (guids.guid_field line) (spl
 
 -- a PCD's line
 made : (line : Taken) (arch : Arch) (kind : Kind) (pcd : Option PcdName) (default : List ℕ) (datum : Option Datum) (token : List ℕ) (number : Option ℕ) (missing : Fault)
-    → wanted number missing ≡ None → pcds.parts_fault line pcd default datum ≡ None → pcds.token_fault line token number ≡ None
+    → require number missing ≡ None → pcds.parts_fault line pcd default datum ≡ None → pcds.token_fault line token number ≡ None
     → IsSome (pcds.made_pcd line arch kind pcd default datum (pcds.token_of number))
 made line arch kind None default datum token number missing w p t = absurd cc
 made line arch kind (Some pcd) default None token number missing w p t = absurd cc
@@ -76,7 +76,7 @@ fields_given line arch kind (name ∷ []) e = other line (name ∷ []) e
 fields_given line arch kind (name ∷ default ∷ []) e = other line (name ∷ default ∷ []) e
 fields_given line arch kind (name ∷ default ∷ datum ∷ []) e = other line (name ∷ default ∷ datum ∷ []) e
 fields_given line arch kind (name ∷ default ∷ datum ∷ token ∷ []) e =
-    let number = wanted (number_of token) (fault_of BAD_NUMBER line.at token) in
+    let number = require (number_of token) (fault_of BAD_NUMBER line.at token) in
     let words = pcds.words_fault line name default datum in
     let parts = pcds.parts_fault line (pcd_name_of name) default (datum_named datum) in
     let last = pcds.token_fault line token (number_of token) in
@@ -109,7 +109,7 @@ mapped f None h = absurd cc
 pub key_given : (line : Taken) (k : DecKey) (value : List ℕ) → least_of (key_faults line (Some k) value) ≡ None → IsSome (key_row (Some k) value)
 key_given line key.Name value e = refl
 key_given line key.Guid value e =
-    let guid = wanted (guid_of value) (fault_of DEC_BAD_GUID line.at value) in
+    let guid = require (guid_of value) (fault_of DEC_BAD_GUID line.at value) in
     mapped _ (guid_of value)
     (wanted_given (guid_of value) (fault_of DEC_BAD_GUID line.at value)
     (least_first guid [] (least_rest (undefined_macro line.at value) (guid ∷ []) (least_read line (undefined_macro line.at value ∷ guid ∷ []) e))))

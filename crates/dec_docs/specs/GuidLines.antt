@@ -9,7 +9,7 @@ use Rattle.meta_lexer.specs.GuidBraces.{guid_of_braces}
 use Rattle.meta_lexer.specs.Parts.{first_text, field_texts}
 use Rattle.meta_lexer.specs.Words.{split_once, is_identifier}
 use Rattle.doc_reading.specs.ValueFields.{undefined_macro}
-use Rattle.doc_reading.specs.Values.{wanted, of_read_line}
+use Rattle.doc_reading.specs.Values.{require, of_read_line}
 use Rattle.doc_types.specs.declared.arch.Arch.{Arch}
 use Rattle.dec_docs.specs.declared.rows.Declared.TheVariants as row
 use Rattle.dec_docs.specs.declared.rows.DecRow.{DecRow}
@@ -27,7 +27,7 @@ bad_line line = fault_of DEC_BAD_GUID line.at line.text
 
 abbrev pub pair_fault : Taken → List ℕ → List ℕ → Option GuidBytes → Option Fault
 pair_fault line name value guid = if is_identifier name
-    then wanted guid (fault_of DEC_BAD_GUID line.at value) else Some (bad_line line)
+    then require guid (fault_of DEC_BAD_GUID line.at value) else Some (bad_line line)
 
 abbrev pub field_faults : Taken → List ℕ → Option (List ℕ × List ℕ) → List (Option Fault)
 field_faults line field (Some p) = words_fault line p.0 p.1

@@ -10,7 +10,7 @@ use Rattle.doc_reading.specs.SegmentNames.{segment_name}
 use Rattle.doc_reading.specs.Least.{fault_in}
 use Rattle.doc_reading.specs.ValueFields.{undefined_macro}
 use Rattle.meta_lexer.specs.Lookup.{lookup}
-use Rattle.doc_reading.specs.Values.{wanted, of_read_line}
+use Rattle.doc_reading.specs.Values.{require, of_read_line}
 use Rattle.dec_docs.specs.declared.key_line.DecKey as key_type
 use Rattle.dec_docs.specs.declared.key_line.DecKey.TheVariants as key
 use Rattle.dec_docs.specs.declared.rows.DecRow.{DecRow}
@@ -29,7 +29,7 @@ key_faults line (Some key.Name) value =
     of_read_line line (fault_in (segment_name line.at value) ∷ [])
 key_faults line (Some key.Guid) value =
     of_read_line line (undefined_macro line.at value
-    ∷ wanted (guid_of value) (fault_of DEC_BAD_GUID line.at value) ∷ [])
+    ∷ require (guid_of value) (fault_of DEC_BAD_GUID line.at value) ∷ [])
 key_faults line None value = []
 
 abbrev pub key_row : Option key_type.DecKey → List ℕ → Option DecRow

@@ -8,7 +8,7 @@ use Rattle.meta_lexer.specs.Faults.{first_fault}
 use Rattle.meta_lexer.specs.Numbers.{number_of}
 use Rattle.meta_lexer.specs.Parts.{field_texts}
 use Rattle.doc_reading.specs.ValueFields.{undefined_macro}
-use Rattle.doc_reading.specs.Values.{wanted, of_read_line}
+use Rattle.doc_reading.specs.Values.{require, of_read_line}
 use Rattle.doc_types.specs.Pcds.{datum_named, pcd_name_of}
 use Rattle.doc_types.specs.declared.arch.Arch.{Arch}
 use Rattle.doc_types.specs.declared.pcd.Datum.{Datum}
@@ -53,7 +53,7 @@ other_faults line fields = first_fault (undefined_macro line.at) fields ∷ Some
 -- exactly four fields
 abbrev pub fields_faults : Taken → List (List ℕ) → List (Option Fault)
 fields_faults line (name ∷ default ∷ datum ∷ token ∷ []) =
-    wanted (number_of token) (fault_of BAD_NUMBER line.at token)
+    require (number_of token) (fault_of BAD_NUMBER line.at token)
     ∷ words_fault line name default datum ∷
     parts_fault line (pcd_name_of name) default (datum_named datum)
     ∷ token_fault line token (number_of token) ∷ []

@@ -3,7 +3,7 @@ ghost use Rattle.std.specs.Prelude.{◌≡◌, IfOk};
 ghost use Rattle.meta_lexer.specs.Words.{split_once};
 ghost use Rattle.meta_lexer.specs.GuidBraces.{guid_of_braces};
 ghost use Rattle.build_base.specs.Answer.{Answers, Checks};
-ghost use Rattle.doc_reading.specs.Gathering.{judged};
+ghost use Rattle.doc_reading.specs.Gathering.{unless_faulty};
 ghost use Rattle.dec_docs.specs.GuidLines.{words_fault, pair_fault, named_guid, field_faults, field_row, guid_line_faults, guid_line_row};
 
 use crate::rows::{DecRow, Declared};
@@ -11,7 +11,7 @@ use build_base::fault_codes::DEC_BAD_GUID;
 use build_base::{Guid, Refusal, Same, Taken, Text, WantOfMemory, refuse};
 use doc_reading::least_check::{least_of_two, least_refusal};
 use doc_reading::value_fields::{open_quote, undefined_macro};
-use doc_reading::values::wanted;
+use doc_reading::values::require;
 use doc_types::arch::Arch;
 use doc_types::depex::NamedGuid;
 use meta_lexer::guid_braces::guid_of_braces;
@@ -39,7 +39,7 @@ fn check_pair(
     if !is_identifier(name) {
         return Err(refuse(alloc, DEC_BAD_GUID, &line.at, line.text.bytes()));
     }
-    wanted(alloc, guid, DEC_BAD_GUID, &line.at, value)
+    require(alloc, guid, DEC_BAD_GUID, &line.at, value)
 }
 
 fn named_guid(
@@ -68,7 +68,7 @@ fn guid_field(
     arch: Arch,
     field: &[u8],
 ) -> Result<Option<DecRow>, Refusal>
-    ensures { Answers result (judged (field_faults line.now field.now (split_once 61 field.now))
+    ensures { Answers result (unless_faulty (field_faults line.now field.now (split_once 61 field.now))
         (field_row line.now arch (split_once 61 field.now))) }
 {
     match split_once(b'=', field) {
@@ -91,7 +91,7 @@ fn guid_field(
 /// The name that a line `Name = { .. }` declares, where further fields are read past.
 #[tactic(auto, unfolding(crate::specs::GuidLines::guid_line_faults, crate::specs::GuidLines::guid_line_row))]
 pub fn guid_line(alloc: Global, line: &Taken, arch: Arch) -> Result<Option<DecRow>, Refusal>
-    ensures { Answers result (judged (guid_line_faults line.now) (guid_line_row line.now arch)) }
+    ensures { Answers result (unless_faulty (guid_line_faults line.now) (guid_line_row line.now arch)) }
 {
     open_quote(alloc, &line.at, line.text.bytes())?;
     let fields = field_texts(alloc, line.text.bytes())?;

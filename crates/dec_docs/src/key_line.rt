@@ -1,7 +1,7 @@
 //! The lines of [Defines].
 ghost use Rattle.std.specs.Prelude.{◌≡◌};
 ghost use Rattle.build_base.specs.Answer.{Answers};
-ghost use Rattle.doc_reading.specs.Gathering.{judged};
+ghost use Rattle.doc_reading.specs.Gathering.{unless_faulty};
 ghost use Rattle.dec_docs.specs.KeyLines.{key_named, key_faults, key_row, pair_faults, pair_row, key_line_faults, key_line_row};
 
 use crate::rows::DecRow;
@@ -10,7 +10,7 @@ use build_base::{Guid, Refusal, Taken};
 use doc_reading::least_check::least_of_two;
 use doc_reading::segment_name::segment_name;
 use doc_reading::value_fields::{open_quote, undefined_macro};
-use doc_reading::values::wanted;
+use doc_reading::values::require;
 use meta_lexer::lookup;
 use meta_lexer::words::split_once;
 use std::alloc::Global;
@@ -41,7 +41,7 @@ fn key_said(
     key: Option<DecKey>,
     value: &[u8],
 ) -> Result<Option<DecRow>, Refusal>
-    ensures { Answers result (judged (key_faults line.now key value.now) (key_row key value.now)) }
+    ensures { Answers result (unless_faulty (key_faults line.now key value.now) (key_row key value.now)) }
 {
     match key {
         Some(DecKey::Name) => {
@@ -54,7 +54,7 @@ fn key_said(
             let guid = Guid::of_text(value);
             least_of_two(
                 undefined_macro(alloc, &line.at, value),
-                wanted(alloc, &guid, DEC_BAD_GUID, &line.at, value),
+                require(alloc, &guid, DEC_BAD_GUID, &line.at, value),
             )?;
             Ok(guid.map(|guid| DecRow::Guid(guid)))
         }
@@ -65,7 +65,7 @@ fn key_said(
 /// What a line of [Defines] says.
 #[tactic(auto, unfolding(crate::specs::KeyLines::key_line_faults, crate::specs::KeyLines::key_line_row))]
 pub fn key_line(alloc: Global, line: &Taken) -> Result<Option<DecRow>, Refusal>
-    ensures { Answers result (judged (key_line_faults line.now) (key_line_row line.now)) }
+    ensures { Answers result (unless_faulty (key_line_faults line.now) (key_line_row line.now)) }
 {
     match split_once(b'=', line.text.bytes()) {
         Some((key, value)) => key_said(alloc, line, key_named(key), value),

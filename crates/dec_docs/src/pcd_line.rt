@@ -2,7 +2,7 @@
 ghost use Rattle.std.specs.Prelude.{◌≡◌, [], ◌∷◌, IfOk};
 ghost use Rattle.build_base.specs.Answer.{Answers, Checks, Finds};
 ghost use Rattle.doc_reading.specs.Least.{least_of};
-ghost use Rattle.doc_reading.specs.Gathering.{judged};
+ghost use Rattle.doc_reading.specs.Gathering.{unless_faulty};
 ghost use Rattle.dec_docs.specs.PcdLines.{words_fault, parts_fault, token_fault, token_of, made_pcd, other_faults, fields_faults, fields_row, pcd_line_faults, pcd_line_row};
 
 use crate::rows::{DecRow, Declared};
@@ -10,7 +10,7 @@ use build_base::fault_codes::{BAD_NUMBER, BAD_TOKEN, DEC_BAD_PCD_LINE};
 use build_base::{Refusal, Same, Taken, Text, WantOfMemory, refuse};
 use doc_reading::least_check::{least_of_four, least_refusal};
 use doc_reading::value_fields::{open_quote, undefined_macro, undefined_macros};
-use doc_reading::values::wanted;
+use doc_reading::values::require;
 use doc_types::arch::Arch;
 use doc_types::package::DecPcd;
 use doc_types::pcd::{Datum, Kind, PcdName, datum_named, pcd_name_of};
@@ -122,14 +122,14 @@ fn four_fields(
     datum: &[u8],
     token: &[u8],
 ) -> Result<Option<DecRow>, Refusal>
-    ensures { Answers result (judged
+    ensures { Answers result (unless_faulty
         (fields_faults line.now (name.now ∷ default.now ∷ datum.now ∷ token.now ∷ []))
         (fields_row line.now arch kind (name.now ∷ default.now ∷ datum.now ∷ token.now ∷ []))) }
 {
     let pcd = pcd_name_of(alloc, name)?;
     let read = number(token);
     least_of_four(
-        wanted(alloc, &read, BAD_NUMBER, &line.at, token),
+        require(alloc, &read, BAD_NUMBER, &line.at, token),
         check_words(alloc, line, name, default, datum),
         check_parts(alloc, line, &pcd, default, datum_named(datum)),
         check_token(alloc, line, token, read),
@@ -164,7 +164,7 @@ fn pcd_fields(
     fields: &[Text],
 ) -> Result<Option<DecRow>, Refusal>
     ensures { Answers result
-        (judged (fields_faults line.now fields.now) (fields_row line.now arch kind fields.now)) }
+        (unless_faulty (fields_faults line.now fields.now) (fields_row line.now arch kind fields.now)) }
 {
     match fields {
         [name, default, datum, token] => four_fields(
@@ -189,7 +189,7 @@ pub fn pcd_line(
     arch: Arch,
     kind: Kind,
 ) -> Result<Option<DecRow>, Refusal>
-    ensures { Answers result (judged (pcd_line_faults line.now) (pcd_line_row line.now arch kind)) }
+    ensures { Answers result (unless_faulty (pcd_line_faults line.now) (pcd_line_row line.now arch kind)) }
 {
     open_quote(alloc, &line.at, line.text.bytes())?;
     let fields = field_texts(alloc, line.text.bytes())?;

@@ -5,7 +5,7 @@ use Rattle.build_base.specs.declared.fault.Fault.{Fault}
 use Rattle.build_base.specs.declared.lines.Taken.{Taken}
 use Rattle.meta_lexer.specs.Fields.{ends_quoted}
 use Rattle.doc_reading.specs.Least.{lesser, least_of}
-use Rattle.doc_reading.specs.Values.{wanted, of_read_line}
+use Rattle.doc_reading.specs.Values.{require, of_read_line}
 
 one_of_both : {X : Type 0} (t : Bool) (a b : Fault) → (if t then Some b else Some a) ≡ None → X
 one_of_both true a b e = absurd cc
@@ -34,6 +34,6 @@ pub least_read : (line : Taken) (faults : List (Option Fault)) → least_of (of_
 least_read line faults e = unquoted (ends_quoted line.text) _ faults e
 
 -- a value that is wanted is there
-pub wanted_given : {T : Type 0} (value : Option T) (fault : Fault) → wanted value fault ≡ None → IsSome value
+pub wanted_given : {T : Type 0} (value : Option T) (fault : Fault) → require value fault ≡ None → IsSome value
 wanted_given (Some value) fault e = refl
 wanted_given None fault e = absurd cc

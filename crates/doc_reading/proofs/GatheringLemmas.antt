@@ -9,7 +9,7 @@ use Rattle.build_base.specs.declared.fault.Fault.{Fault}
 use Rattle.build_base.specs.declared.refusal.Refusal.{Refusal}
 use Rattle.build_base.specs.declared.refusal.Refusal.TheVariants.{Bad, WantOfMemory}
 use Rattle.doc_reading.specs.Least.{fault_in, lesser, least_of}
-use Rattle.doc_reading.specs.declared.gathered.Gathered.{Gathered}
+use Rattle.doc_reading.specs.declared.gathered.LineResult.{LineResult}
 use Rattle.doc_reading.specs.Gathering.{given_in, least_in, gathered, Found, Gathers}
 use Rattle.doc_reading.proofs.LeastLemmas.{lesser_none, least_push}
 
@@ -31,7 +31,7 @@ with_value (Err (Bad fault)) rows new above value h n = no_more above value ∙ 
 with_value (Err WantOfMemory) rows new above value h n = tt
 
 -- with an outcome that has no fault
-pub gathers_value : {T : Type 0} (old new : Gathered T) (above : List (Result (Option T) Fault)) (one : Result (Option T) Fault) (value : Option T)
+pub gathers_value : {T : Type 0} (old new : LineResult T) (above : List (Result (Option T) Fault)) (one : Result (Option T) Fault) (value : Option T)
     → Gathers old above → one ≡ Ok value → new.found ≡ old.found → new.rows.items ≡ old.rows.items ++ given_in (Ok value) → Gathers new (above ++ one ∷ [])
 gathers_value old new above one value h o f n =
     subst (λ z. Gathers new (above ++ z ∷ [])) (sym o)
@@ -47,7 +47,7 @@ refused_finds (Bad fault) one h = ap fault_in h
 refused_finds WantOfMemory one h = tt
 
 -- with one that has
-pub gathers_fault : {T : Type 0} (old : Gathered T) (refusal least : Refusal) (above : List (Result (Option T) Fault)) (one : Result (Option T) Fault)
+pub gathers_fault : {T : Type 0} (old : LineResult T) (refusal least : Refusal) (above : List (Result (Option T) Fault)) (one : Result (Option T) Fault)
     → ((fault other : Option Fault) → Checks old.found fault → Finds refusal other → Finds least (lesser fault other))
     → Gathers old above → Refused refusal one → Finds least (least_in (above ++ one ∷ []))
 gathers_fault old refusal least above one joined h r =

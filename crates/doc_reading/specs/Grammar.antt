@@ -12,7 +12,7 @@ use Rattle.meta_lexer.specs.declared.head.Head.{Head}
 use Rattle.doc_reading.specs.declared.form.LineForm.{LineForm}
 use Rattle.doc_reading.specs.declared.form.LineForm.TheVariants.{Blank, Heads, OpenHead, BadHead, Body}
 use Rattle.doc_reading.specs.Forms.{form_of}
-use Rattle.doc_reading.specs.Gathering.{gathered, judged}
+use Rattle.doc_reading.specs.Gathering.{gathered, unless_faulty}
 use Rattle.build_base.specs.FaultCodes.{BAD_SECTION, OPEN_QUOTE}
 
 -- What a line came to: heads, with their line's place and the scopes that they enter, or the rows
@@ -40,12 +40,12 @@ pub record Grammar (S R : Type 0) : Type 0 where
 
 -- the least of a head's faults, or its scope
 abbrev pub entry_of : {S R : Type 0} → Grammar S R → Taken → Head → Result (Option S) Fault
-entry_of g line head = judged (g.head_faults line head) (g.scope_of head)
+entry_of g line head = unless_faulty (g.head_faults line head) (g.scope_of head)
 
 -- the least of a line's faults below a head, or its row
 abbrev pub outcome_of : {S R : Type 0} → Grammar S R → List (Read S R) → Taken → S
     → Result (Option R) Fault
-outcome_of g above line scope = judged (g.faults above line scope) (g.row_of above line scope)
+outcome_of g above line scope = unless_faulty (g.faults above line scope) (g.row_of above line scope)
 
 abbrev pub scopes_in : {S R : Type 0} → Read S R → List (List S)
 scopes_in (entered at scopes) = scopes ∷ []

@@ -9,7 +9,7 @@ ghost use Rattle.doc_reading.specs.Holding.{Held};
 
 use crate::form::{LineForm, form_of};
 use crate::format::Format;
-use crate::gathered::Gathered;
+use crate::gathered::LineResult;
 use crate::least_check::{lesser_check, with_check};
 use crate::reader::{Reader, read_lines};
 use build_base::fault_codes::{BAD_SECTION, OPEN_QUOTE};
@@ -34,7 +34,7 @@ fn scopes_entered<F: Format>(
     ensures { AnswersAs (λ scopes. scopes.items) result
         (heads_entered F.grammar line.now heads.now) }
 {
-    let mut gathered = Gathered::new(alloc);
+    let mut gathered = LineResult::new(alloc);
     for head in heads {
         gathered.add(format.enter(line, head))?;
     }
@@ -62,7 +62,7 @@ fn rows_below<F: Format>(
     ensures { (above : List (Read F.Scope F.Row)) → F.holds above format.now →
         AnswersAs (λ rows. rows.items) result (rows_given F.grammar above line.now scopes.now) }
 {
-    let mut gathered = Gathered::new(alloc);
+    let mut gathered = LineResult::new(alloc);
     for scope in scopes {
         gathered.add(format.below(line, scope))?;
     }

@@ -18,4 +18,4 @@ pub mod whole;
 pub use document::read_document;
 pub use format::Format;
 pub use reader::{Reader, read_lines};
-pub use whole::{Whole, read_whole};
+pub use whole::{DocumentFormat, read_whole};

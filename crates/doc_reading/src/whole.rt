@@ -12,7 +12,7 @@ use build_base::{Lines, Refusal};
 use std::alloc::Global;
 
 /// A format whose lines make a document.
-pub trait Whole: Format {
+pub trait DocumentFormat: Format {
     /// What they make.
     type Made;
 
@@ -27,7 +27,7 @@ pub trait Whole: Format {
 
 /// The document of these lines, or its first fault: of the first line that has one, else of the
 /// whole.
-pub fn read_whole<F: Whole + Drop>(
+pub fn read_whole<F: DocumentFormat + Drop>(
     alloc: Global,
     format: F,
     lines: &Lines,

@@ -9,7 +9,7 @@ use Rattle.build_base.specs.declared.lines.Taken.{Taken}
 use Rattle.meta_lexer.specs.Fields.{ends_quoted}
 use Rattle.meta_lexer.specs.Words.{same_word}
 use Rattle.macro_conditions.specs.Sources.{without_workspace}
-use Rattle.doc_reading.specs.Gathering.{judged}
+use Rattle.doc_reading.specs.Gathering.{unless_faulty}
 use Rattle.doc_types.specs.Standard.{EFI_SECTION_FIRMWARE_VOLUME_IMAGE, EFI_SECTION_FREEFORM_SUBTYPE_GUID}
 use Rattle.doc_types.specs.declared.volume.Align.{Align}
 use Rattle.doc_types.specs.declared.volume.Align.TheVariants.{Unset, Auto, Bytes}
@@ -54,7 +54,7 @@ file_closes line marks full name filled c b =
 
 -- a path alone
 whole_by : (line : Taken) (s : Option Statement) (path : List ℕ) → forms.IsNoSection s → path_field (without_workspace line.text) ≡ Some path
-    → judged (lines.file_faults_in line Nothing s) (lines.file_row_in line s) ≡ Ok (Some (row.Whole path))
+    → unless_faulty (lines.file_faults_in line Nothing s) (lines.file_row_in line s) ≡ Ok (Some (row.Whole path))
 whole_by line (Some statement.Section) path n e = absurd n
 whole_by line (Some statement.Close) path n e = absurd n
 whole_by line (Some statement.BadClose) path n e = absurd n
@@ -78,21 +78,21 @@ aligned text (Bytes number) rest h =
 aligned text Auto rest h = absurd h
 
 section_by : (line : Taken) (align : Align) (known : SectionWord) (more : List ℕ) (h : forms.IsSection line align known more) (x : Result (Option Row) Fault)
-    → judged (bodies.kind_faults line h.text (Some known)) (bodies.kind_row line align h.text (Some known)) ≡ x
-    → judged (bodies.section_faults line) (bodies.section_row line) ≡ x
+    → unless_faulty (bodies.kind_faults line h.text (Some known)) (bodies.kind_row line align h.text (Some known)) ≡ x
+    → unless_faulty (bodies.section_faults line) (bodies.section_row line) ≡ x
 unfolding bodies.section_faults bodies.section_row
 section_by line align known more h x e =
-    ap (λ p. judged (bodies.aligned_faults line p) (bodies.aligned_row line p)) (ap bodies.maybe_align (after_statement line statement.Section h.rest h.statement) ∙ aligned h.rest align h.text h.aligned)
-    ∙ ap (λ o. judged (bodies.kind_faults line h.text o) (bodies.kind_row line align h.text o)) (ap bodies.section_word (word_found h.text h.kind_word more h.kinded) ∙ h.kind_is) ∙ e
+    ap (λ p. unless_faulty (bodies.aligned_faults line p) (bodies.aligned_row line p)) (ap bodies.maybe_align (after_statement line statement.Section h.rest h.statement) ∙ aligned h.rest align h.text h.aligned)
+    ∙ ap (λ o. unless_faulty (bodies.kind_faults line h.text o) (bodies.kind_row line align h.text o)) (ap bodies.section_word (word_found h.text h.kind_word more h.kinded) ∙ h.kind_is) ∙ e
 
-in_body : (line : Taken) (filled : Body) (r : Row) → forms.IsSectionsBody filled → judged (bodies.section_faults line) (bodies.section_row line) ≡ Ok (Some r)
-    → judged (lines.section_faults_in line filled) (bodies.section_row line) ≡ Ok (Some r)
+in_body : (line : Taken) (filled : Body) (r : Row) → forms.IsSectionsBody filled → unless_faulty (bodies.section_faults line) (bodies.section_row line) ≡ Ok (Some r)
+    → unless_faulty (lines.section_faults_in line filled) (bodies.section_row line) ≡ Ok (Some r)
 in_body line Nothing r n e = e
 in_body line Sections r n e = e
 in_body line Whole r n e = absurd n
 
 section_line : (line : Taken) (marks : Marks) (full : Bool) (name : List ℕ) (filled : Body) (align : Align) (known : SectionWord) (more : List ℕ) (r : Row) (h : forms.IsSection line align known more) → marks.braces ≡ InFile filled → forms.IsSectionsBody filled
-    → judged (bodies.kind_faults line h.text (Some known)) (bodies.kind_row line align h.text (Some known)) ≡ Ok (Some r)
+    → unless_faulty (bodies.kind_faults line h.text (Some known)) (bodies.kind_row line align h.text (Some known)) ≡ Ok (Some r)
     → forms.Says line marks full (scope.Volume name) r
 section_line line marks full name filled align known more r h b n e =
     volume_line line marks full name (InFile filled) r h.statement.plain b
@@ -106,22 +106,22 @@ more_of : (line : Taken) (align : Align) (known : SectionWord) (more : List ℕ)
 more_of line align known more h = rest_found h.text h.kind_word more h.kinded
 
 path_by : (line : Taken) (kind : ℕ) (align : Align) (value path : List ℕ) → path_field (without_workspace value) ≡ Some path → forms.IsFilledBefore line value
-    → judged (bodies.path_faults line value) (bodies.path_row line kind align (path_field (without_workspace value))) ≡ Ok (Some (bodies.made_section line kind align None (body.Tree path)))
+    → unless_faulty (bodies.path_faults line value) (bodies.path_row line kind align (path_field (without_workspace value))) ≡ Ok (Some (bodies.made_section line kind align None (body.Tree path)))
 path_by line kind align value path p f = rw (f, p) refl
 
 pub path_says : (line : Taken) (marks : Marks) (full : Bool) (name : List ℕ) (filled : Body) (align : Align) (kind : ℕ) (more path : List ℕ) → forms.IsSection line align (section.Plain kind) more → marks.braces ≡ InFile filled → forms.IsSectionsBody filled → forms.IsStatedPath line more path
     → forms.Says line marks full (scope.Volume name) (bodies.made_section line kind align None (body.Tree path))
 path_says line marks full name filled align kind more path h b n p =
     section_line line marks full name filled align (section.Plain kind) more (bodies.made_section line kind align None (body.Tree path)) h b n
-    (ap (λ o. judged (bodies.equals_faults line (section.Plain kind) o) (bodies.equals_row line align (section.Plain kind) o)) (ap (λ m. bodies.some_text (after_equals m)) (more_of line align (section.Plain kind) more h) ∙ stated_text more p.value p.stated)
+    (ap (λ o. unless_faulty (bodies.equals_faults line (section.Plain kind) o) (bodies.equals_row line align (section.Plain kind) o)) (ap (λ m. bodies.some_text (after_equals m)) (more_of line align (section.Plain kind) more h) ∙ stated_text more p.value p.stated)
     ∙ path_by line kind align p.value path p.path_is p.filled)
 
 worded_by : (line : Taken) (align : Align) (kind : ℕ) (more value : List ℕ) (words : Option (List ℕ)) (h : forms.IsSection line align (section.Worded kind) more) → forms.IsStatedText more value → bodies.words_in_quotes value ≡ words
-    → (r : Row) → judged (bodies.words_faults line value words) (bodies.words_row line kind align value words) ≡ Ok (Some r)
-    → judged (bodies.kind_faults line h.text (Some (section.Worded kind))) (bodies.kind_row line align h.text (Some (section.Worded kind))) ≡ Ok (Some r)
+    → (r : Row) → unless_faulty (bodies.words_faults line value words) (bodies.words_row line kind align value words) ≡ Ok (Some r)
+    → unless_faulty (bodies.kind_faults line h.text (Some (section.Worded kind))) (bodies.kind_row line align h.text (Some (section.Worded kind))) ≡ Ok (Some r)
 worded_by line align kind more value words h s w r e =
-    ap (λ o. judged (bodies.equals_faults line (section.Worded kind) o) (bodies.equals_row line align (section.Worded kind) o)) (ap (λ m. bodies.some_text (after_equals m)) (more_of line align (section.Worded kind) more h) ∙ stated_text more value s)
-    ∙ ap (λ o. judged (bodies.words_faults line value o) (bodies.words_row line kind align value o)) w ∙ e
+    ap (λ o. unless_faulty (bodies.equals_faults line (section.Worded kind) o) (bodies.equals_row line align (section.Worded kind) o)) (ap (λ m. bodies.some_text (after_equals m)) (more_of line align (section.Worded kind) more h) ∙ stated_text more value s)
+    ∙ ap (λ o. unless_faulty (bodies.words_faults line value o) (bodies.words_row line kind align value o)) w ∙ e
 
 pub words_says : (line : Taken) (marks : Marks) (full : Bool) (name : List ℕ) (filled : Body) (align : Align) (kind : ℕ) (more value words : List ℕ) → forms.IsSection line align (section.Worded kind) more → marks.braces ≡ InFile filled → forms.IsSectionsBody filled → forms.IsStatedText more value → bodies.words_in_quotes value ≡ Some words → forms.IsFilled line.text
     → forms.Says line marks full (scope.Volume name) (bodies.made_section line kind align None (body.Words words))
@@ -142,7 +142,7 @@ pub nested_says : (line : Taken) (marks : Marks) (full : Bool) (name : List ℕ)
 nested_says line marks full name filled align more volume h b n s f =
     let r = bodies.made_section line EFI_SECTION_FIRMWARE_VOLUME_IMAGE align None (body.Volume volume) in
     section_line line marks full name filled align section.Nested more r h b n
-    (ap (λ o. judged (bodies.equals_faults line section.Nested o) (bodies.equals_row line align section.Nested o)) (ap (λ m. bodies.some_text (after_equals m)) (more_of line align section.Nested more h) ∙ stated_text more volume s)
+    (ap (λ o. unless_faulty (bodies.equals_faults line section.Nested o) (bodies.equals_row line align section.Nested o)) (ap (λ m. bodies.some_text (after_equals m)) (more_of line align section.Nested more h) ∙ stated_text more volume s)
     ∙ rw f refl)
 
 named_value : (line : Taken) (more : List ℕ) (guid : Guid) (path : List ℕ) (p : forms.IsNamedPath line more guid path) → bodies.named_value more ≡ Some p.path_in.value
@@ -153,7 +153,7 @@ named_value line more guid path p =
     ∙ ap (λ m. bodies.some_text (after_equals m)) (rest_found more p.word p.more p.worded) ∙ stated_text p.more p.path_in.value p.path_in.stated
 
 guid_by : (line : Taken) (align : Align) (word value : List ℕ) (guid : Guid) (path : List ℕ) → guid_of word ≡ Some guid → path_field (without_workspace value) ≡ Some path → forms.IsFilledBefore line value
-    → judged (bodies.guid_faults line word value) (bodies.guid_row line align (guid_of word) (path_field (without_workspace value))) ≡ Ok (Some (bodies.made_section line EFI_SECTION_FREEFORM_SUBTYPE_GUID align (Some guid) (body.Tree path)))
+    → unless_faulty (bodies.guid_faults line word value) (bodies.guid_row line align (guid_of word) (path_field (without_workspace value))) ≡ Ok (Some (bodies.made_section line EFI_SECTION_FREEFORM_SUBTYPE_GUID align (Some guid) (body.Tree path)))
 guid_by line align word value guid path g p f = rw (f, p, g) refl
 
 pub named_says : (line : Taken) (marks : Marks) (full : Bool) (name : List ℕ) (filled : Body) (align : Align) (more : List ℕ) (guid : Guid) (path : List ℕ) → forms.IsSection line align section.Named more → marks.braces ≡ InFile filled → forms.IsSectionsBody filled → forms.IsNamedPath line more guid path
@@ -161,6 +161,6 @@ pub named_says : (line : Taken) (marks : Marks) (full : Bool) (name : List ℕ) 
 named_says line marks full name filled align more guid path h b n p =
     let r = bodies.made_section line EFI_SECTION_FREEFORM_SUBTYPE_GUID align (Some guid) (body.Tree path) in
     section_line line marks full name filled align section.Named more r h b n
-    (ap (λ m. judged (bodies.named_faults line (word_of m) (bodies.named_value m)) (bodies.named_row line align (word_of m) (bodies.named_value m))) (more_of line align section.Named more h)
-    ∙ ap₂ (λ w v. judged (bodies.named_faults line w v) (bodies.named_row line align w v)) (word_found more p.word p.more p.worded) (named_value line more guid path p)
+    (ap (λ m. unless_faulty (bodies.named_faults line (word_of m) (bodies.named_value m)) (bodies.named_row line align (word_of m) (bodies.named_value m))) (more_of line align section.Named more h)
+    ∙ ap₂ (λ w v. unless_faulty (bodies.named_faults line w v) (bodies.named_row line align w v)) (word_found more p.word p.more p.worded) (named_value line more guid path p)
     ∙ guid_by line align p.word p.path_in.value guid path p.guid_is p.path_in.path_is p.path_in.filled)

@@ -8,7 +8,7 @@ use Rattle.build_base.specs.declared.lines.Taken.{Taken}
 use Rattle.meta_lexer.specs.Fields.{ends_quoted}
 use Rattle.meta_lexer.specs.Parts.{field_texts}
 use Rattle.meta_lexer.specs.Words.{split_once, holds_macro, same_word}
-use Rattle.doc_reading.specs.Gathering.{judged}
+use Rattle.doc_reading.specs.Gathering.{unless_faulty}
 use Rattle.doc_reading.specs.Least.{least_of}
 use Rattle.doc_reading.specs.ValueFields.{number_value}
 use Rattle.doc_reading.specs.Values.{of_read_line}
@@ -47,7 +47,7 @@ unfolding is_set
 set_line line e f = ap₂ (λ a b. a && not b) e f
 
 set_parts : (line : Taken) (rank : ℕ) (name value : List ℕ) (pcd : PcdName) → split_once 61 (after_word line.text) ≡ Some (name, value) → pcd_name_of name ≡ Some pcd → (length value == 0) ≡ false → holds_macro name ≡ false → holds_macro value ≡ false
-    → judged (sets.set_faults line) (sets.set_row line rank) ≡ Ok (Some (row.Set (record { at = line.at; rank = rank; pcd = pcd; value = value })))
+    → unless_faulty (sets.set_faults line) (sets.set_row line rank) ≡ Ok (Some (row.Set (record { at = line.at; rank = rank; pcd = pcd; value = value })))
 unfolding sets.set_faults sets.set_row
 set_parts line rank name value pcd h p l m n = rw (h, p, l, m, n) refl
 
@@ -58,23 +58,23 @@ set_says line marks full s pcd value h =
     let rest = rest_found line.text h.word h.rest h.worded in
     let set = set_line line (ap (λ w. same_word w (codes "SET")) word ∙ h.word_is) (ap (begins_with 61) rest ∙ h.no_key) in
     let some : (length value == 0) ≡ false = (let l = h.some in grind (arith, nat_tests)) in
-    ap (λ t. judged (if t then of_read_line line (sets.set_faults line) else scope_faults line marks full s) (if t then sets.set_row line (rank_of s) else scope_row line marks s)) set
-    ∙ ap (λ fs. judged fs (sets.set_row line (rank_of s))) (closed_line line (sets.set_faults line) h.closed)
+    ap (λ t. unless_faulty (if t then of_read_line line (sets.set_faults line) else scope_faults line marks full s) (if t then sets.set_row line (rank_of s) else scope_row line marks s)) set
+    ∙ ap (λ fs. unless_faulty fs (sets.set_row line (rank_of s))) (closed_line line (sets.set_faults line) h.closed)
     ∙ set_parts line (rank_of s) h.name value pcd (ap (split_once 61) rest ∙ split_found h.rest h.name value h.split) h.pcd_is some h.name_filled h.value_filled
 
 -- any other line
-pub plain_line : (line : Taken) (marks : Marks) (full : Bool) (s : Scope) (x : Result (Option Row) Fault) → IsPlain line → judged (scope_faults line marks full s) (scope_row line marks s) ≡ x → judged (line_faults line marks full s) (line_row line marks s) ≡ x
+pub plain_line : (line : Taken) (marks : Marks) (full : Bool) (s : Scope) (x : Result (Option Row) Fault) → IsPlain line → unless_faulty (scope_faults line marks full s) (scope_row line marks s) ≡ x → unless_faulty (line_faults line marks full s) (line_row line marks s) ≡ x
 unfolding line_faults line_row
 plain_line line marks full s x h e =
-    ap (λ t. judged (if t then of_read_line line (sets.set_faults line) else scope_faults line marks full s) (if t then sets.set_row line (rank_of s) else scope_row line marks s)) h.unset ∙ e
+    ap (λ t. unless_faulty (if t then of_read_line line (sets.set_faults line) else scope_faults line marks full s) (if t then sets.set_row line (rank_of s) else scope_row line marks s)) h.unset ∙ e
 
-pub read_line : (line : Taken) (faults : List (Option Fault)) (o : Option Row) (x : Result (Option Row) Fault) → IsPlain line → judged faults o ≡ x → judged (of_read_line line faults) o ≡ x
-read_line line faults o x h e = ap (λ fs. judged fs o) (closed_line line faults h.closed) ∙ e
+pub read_line : (line : Taken) (faults : List (Option Fault)) (o : Option Row) (x : Result (Option Row) Fault) → IsPlain line → unless_faulty faults o ≡ x → unless_faulty (of_read_line line faults) o ≡ x
+read_line line faults o x h e = ap (λ fs. unless_faulty fs o) (closed_line line faults h.closed) ∙ e
 
 pub passed_says : (line : Taken) (marks : Marks) (full : Bool) → IsPlain line → Says line marks full scope.Settings row.Passed
 passed_says line marks full h = plain_line line marks full scope.Settings (Ok (Some row.Passed)) h refl
 
-device_line : (line : Taken) (marks : Marks) (full : Bool) (name : List ℕ) (r : Row) → IsPlain line → judged (devices.device_faults line marks) (devices.device_row line) ≡ Ok (Some r) → Says line marks full (scope.Device name) r
+device_line : (line : Taken) (marks : Marks) (full : Bool) (name : List ℕ) (r : Row) → IsPlain line → unless_faulty (devices.device_faults line marks) (devices.device_row line) ≡ Ok (Some r) → Says line marks full (scope.Device name) r
 device_line line marks full name r h e = plain_line line marks full (scope.Device name) (Ok (Some r)) h (read_line line (devices.device_faults line marks) (devices.device_row line) (Ok (Some r)) h e)
 
 -- a number
@@ -108,12 +108,12 @@ number_found line f value number (Some pcd) h =
     rw (p.1, h.number_is, named_by f h.field p.0 pcd p.4 p.2) refl
 
 device_pair : (line : Taken) (marks : Marks) (key value : List ℕ) (known : DeviceWord) (x : Result (Option Row) Fault) → key_pair line.text ≡ Some (key, value) → device_word key ≡ Some known
-    → judged (devices.keyed_faults line marks key value (Some known)) (devices.keyed_row line value (Some known)) ≡ x
-    → judged (devices.device_faults line marks) (devices.device_row line) ≡ x
+    → unless_faulty (devices.keyed_faults line marks key value (Some known)) (devices.keyed_row line value (Some known)) ≡ x
+    → unless_faulty (devices.device_faults line marks) (devices.device_row line) ≡ x
 unfolding devices.device_faults devices.device_row
 device_pair line marks key value known x p w e =
-    ap (λ o. judged (devices.pair_or_faults line marks o) (devices.pair_or_row line o)) p
-    ∙ ap (λ o. judged (devices.keyed_faults line marks key value o) (devices.keyed_row line value o)) w ∙ e
+    ap (λ o. unless_faulty (devices.pair_or_faults line marks o) (devices.pair_or_row line o)) p
+    ∙ ap (λ o. unless_faulty (devices.keyed_faults line marks key value o) (devices.keyed_row line value o)) w ∙ e
 
 pub number_says : (line : Taken) (marks : Marks) (full : Bool) (name : List ℕ) (known : DeviceKey) (number : ℕ) (pcd : Option PcdName) → IsDeviceNumber line marks known number pcd
     → Says line marks full (scope.Device name) (row.Number (record { at = line.at; key = known; number = number; pcd = pcd }))
@@ -121,11 +121,11 @@ number_says line marks full name known number pcd h =
     let f = devices.number_form known in
     device_line line marks full name _ h.plain
     (device_pair line marks h.key h.value (device.Number known) _ (pair_found line.text h.key h.value h.pair) h.word_is
-    (ap (λ m. judged (numbers.number_faults line f h.key h.value m) (devices.made_number line known (numbers.number_of_field line f h.value))) h.placed
-    ∙ ap (λ o. judged (numbers.number_faults line f h.key h.value false) (devices.made_number line known o)) (number_found line f h.value number pcd h.number_is)
+    (ap (λ m. unless_faulty (numbers.number_faults line f h.key h.value m) (devices.made_number line known (numbers.number_of_field line f h.value))) h.placed
+    ∙ ap (λ o. unless_faulty (numbers.number_faults line f h.key h.value false) (devices.made_number line known o)) (number_found line f h.value number pcd h.number_is)
     ∙ faultless (numbers.number_faults line f h.key h.value false) (number_faultless line f h.key h.value number pcd h.number_is)))
   where
-    faultless : (faults : List (Option Fault)) → least_of faults ≡ None → judged faults (devices.made_number line known (Some (record { number = number; pcd = pcd }))) ≡ Ok (Some (row.Number (record { at = line.at; key = known; number = number; pcd = pcd })))
+    faultless : (faults : List (Option Fault)) → least_of faults ≡ None → unless_faulty faults (devices.made_number line known (Some (record { number = number; pcd = pcd }))) ≡ Ok (Some (row.Number (record { at = line.at; key = known; number = number; pcd = pcd })))
     faultless faults e = rw e refl
 
 -- what fills a region
@@ -135,7 +135,7 @@ waits line Started h = refl
 waits line Named h = refl
 
 filled_by : (line : Taken) (marks : Marks) (key value : List ℕ) (known : DeviceWord) (filled : content_type.Content) → Fills known value filled → IsWaiting marks.waiting
-    → judged (devices.keyed_faults line marks key value (Some known)) (devices.keyed_row line value (Some known)) ≡ Ok (Some (row.Content (record { at = line.at; content = filled })))
+    → unless_faulty (devices.keyed_faults line marks key value (Some known)) (devices.keyed_row line value (Some known)) ≡ Ok (Some (row.Content (record { at = line.at; content = filled })))
 filled_by line marks key value device.Volume (content.Volume name) h w = rw (h.1, waits line marks.waiting w, h.0) refl
 filled_by line marks key value device.Volume (content.Tree path) h w = absurd h
 filled_by line marks key value device.Volume (content.Bytes bytes) h w = absurd h
@@ -155,8 +155,8 @@ content_says line marks full name filled h =
 
 -- a line without `=`
 unkeyed_by : (line : Taken) (marks : Marks) (known : Option DeviceWord) → IsNoNumberKey known
-    → (x : Result (Option Row) Fault) → judged (devices.fields_faults line marks.waiting (field_texts line.text)) (devices.fields_row line (field_texts line.text)) ≡ x
-    → judged (devices.unkeyed_faults line marks.waiting known) (devices.unkeyed_row line known) ≡ x
+    → (x : Result (Option Row) Fault) → unless_faulty (devices.fields_faults line marks.waiting (field_texts line.text)) (devices.fields_row line (field_texts line.text)) ≡ x
+    → unless_faulty (devices.unkeyed_faults line marks.waiting known) (devices.unkeyed_row line known) ≡ x
 unkeyed_by line marks (Some (device.Number known)) h x e = absurd h
 unkeyed_by line marks (Some device.Volume) h x e = e
 unkeyed_by line marks (Some device.Tree) h x e = e
@@ -164,16 +164,16 @@ unkeyed_by line marks (Some device.Bytes) h x e = e
 unkeyed_by line marks None h x e = e
 
 unkeyed : (line : Taken) (marks : Marks) (full : Bool) (name : List ℕ) (r : Row) → IsUnkeyed line
-    → judged (devices.fields_faults line marks.waiting (field_texts line.text)) (devices.fields_row line (field_texts line.text)) ≡ Ok (Some r)
+    → unless_faulty (devices.fields_faults line marks.waiting (field_texts line.text)) (devices.fields_row line (field_texts line.text)) ≡ Ok (Some r)
     → Says line marks full (scope.Device name) r
 unfolding devices.device_faults devices.device_row
 unkeyed line marks full name r h e =
     device_line line marks full name r h.plain
-    (ap (λ o. judged (devices.pair_or_faults line marks o) (devices.pair_or_row line o)) (no_pair line.text h.unequal)
+    (ap (λ o. unless_faulty (devices.pair_or_faults line marks o) (devices.pair_or_row line o)) (no_pair line.text h.unequal)
     ∙ unkeyed_by line marks (device_word (word_of line.text)) h.word_is (Ok (Some r)) e)
 
 extent : (line : Taken) (marks : Marks) (a b : List ℕ) (first second : Option PcdName) (offset size : ℕ) → NotBoth first second → number_value line.at a ≡ Ok offset → number_value line.at b ≡ Ok size
-    → judged (devices.pair_faults line marks.waiting a b first second) (devices.pair_row line a b first second) ≡ Ok (Some (row.Region (record { at = line.at; offset = offset; size = size })))
+    → unless_faulty (devices.pair_faults line marks.waiting a b first second) (devices.pair_row line a b first second) ≡ Ok (Some (row.Region (record { at = line.at; offset = offset; size = size })))
 extent line marks a b (Some first) (Some second) offset size n e f = absurd n
 extent line marks a b (Some first) None offset size n e f = rw (e, f) refl
 extent line marks a b None second offset size n e f = rw (e, f) refl
@@ -181,11 +181,11 @@ extent line marks a b None second offset size n e f = rw (e, f) refl
 pub region_says : (line : Taken) (marks : Marks) (full : Bool) (name : List ℕ) (offset size : ℕ) → IsRegion line offset size → Says line marks full (scope.Device name) (row.Region (record { at = line.at; offset = offset; size = size }))
 region_says line marks full name offset size h =
     unkeyed line marks full name (row.Region (record { at = line.at; offset = offset; size = size })) h.unkeyed
-    (ap (λ fields. judged (devices.fields_faults line marks.waiting fields) (devices.fields_row line fields)) h.fields
+    (ap (λ fields. unless_faulty (devices.fields_faults line marks.waiting fields) (devices.fields_row line fields)) h.fields
     ∙ extent line marks h.first h.second (pcd_name_of h.first) (pcd_name_of h.second) offset size h.no_pcds h.offset_is h.size_is)
 
 pcds_by : (line : Taken) (waiting : Waiting) (fields : List (List ℕ)) (first : PcdName) (second : Option PcdName) → ArePcds fields first second → waiting ≡ Started
-    → judged (devices.fields_faults line waiting fields) (devices.fields_row line fields) ≡ Ok (Some (row.Pcds (record { at = line.at; first = first; second = second })))
+    → unless_faulty (devices.fields_faults line waiting fields) (devices.fields_row line fields) ≡ Ok (Some (row.Pcds (record { at = line.at; first = first; second = second })))
 pcds_by line waiting [] first second h s = absurd h
 pcds_by line waiting (a ∷ []) first None h s = rw (h, s) refl
 pcds_by line waiting (a ∷ []) first (Some second) h s = absurd h

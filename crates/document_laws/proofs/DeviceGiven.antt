@@ -12,7 +12,7 @@ use Rattle.meta_lexer.specs.Words.{split_once}
 use Rattle.macro_conditions.specs.Sources.{without_workspace}
 use Rattle.doc_reading.specs.Least.{least_of, fault_in}
 use Rattle.doc_reading.specs.ValueFields.{undefined_macro, number_value}
-use Rattle.doc_reading.specs.Values.{wanted}
+use Rattle.doc_reading.specs.Values.{require}
 use Rattle.doc_reading.proofs.FaultlessLemmas.{least_first, least_rest, wanted_given}
 use Rattle.doc_types.specs.Pcds.{pcd_name_of}
 use Rattle.doc_types.specs.declared.pcd.PcdName.{PcdName}
@@ -93,9 +93,9 @@ keyed line marks key value (Some (word.Number known)) e =
 keyed line marks key value (Some word.Volume) e = refl
 keyed line marks key value (Some word.Tree) e =
     tree_made line (path_field (without_workspace value))
-    (wanted_given (path_field (without_workspace value)) (fault_of BAD_PATH line.at value) (least_first (wanted (path_field (without_workspace value)) (fault_of BAD_PATH line.at value)) (devices.content_fault line marks.waiting ∷ []) e))
+    (wanted_given (path_field (without_workspace value)) (fault_of BAD_PATH line.at value) (least_first (require (path_field (without_workspace value)) (fault_of BAD_PATH line.at value)) (devices.content_fault line marks.waiting ∷ []) e))
 keyed line marks key value (Some word.Bytes) e =
-    let bytes = wanted (data_of value) (numbers.bad_line BAD_REGION line) in
+    let bytes = require (data_of value) (numbers.bad_line BAD_REGION line) in
     let last = devices.content_fault line marks.waiting ∷ [] in
     bytes_made line (data_of value)
     (wanted_given (data_of value) (numbers.bad_line BAD_REGION line)

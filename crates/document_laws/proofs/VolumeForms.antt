@@ -9,9 +9,9 @@ use Rattle.build_base.specs.declared.guid.Guid.{Guid}
 use Rattle.build_base.specs.declared.lines.Taken.{Taken}
 use Rattle.meta_lexer.specs.Lookup.{lookup}
 use Rattle.meta_lexer.specs.Words.{is_identifier}
-use Rattle.doc_reading.specs.Gathering.{judged}
+use Rattle.doc_reading.specs.Gathering.{unless_faulty}
 use Rattle.doc_reading.specs.Least.{least_of}
-use Rattle.doc_reading.specs.Values.{wanted}
+use Rattle.doc_reading.specs.Values.{require}
 use Rattle.doc_types.specs.Arches.{arch_named}
 use Rattle.doc_types.specs.declared.arch.Arch.{Arch}
 use Rattle.doc_types.specs.declared.volume.Member.TheVariants as member
@@ -43,24 +43,24 @@ use Rattle.document_laws.proofs.OptionLemmas.{inf_states}
 use Rattle.document_laws.proofs.TextLemmas.{pair_found, word_found, rest_found, stated_found, brace_found}
 
 Found : Taken → Open → Bool → Row → Type 0
-Found line braces full r = judged (lines.volume_faults line braces full) (lines.volume_row line braces) ≡ Ok (Some r)
+Found line braces full r = unless_faulty (lines.volume_faults line braces full) (lines.volume_row line braces) ≡ Ok (Some r)
 
 -- a text that isn't empty
 pub filled_text : (text : List ℕ) → 0 < length text → (length text == 0) ≡ false
 filled_text text l = grind (arith, nat_tests)
 
 pub volume_line : (line : Taken) (marks : Marks) (full : Bool) (name : List ℕ) (braces : Open) (r : Row) → forms.IsPlain line → marks.braces ≡ braces
-    → judged (lines.volume_faults line braces full) (lines.volume_row line braces) ≡ Ok (Some r) → forms.Says line marks full (scope.Volume name) r
+    → unless_faulty (lines.volume_faults line braces full) (lines.volume_row line braces) ≡ Ok (Some r) → forms.Says line marks full (scope.Volume name) r
 volume_line line marks full name braces r h b e =
     plain_line line marks full (scope.Volume name) (Ok (Some r)) h
     (read_line line (lines.volume_faults line marks.braces full) (lines.volume_row line marks.braces) (Ok (Some r)) h
-    (ap (λ o. judged (lines.volume_faults line o full) (lines.volume_row line o)) b ∙ e))
+    (ap (λ o. unless_faulty (lines.volume_faults line o full) (lines.volume_row line o)) b ∙ e))
 
 -- by the statement's word
 pub by_statement : (line : Taken) (braces : Open) (full : Bool) (s : Option Statement) (x : Result (Option Row) Fault) → lines.statement_of line.text ≡ s
-    → judged (lines.faults_in line braces full s) (lines.row_in line braces s) ≡ x → judged (lines.volume_faults line braces full) (lines.volume_row line braces) ≡ x
+    → unless_faulty (lines.faults_in line braces full s) (lines.row_in line braces s) ≡ x → unless_faulty (lines.volume_faults line braces full) (lines.volume_row line braces) ≡ x
 unfolding lines.volume_faults lines.volume_row
-by_statement line braces full s x e h = ap (λ s. judged (lines.faults_in line braces full s) (lines.row_in line braces s)) e ∙ h
+by_statement line braces full s x e h = ap (λ s. unless_faulty (lines.faults_in line braces full s) (lines.row_in line braces s)) e ∙ h
 
 not_close : (text : List ℕ) → begins_with 125 text ≡ false → is_close text ≡ false
 not_close [] e = refl
@@ -78,25 +78,25 @@ after_statement line known rest h = rest_found line.text h.word rest h.worded
 
 -- keys
 keyed : (line : Taken) (marks : Marks) (full : Bool) (name : List ℕ) (known : VolumeWord) (value : List ℕ) (r : Row) → forms.IsKeyed line known value → marks.braces ≡ Shut
-    → ((key : List ℕ) → judged (keys.word_faults line key value (Some known)) (keys.word_row line value (Some known)) ≡ Ok (Some r))
+    → ((key : List ℕ) → unless_faulty (keys.word_faults line key value (Some known)) (keys.word_row line value (Some known)) ≡ Ok (Some r))
     → forms.Says line marks full (scope.Volume name) r
 keyed line marks full name known value r h b e =
     volume_line line marks full name Shut r h.plain b
     (by_statement line Shut full None (Ok (Some r)) h.no_statement
-    (ap (λ o. judged (lines.plain_faults line o) (lines.plain_row line o)) (pair_found line.text h.key value h.pair)
-    ∙ ap (λ o. judged (keys.word_faults line h.key value o) (keys.word_row line value o)) h.word_is ∙ e h.key))
+    (ap (λ o. unless_faulty (lines.plain_faults line o) (lines.plain_row line o)) (pair_found line.text h.key value h.pair)
+    ∙ ap (λ o. unless_faulty (keys.word_faults line h.key value o) (keys.word_row line value o)) h.word_is ∙ e h.key))
 
-faultless : (faults : List (Option Fault)) (r : Row) → least_of faults ≡ None → judged faults (Some r) ≡ Ok (Some r)
+faultless : (faults : List (Option Fault)) (r : Row) → least_of faults ≡ None → unless_faulty faults (Some r) ≡ Ok (Some r)
 faultless faults r e = rw e refl
 
 plain_number : (line : Taken) (known : VolumeKey) (value : List ℕ) (number : ℕ) → forms.IsNumber line (keys.volume_form known) value number None → (name : List ℕ)
-    → judged (numbers.number_faults line (keys.volume_form known) name value false) (keys.made_number known (numbers.number_of_field line (keys.volume_form known) value)) ≡ Ok (Some (row.Setting (setting.Number known number)))
+    → unless_faulty (numbers.number_faults line (keys.volume_form known) name value false) (keys.made_number known (numbers.number_of_field line (keys.volume_form known) value)) ≡ Ok (Some (row.Setting (setting.Number known number)))
 plain_number line known value number h name =
-    ap (λ o. judged (numbers.number_faults line (keys.volume_form known) name value false) (keys.made_number known o)) (number_found line (keys.volume_form known) value number None h)
+    ap (λ o. unless_faulty (numbers.number_faults line (keys.volume_form known) name value false) (keys.made_number known o)) (number_found line (keys.volume_form known) value number None h)
     ∙ faultless (numbers.number_faults line (keys.volume_form known) name value false) (row.Setting (setting.Number known number)) (number_faultless line (keys.volume_form known) name value number None h)
 
 setting_by : (line : Taken) (known : VolumeKey) (value : List ℕ) (number : ℕ) → forms.IsSetting line known value number → (name : List ℕ)
-    → judged (keys.numbers_faults line known name value) (keys.numbers_row line known value) ≡ Ok (Some (row.Setting (setting.Number known number)))
+    → unless_faulty (keys.numbers_faults line known name value) (keys.numbers_row line known value) ≡ Ok (Some (row.Setting (setting.Number known number)))
 setting_by line key.FvAlignment value number h name = rw (h.0, h.1) refl
 setting_by line key.BlockSize value number h name = plain_number line key.BlockSize value number h name
 setting_by line key.NumBlocks value number h name = plain_number line key.NumBlocks value number h name
@@ -125,7 +125,7 @@ attribute_says line marks full name value bits on h b f t = keyed line marks ful
 
 -- statements
 apriori_by : (line : Taken) (rest front : List ℕ) (pei : Bool) → after_word line.text ≡ rest → before_brace rest ≡ Some front → lookup statements.apriori_names front ≡ Some pei → forms.IsFilled line.text
-    → judged (statements.apriori_faults line false) (statements.apriori_row line) ≡ Ok (Some (row.Apriori (record { at = line.at; pei = pei })))
+    → unless_faulty (statements.apriori_faults line false) (statements.apriori_row line) ≡ Ok (Some (row.Apriori (record { at = line.at; pei = pei })))
 unfolding statements.apriori_faults statements.apriori_row statements.apriori_named
 apriori_by line rest front pei r b p f = rw (r, b, p, f) refl
 
@@ -140,7 +140,7 @@ templated : (line : Taken) (template : Option (List ℕ)) → IfSome template (�
 templated line (Some name) h = rw h refl
 templated line None h = refl
 
-there : (arch : Option Arch) (missing : Fault) → IsSome arch → wanted arch missing ≡ None
+there : (arch : Option Arch) (missing : Fault) → IsSome arch → require arch missing ≡ None
 there (Some arch) missing h = refl
 there None missing h = absurd cc
 
@@ -168,7 +168,7 @@ inf_says line marks name options path h b =
     let r = row.Inf (forms.module_of line options path) in
     volume_line line marks false name Shut r h.statement.plain b
     (by_statement line Shut false (Some statement.Inf) (Ok (Some r)) (statement_found line statement.Inf h.rest h.statement)
-    (ap (λ o. judged (infs.inf_faults line false) (option_map row.Inf o)) (inf_found line options path h)
+    (ap (λ o. unless_faulty (infs.inf_faults line false) (option_map row.Inf o)) (inf_found line options path h)
     ∙ faultless (infs.inf_faults line false) r (inf_faults_none line options path h)))
 
 pub inf_member_says : (line : Taken) (marks : Marks) (full : Bool) (name : List ℕ) (options : InfOptions) (path : List ℕ) → forms.IsInf line options path → marks.braces ≡ InApriori
@@ -177,7 +177,7 @@ inf_member_says line marks full name options path h b =
     let r = row.Member (member.Inf (forms.module_of line options path)) in
     volume_line line marks full name InApriori r h.statement.plain b
     (by_statement line InApriori full (Some statement.Inf) (Ok (Some r)) (statement_found line statement.Inf h.rest h.statement)
-    (ap (λ o. judged (infs.inf_faults line false) (option_map lines.made_member o)) (inf_found line options path h)
+    (ap (λ o. unless_faulty (infs.inf_faults line false) (option_map lines.made_member o)) (inf_found line options path h)
     ∙ faultless (infs.inf_faults line false) r (inf_faults_none line options path h)))
 
 pub file_parted : (text : List ℕ) (kind : ℕ) (name : List ℕ) (options : Options) → forms.AreFileParts text kind name options → statements.file_parts text ≡ Some (kind, name, options)
@@ -186,7 +186,7 @@ file_parted text kind name options h =
     rw (word_found text h.type_word h.more h.typed, h.kind_is, rest_found text h.type_word h.more h.typed, stated_found h.more h.value h.stated, brace_found h.value h.front h.braced, word_found h.front name h.rest h.named, rest_found h.front name h.rest h.named, file_states h.rest options h.options_are) refl
 
 file_by : (line : Taken) (kind : ℕ) (name : List ℕ) (guid : Guid) (options : Options) → statements.file_parts (after_word line.text) ≡ Some (kind, name, options) → (length name == 0) ≡ false → guid_of name ≡ Some guid → forms.IsFilled line.text
-    → judged (statements.file_faults line false) (statements.file_row line) ≡ Ok (Some (row.File (statements.head_with line kind (Some guid) options)))
+    → unless_faulty (statements.file_faults line false) (statements.file_row line) ≡ Ok (Some (row.File (statements.head_with line kind (Some guid) options)))
 unfolding statements.file_faults statements.file_row
 file_by line kind name guid options p n g f = rw (p, n, g, f) refl
 
@@ -204,7 +204,7 @@ member_named line guid h =
     rw (after_statement line statement.File h.rest h.statement, word_found h.rest h.type_word h.more h.typed, h.kind_is, rest_found h.rest h.type_word h.more h.typed, stated_found h.more h.value h.stated, rest_found h.value h.name [] h.named, word_found h.value h.name [] h.named) refl
 
 member_by : (line : Taken) (name : List ℕ) (guid : Guid) → statements.member_name (after_word line.text) ≡ Some name → (length name == 0) ≡ false → guid_of name ≡ Some guid → forms.IsFilled line.text
-    → judged (statements.member_faults line) (statements.member_row line) ≡ Ok (Some (row.Member (member.File guid)))
+    → unless_faulty (statements.member_faults line) (statements.member_row line) ≡ Ok (Some (row.Member (member.File guid)))
 unfolding statements.member_faults statements.member_row
 member_by line name guid p n g f = rw (p, n, g, f) refl
 

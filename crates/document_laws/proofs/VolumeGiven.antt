@@ -11,7 +11,7 @@ use Rattle.build_base.specs.declared.lines.Taken.{Taken}
 use Rattle.macro_conditions.specs.Sources.{without_workspace}
 use Rattle.doc_reading.specs.Least.{least_of}
 use Rattle.doc_reading.specs.ValueFields.{undefined_macro}
-use Rattle.doc_reading.specs.Values.{wanted}
+use Rattle.doc_reading.specs.Values.{require}
 use Rattle.doc_reading.proofs.FaultlessLemmas.{least_first, least_rest, wanted_given}
 use Rattle.doc_types.specs.declared.volume.Align.{Align}
 use Rattle.fdf_words.specs.declared.keys.VolumeWord.{VolumeWord}
@@ -46,8 +46,8 @@ last_of_two : (first last : Option Fault) → least_of (first ∷ last ∷ []) �
 last_of_two first last e = least_first last [] (least_rest first (last ∷ []) e)
 
 -- a value that the second of some conditions wants
-second_wanted : {T : Type 0} (first : Option Fault) (value : Option T) (missing : Fault) (rest : List (Option Fault)) → least_of (first ∷ wanted value missing ∷ rest) ≡ None → IsSome value
-second_wanted first value missing rest e = wanted_given value missing (least_first (wanted value missing) rest (least_rest first (wanted value missing ∷ rest) e))
+second_wanted : {T : Type 0} (first : Option Fault) (value : Option T) (missing : Fault) (rest : List (Option Fault)) → least_of (first ∷ require value missing ∷ rest) ≡ None → IsSome value
+second_wanted first value missing rest e = wanted_given value missing (least_first (require value missing) rest (least_rest first (require value missing ∷ rest) e))
 
 -- an a priori file
 apriori_made : (line : Taken) (pei : Option Bool) → IsSome pei → IsSome (statements.made_apriori line pei)
@@ -61,7 +61,7 @@ apriori_given line full e =
     (second_wanted (undefined_macro line.at line.text) (statements.apriori_named (after_word line.text)) (numbers.bad_line FDF_BAD_FILE line) (statements.full_fault line full ∷ []) e)
 
 -- a file
-worded : (line : Taken) (text : List ℕ) (empty : Bool) (guid : Option Guid) (bad missing : Fault) → (if empty then Some bad else wanted guid missing) ≡ None → IsSome guid
+worded : (line : Taken) (text : List ℕ) (empty : Bool) (guid : Option Guid) (bad missing : Fault) → (if empty then Some bad else require guid missing) ≡ None → IsSome guid
 worded line text true guid bad missing e = absurd cc
 worded line text false guid bad missing e = wanted_given guid missing e
 
@@ -104,7 +104,7 @@ inf_made : (line : Taken) (options : InfOptions) (path : Option (List ℕ)) → 
 inf_made line options (Some path) h = refl
 inf_made line options None h = absurd cc
 
-path_there : (empty : Bool) (path : Option (List ℕ)) (bad missing : Fault) → (if empty then Some bad else wanted path missing) ≡ None → IsSome path
+path_there : (empty : Bool) (path : Option (List ℕ)) (bad missing : Fault) → (if empty then Some bad else require path missing) ≡ None → IsSome path
 path_there true path bad missing e = absurd cc
 path_there false path bad missing e = wanted_given path missing e
 
@@ -212,11 +212,11 @@ guid_made line align None path g h = absurd cc
 named_by : (line : Taken) (align : Align) (name : List ℕ) (value : Option (List ℕ)) → least_of (bodies.named_faults line name value) ≡ None → IsSome (bodies.named_row line align name value)
 named_by line align name (Some value) e =
     let path = path_field (without_workspace value) in
-    let last = wanted (guid_of name) (fault_of FDF_BAD_GUID line.at name) in
+    let last = require (guid_of name) (fault_of FDF_BAD_GUID line.at name) in
     guid_made line align (guid_of name) path
     (wanted_given (guid_of name) (fault_of FDF_BAD_GUID line.at name)
-    (last_of_two (wanted path (fault_of BAD_PATH line.at value)) last
-    (least_rest (statements.macro_before line value) (wanted path (fault_of BAD_PATH line.at value) ∷ last ∷ []) e)))
+    (last_of_two (require path (fault_of BAD_PATH line.at value)) last
+    (least_rest (statements.macro_before line value) (require path (fault_of BAD_PATH line.at value) ∷ last ∷ []) e)))
     (second_wanted (statements.macro_before line value) path (fault_of BAD_PATH line.at value) (last ∷ []) e)
 named_by line align name None e = formed FDF_BAD_FILE line e
 
@@ -254,7 +254,7 @@ whole_made None h = absurd cc
 whole_given : (line : Taken) → least_of (bodies.whole_faults line) ≡ None → IsSome (lines.whole_row_in line)
 whole_given line e =
     whole_made (path_field (without_workspace line.text))
-    (wanted_given (path_field (without_workspace line.text)) (fault_of BAD_PATH line.at line.text) (least_first (wanted (path_field (without_workspace line.text)) (fault_of BAD_PATH line.at line.text)) [] e))
+    (wanted_given (path_field (without_workspace line.text)) (fault_of BAD_PATH line.at line.text) (least_first (require (path_field (without_workspace line.text)) (fault_of BAD_PATH line.at line.text)) [] e))
 
 -- where a line stands
 shut_given : (line : Taken) (full : Bool) (s : Option Statement) → least_of (lines.shut_faults line full s) ≡ None → IsSome (lines.shut_row line s)

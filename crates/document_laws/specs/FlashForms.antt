@@ -13,7 +13,7 @@ use Rattle.meta_lexer.specs.Parts.{field_texts}
 use Rattle.meta_lexer.specs.Words.{holds_macro, is_identifier, same_word}
 use Rattle.macro_conditions.specs.Macros.{same_text}
 use Rattle.macro_conditions.specs.Sources.{without_workspace}
-use Rattle.doc_reading.specs.Gathering.{judged}
+use Rattle.doc_reading.specs.Gathering.{unless_faulty}
 use Rattle.doc_reading.specs.ValueFields.{number_value}
 use Rattle.doc_types.specs.Arches.{arch_named}
 use Rattle.doc_types.specs.Pcds.{pcd_name_of}
@@ -65,7 +65,7 @@ use Rattle.document_laws.specs.LineTexts.{IsSplit, IsPair, IsWorded, IsStated, I
 -- the line has no fault in its section, and this is its row
 abbrev pub Says : Line → Marks → Bool → Scope → Row → Type 0
 Says line marks full scope row =
-    judged (line_faults line marks full scope) (line_row line marks scope) ≡ Ok (Some row)
+    unless_faulty (line_faults line marks full scope) (line_row line marks scope) ≡ Ok (Some row)
 
 -- no `$(` is left in a text
 abbrev pub IsFilled : List ℕ → Type 0

@@ -13,7 +13,7 @@ use Rattle.macro_conditions.specs.Sources.{without_workspace}
 use Rattle.doc_reading.specs.Least.{least_of, fault_in}
 use Rattle.doc_reading.specs.SegmentNames.{segment_name}
 use Rattle.doc_reading.specs.ValueFields.{undefined_macro, number_value, text_value, path_value}
-use Rattle.doc_reading.specs.Values.{wanted, of_read_line}
+use Rattle.doc_reading.specs.Values.{require, of_read_line}
 use Rattle.doc_reading.proofs.FaultlessLemmas.{least_first, least_rest, least_read, wanted_given}
 use Rattle.doc_types.specs.Pcds.{pcd_name_of}
 use Rattle.doc_types.specs.declared.arch.Arch.{Arch}
@@ -56,7 +56,7 @@ placed : {X : Type 0} (line : Taken) → least_of (components.out_of_place line)
 placed line e = formed BAD_COMPONENT line (field_texts line.text) (least_read line (formless BAD_COMPONENT line (field_texts line.text)) e)
 
 -- a library's line
-library_made : (line : Taken) (arch : Arch) (kind : Option ModuleType) (class : List ℕ) (instance : Option (List ℕ)) (missing : Fault) → wanted instance missing ≡ None → IsSome (libraries.made_library line arch kind class instance)
+library_made : (line : Taken) (arch : Arch) (kind : Option ModuleType) (class : List ℕ) (instance : Option (List ℕ)) (missing : Fault) → require instance missing ≡ None → IsSome (libraries.made_library line arch kind class instance)
 library_made line arch kind class (Some instance) missing e = refl
 library_made line arch kind class None missing e = absurd cc
 
@@ -64,7 +64,7 @@ library_fields : (line : Taken) (arch : Arch) (kind : Option ModuleType) (fields
 library_fields line arch kind [] e = formed BAD_LIBRARY_LINE line [] e
 library_fields line arch kind (class ∷ []) e = formed BAD_LIBRARY_LINE line (class ∷ []) e
 library_fields line arch kind (class ∷ path ∷ []) e =
-    let last = wanted (path_field (without_workspace path)) (fault_of BAD_PATH line.at path) in
+    let last = require (path_field (without_workspace path)) (fault_of BAD_PATH line.at path) in
     library_made line arch kind class (path_field (without_workspace path)) (fault_of BAD_PATH line.at path)
     (least_first last []
     (least_rest (undefined_macro line.at class) (last ∷ [])
@@ -127,14 +127,14 @@ pub listed_given : (above : List (List ℕ)) (standing : Open) (line : Taken) (s
 listed_given above standing line s l e = listed_by above standing line s l e
 
 -- a component's line
-begun_made : (line : Taken) (arch : Arch) (braced : Bool) (inf : Option (List ℕ)) (missing : Fault) → wanted inf missing ≡ None → IsSome (components.made_begun line arch braced inf)
+begun_made : (line : Taken) (arch : Arch) (braced : Bool) (inf : Option (List ℕ)) (missing : Fault) → require inf missing ≡ None → IsSome (components.made_begun line arch braced inf)
 begun_made line arch braced (Some inf) missing e = refl
 begun_made line arch braced None missing e = absurd cc
 
-begun_by : (line : Taken) (arch : Arch) (braced : Bool) (inf : List ℕ) (empty : Bool) → least_of (if empty then components.out_of_place line else of_read_line line (wanted (path_field (without_workspace inf)) (fault_of BAD_PATH line.at inf) ∷ [])) ≡ None → IsSome (components.made_begun line arch braced (path_field (without_workspace inf)))
+begun_by : (line : Taken) (arch : Arch) (braced : Bool) (inf : List ℕ) (empty : Bool) → least_of (if empty then components.out_of_place line else of_read_line line (require (path_field (without_workspace inf)) (fault_of BAD_PATH line.at inf) ∷ [])) ≡ None → IsSome (components.made_begun line arch braced (path_field (without_workspace inf)))
 begun_by line arch braced inf true e = placed line e
 begun_by line arch braced inf false e =
-    let last = wanted (path_field (without_workspace inf)) (fault_of BAD_PATH line.at inf) in
+    let last = require (path_field (without_workspace inf)) (fault_of BAD_PATH line.at inf) in
     begun_made line arch braced (path_field (without_workspace inf)) (fault_of BAD_PATH line.at inf) (least_first last [] (least_read line (last ∷ []) e))
 
 begun_given : (line : Taken) (arch : Arch) (braced : Bool) → least_of (components.begun_faults line) ≡ None → IsSome (components.begun_part line arch braced)
@@ -194,11 +194,11 @@ row_of make (Err fault) e = held fault e
 key_by : (line : Taken) (k : PlatformKey) (value : List ℕ) → least_of (keys.key_faults line k value) ≡ None → IsSome (keys.key_row line k value)
 key_by line key.Name value e = row_of _ (segment_name line.at value) e
 key_by line key.Guid value e =
-    let guid = wanted (guid_of value) (fault_of DSC_BAD_GUID line.at value) in
+    let guid = require (guid_of value) (fault_of DSC_BAD_GUID line.at value) in
     mapped _ (guid_of value) (wanted_given (guid_of value) (fault_of DSC_BAD_GUID line.at value) (least_first guid [] (least_rest (undefined_macro line.at value) (guid ∷ []) e)))
 key_by line key.Arches value e = row_of _ (arches_value line.at value) e
 key_by line key.Output value e =
-    let path = wanted (path_field (without_workspace value)) (fault_of BAD_PATH line.at value) in
+    let path = require (path_field (without_workspace value)) (fault_of BAD_PATH line.at value) in
     mapped _ (path_field (without_workspace value)) (wanted_given (path_field (without_workspace value)) (fault_of BAD_PATH line.at value) (least_first path [] e))
 key_by line key.SkuChoice value e = row_of _ (text_value line.at value) e
 key_by line key.Flash value e = row_of _ (path_value line.at value) e

@@ -13,7 +13,7 @@ use Rattle.meta_lexer.specs.Parts.{field_texts}
 use Rattle.meta_lexer.specs.Words.{split_once, same_word}
 use Rattle.macro_conditions.specs.Sources.{without_workspace}
 use Rattle.doc_reading.specs.ValueFields.{undefined_macro}
-use Rattle.doc_reading.specs.Values.{wanted, of_read_line}
+use Rattle.doc_reading.specs.Values.{require, of_read_line}
 use Rattle.doc_types.specs.declared.arch.Arch.{Arch}
 use Rattle.doc_types.specs.declared.pcd.Kind.TheVariants.{FixedAtBuild, PatchableInModule, FeatureFlag, Dynamic, DynamicEx}
 use Rattle.dsc_lines.specs.declared.section.StoreKind.TheVariants.{Plain, Hii, Vpd}
@@ -70,7 +70,7 @@ abbrev pub inf_faults : Taken → List ℕ → List (Option Fault)
 inf_faults line inf =
     if length inf == 0 then out_of_place line
     else of_read_line line
-    (wanted (path_field (without_workspace inf)) (fault_of BAD_PATH line.at inf)
+    (require (path_field (without_workspace inf)) (fault_of BAD_PATH line.at inf)
     ∷ [])
 
 abbrev pub begun_faults : Taken → List (Option Fault)
@@ -92,7 +92,7 @@ is_file_guid key = same_word key (codes "FILE_GUID")
 abbrev pub define_faults : Taken → Option (List ℕ × List ℕ) → List (Option Fault)
 define_faults line (Some p) =
     if is_file_guid p.0 then of_read_line line
-    (undefined_macro line.at p.1 ∷ wanted (guid_of p.1) (fault_of DSC_BAD_GUID line.at p.1) ∷ [])
+    (undefined_macro line.at p.1 ∷ require (guid_of p.1) (fault_of DSC_BAD_GUID line.at p.1) ∷ [])
     else []
 define_faults line None = []
 

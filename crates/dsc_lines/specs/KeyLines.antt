@@ -13,7 +13,7 @@ use Rattle.macro_conditions.specs.Sources.{without_workspace}
 use Rattle.doc_reading.specs.SegmentNames.{segment_name}
 use Rattle.doc_reading.specs.Least.{fault_in}
 use Rattle.doc_reading.specs.ValueFields.{undefined_macro, text_value, path_value}
-use Rattle.doc_reading.specs.Values.{wanted, of_read_line}
+use Rattle.doc_reading.specs.Values.{require, of_read_line}
 use Rattle.doc_types.specs.declared.arch.Arch.{Arch}
 use Rattle.dsc_lines.specs.Arches.{arches_value}
 use Rattle.dsc_lines.specs.declared.key_line.PlatformKey.{PlatformKey}
@@ -41,13 +41,13 @@ row_with make (Err fault) = None
 
 abbrev pub guid_faults : Taken → List ℕ → List (Option Fault)
 guid_faults line value = undefined_macro line.at value
-    ∷ wanted (guid_of value) (fault_of DSC_BAD_GUID line.at value) ∷ []
+    ∷ require (guid_of value) (fault_of DSC_BAD_GUID line.at value) ∷ []
 
 abbrev pub guid_row : List ℕ → Option DscRow
 guid_row value = option_map (λ guid. Key (value_of.Guid guid)) (guid_of value)
 
 abbrev pub output_faults : Taken → List ℕ → List (Option Fault)
-output_faults line value = wanted (path_field (without_workspace value))
+output_faults line value = require (path_field (without_workspace value))
     (fault_of BAD_PATH line.at value) ∷ []
 
 abbrev pub output_row : List ℕ → Option DscRow

@@ -8,7 +8,7 @@ use Rattle.meta_lexer.specs.Parts.{field_texts}
 use Rattle.meta_lexer.specs.Words.{is_identifier}
 use Rattle.macro_conditions.specs.Sources.{without_workspace}
 use Rattle.doc_reading.specs.ValueFields.{undefined_macro}
-use Rattle.doc_reading.specs.Values.{wanted, of_read_line}
+use Rattle.doc_reading.specs.Values.{require, of_read_line}
 use Rattle.doc_types.specs.declared.arch.Arch.{Arch}
 use Rattle.doc_types.specs.declared.module_type.ModuleType.{ModuleType}
 use Rattle.doc_types.specs.declared.platform.LibraryLine.{LibraryLine}
@@ -23,7 +23,7 @@ class_fault line class = if is_identifier class
 abbrev pub fields_faults : Taken → List (List ℕ) → List (Option Fault)
 fields_faults line (class ∷ path ∷ []) =
     class_fault line class ∷ undefined_macro line.at class
-    ∷ wanted (path_field (without_workspace path)) (fault_of BAD_PATH line.at path) ∷ []
+    ∷ require (path_field (without_workspace path)) (fault_of BAD_PATH line.at path) ∷ []
 fields_faults line fields = formless BAD_LIBRARY_LINE line fields
 
 abbrev pub made_library : Taken → Arch → Option ModuleType → List ℕ → Option (List ℕ)

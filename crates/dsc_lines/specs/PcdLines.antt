@@ -10,7 +10,7 @@ use Rattle.meta_lexer.specs.Parts.{first_text, field_texts}
 use Rattle.meta_lexer.specs.Tokens.{quoted_of}
 use Rattle.meta_lexer.specs.Words.{is_identifier}
 use Rattle.doc_reading.specs.ValueFields.{undefined_macro}
-use Rattle.doc_reading.specs.Values.{wanted, of_read_line}
+use Rattle.doc_reading.specs.Values.{require, of_read_line}
 use Rattle.doc_types.specs.Pcds.{datum_named, pcd_name_of}
 use Rattle.doc_types.specs.declared.arch.Arch.{Arch}
 use Rattle.doc_types.specs.declared.pcd.Datum.{Datum}
@@ -65,7 +65,7 @@ number_field Hii fields = hii_number fields
 number_field Vpd fields = vpd_number fields
 
 abbrev pub number_fault : Taken → Option (List ℕ) → Option Fault
-number_fault line (Some text) = wanted (small_of text) (fault_of BAD_NUMBER line.at text)
+number_fault line (Some text) = require (small_of text) (fault_of BAD_NUMBER line.at text)
 number_fault line None = None
 
 abbrev pub is_written : List ℕ → Bool

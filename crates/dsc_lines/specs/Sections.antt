@@ -8,7 +8,7 @@ use Rattle.build_base.specs.declared.lines.Taken.{Taken}
 use Rattle.meta_lexer.specs.Lookup.{lookup}
 use Rattle.meta_lexer.specs.Parts.{first_text}
 use Rattle.meta_lexer.specs.declared.head.Head.{Head}
-use Rattle.doc_reading.specs.Values.{wanted}
+use Rattle.doc_reading.specs.Values.{require}
 use Rattle.doc_types.specs.Arches.{arch_named}
 use Rattle.doc_types.specs.ModuleTypes.{module_type_named}
 use Rattle.doc_types.specs.declared.arch.Arch.{Arch}
@@ -67,10 +67,10 @@ qualifiers_fault line most qualifiers = if nat_lt most (length qualifiers)
     then Some (fault_of BAD_SECTION line.at line.text) else None
 
 abbrev pub arch_fault : Taken → List (List ℕ) → Option Arch → Option Fault
-arch_fault line qualifiers arch = wanted arch (fault_of BAD_ARCH line.at (first_text qualifiers))
+arch_fault line qualifiers arch = require arch (fault_of BAD_ARCH line.at (first_text qualifiers))
 
 abbrev pub type_fault : Taken → Option (Option ModuleType) → Option Fault
-type_fault line kind = wanted kind (fault_of BAD_SECTION line.at line.text)
+type_fault line kind = require kind (fault_of BAD_SECTION line.at line.text)
 
 -- the faults of a section's qualifiers, one for each code
 abbrev pub section_faults : Taken → Section → List (List ℕ) → List (Option Fault)

@@ -6,7 +6,7 @@ ghost use Rattle.dsc_lines.specs.declared.rows.Part.TheVariants.{Tagged};
 ghost use Rattle.build_base.specs.Answer.{Answers};
 ghost use Rattle.meta_lexer.specs.Words.{split_once};
 ghost use Rattle.doc_reading.specs.Least.{least_of};
-ghost use Rattle.doc_reading.specs.Gathering.{judged};
+ghost use Rattle.doc_reading.specs.Gathering.{unless_faulty};
 ghost use Rattle.dsc_lines.specs.ComponentLines.{form_of, tag_named, inf_text, is_file_guid, out_of_place, begun_faults, made_begun, begun_part, define_faults, define_part, tagged_faults, tagged_part, found_faults, misplaced_faults, shut_faults, shut_part, untagged_faults, untagged_part, below_faults, below_part, standing_faults, standing_part, component_faults, component_part};
 
 use crate::form::refuse_form;
@@ -20,7 +20,7 @@ use build_base::path::path_field;
 use build_base::{Guid, Path, Refusal, Same, Taken, WantOfMemory};
 use doc_reading::least_check::{least_of_one, least_of_two};
 use doc_reading::value_fields::{open_quote, undefined_macro};
-use doc_reading::values::wanted;
+use doc_reading::values::require;
 use doc_types::arch::Arch;
 use doc_types::pcd::Kind;
 use macro_conditions::known::without_workspace;
@@ -115,7 +115,7 @@ fn inf_text(text: &[u8]) -> &[u8]
 
 // A brace, a tag or a line out of place.
 fn refuse_misplaced(alloc: Global, line: &Taken) -> Result<Option<Part>, Refusal>
-    ensures { (part : Option Row) → Answers result (judged (out_of_place line.now) part) }
+    ensures { (part : Option Row) → Answers result (unless_faulty (out_of_place line.now) part) }
 {
     open_quote(alloc, &line.at, line.text.bytes())?;
     let fields = field_texts(alloc, line.text.bytes())?;
@@ -149,7 +149,7 @@ fn begun_part(
     arch: Arch,
     braced: bool,
 ) -> Result<Option<Part>, Refusal>
-    ensures { Answers result (judged (begun_faults line.now) (begun_part line.now arch braced)) }
+    ensures { Answers result (unless_faulty (begun_faults line.now) (begun_part line.now arch braced)) }
 {
     let text = inf_text(line.text.bytes());
     if text.is_empty() {
@@ -157,7 +157,7 @@ fn begun_part(
     }
     open_quote(alloc, &line.at, line.text.bytes())?;
     let inf = path_field(alloc, without_workspace(text))?;
-    least_of_one(wanted(alloc, &inf, BAD_PATH, &line.at, text))?;
+    least_of_one(require(alloc, &inf, BAD_PATH, &line.at, text))?;
     let row = made_begun(alloc, line, arch, braced, inf)?;
     Ok(row)
 }
@@ -170,7 +170,7 @@ fn is_file_guid(key: &[u8]) -> bool
 
 fn define_part(alloc: Global, line: &Taken, arch: Arch) -> Result<Option<Part>, Refusal>
     ensures { Answers result
-        (judged (define_faults line.now (split_once 61 line.now.text))
+        (unless_faulty (define_faults line.now (split_once 61 line.now.text))
         (define_part arch (split_once 61 line.now.text))) }
 {
     let Some((key, value)) = split_once(b'=', line.text.bytes()) else {
@@ -183,14 +183,14 @@ fn define_part(alloc: Global, line: &Taken, arch: Arch) -> Result<Option<Part>, 
     let guid = Guid::of_text(value);
     least_of_two(
         undefined_macro(alloc, &line.at, value),
-        wanted(alloc, &guid, DSC_BAD_GUID, &line.at, value),
+        require(alloc, &guid, DSC_BAD_GUID, &line.at, value),
     )?;
     Ok(guid.map(|guid| Part::FileGuid(arch, guid)))
 }
 
 // A line below a tag.
 fn tagged_part(alloc: Global, line: &Taken, arch: Arch, tag: Tag) -> Result<Option<Part>, Refusal>
-    ensures { Answers result (judged (tagged_faults line.now tag) (tagged_part line.now arch tag)) }
+    ensures { Answers result (unless_faulty (tagged_faults line.now tag) (tagged_part line.now arch tag)) }
 {
     match tag {
         Tag::Libraries => {
@@ -209,7 +209,7 @@ fn tagged_part(alloc: Global, line: &Taken, arch: Arch, tag: Tag) -> Result<Opti
 // The line of a tag.
 fn found_tag(alloc: Global, line: &Taken) -> Result<Option<Part>, Refusal>
     ensures { Answers result
-        (judged (found_faults line.now (tag_named line.now.text))
+        (unless_faulty (found_faults line.now (tag_named line.now.text))
         (option_map Tagged (tag_named line.now.text))) }
 {
     match tag_named(line.text.bytes()) {
@@ -219,7 +219,7 @@ fn found_tag(alloc: Global, line: &Taken) -> Result<Option<Part>, Refusal>
 }
 
 fn shut_part(alloc: Global, line: &Taken, arch: Arch, form: Form) -> Result<Option<Part>, Refusal>
-    ensures { Answers result (judged (shut_faults line.now form) (shut_part line.now arch form)) }
+    ensures { Answers result (unless_faulty (shut_faults line.now form) (shut_part line.now arch form)) }
 {
     match form {
         Form::Plain => begun_part(alloc, line, arch, false),
@@ -232,7 +232,7 @@ fn shut_part(alloc: Global, line: &Taken, arch: Arch, form: Form) -> Result<Opti
 
 fn untagged_part(alloc: Global, line: &Taken, form: Form) -> Result<Option<Part>, Refusal>
     ensures { Answers result
-        (judged (untagged_faults line.now form) (untagged_part line.now form)) }
+        (unless_faulty (untagged_faults line.now form) (untagged_part line.now form)) }
 {
     match form {
         Form::Plain => refuse_misplaced(alloc, line),
@@ -245,7 +245,7 @@ fn untagged_part(alloc: Global, line: &Taken, form: Form) -> Result<Option<Part>
 
 // A `}` with more behind it.
 fn misplaced_below(alloc: Global, line: &Taken, tag: Tag) -> Result<Option<Part>, Refusal>
-    ensures { Answers result (judged (misplaced_faults line.now tag) None) }
+    ensures { Answers result (unless_faulty (misplaced_faults line.now tag) None) }
 {
     match tag {
         Tag::Libraries => refuse_misplaced(alloc, line),
@@ -263,7 +263,7 @@ fn below_part(
     form: Form,
 ) -> Result<Option<Part>, Refusal>
     ensures { Answers result
-        (judged (below_faults line.now tag form) (below_part line.now arch tag form)) }
+        (unless_faulty (below_faults line.now tag form) (below_part line.now arch tag form)) }
 {
     match form {
         Form::Plain => tagged_part(alloc, line, arch, tag),
@@ -282,7 +282,7 @@ fn standing_part(
     form: Form,
 ) -> Result<Option<Part>, Refusal>
     ensures { Answers result
-        (judged (standing_faults line.now standing form)
+        (unless_faulty (standing_faults line.now standing form)
         (standing_part line.now arch standing form)) }
 {
     match standing {
@@ -301,7 +301,7 @@ pub fn component_line(
     standing: Open,
 ) -> Result<Option<Part>, Refusal>
     ensures { Answers result
-        (judged (component_faults line.now standing) (component_part line.now arch standing)) }
+        (unless_faulty (component_faults line.now standing) (component_part line.now arch standing)) }
 {
     standing_part(alloc, line, arch, standing, form_of(line.text.bytes()))
 }

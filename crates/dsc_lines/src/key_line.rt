@@ -1,7 +1,7 @@
 //! The lines of [Defines].
 ghost use Rattle.std.specs.Prelude.{◌≡◌, IfOk};
 ghost use Rattle.build_base.specs.Answer.{Answers};
-ghost use Rattle.doc_reading.specs.Gathering.{judged};
+ghost use Rattle.doc_reading.specs.Gathering.{unless_faulty};
 ghost use Rattle.dsc_lines.specs.KeyLines.{key_named, guid_faults, guid_row, output_faults, output_row, key_faults, key_row, pair_faults, pair_row, key_line_faults, key_line_row};
 
 use crate::arches::arches_value;
@@ -12,7 +12,7 @@ use build_base::fault_codes::{BAD_PATH, DSC_BAD_GUID};
 use build_base::{Guid, Refusal, Same, Taken};
 use doc_reading::least_check::{least_of_one, least_of_two};
 use doc_reading::value_fields::{open_quote, path_value, text_value, undefined_macro};
-use doc_reading::values::wanted;
+use doc_reading::values::require;
 use macro_conditions::known::without_workspace;
 use meta_lexer::lookup;
 use meta_lexer::words::split_once;
@@ -47,21 +47,21 @@ pub fn key_named(word: &[u8]) -> Option<PlatformKey>
 }
 
 fn guid_said(alloc: Global, line: &Taken, value: &[u8]) -> Result<Option<DscRow>, Refusal>
-    ensures { Answers result (judged (guid_faults line.now value.now) (guid_row value.now)) }
+    ensures { Answers result (unless_faulty (guid_faults line.now value.now) (guid_row value.now)) }
 {
     let guid = Guid::of_text(value);
     least_of_two(
         undefined_macro(alloc, &line.at, value),
-        wanted(alloc, &guid, DSC_BAD_GUID, &line.at, value),
+        require(alloc, &guid, DSC_BAD_GUID, &line.at, value),
     )?;
     Ok(guid.map(|guid| DscRow::Key(KeyValue::Guid(guid))))
 }
 
 fn output_said(alloc: Global, line: &Taken, value: &[u8]) -> Result<Option<DscRow>, Refusal>
-    ensures { Answers result (judged (output_faults line.now value.now) (output_row value.now)) }
+    ensures { Answers result (unless_faulty (output_faults line.now value.now) (output_row value.now)) }
 {
     let folder = output_folder(alloc, without_workspace(value))?;
-    least_of_one(wanted(alloc, &folder, BAD_PATH, &line.at, value))?;
+    least_of_one(require(alloc, &folder, BAD_PATH, &line.at, value))?;
     Ok(folder.map(|folder| DscRow::Key(KeyValue::Output(folder))))
 }
 
@@ -72,7 +72,7 @@ fn key_said(
     value: &[u8],
 ) -> Result<Option<DscRow>, Refusal>
     ensures { Answers result
-        (judged (key_faults line.now key value.now) (key_row line.now key value.now)) }
+        (unless_faulty (key_faults line.now key value.now) (key_row line.now key value.now)) }
 {
     match key {
         PlatformKey::Name => {
@@ -103,7 +103,7 @@ fn pair_said(
     value: &[u8],
 ) -> Result<Option<DscRow>, Refusal>
     ensures { Answers result
-        (judged (pair_faults line.now key value.now) (pair_row line.now key value.now)) }
+        (unless_faulty (pair_faults line.now key value.now) (pair_row line.now key value.now)) }
 {
     match key {
         Some(key) => {
@@ -117,7 +117,7 @@ fn pair_said(
 /// What a line of [Defines] says.
 #[tactic(auto, unfolding(crate::specs::KeyLines::key_line_faults, crate::specs::KeyLines::key_line_row))]
 pub fn key_line(alloc: Global, line: &Taken) -> Result<Option<DscRow>, Refusal>
-    ensures { Answers result (judged (key_line_faults line.now) (key_line_row line.now)) }
+    ensures { Answers result (unless_faulty (key_line_faults line.now) (key_line_row line.now)) }
 {
     match split_once(b'=', line.text.bytes()) {
         Some((key, value)) => pair_said(alloc, line, key_named(key), value),

@@ -1,7 +1,7 @@
 //! The line of a library.
 ghost use Rattle.std.specs.Prelude.{◌≡◌, ◌∷◌, [], IfOk};
 ghost use Rattle.build_base.specs.Answer.{Answers, Checks};
-ghost use Rattle.doc_reading.specs.Gathering.{judged};
+ghost use Rattle.doc_reading.specs.Gathering.{unless_faulty};
 ghost use Rattle.dsc_lines.specs.LibraryLines.{class_fault, made_library, fields_faults, fields_library, library_faults, library_of};
 
 use crate::form::refuse_form;
@@ -10,7 +10,7 @@ use build_base::path::path_field;
 use build_base::{Path, Refusal, Same, Taken, Text, WantOfMemory, refuse};
 use doc_reading::least_check::least_of_three;
 use doc_reading::value_fields::{open_quote, undefined_macro};
-use doc_reading::values::wanted;
+use doc_reading::values::require;
 use doc_types::arch::Arch;
 use doc_types::module_type::ModuleType;
 use doc_types::platform::LibraryLine;
@@ -59,14 +59,14 @@ fn two_fields(
     path: &[u8],
 ) -> Result<Option<LibraryLine>, Refusal>
     ensures { Answers result
-        (judged (fields_faults line.now (class.now ∷ path.now ∷ []))
+        (unless_faulty (fields_faults line.now (class.now ∷ path.now ∷ []))
         (fields_library line.now arch kind (class.now ∷ path.now ∷ []))) }
 {
     let instance = path_field(alloc, without_workspace(path))?;
     least_of_three(
         check_class(alloc, line, class),
         undefined_macro(alloc, &line.at, class),
-        wanted(alloc, &instance, BAD_PATH, &line.at, path),
+        require(alloc, &instance, BAD_PATH, &line.at, path),
     )?;
     let library = made_library(alloc, line, arch, kind, class, instance)?;
     Ok(library)
@@ -80,7 +80,7 @@ fn library_fields(
     fields: &[Text],
 ) -> Result<Option<LibraryLine>, Refusal>
     ensures { Answers result
-        (judged (fields_faults line.now fields.now)
+        (unless_faulty (fields_faults line.now fields.now)
         (fields_library line.now arch kind fields.now)) }
 {
     match fields {
@@ -97,7 +97,7 @@ pub fn library_line(
     arch: Arch,
     kind: Option<ModuleType>,
 ) -> Result<Option<LibraryLine>, Refusal>
-    ensures { Answers result (judged (library_faults line.now) (library_of line.now arch kind)) }
+    ensures { Answers result (unless_faulty (library_faults line.now) (library_of line.now arch kind)) }
 {
     open_quote(alloc, &line.at, line.text.bytes())?;
     let fields = field_texts(alloc, line.text.bytes())?;

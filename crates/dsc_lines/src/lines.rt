@@ -1,7 +1,7 @@
 //! The lines below the heads of a platform's description.
 ghost use Rattle.std.specs.Prelude.{◌≡◌, ℕ, List};
 ghost use Rattle.build_base.specs.Answer.{Answers};
-ghost use Rattle.doc_reading.specs.Gathering.{judged};
+ghost use Rattle.doc_reading.specs.Gathering.{unless_faulty};
 ghost use Rattle.dsc_lines.specs.Lines.{line_faults, line_row};
 ghost use Rattle.dsc_lines.specs.SkuNames.{Placed};
 
@@ -28,7 +28,7 @@ pub fn line_row(
 ) -> Result<Option<DscRow>, Refusal>
     ensures { (above : List (List ℕ)) → Placed above names.now
         → Answers result
-        (judged (line_faults above standing line.now scope.now)
+        (unless_faulty (line_faults above standing line.now scope.now)
         (line_row standing line.now scope.now)) }
 {
     match scope {

@@ -2,7 +2,7 @@
 ghost use Rattle.std.specs.Prelude.{◌≡◌, ◌++◌, IfOk, OnOk};
 ghost use Rattle.std.specs.Option.{option_map};
 ghost use Rattle.build_base.specs.Answer.{Answers, Checks};
-ghost use Rattle.doc_reading.specs.Gathering.{judged};
+ghost use Rattle.doc_reading.specs.Gathering.{unless_faulty};
 ghost use Rattle.dsc_lines.specs.PcdLines.{small_of, number_field, number_fault, form_fault, fields_faults, made_pcd, fields_pcd, pcd_faults, pcd_of};
 
 use crate::pcd_form::{is_form, number_field, small_number};
@@ -12,7 +12,7 @@ use build_base::fault_codes::{BAD_NUMBER, DSC_BAD_PCD_LINE};
 use build_base::{Refusal, Same, Taken, Text, WantOfMemory, refuse};
 use doc_reading::least_check::least_of_three;
 use doc_reading::value_fields::{open_quote, undefined_macros};
-use doc_reading::values::wanted;
+use doc_reading::values::require;
 use doc_types::arch::Arch;
 use doc_types::pcd::{Kind, PcdName, pcd_name_of};
 use doc_types::platform::PcdLine;
@@ -25,7 +25,7 @@ fn check_number(alloc: Global, line: &Taken, text: Option<&[u8]>) -> Result<(), 
     match text {
         Some(text) => {
             let number = small_number(text);
-            wanted(alloc, &number, BAD_NUMBER, &line.at, text)
+            require(alloc, &number, BAD_NUMBER, &line.at, text)
         }
         None => Ok(()),
     }
@@ -89,7 +89,7 @@ fn pcd_fields(
     fields: &[Text],
 ) -> Result<Option<PcdLine>, Refusal>
     ensures { Answers result
-        (judged (fields_faults line.now stored fields.now)
+        (unless_faulty (fields_faults line.now stored fields.now)
         (fields_pcd line.now kind stored arch sku.now fields.now)) }
 {
     let pcd = pcd_name_of(alloc, first_text(fields))?;
@@ -113,7 +113,7 @@ pub fn pcd_line(
     sku: &[u8],
 ) -> Result<Option<PcdLine>, Refusal>
     ensures { Answers result
-        (judged (pcd_faults line.now stored) (pcd_of line.now kind stored arch sku.now)) }
+        (unless_faulty (pcd_faults line.now stored) (pcd_of line.now kind stored arch sku.now)) }
 {
     open_quote(alloc, &line.at, line.text.bytes())?;
     let fields = field_texts(alloc, line.text.bytes())?;

@@ -1,13 +1,13 @@
 //! The sections of a platform's description, and what their heads enter.
 ghost use Rattle.std.specs.Prelude.{◌≡◌, ◌∷◌, [], IfOk};
 ghost use Rattle.build_base.specs.Answer.{Answers, Checks};
-ghost use Rattle.doc_reading.specs.Gathering.{judged};
+ghost use Rattle.doc_reading.specs.Gathering.{unless_faulty};
 ghost use Rattle.dsc_lines.specs.Sections.{section_named, arch_word, type_word, qualifiers_fault, arch_fault, type_fault, libraries_scope, components_scope, pcds_scope, sku_word, section_faults, section_scope, named_faults, named_scope, head_faults, scope_of};
 
 use build_base::fault_codes::{BAD_ARCH, BAD_SECTION, DSC_UNKNOWN_SECTION};
 use build_base::{Refusal, Taken, Text, WantOfMemory, refuse};
 use doc_reading::least_check::{least_of_one, least_of_three, least_of_two};
-use doc_reading::values::wanted;
+use doc_reading::values::require;
 use doc_types::arch::{Arch, arch_named};
 use doc_types::module_type::{ModuleType, module_type_named};
 use doc_types::pcd::Kind;
@@ -154,13 +154,13 @@ fn check_arch(
 ) -> Result<(), Refusal>
     ensures { Checks result (arch_fault line.now qualifiers.now arch) }
 {
-    wanted(alloc, &arch, BAD_ARCH, &line.at, first_text(qualifiers))
+    require(alloc, &arch, BAD_ARCH, &line.at, first_text(qualifiers))
 }
 
 fn check_type(alloc: Global, line: &Taken, kind: Option<Option<ModuleType>>) -> Result<(), Refusal>
     ensures { Checks result (type_fault line.now kind) }
 {
-    wanted(alloc, &kind, BAD_SECTION, &line.at, line.text.bytes())
+    require(alloc, &kind, BAD_SECTION, &line.at, line.text.bytes())
 }
 
 fn libraries_scope(arch: Option<Arch>, kind: Option<Option<ModuleType>>) -> Option<Scope>
@@ -219,7 +219,7 @@ fn enter_pcds(
     qualifiers: &[Text],
 ) -> Result<Option<Scope>, Refusal>
     ensures { Answers result
-        (judged (qualifiers_fault line.now 2 qualifiers.now
+        (unless_faulty (qualifiers_fault line.now 2 qualifiers.now
         ∷ arch_fault line.now qualifiers.now (arch_word qualifiers.now) ∷ [])
         (pcds_scope kind store (arch_word qualifiers.now) (sku_word qualifiers.now))) }
 {
@@ -239,7 +239,7 @@ fn enter_section(
     qualifiers: &[Text],
 ) -> Result<Option<Scope>, Refusal>
     ensures { Answers result
-        (judged (section_faults line.now section qualifiers.now)
+        (unless_faulty (section_faults line.now section qualifiers.now)
         (section_scope section qualifiers.now)) }
 {
     match section {
@@ -281,7 +281,7 @@ fn enter_named(
     qualifiers: &[Text],
 ) -> Result<Option<Scope>, Refusal>
     ensures { Answers result
-        (judged (named_faults line.now section name.now qualifiers.now)
+        (unless_faulty (named_faults line.now section name.now qualifiers.now)
         (named_scope section qualifiers.now)) }
 {
     match section {
@@ -294,7 +294,7 @@ fn enter_named(
 /// What a head enters.
 #[tactic(auto, unfolding(crate::specs::Sections::head_faults, crate::specs::Sections::scope_of))]
 pub fn enter_head(alloc: Global, line: &Taken, head: &Head) -> Result<Option<Scope>, Refusal>
-    ensures { Answers result (judged (head_faults line.now head.now) (scope_of head.now)) }
+    ensures { Answers result (unless_faulty (head_faults line.now head.now) (scope_of head.now)) }
 {
     match head.parts.items() {
         [name, qualifiers @ ..] => enter_named(

@@ -2,7 +2,7 @@
 ghost use Rattle.std.specs.Prelude.{◌≡◌, ◌||◌, List, ℕ, IfOk};
 ghost use Rattle.std.specs.List.{list_all};
 ghost use Rattle.build_base.specs.Answer.{Answers, Checks};
-ghost use Rattle.doc_reading.specs.Gathering.{judged};
+ghost use Rattle.doc_reading.specs.Gathering.{unless_faulty};
 ghost use Rattle.dsc_lines.specs.PcdLines.{is_there};
 ghost use Rattle.dsc_lines.specs.SkuNames.{Placed};
 ghost use Rattle.dsc_lines.specs.SkuLines.{is_sku_byte, is_sku_name, is_default, place_of, name_field, others_fault, is_other_number, is_root_form, is_child_form, is_sku_form, sku_fault, fields_faults, root_parent, numbered_sku, fields_sku, sku_faults, sku_of};
@@ -172,7 +172,7 @@ fn sku_fields(
     taken: bool,
 ) -> Result<Option<SkuLine>, Refusal>
     ensures { Answers result
-        (judged (fields_faults line.now fields.now taken) (fields_sku line.now fields.now)) }
+        (unless_faulty (fields_faults line.now fields.now taken) (fields_sku line.now fields.now)) }
 {
     match number_value(alloc, &line.at, first_text(fields)) {
         Ok(id) => {
@@ -216,7 +216,7 @@ pub fn sku_line(
     names: &IndexMap<Vec<u8>, usize>,
 ) -> Result<Option<SkuLine>, Refusal>
     ensures { (above : List (List ℕ)) → Placed above names.now
-        → Answers result (judged (sku_faults above line.now) (sku_of line.now)) }
+        → Answers result (unless_faulty (sku_faults above line.now) (sku_of line.now)) }
 {
     open_quote(alloc, &line.at, line.text.bytes())?;
     let fields = field_texts(alloc, line.text.bytes())?;

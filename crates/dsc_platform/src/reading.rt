@@ -26,7 +26,7 @@ use build_base::{
     Guid, Lines, Macro, Path, Permit, Place, Refusal, Rows, Same, Text, WantOfMemory,
 };
 use doc_reading::missing::refuse_missing;
-use doc_reading::{Whole, read_whole};
+use doc_reading::{DocumentFormat, read_whole};
 use doc_types::arch::Arch;
 use doc_types::platform::{Component, LibraryLine, PcdLine, PlatformDoc, Sku};
 use dsc_lines::output_folder::OutputFolder;
@@ -366,7 +366,7 @@ fn document(alloc: Global, lines: &Lines, ended: Ended) -> Result<NamedPlatform,
     Ok(document)
 }
 
-impl Whole for DscFormat {
+impl DocumentFormat for DscFormat {
     ghost use Rattle.dsc_platform.specs.Platform.{platform_made};
 
     type Made = NamedPlatform;

@@ -15,7 +15,7 @@ use Rattle.doc_types.specs.ModuleTypes.{module_type_named}
 use Rattle.doc_types.specs.declared.arch.Arch.{Arch}
 use Rattle.doc_types.specs.declared.module_type.ModuleType.{ModuleType}
 use Rattle.doc_reading.specs.Blocks.{Block, lines_until, are_heads, sections_of}
-use Rattle.doc_reading.specs.Gathering.{given_in, judged}
+use Rattle.doc_reading.specs.Gathering.{given_in, unless_faulty}
 use Rattle.doc_reading.specs.Grammar.{Read, entered, gave, entry_of, heads_entered, rows_given, outcome_of, first_fault, read_of}
 use Rattle.doc_reading.specs.Least.{least_of}
 use Rattle.doc_reading.proofs.BlockLemmas.{blocks_begin}
@@ -220,7 +220,7 @@ full_none above line scopes rows e full =
     let marks = marks_below above in
     let given = flat_map given_in (map (outcome_of flash_grammar above line) scopes) in
     subst (λ rs. list_any is_statement rs ≡ false) (unless_value _ given rows e)
-    (subst (λ t. list_any is_statement (flat_map given_in (map (λ s. judged (line_faults line marks t s) (line_row line marks s)) scopes)) ≡ false) (sym full)
+    (subst (λ t. list_any is_statement (flat_map given_in (map (λ s. unless_faulty (line_faults line marks t s) (line_row line marks s)) scopes)) ≡ false) (sym full)
     (full_gives line marks scopes))
 
 clash : {X : Type 0} → true ≡ false → X

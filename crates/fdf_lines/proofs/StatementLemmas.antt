@@ -13,10 +13,10 @@ use Rattle.macro_conditions.specs.Sources.{without_workspace}
 use Rattle.meta_lexer.specs.Fields.{ends_quoted}
 use Rattle.meta_lexer.specs.Parts.{field_texts}
 use Rattle.meta_lexer.specs.Words.{split_once}
-use Rattle.doc_reading.specs.Gathering.{given_in, judged}
+use Rattle.doc_reading.specs.Gathering.{given_in, unless_faulty}
 use Rattle.doc_reading.specs.Least.{lesser, least_of}
 use Rattle.doc_reading.specs.ValueFields.{number_value, undefined_macro}
-use Rattle.doc_reading.specs.Values.{wanted, of_read_line}
+use Rattle.doc_reading.specs.Values.{require, of_read_line}
 use Rattle.doc_types.specs.Pcds.{pcd_name_of}
 use Rattle.doc_types.specs.declared.pcd.PcdName.{PcdName}
 use Rattle.doc_types.specs.declared.volume.Align.{Align}
@@ -337,7 +337,7 @@ unless_row None r e = given_row r e
 unless_row (Some fault) r e = refl
 
 -- a row that is no statement
-of_row : (faults : List (Option Fault)) (r : Option Row) → states r ≡ false → gives (judged faults r) ≡ false
+of_row : (faults : List (Option Fault)) (r : Option Row) → states r ≡ false → gives (unless_faulty faults r) ≡ false
 of_row faults r e = unless_row (least_of faults) r e
 
 unless_none : (fault : Option Fault) (r : Option Row) → IsSome fault → gives (unless fault r) ≡ false
@@ -345,7 +345,7 @@ unless_none (Some fault) r i = refl
 unless_none None r i = absurd cc
 
 -- a line with a fault
-of_fault : (faults : List (Option Fault)) (r : Option Row) → IsSome (least_of faults) → gives (judged faults r) ≡ false
+of_fault : (faults : List (Option Fault)) (r : Option Row) → IsSome (least_of faults) → gives (unless_faulty faults r) ≡ false
 of_fault faults r i = unless_none (least_of faults) r i
 
 some_if : (t : Bool) (a b : Fault) → IsSome (if t then Some b else Some a)
@@ -367,7 +367,7 @@ many line = fault_of TOO_MANY line.at (codes "65536")
 
 full_apriori : (line : Taken) → IsSome (least_of (file.apriori_faults line true))
 unfolding file.apriori_faults
-full_apriori line = last_of_three (undefined_macro line.at line.text) (wanted (file.apriori_named (after_word line.text)) (bad_line FDF_BAD_FILE line)) (many line)
+full_apriori line = last_of_three (undefined_macro line.at line.text) (require (file.apriori_named (after_word line.text)) (bad_line FDF_BAD_FILE line)) (many line)
 
 full_parts : (line : Taken) (p : Option (InfOptions × List ℕ)) → IsSome (least_of (inf.inf_parts_faults line true p))
 full_parts line None = last_of_three (undefined_macro line.at line.text) (Some (bad_line BAD_INF_LINE line)) (many line)
@@ -387,7 +387,7 @@ full_file : (line : Taken) → IsSome (least_of (file.file_faults line true))
 unfolding file.file_faults
 full_file line = last_of_three (undefined_macro line.at line.text) (file.parts_fault line (file.file_parts (after_word line.text))) (many line)
 
-shut_gives : (line : Taken) (s : Option Statement) → gives (judged (volume.shut_faults line true s) (volume.shut_row line s)) ≡ false
+shut_gives : (line : Taken) (s : Option Statement) → gives (unless_faulty (volume.shut_faults line true s) (volume.shut_row line s)) ≡ false
 shut_gives line (Some statement.Apriori) = of_fault (file.apriori_faults line true) (file.apriori_row line) (full_apriori line)
 shut_gives line (Some statement.Inf) = of_fault (inf.inf_faults line true) (option_map row.Inf (inf.inf_of line)) (full_inf line)
 shut_gives line (Some statement.File) = of_fault (file.file_faults line true) (file.file_row line) (full_file line)
@@ -396,37 +396,37 @@ shut_gives line (Some statement.Close) = of_row (file.no_form_faults FDF_BAD_FIL
 shut_gives line (Some statement.BadClose) = of_row (file.no_form_faults FDF_BAD_FILE line) None refl
 shut_gives line None = of_row (volume.plain_faults line (key_pair line.text)) (volume.plain_row line (key_pair line.text)) (key_states line (key_pair line.text))
 
-volume_in : (line : Taken) (braces : Open) (s : Option Statement) → gives (judged (volume.faults_in line braces true s) (volume.row_in line braces s)) ≡ false
+volume_in : (line : Taken) (braces : Open) (s : Option Statement) → gives (unless_faulty (volume.faults_in line braces true s) (volume.row_in line braces s)) ≡ false
 volume_in line Shut s = shut_gives line s
 volume_in line InApriori s = of_row (volume.apriori_faults_in line s) (volume.apriori_row_in line s) (apriori_in line s)
 volume_in line (InFile filled) s = of_row (volume.file_faults_in line filled s) (volume.file_row_in line s) (file_in line s)
 volume_in line InRule s = shut_gives line s
 
-volume_gives : (line : Taken) (braces : Open) → gives (judged (volume.volume_faults line braces true) (volume.volume_row line braces)) ≡ false
+volume_gives : (line : Taken) (braces : Open) → gives (unless_faulty (volume.volume_faults line braces true) (volume.volume_row line braces)) ≡ false
 unfolding volume.volume_faults volume.volume_row
 volume_gives line braces = volume_in line braces (volume.statement_of line.text)
 
-read_if : (t : Bool) (fault : Fault) (faults : List (Option Fault)) (r : Option Row) → gives (judged faults r) ≡ false
-    → gives (judged (if t then Some fault ∷ [] else faults) r) ≡ false
+read_if : (t : Bool) (fault : Fault) (faults : List (Option Fault)) (r : Option Row) → gives (unless_faulty faults r) ≡ false
+    → gives (unless_faulty (if t then Some fault ∷ [] else faults) r) ≡ false
 read_if true fault faults r e = refl
 read_if false fault faults r e = e
 
-of_read : (line : Taken) (faults : List (Option Fault)) (r : Option Row) → gives (judged faults r) ≡ false → gives (judged (of_read_line line faults) r) ≡ false
+of_read : (line : Taken) (faults : List (Option Fault)) (r : Option Row) → gives (unless_faulty faults r) ≡ false → gives (unless_faulty (of_read_line line faults) r) ≡ false
 of_read line faults r e = read_if (ends_quoted line.text) (fault_of OPEN_QUOTE line.at (codes "\"")) faults r e
 
-scope_gives : (line : Taken) (marks : Marks) (s : Scope) → gives (judged (scope_faults line marks true s) (scope_row line marks s)) ≡ false
+scope_gives : (line : Taken) (marks : Marks) (s : Scope) → gives (unless_faulty (scope_faults line marks true s) (scope_row line marks s)) ≡ false
 scope_gives line marks scope.Settings = refl
 scope_gives line marks (scope.Device name) = of_row (of_read_line line (device.device_faults line marks)) (device.device_row line) (device_states line)
 scope_gives line marks (scope.Volume name) =
     of_read line (volume.volume_faults line marks.braces true) (volume.volume_row line marks.braces) (volume_gives line marks.braces)
 scope_gives line marks (scope.Rule r) = of_row (of_read_line line (rule.rule_faults line marks)) (rule.rule_row line marks.braces) (rule_states line marks.braces)
 
-line_if : (t : Bool) (faults others : List (Option Fault)) (a b : Option Row) → gives (judged faults a) ≡ false → gives (judged others b) ≡ false
-    → gives (judged (if t then faults else others) (if t then a else b)) ≡ false
+line_if : (t : Bool) (faults others : List (Option Fault)) (a b : Option Row) → gives (unless_faulty faults a) ≡ false → gives (unless_faulty others b) ≡ false
+    → gives (unless_faulty (if t then faults else others) (if t then a else b)) ≡ false
 line_if true faults others a b e f = e
 line_if false faults others a b e f = f
 
-line_gives : (line : Taken) (marks : Marks) (s : Scope) → gives (judged (line_faults line marks true s) (line_row line marks s)) ≡ false
+line_gives : (line : Taken) (marks : Marks) (s : Scope) → gives (unless_faulty (line_faults line marks true s) (line_row line marks s)) ≡ false
 unfolding line_faults line_row
 line_gives line marks s =
     let faults = of_read_line line (setting.set_faults line) in
@@ -440,10 +440,10 @@ any_join test (x ∷ xs) ys = ap (λ t. test x || t) (any_join test xs ys) ∙ o
 
 -- where there are 65,535 statements a line gives no further one
 pub full_gives : (line : Taken) (marks : Marks) (scopes : List Scope)
-    → list_any is_statement (flat_map given_in (map (λ s. judged (line_faults line marks true s) (line_row line marks s)) scopes)) ≡ false
+    → list_any is_statement (flat_map given_in (map (λ s. unless_faulty (line_faults line marks true s) (line_row line marks s)) scopes)) ≡ false
 full_gives line marks [] = refl
 full_gives line marks (s ∷ scopes) =
-    let below = flat_map given_in (map (λ z. judged (line_faults line marks true z) (line_row line marks z)) scopes) in
-    any_join is_statement (given_in (judged (line_faults line marks true s) (line_row line marks s))) below
+    let below = flat_map given_in (map (λ z. unless_faulty (line_faults line marks true z) (line_row line marks z)) scopes) in
+    any_join is_statement (given_in (unless_faulty (line_faults line marks true s) (line_row line marks s))) below
     ∙ ap (λ t. t || list_any is_statement below) (line_gives line marks s)
     ∙ full_gives line marks scopes

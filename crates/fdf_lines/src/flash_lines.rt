@@ -1,7 +1,7 @@
 //! The format of a flash description, and what its lines come to.
 ghost use Rattle.std.specs.Prelude.{◌≡◌, ◌+◌, ◌&&◌, ◌==◌, nat_lt, IfOk, OnOk, length, [], ◌∷◌, ◌++◌};
 ghost use Rattle.build_base.specs.Answer.{Answers, AnswersAs, Checks};
-ghost use Rattle.doc_reading.specs.Gathering.{judged};
+ghost use Rattle.doc_reading.specs.Gathering.{unless_faulty};
 ghost use Rattle.fdf_lines.specs.Counts.{saturated, heads_here, count_of, one_scope};
 ghost use Rattle.fdf_lines.specs.Grammar.{rank_of, scope_faults, scope_row, line_faults, line_row, is_full, many_fault, open_fault, opens, are_shut, begun_fault, unfiled_fault, left_fault, heads_fault, rows_of_flash};
 ghost use Rattle.fdf_lines.specs.Limits.{WithinLimits};
@@ -62,7 +62,7 @@ fn scope_line(
     scope: &Scope,
 ) -> Result<Option<Row>, Refusal>
     ensures { Answers result
-        (judged (scope_faults line.now marks full scope.now) (scope_row line.now marks scope.now)) }
+        (unless_faulty (scope_faults line.now marks full scope.now) (scope_row line.now marks scope.now)) }
 {
     match scope {
         Scope::Settings => Ok(Some(Row::Passed)),
@@ -90,7 +90,7 @@ fn line_row(
     scope: &Scope,
 ) -> Result<Option<Row>, Refusal>
     ensures { Answers result
-        (judged (line_faults line.now marks full scope.now) (line_row line.now marks scope.now)) }
+        (unless_faulty (line_faults line.now marks full scope.now) (line_row line.now marks scope.now)) }
 {
     if is_set(line.text.bytes()) {
         open_quote(alloc, &line.at, line.text.bytes())?;

@@ -6,7 +6,7 @@ ghost use Rattle.std.specs.List.{list_all};
 ghost use Rattle.std.specs.Option.{option_map};
 ghost use Rattle.build_base.specs.Answer.{Answers, Checks, Finds};
 ghost use Rattle.build_base.specs.FaultText.{fault_of};
-ghost use Rattle.doc_reading.specs.Gathering.{judged};
+ghost use Rattle.doc_reading.specs.Gathering.{unless_faulty};
 ghost use Rattle.doc_reading.specs.Least.{least_of};
 ghost use Rattle.fdf_volumes.specs.Statements.{file_parts};
 ghost use Rattle.fdf_words.specs.Words.{word_of, after_word};
@@ -231,7 +231,7 @@ fn path_line(
     text: &[u8],
 ) -> Result<Option<Row>, Refusal>
     ensures { Answers result
-        (judged (path_faults line.now same (rule_parts text.now))
+        (unless_faulty (path_faults line.now same (rule_parts text.now))
         (path_row line.now kind (rule_parts text.now))) }
 {
     let (options, word, path) = rule_parts(text);
@@ -284,7 +284,7 @@ fn text_line(
     rest: &[u8],
 ) -> Result<Option<Row>, Refusal>
     ensures { Answers result
-        (judged (text_faults line.now (rule_parts rest.now))
+        (unless_faulty (text_faults line.now (rule_parts rest.now))
         (text_row line.now kind words.now (rule_parts rest.now))) }
 {
     let (options, word, rest) = rule_parts(rest);
@@ -312,7 +312,7 @@ fn stated_words(text: &[u8]) -> Option<(&[u8], &[u8])>
 
 fn string_line(alloc: Global, line: &Taken, kind: u8, text: &[u8]) -> Result<Option<Row>, Refusal>
     ensures { Answers result
-        (judged (quoted_faults line.now (stated_words text.now))
+        (unless_faulty (quoted_faults line.now (stated_words text.now))
         (quoted_row line.now kind (stated_words text.now))) }
 {
     match stated_words(text) {
@@ -329,7 +329,7 @@ fn plain_line(
     text: &[u8],
 ) -> Result<Option<Row>, Refusal>
     ensures { Answers result
-        (judged (plain_faults line.now first.now text.now) (plain_row line.now kind text.now)) }
+        (unless_faulty (plain_faults line.now first.now text.now) (plain_row line.now kind text.now)) }
 {
     let (word, rest) = first_word(text);
     path_line(alloc, line, kind, same_word(word, first), rest)
@@ -343,7 +343,7 @@ fn worded_line(
     text: &[u8],
 ) -> Result<Option<Row>, Refusal>
     ensures { Answers result
-        (judged (worded_faults line.now first.now text.now) (worded_row line.now kind text.now)) }
+        (unless_faulty (worded_faults line.now first.now text.now) (worded_row line.now kind text.now)) }
 {
     let (word, rest) = first_word(text);
     if same_word(word, b"STRING".as_slice()) {
@@ -367,7 +367,7 @@ fn refuse_compressed(alloc: Global, line: &Taken, word: &[u8]) -> Refusal
 
 fn kind_line(alloc: Global, line: &Taken, first: &[u8], text: &[u8]) -> Result<Option<Row>, Refusal>
     ensures { Answers result
-        (judged (kind_faults line.now first.now text.now (rule_kind first.now))
+        (unless_faulty (kind_faults line.now first.now text.now (rule_kind first.now))
         (kind_row line.now text.now (rule_kind first.now))) }
 {
     match rule_kind(first) {
@@ -379,7 +379,7 @@ fn kind_line(alloc: Global, line: &Taken, first: &[u8], text: &[u8]) -> Result<O
 }
 
 fn inner_line(alloc: Global, line: &Taken) -> Result<Option<Row>, Refusal>
-    ensures { Answers result (judged (inner_faults line.now) (inner_row line.now)) }
+    ensures { Answers result (unless_faulty (inner_faults line.now) (inner_row line.now)) }
 {
     if is_close(line.text.bytes()) {
         return Ok(Some(Row::Closes));
@@ -390,7 +390,7 @@ fn inner_line(alloc: Global, line: &Taken) -> Result<Option<Row>, Refusal>
 
 fn file_line(alloc: Global, line: &Taken, text: &[u8]) -> Result<Option<Row>, Refusal>
     ensures { Answers result
-        (judged (named_faults line.now (file_parts text.now))
+        (unless_faulty (named_faults line.now (file_parts text.now))
         (named_row line.now (file_parts text.now))) }
 {
     let Some((file_type, name, options)) = file_parts(text) else {
@@ -405,7 +405,7 @@ fn file_line(alloc: Global, line: &Taken, text: &[u8]) -> Result<Option<Row>, Re
 }
 
 fn outer_line(alloc: Global, line: &Taken, unfiled: bool) -> Result<Option<Row>, Refusal>
-    ensures { Answers result (judged (outer_faults line.now unfiled) (outer_row line.now)) }
+    ensures { Answers result (unless_faulty (outer_faults line.now unfiled) (outer_row line.now)) }
 {
     let (word, rest) = first_word(line.text.bytes());
     if unfiled && same_word(word, b"FILE".as_slice()) {
@@ -418,7 +418,7 @@ fn outer_line(alloc: Global, line: &Taken, unfiled: bool) -> Result<Option<Row>,
 #[tactic(auto, unfolding(crate::specs::Rules::rule_faults, crate::specs::Rules::rule_row))]
 pub fn rule_line(alloc: Global, line: &Taken, marks: Marks) -> Result<Option<Row>, Refusal>
     ensures { Answers result
-        (judged (rule_faults line.now marks) (rule_row line.now marks.braces)) }
+        (unless_faulty (rule_faults line.now marks) (rule_row line.now marks.braces)) }
 {
     match marks.braces {
         Open::InRule => inner_line(alloc, line),

@@ -2,7 +2,7 @@
 ghost use Rattle.std.specs.Prelude.{◌≡◌, ◌++◌, ◌∷◌, [], IfOk, codes};
 ghost use Rattle.std.specs.List.{list_all};
 ghost use Rattle.build_base.specs.Answer.{Answers};
-ghost use Rattle.doc_reading.specs.Gathering.{judged};
+ghost use Rattle.doc_reading.specs.Gathering.{unless_faulty};
 ghost use Rattle.fdf_lines.specs.Sections.{section_named, is_name_byte, is_image_name, plain_meaning, device_meaning, volume_meaning, rule_scope, rule_meaning, meaning_of, head_meaning, meaning_faults, meaning_scope};
 
 use build_base::fault_codes::{BAD_KEY, BAD_RULE, BAD_SECTION};
@@ -230,7 +230,7 @@ fn enter_as(
     meaning: HeadMeaning,
 ) -> Result<Option<Scope>, Refusal>
     ensures { Answers result
-        (judged (meaning_faults line.now head.now meaning) (meaning_scope meaning)) }
+        (unless_faulty (meaning_faults line.now head.now meaning) (meaning_scope meaning)) }
 {
     match meaning {
         HeadMeaning::Enters(scope) => Ok(Some(scope)),
@@ -249,7 +249,7 @@ fn enter_as(
 /// The scope that a head enters, or its fault.
 pub fn enter(alloc: Global, line: &Taken, head: &Head) -> Result<Option<Scope>, Refusal>
     ensures { Answers result
-        (judged (meaning_faults line.now head.now (head_meaning head.now))
+        (unless_faulty (meaning_faults line.now head.now (head_meaning head.now))
         (meaning_scope (head_meaning head.now))) }
 {
     let meaning = head_meaning(alloc, head)?;

@@ -15,7 +15,7 @@ use Rattle.meta_lexer.specs.Heads.{inner, stands_between}
 use Rattle.meta_lexer.specs.Lookup.{lookup}
 use Rattle.meta_lexer.specs.Words.{same_word}
 use Rattle.doc_reading.specs.ValueFields.{undefined_macro}
-use Rattle.doc_reading.specs.Values.{wanted}
+use Rattle.doc_reading.specs.Values.{require}
 use Rattle.doc_types.specs.Standard.{EFI_SECTION_DXE_DEPEX, EFI_SECTION_FIRMWARE_VOLUME_IMAGE, EFI_SECTION_FREEFORM_SUBTYPE_GUID, EFI_SECTION_MM_DEPEX, EFI_SECTION_PE32, EFI_SECTION_PEI_DEPEX, EFI_SECTION_RAW, EFI_SECTION_TE, EFI_SECTION_USER_INTERFACE, EFI_SECTION_VERSION}
 use Rattle.doc_types.specs.declared.volume.Align.{Align}
 use Rattle.doc_types.specs.declared.volume.Align.TheVariants.{Unset, Bytes}
@@ -63,7 +63,7 @@ made_section line kind align guid filled =
 -- `= path`
 abbrev pub path_faults : Taken → List ℕ → List (Option Fault)
 path_faults line value = macro_before line value
-    ∷ wanted (path_field (without_workspace value)) (fault_of BAD_PATH line.at value) ∷ []
+    ∷ require (path_field (without_workspace value)) (fault_of BAD_PATH line.at value) ∷ []
 
 abbrev pub path_row : Taken → ℕ → Align → Option (List ℕ) → Option Row
 path_row line kind align (Some path) = Some (made_section line kind align None (body.Tree path))
@@ -83,8 +83,8 @@ words_row line kind align value None =
 -- `guid = path`
 abbrev pub guid_faults : Taken → List ℕ → List ℕ → List (Option Fault)
 guid_faults line word value =
-    macro_before line value ∷ wanted (path_field (without_workspace value))
-    (fault_of BAD_PATH line.at value) ∷ wanted (guid_of word) (fault_of FDF_BAD_GUID line.at word)
+    macro_before line value ∷ require (path_field (without_workspace value))
+    (fault_of BAD_PATH line.at value) ∷ require (guid_of word) (fault_of FDF_BAD_GUID line.at word)
     ∷ []
 
 abbrev pub guid_row : Taken → Align → Option Guid → Option (List ℕ) → Option Row
@@ -173,7 +173,7 @@ section_row line = aligned_row line (maybe_align (after_word line.text))
 
 -- the path of a whole body
 abbrev pub whole_faults : Taken → List (Option Fault)
-whole_faults line = wanted (path_field (without_workspace line.text))
+whole_faults line = require (path_field (without_workspace line.text))
     (fault_of BAD_PATH line.at line.text) ∷ []
 
 abbrev pub whole_row : Option (List ℕ) → Option Row

@@ -12,7 +12,7 @@ use Rattle.meta_lexer.specs.Lines.{without_blanks}
 use Rattle.meta_lexer.specs.Lookup.{lookup}
 use Rattle.meta_lexer.specs.Words.{is_identifier}
 use Rattle.doc_reading.specs.ValueFields.{undefined_macro}
-use Rattle.doc_reading.specs.Values.{wanted}
+use Rattle.doc_reading.specs.Values.{require}
 use Rattle.doc_types.specs.Arches.{arch_named}
 use Rattle.doc_types.specs.declared.arch.Arch.{Arch}
 use Rattle.doc_types.specs.declared.arch.Arch.TheVariants.{Common}
@@ -87,7 +87,7 @@ inf_parts text = and_inf (and_inf (and_inf (and_inf (next_inf no_inf_options tex
 abbrev pub inf_path_fault : Taken → List ℕ → Option Fault
 inf_path_fault line path =
     if length path == 0 then Some (bad_line BAD_INF_LINE line)
-    else wanted (path_field (without_workspace path)) (fault_of BAD_PATH line.at path)
+    else require (path_field (without_workspace path)) (fault_of BAD_PATH line.at path)
 
 abbrev pub template_fault : Taken → Option (List ℕ) → Option Fault
 template_fault line (Some name) = if is_identifier name
@@ -100,7 +100,7 @@ one_arch (Some Common) = None
 one_arch arch = arch
 
 abbrev pub use_fault : Taken → Option (List ℕ) → Option Fault
-use_fault line (Some word) = wanted (one_arch (arch_named word)) (bad_line BAD_INF_LINE line)
+use_fault line (Some word) = require (one_arch (arch_named word)) (bad_line BAD_INF_LINE line)
 use_fault line None = None
 
 abbrev pub used_arch : Option (List ℕ) → Option Arch

@@ -11,7 +11,7 @@ use Rattle.build_base.specs.declared.lines.Taken.{Taken}
 use Rattle.meta_lexer.specs.Lookup.{lookup}
 use Rattle.meta_lexer.specs.Words.{holds_macro}
 use Rattle.doc_reading.specs.ValueFields.{undefined_macro}
-use Rattle.doc_reading.specs.Values.{wanted}
+use Rattle.doc_reading.specs.Values.{require}
 use Rattle.doc_types.specs.Standard.{EFI_FV_FILETYPE_APPLICATION, EFI_FV_FILETYPE_DRIVER, EFI_FV_FILETYPE_DXE_CORE, EFI_FV_FILETYPE_FIRMWARE_VOLUME_IMAGE, EFI_FV_FILETYPE_FREEFORM, EFI_FV_FILETYPE_MM, EFI_FV_FILETYPE_MM_CORE, EFI_FV_FILETYPE_PEIM, EFI_FV_FILETYPE_PEI_CORE, EFI_FV_FILETYPE_RAW, EFI_FV_FILETYPE_SECURITY_CORE}
 use Rattle.doc_types.specs.declared.volume.Member.TheVariants as member
 use Rattle.fdf_words.specs.declared.rows.FileHead.{FileHead}
@@ -69,7 +69,7 @@ file_parts text = front_parts (file_type (word_of text)) (file_front text)
 -- a word that is a GUID
 abbrev pub guid_fault : Taken → List ℕ → Option Guid → Option Fault
 guid_fault line word guid = if length word == 0 then Some (bad_line FDF_BAD_FILE line)
-    else wanted guid (fault_of FDF_BAD_GUID line.at word)
+    else require guid (fault_of FDF_BAD_GUID line.at word)
 
 abbrev pub parts_fault : Taken → Option (ℕ × List ℕ × Options) → Option Fault
 parts_fault line (Some p) = guid_fault line p.1 (guid_of p.1)
@@ -143,7 +143,7 @@ made_apriori line None = None
 
 unfoldable pub apriori_faults : Taken → Bool → List (Option Fault)
 apriori_faults line full =
-    undefined_macro line.at line.text ∷ wanted (apriori_named (after_word line.text))
+    undefined_macro line.at line.text ∷ require (apriori_named (after_word line.text))
     (bad_line FDF_BAD_FILE line) ∷ full_fault line full ∷ []
 
 unfoldable pub apriori_row : Taken → Option Row

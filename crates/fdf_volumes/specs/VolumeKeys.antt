@@ -9,7 +9,7 @@ use Rattle.build_base.specs.declared.guid.Guid.{Guid}
 use Rattle.build_base.specs.declared.lines.Taken.{Taken}
 use Rattle.meta_lexer.specs.Lookup.{lookup}
 use Rattle.doc_reading.specs.ValueFields.{undefined_macro}
-use Rattle.doc_reading.specs.Values.{wanted}
+use Rattle.doc_reading.specs.Values.{require}
 use Rattle.doc_types.specs.Standard.{EFI_FIRMWARE_FILE_SYSTEM2_GUID, EFI_FIRMWARE_FILE_SYSTEM3_GUID}
 use Rattle.fdf_words.specs.declared.keys.VolumeWord.{VolumeWord}
 use Rattle.fdf_words.specs.declared.keys.VolumeWord.TheVariants as word
@@ -50,7 +50,7 @@ made_number known None = None
 -- an alignment is no expression
 abbrev pub alignment_faults : Taken → List ℕ → List (Option Fault)
 alignment_faults line value = undefined_macro line.at value
-    ∷ wanted (volume_alignment value) (bad_value line value) ∷ []
+    ∷ require (volume_alignment value) (bad_value line value) ∷ []
 
 abbrev pub alignment_row : Option ℕ → Option Row
 alignment_row (Some bytes) = Some (Setting (setting.Number key.FvAlignment bytes))
@@ -66,11 +66,11 @@ numbers_row line known value = made_number known (number_of_field line (volume_f
 
 abbrev pub truth_faults : Taken → List ℕ → List (Option Fault)
 truth_faults line value = undefined_macro line.at value
-    ∷ wanted (truth_named value) (bad_value line value) ∷ []
+    ∷ require (truth_named value) (bad_value line value) ∷ []
 
 abbrev pub name_faults : Taken → List ℕ → List (Option Fault)
 name_faults line value = undefined_macro line.at value
-    ∷ wanted (guid_of value) (fault_of FDF_BAD_GUID line.at value) ∷ []
+    ∷ require (guid_of value) (fault_of FDF_BAD_GUID line.at value) ∷ []
 
 abbrev pub name_row : Option Guid → Option Row
 name_row (Some guid) = Some (Setting (setting.NameGuid guid))
@@ -82,7 +82,7 @@ file_system None = None
 
 -- a GUID, and a file system that there is
 abbrev pub system_fault : Taken → List ℕ → Option Guid → Option Fault
-system_fault line value (Some guid) = wanted (is_ffs3 guid) (bad_value line value)
+system_fault line value (Some guid) = require (is_ffs3 guid) (bad_value line value)
 system_fault line value None = Some (fault_of FDF_BAD_GUID line.at value)
 
 abbrev pub system_faults : Taken → List ℕ → List (Option Fault)

@@ -7,7 +7,7 @@ ghost use Rattle.build_base.specs.FaultText.{fault_of};
 ghost use Rattle.build_base.specs.Guid.{guid_of};
 ghost use Rattle.build_base.specs.Path.{path_field};
 ghost use Rattle.macro_conditions.specs.Sources.{without_workspace};
-ghost use Rattle.doc_reading.specs.Gathering.{judged};
+ghost use Rattle.doc_reading.specs.Gathering.{unless_faulty};
 ghost use Rattle.doc_reading.specs.Least.{least_of};
 ghost use Rattle.doc_reading.specs.ValueFields.{undefined_macro};
 ghost use Rattle.fdf_words.specs.Words.{word_of, after_word, after_equals};
@@ -21,7 +21,7 @@ use build_base::path::path_field;
 use build_base::{Guid, Path, Refusal, Same, Taken, Text, WantOfMemory, refuse};
 use doc_reading::least_check::{least_of_three, least_of_two, least_refusal};
 use doc_reading::value_fields::undefined_macro;
-use doc_reading::values::wanted;
+use doc_reading::values::require;
 use doc_types::standard::{
     EFI_SECTION_DXE_DEPEX, EFI_SECTION_FIRMWARE_VOLUME_IMAGE, EFI_SECTION_FREEFORM_SUBTYPE_GUID,
     EFI_SECTION_MM_DEPEX, EFI_SECTION_PE32, EFI_SECTION_PEI_DEPEX, EFI_SECTION_RAW, EFI_SECTION_TE,
@@ -155,13 +155,13 @@ fn path_section(
     value: &[u8],
 ) -> Result<Option<Row>, Refusal>
     ensures { Answers result
-        (judged (path_faults line.now value.now)
+        (unless_faulty (path_faults line.now value.now)
         (path_row line.now kind align (path_field (without_workspace value.now)))) }
 {
     let path = path_field(alloc, without_workspace(value))?;
     least_of_two(
         macro_before(alloc, line, value),
-        wanted(alloc, &path, BAD_PATH, &line.at, value),
+        require(alloc, &path, BAD_PATH, &line.at, value),
     )?;
     let row = path_row(alloc, line, kind, align, path)?;
     Ok(row)
@@ -175,7 +175,7 @@ fn quoted_section(
     words: &[u8],
 ) -> Result<Option<Row>, Refusal>
     ensures { Answers result
-        (judged (words_faults line.now [] (Some words.now))
+        (unless_faulty (words_faults line.now [] (Some words.now))
         (words_row line.now kind align [] (Some words.now))) }
 {
     undefined_macro(alloc, &line.at, line.text.bytes())?;
@@ -192,7 +192,7 @@ fn words_section(
     value: &[u8],
 ) -> Result<Option<Row>, Refusal>
     ensures { Answers result
-        (judged (words_faults line.now value.now (words_in_quotes value.now))
+        (unless_faulty (words_faults line.now value.now (words_in_quotes value.now))
         (words_row line.now kind align value.now (words_in_quotes value.now))) }
 {
     match words_in_quotes(value) {
@@ -208,7 +208,7 @@ fn nested_section(
     name: &[u8],
 ) -> Result<Option<Row>, Refusal>
     ensures { Answers result
-        (judged (undefined_macro line.now.at line.now.text ∷ [])
+        (unless_faulty (undefined_macro line.now.at line.now.text ∷ [])
         (value_row line.now align Nested name.now)) }
 {
     undefined_macro(alloc, &line.at, line.text.bytes())?;
@@ -255,15 +255,15 @@ fn guid_section(
     value: &[u8],
 ) -> Result<Option<Row>, Refusal>
     ensures { Answers result
-        (judged (guid_faults line.now word.now value.now)
+        (unless_faulty (guid_faults line.now word.now value.now)
         (guid_row line.now align (guid_of word.now) (path_field (without_workspace value.now)))) }
 {
     let guid = Guid::of_text(word);
     let path = path_field(alloc, without_workspace(value))?;
     least_of_three(
         macro_before(alloc, line, value),
-        wanted(alloc, &path, BAD_PATH, &line.at, value),
-        wanted(alloc, &guid, FDF_BAD_GUID, &line.at, word),
+        require(alloc, &path, BAD_PATH, &line.at, value),
+        require(alloc, &guid, FDF_BAD_GUID, &line.at, word),
     )?;
     let row = guid_row(alloc, line, align, guid, path)?;
     Ok(row)
@@ -295,7 +295,7 @@ fn value_section(
     value: &[u8],
 ) -> Result<Option<Row>, Refusal>
     ensures { Answers result
-        (judged (value_faults line.now word value.now) (value_row line.now align word value.now)) }
+        (unless_faulty (value_faults line.now word value.now) (value_row line.now align word value.now)) }
 {
     match word {
         SectionWord::Plain(kind) => path_section(alloc, line, kind, align, value),
@@ -314,7 +314,7 @@ fn equals_section(
     value: Option<&[u8]>,
 ) -> Result<Option<Row>, Refusal>
     ensures { Answers result
-        (judged (equals_faults line.now word (option_map (λ t. t.now) value.entry))
+        (unless_faulty (equals_faults line.now word (option_map (λ t. t.now) value.entry))
         (equals_row line.now align word (option_map (λ t. t.now) value.entry))) }
 {
     match value {
@@ -330,7 +330,7 @@ fn named_section(
     text: &[u8],
 ) -> Result<Option<Row>, Refusal>
     ensures { Answers result
-        (judged (named_faults line.now (word_of text.now) (named_value text.now))
+        (unless_faulty (named_faults line.now (word_of text.now) (named_value text.now))
         (named_row line.now align (word_of text.now) (named_value text.now))) }
 {
     let (word, _) = first_word(text);
@@ -359,7 +359,7 @@ fn kind_section(
     text: &[u8],
 ) -> Result<Option<Row>, Refusal>
     ensures { Answers result
-        (judged (kind_faults line.now text.now (section_word (word_of text.now)))
+        (unless_faulty (kind_faults line.now text.now (section_word (word_of text.now)))
         (kind_row line.now align text.now (section_word (word_of text.now)))) }
 {
     let (word, rest) = first_word(text);
@@ -394,7 +394,7 @@ fn kind_section(
 /// A section of a file.
 #[tactic(auto, unfolding(crate::specs::Bodies::section_faults, crate::specs::Bodies::section_row))]
 pub fn section_line(alloc: Global, line: &Taken) -> Result<Option<Row>, Refusal>
-    ensures { Answers result (judged (section_faults line.now) (section_row line.now)) }
+    ensures { Answers result (unless_faulty (section_faults line.now) (section_row line.now)) }
 {
     let (_, rest) = first_word(line.text.bytes());
     match maybe_align(rest) {
@@ -415,10 +415,10 @@ fn whole_row(path: Option<Path>) -> Option<Row>
 /// The path of a whole body.
 pub(crate) fn whole_line(alloc: Global, line: &Taken) -> Result<Option<Row>, Refusal>
     ensures { Answers result
-        (judged (whole_faults line.now)
+        (unless_faulty (whole_faults line.now)
         (whole_row (path_field (without_workspace line.now.text)))) }
 {
     let path = path_field(alloc, without_workspace(line.text.bytes()))?;
-    wanted(alloc, &path, BAD_PATH, &line.at, line.text.bytes())?;
+    require(alloc, &path, BAD_PATH, &line.at, line.text.bytes())?;
     Ok(whole_row(path))
 }

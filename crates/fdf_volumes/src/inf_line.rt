@@ -4,7 +4,7 @@ ghost use Rattle.std.specs.Option.{option_map};
 ghost use Rattle.build_base.specs.Answer.{Answers, Checks};
 ghost use Rattle.build_base.specs.Path.{path_field};
 ghost use Rattle.macro_conditions.specs.Sources.{without_workspace};
-ghost use Rattle.doc_reading.specs.Gathering.{judged};
+ghost use Rattle.doc_reading.specs.Gathering.{unless_faulty};
 ghost use Rattle.std.specs.Prelude.{Some};
 ghost use Rattle.fdf_volumes.specs.InfLines.{inf_option, up_to_quote, quoted_front, with_rule, with_use, with_version, with_ui, with_inf, next_inf, inf_parts, inf_path_fault, template_fault, one_arch, use_fault, used_arch, inf_parts_faults, made_inf, inf_parts_line, inf_faults, inf_of};
 
@@ -13,7 +13,7 @@ use build_base::fault_codes::{BAD_INF_LINE, BAD_PATH};
 use build_base::path::path_field;
 use build_base::{Path, Refusal, Same, Taken, Text, WantOfMemory};
 use doc_reading::least_check::least_of_five;
-use doc_reading::values::wanted;
+use doc_reading::values::require;
 use doc_types::arch::{Arch, arch_named};
 use doc_types::volume::InfLine;
 use fdf_words::keys::place_of;
@@ -242,7 +242,7 @@ fn check_path(alloc: Global, line: &Taken, text: &[u8], path: &Option<Path>) -> 
     if text.is_empty() {
         return Err(bad_line(alloc, BAD_INF_LINE, line));
     }
-    wanted(alloc, path, BAD_PATH, &line.at, text)
+    require(alloc, path, BAD_PATH, &line.at, text)
 }
 
 fn check_template(alloc: Global, line: &Taken, template: &Option<Text>) -> Result<(), Refusal>
@@ -274,7 +274,7 @@ fn check_use(alloc: Global, line: &Taken, word: &Option<Text>) -> Result<(), Ref
     match word {
         Some(word) => {
             let arch = one_arch(arch_named(word.bytes()));
-            wanted(alloc, &arch, BAD_INF_LINE, &line.at, line.text.bytes())
+            require(alloc, &arch, BAD_INF_LINE, &line.at, line.text.bytes())
         }
         None => Ok(()),
     }
@@ -334,7 +334,7 @@ fn parted_inf(
     text: &[u8],
 ) -> Result<Option<InfLine>, Refusal>
     ensures { Answers result
-        (judged (inf_parts_faults line.now full (Some (options, text.now)))
+        (unless_faulty (inf_parts_faults line.now full (Some (options, text.now)))
         (made_inf line.now options (path_field (without_workspace text.now)))) }
 {
     let path = path_field(alloc, without_workspace(text))?;
@@ -352,7 +352,7 @@ fn parted_inf(
 /// A module's statement; `full` is whether the volume has as many as it may.
 #[tactic(auto, unfolding(crate::specs::InfLines::inf_faults, crate::specs::InfLines::inf_of))]
 pub fn inf_line(alloc: Global, line: &Taken, full: bool) -> Result<Option<InfLine>, Refusal>
-    ensures { Answers result (judged (inf_faults line.now full) (inf_of line.now)) }
+    ensures { Answers result (unless_faulty (inf_faults line.now full) (inf_of line.now)) }
 {
     let (_, rest) = first_word(line.text.bytes());
     match inf_parts(alloc, rest)? {

@@ -2,7 +2,7 @@
 ghost use Rattle.std.specs.Prelude.{◌≡◌, ◌∷◌, [], IfOk, Some};
 ghost use Rattle.std.specs.Option.{option_map};
 ghost use Rattle.build_base.specs.Answer.{Answers, Checks, Finds};
-ghost use Rattle.doc_reading.specs.Gathering.{judged};
+ghost use Rattle.doc_reading.specs.Gathering.{unless_faulty};
 ghost use Rattle.fdf_words.specs.Numbers.{bad_line};
 ghost use Rattle.fdf_volumes.specs.Statements.{macro_before, full_fault, file_type, file_front, front_parts, file_parts, guid_fault, parts_fault, head_with, named_file, parts_row, file_faults, file_row, alone, member_name, member_fault, named_member, member_of, member_faults, member_row, apriori_names, apriori_named, made_apriori, apriori_faults, apriori_row};
 ghost use Rattle.build_base.specs.Guid.{guid_of};
@@ -16,7 +16,7 @@ use doc_reading::least_check::{
     least_of_one, least_of_three, least_of_two, least_refusal, with_check,
 };
 use doc_reading::value_fields::undefined_macro;
-use doc_reading::values::wanted;
+use doc_reading::values::require;
 use doc_types::standard::{
     EFI_FV_FILETYPE_APPLICATION, EFI_FV_FILETYPE_DRIVER, EFI_FV_FILETYPE_DXE_CORE,
     EFI_FV_FILETYPE_FIRMWARE_VOLUME_IMAGE, EFI_FV_FILETYPE_FREEFORM, EFI_FV_FILETYPE_MM,
@@ -109,7 +109,7 @@ fn check_guid(alloc: Global, line: &Taken, word: &[u8], guid: &Option<Guid>) -> 
     if word.is_empty() {
         return Err(bad_line(alloc, FDF_BAD_FILE, line));
     }
-    wanted(alloc, guid, FDF_BAD_GUID, &line.at, word)
+    require(alloc, guid, FDF_BAD_GUID, &line.at, word)
 }
 
 /// The first line of a file.
@@ -156,7 +156,7 @@ fn parted_file(
     options: Options,
 ) -> Result<Option<Row>, Refusal>
     ensures { Answers result
-        (judged (undefined_macro line.now.at line.now.text
+        (unless_faulty (undefined_macro line.now.at line.now.text
         ∷ guid_fault line.now name.now (guid_of name.now) ∷ full_fault line.now full ∷ [])
         (named_file line.now file_type (guid_of name.now) options)) }
 {
@@ -195,7 +195,7 @@ pub(crate) fn no_statement(alloc: Global, code: u16, line: &Taken, full: bool) -
 /// The first line of a file of a volume.
 #[tactic(auto, unfolding(crate::specs::Statements::file_faults, crate::specs::Statements::file_row))]
 pub fn file_line(alloc: Global, line: &Taken, full: bool) -> Result<Option<Row>, Refusal>
-    ensures { Answers result (judged (file_faults line.now full) (file_row line.now)) }
+    ensures { Answers result (unless_faulty (file_faults line.now full) (file_row line.now)) }
 {
     let (_, rest) = first_word(line.text.bytes());
     match file_parts(rest) {
@@ -235,7 +235,7 @@ fn named_member(guid: Option<Guid>) -> Option<Row>
 
 fn named_line(alloc: Global, line: &Taken, word: &[u8]) -> Result<Option<Row>, Refusal>
     ensures { Answers result
-        (judged (undefined_macro line.now.at line.now.text
+        (unless_faulty (undefined_macro line.now.at line.now.text
         ∷ guid_fault line.now word.now (guid_of word.now) ∷ []) (named_member (guid_of word.now))) }
 {
     let guid = Guid::of_text(word);
@@ -249,7 +249,7 @@ fn named_line(alloc: Global, line: &Taken, word: &[u8]) -> Result<Option<Row>, R
 /// A file of an a priori file.
 #[tactic(auto, unfolding(crate::specs::Statements::member_faults, crate::specs::Statements::member_row))]
 pub(crate) fn member_line(alloc: Global, line: &Taken) -> Result<Option<Row>, Refusal>
-    ensures { Answers result (judged (member_faults line.now) (member_row line.now)) }
+    ensures { Answers result (unless_faulty (member_faults line.now) (member_row line.now)) }
 {
     let (_, rest) = first_word(line.text.bytes());
     match member_name(rest) {
@@ -287,13 +287,13 @@ fn made_apriori(alloc: Global, line: &Taken, pei: Option<bool>) -> Result<Option
 /// The first line of an a priori file.
 #[tactic(auto, unfolding(crate::specs::Statements::apriori_faults, crate::specs::Statements::apriori_row))]
 pub(crate) fn apriori_line(alloc: Global, line: &Taken, full: bool) -> Result<Option<Row>, Refusal>
-    ensures { Answers result (judged (apriori_faults line.now full) (apriori_row line.now)) }
+    ensures { Answers result (unless_faulty (apriori_faults line.now full) (apriori_row line.now)) }
 {
     let (_, rest) = first_word(line.text.bytes());
     let pei = apriori_named(rest);
     least_of_three(
         undefined_macro(alloc, &line.at, line.text.bytes()),
-        wanted(alloc, &pei, FDF_BAD_FILE, &line.at, line.text.bytes()),
+        require(alloc, &pei, FDF_BAD_FILE, &line.at, line.text.bytes()),
         check_full(alloc, line, full),
     )?;
     let row = made_apriori(alloc, line, pei)?;

@@ -2,7 +2,7 @@
 ghost use Rattle.std.specs.Prelude.{◌≡◌, false};
 ghost use Rattle.build_base.specs.Answer.{Answers, Checks};
 ghost use Rattle.build_base.specs.Guid.{guid_of};
-ghost use Rattle.doc_reading.specs.Gathering.{judged};
+ghost use Rattle.doc_reading.specs.Gathering.{unless_faulty};
 ghost use Rattle.fdf_words.specs.Keys.{volume_word};
 ghost use Rattle.fdf_words.specs.Words.{volume_alignment};
 ghost use Rattle.fdf_words.specs.Numbers.{number_faults, number_of_field};
@@ -12,7 +12,7 @@ use build_base::fault_codes::{BAD_KEY, FDF_BAD_GUID};
 use build_base::{Guid, Refusal, Taken, refuse};
 use doc_reading::least_check::least_of_two;
 use doc_reading::value_fields::undefined_macro;
-use doc_reading::values::wanted;
+use doc_reading::values::require;
 use doc_types::standard::{EFI_FIRMWARE_FILE_SYSTEM2_GUID, EFI_FIRMWARE_FILE_SYSTEM3_GUID};
 use fdf_words::keys::{VolumeWord, volume_word};
 use fdf_words::number::{NumberForm, Numbered, no_key, number_field};
@@ -78,13 +78,13 @@ fn alignment_row(bytes: Option<u32>) -> Option<Row>
 
 fn alignment_line(alloc: Global, line: &Taken, value: &[u8]) -> Result<Option<Row>, Refusal>
     ensures { Answers result
-        (judged (alignment_faults line.now value.now)
+        (unless_faulty (alignment_faults line.now value.now)
         (alignment_row (volume_alignment value.now))) }
 {
     let bytes = volume_alignment(value);
     least_of_two(
         undefined_macro(alloc, &line.at, value),
-        wanted(alloc, &bytes, BAD_KEY, &line.at, value),
+        require(alloc, &bytes, BAD_KEY, &line.at, value),
     )?;
     Ok(alignment_row(bytes))
 }
@@ -97,7 +97,7 @@ fn plain_line(
     value: &[u8],
 ) -> Result<Option<Row>, Refusal>
     ensures { Answers result
-        (judged (number_faults line.now (volume_form key) name.now value.now false)
+        (unless_faulty (number_faults line.now (volume_form key) name.now value.now false)
         (made_number key (number_of_field line.now (volume_form key) value.now))) }
 {
     let numbered = number_field(alloc, line, volume_form(key), name, value, false)?;
@@ -112,7 +112,7 @@ fn number_line(
     value: &[u8],
 ) -> Result<Option<Row>, Refusal>
     ensures { Answers result
-        (judged (numbers_faults line.now key name.now value.now)
+        (unless_faulty (numbers_faults line.now key name.now value.now)
         (numbers_row line.now key value.now)) }
 {
     match key {
@@ -135,12 +135,12 @@ fn name_row(guid: Option<Guid>) -> Option<Row>
 
 fn name_line(alloc: Global, line: &Taken, value: &[u8]) -> Result<Option<Row>, Refusal>
     ensures { Answers result
-        (judged (name_faults line.now value.now) (name_row (guid_of value.now))) }
+        (unless_faulty (name_faults line.now value.now) (name_row (guid_of value.now))) }
 {
     let guid = Guid::of_text(value);
     least_of_two(
         undefined_macro(alloc, &line.at, value),
-        wanted(alloc, &guid, FDF_BAD_GUID, &line.at, value),
+        require(alloc, &guid, FDF_BAD_GUID, &line.at, value),
     )?;
     Ok(name_row(guid))
 }
@@ -165,7 +165,7 @@ fn check_system(
     match guid {
         Some(guid) => {
             let known = is_ffs3(guid);
-            wanted(alloc, &known, BAD_KEY, &line.at, value)
+            require(alloc, &known, BAD_KEY, &line.at, value)
         }
         None => Err(refuse(alloc, FDF_BAD_GUID, &line.at, value)),
     }
@@ -182,7 +182,7 @@ fn system_row(ffs3: Option<bool>) -> Option<Row>
 
 fn system_line(alloc: Global, line: &Taken, value: &[u8]) -> Result<Option<Row>, Refusal>
     ensures { Answers result
-        (judged (system_faults line.now value.now) (system_row (file_system (guid_of value.now)))) }
+        (unless_faulty (system_faults line.now value.now) (system_row (file_system (guid_of value.now)))) }
 {
     let guid = Guid::of_text(value);
     least_of_two(
@@ -193,12 +193,12 @@ fn system_line(alloc: Global, line: &Taken, value: &[u8]) -> Result<Option<Row>,
 }
 
 fn truth_line(alloc: Global, line: &Taken, value: &[u8]) -> Result<Option<bool>, Refusal>
-    ensures { Answers result (judged (truth_faults line.now value.now) (truth_named value.now)) }
+    ensures { Answers result (unless_faulty (truth_faults line.now value.now) (truth_named value.now)) }
 {
     let on = truth_named(value);
     least_of_two(
         undefined_macro(alloc, &line.at, value),
-        wanted(alloc, &on, BAD_KEY, &line.at, value),
+        require(alloc, &on, BAD_KEY, &line.at, value),
     )?;
     Ok(on)
 }
@@ -229,7 +229,7 @@ pub fn key_line(
     value: &[u8],
 ) -> Result<Option<Row>, Refusal>
     ensures { Answers result
-        (judged (word_faults line.now name.now value.now (volume_word name.now))
+        (unless_faulty (word_faults line.now name.now value.now (volume_word name.now))
         (word_row line.now value.now (volume_word name.now))) }
 {
     match volume_word(name) {

@@ -4,7 +4,7 @@ ghost use Rattle.fdf_volumes.specs.Bodies.{section_row};
 ghost use Rattle.std.specs.Option.{option_map};
 ghost use Rattle.build_base.specs.Answer.{Answers, Finds};
 ghost use Rattle.build_base.specs.FaultText.{fault_of};
-ghost use Rattle.doc_reading.specs.Gathering.{judged};
+ghost use Rattle.doc_reading.specs.Gathering.{unless_faulty};
 ghost use Rattle.doc_reading.specs.Least.{least_of};
 ghost use Rattle.doc_reading.specs.ValueFields.{undefined_macro};
 ghost use Rattle.fdf_words.specs.Keys.{key_pair, volume_word};
@@ -94,7 +94,7 @@ fn refuse_unkeyed(alloc: Global, line: &Taken) -> Refusal
 
 fn plain_line(alloc: Global, line: &Taken) -> Result<Option<Row>, Refusal>
     ensures { Answers result
-        (judged (plain_faults line.now (key_pair line.now.text))
+        (unless_faulty (plain_faults line.now (key_pair line.now.text))
         (plain_row line.now (key_pair line.now.text))) }
 {
     match key_pair(line.text.bytes()) {
@@ -105,7 +105,7 @@ fn plain_line(alloc: Global, line: &Taken) -> Result<Option<Row>, Refusal>
 
 fn inf_statement(alloc: Global, line: &Taken, full: bool) -> Result<Option<Row>, Refusal>
     ensures { Answers result
-        (judged (inf_faults line.now full) (option_map variant.Inf (inf_of line.now))) }
+        (unless_faulty (inf_faults line.now full) (option_map variant.Inf (inf_of line.now))) }
 {
     let inf = inf_line(alloc, line, full)?;
     match inf {
@@ -116,7 +116,7 @@ fn inf_statement(alloc: Global, line: &Taken, full: bool) -> Result<Option<Row>,
 
 fn inf_member(alloc: Global, line: &Taken) -> Result<Option<Row>, Refusal>
     ensures { Answers result
-        (judged (inf_faults line.now false) (option_map made_member (inf_of line.now))) }
+        (unless_faulty (inf_faults line.now false) (option_map made_member (inf_of line.now))) }
 {
     let inf = inf_line(alloc, line, false)?;
     match inf {
@@ -132,7 +132,7 @@ fn shut_line(
     statement: Option<Statement>,
 ) -> Result<Option<Row>, Refusal>
     ensures { Answers result
-        (judged (shut_faults line.now full statement) (shut_row line.now statement)) }
+        (unless_faulty (shut_faults line.now full statement) (shut_row line.now statement)) }
 {
     match statement {
         Some(Statement::Apriori) => apriori_line(alloc, line, full),
@@ -151,7 +151,7 @@ fn apriori_line_in(
     statement: Option<Statement>,
 ) -> Result<Option<Row>, Refusal>
     ensures { Answers result
-        (judged (apriori_faults_in line.now statement) (apriori_row_in line.now statement)) }
+        (unless_faulty (apriori_faults_in line.now statement) (apriori_row_in line.now statement)) }
 {
     match statement {
         Some(Statement::Inf) => inf_member(alloc, line),
@@ -165,7 +165,7 @@ fn apriori_line_in(
 }
 
 fn section_in(alloc: Global, line: &Taken, body: Body) -> Result<Option<Row>, Refusal>
-    ensures { Answers result (judged (section_faults_in line.now body) (section_row line.now)) }
+    ensures { Answers result (unless_faulty (section_faults_in line.now body) (section_row line.now)) }
 {
     match body {
         Body::Nothing => section_line(alloc, line),
@@ -175,7 +175,7 @@ fn section_in(alloc: Global, line: &Taken, body: Body) -> Result<Option<Row>, Re
 }
 
 fn whole_in(alloc: Global, line: &Taken, body: Body) -> Result<Option<Row>, Refusal>
-    ensures { Answers result (judged (whole_faults_in line.now body) (whole_row_in line.now)) }
+    ensures { Answers result (unless_faulty (whole_faults_in line.now body) (whole_row_in line.now)) }
 {
     match body {
         Body::Nothing => whole_line(alloc, line),
@@ -191,7 +191,7 @@ fn file_line_in(
     statement: Option<Statement>,
 ) -> Result<Option<Row>, Refusal>
     ensures { Answers result
-        (judged (file_faults_in line.now body statement) (file_row_in line.now statement)) }
+        (unless_faulty (file_faults_in line.now body statement) (file_row_in line.now statement)) }
 {
     match statement {
         Some(Statement::Section) => section_in(alloc, line, body),
@@ -213,7 +213,7 @@ pub fn volume_line(
     full: bool,
 ) -> Result<Option<Row>, Refusal>
     ensures { Answers result
-        (judged (volume_faults line.now braces full) (volume_row line.now braces)) }
+        (unless_faulty (volume_faults line.now braces full) (volume_row line.now braces)) }
 {
     let statement = statement_of(line.text.bytes());
     match braces {

@@ -9,7 +9,7 @@ use Rattle.meta_lexer.specs.Faults.{first_fault}
 use Rattle.meta_lexer.specs.Parts.{field_texts}
 use Rattle.doc_reading.specs.Least.{fault_in}
 use Rattle.doc_reading.specs.ValueFields.{number_value, undefined_macro}
-use Rattle.doc_reading.specs.Values.{wanted}
+use Rattle.doc_reading.specs.Values.{require}
 use Rattle.doc_types.specs.Pcds.{pcd_name_of}
 use Rattle.doc_types.specs.declared.pcd.PcdName.{PcdName}
 use Rattle.fdf_words.specs.declared.keys.DeviceWord.{DeviceWord}
@@ -75,7 +75,7 @@ held_faults line waiting value = undefined_macro line.at value ∷ content_fault
 -- `FILE = path`
 abbrev pub tree_faults : Taken → Waiting → List ℕ → List (Option Fault)
 tree_faults line waiting value =
-    wanted (path_field (without_workspace value)) (fault_of BAD_PATH line.at value)
+    require (path_field (without_workspace value)) (fault_of BAD_PATH line.at value)
     ∷ content_fault line waiting ∷ []
 
 abbrev pub tree_row : Taken → Option (List ℕ) → Option Row
@@ -85,7 +85,7 @@ tree_row line None = None
 -- `DATA = { bytes }`
 abbrev pub bytes_faults : Taken → Waiting → List ℕ → List (Option Fault)
 bytes_faults line waiting value = undefined_macro line.at value
-    ∷ wanted (data_of value) (bad_line BAD_REGION line) ∷ content_fault line waiting ∷ []
+    ∷ require (data_of value) (bad_line BAD_REGION line) ∷ content_fault line waiting ∷ []
 
 abbrev pub bytes_row : Taken → Option (List ℕ) → Option Row
 bytes_row line (Some bytes) = made_content line (content.Bytes bytes)

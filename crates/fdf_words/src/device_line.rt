@@ -3,7 +3,7 @@ ghost use Rattle.std.specs.Prelude.{◌≡◌, IfOk, None};
 ghost use Rattle.build_base.specs.Answer.{Answers, Checks, Finds};
 ghost use Rattle.build_base.specs.Path.{path_field};
 ghost use Rattle.macro_conditions.specs.Sources.{without_workspace};
-ghost use Rattle.doc_reading.specs.Gathering.{judged};
+ghost use Rattle.doc_reading.specs.Gathering.{unless_faulty};
 ghost use Rattle.doc_reading.specs.Least.{least_of};
 ghost use Rattle.doc_types.specs.Pcds.{pcd_name_of};
 ghost use Rattle.fdf_words.specs.DataBytes.{data_of};
@@ -26,7 +26,7 @@ use build_base::path::path_field;
 use build_base::{Path, Refusal, Same, Taken, Text, WantOfMemory};
 use doc_reading::least_check::{least_of_three, least_of_two, least_refusal, lesser_refusal};
 use doc_reading::value_fields::{number_value, undefined_macro, undefined_macros};
-use doc_reading::values::wanted;
+use doc_reading::values::require;
 use doc_types::pcd::{PcdName, pcd_name_of};
 use macro_conditions::known::without_workspace;
 use meta_lexer::parts::field_texts;
@@ -81,7 +81,7 @@ fn number_line(
     value: &[u8],
 ) -> Result<Option<Row>, Refusal>
     ensures { Answers result
-        (judged (number_faults line.now (number_form known) key.now value.now
+        (unless_faulty (number_faults line.now (number_form known) key.now value.now
         (misplaced pair known))
         (made_number line.now known (number_of_field line.now (number_form known) value.now))) }
 {
@@ -131,7 +131,7 @@ fn held_line(
     value: &[u8],
 ) -> Result<Option<Row>, Refusal>
     ensures { Answers result
-        (judged (held_faults line.now waiting value.now)
+        (unless_faulty (held_faults line.now waiting value.now)
         (made_content line.now (content.Volume value.now))) }
 {
     least_of_two(
@@ -158,12 +158,12 @@ fn tree_line(
     value: &[u8],
 ) -> Result<Option<Row>, Refusal>
     ensures { Answers result
-        (judged (tree_faults line.now waiting value.now)
+        (unless_faulty (tree_faults line.now waiting value.now)
         (tree_row line.now (path_field (without_workspace value.now)))) }
 {
     let path = path_field(alloc, without_workspace(value))?;
     least_of_two(
-        wanted(alloc, &path, BAD_PATH, &line.at, value),
+        require(alloc, &path, BAD_PATH, &line.at, value),
         check_content(alloc, line, waiting),
     )?;
     let row = tree_row(alloc, line, path)?;
@@ -186,13 +186,13 @@ fn bytes_line(
     value: &[u8],
 ) -> Result<Option<Row>, Refusal>
     ensures { Answers result
-        (judged (bytes_faults line.now waiting value.now)
+        (unless_faulty (bytes_faults line.now waiting value.now)
         (bytes_row line.now (data_of value.now))) }
 {
     let bytes = data_of(alloc, value)?;
     least_of_three(
         undefined_macro(alloc, &line.at, value),
-        wanted(alloc, &bytes, BAD_REGION, &line.at, line.text.bytes()),
+        require(alloc, &bytes, BAD_REGION, &line.at, line.text.bytes()),
         check_content(alloc, line, waiting),
     )?;
     let row = bytes_row(alloc, line, bytes)?;
@@ -207,7 +207,7 @@ fn keyed_line(
     value: &[u8],
 ) -> Result<Option<Row>, Refusal>
     ensures { Answers result
-        (judged (keyed_faults line.now marks key.now value.now (device_word key.now))
+        (unless_faulty (keyed_faults line.now marks key.now value.now (device_word key.now))
         (keyed_row line.now value.now (device_word key.now))) }
 {
     match device_word(key) {
@@ -242,7 +242,7 @@ fn one_field(
     field: &[u8],
 ) -> Result<Option<Row>, Refusal>
     ensures { Answers result
-        (judged (one_faults line.now waiting (pcd_name_of field.now))
+        (unless_faulty (one_faults line.now waiting (pcd_name_of field.now))
         (one_row line.now (pcd_name_of field.now))) }
 {
     match pcd_name_of(alloc, field)? {
@@ -262,7 +262,7 @@ fn extent_line(
     size: &[u8],
 ) -> Result<Option<Row>, Refusal>
     ensures { Answers result
-        (judged (pair_faults line.now NoRegion offset.now size.now None None)
+        (unless_faulty (pair_faults line.now NoRegion offset.now size.now None None)
         (pair_row line.now offset.now size.now None None)) }
 {
     let offset = number_value(alloc, &line.at, offset);
@@ -287,7 +287,7 @@ fn two_fields(
     second: &[u8],
 ) -> Result<Option<Row>, Refusal>
     ensures { Answers result
-        (judged (pair_faults line.now waiting first.now second.now (pcd_name_of first.now)
+        (unless_faulty (pair_faults line.now waiting first.now second.now (pcd_name_of first.now)
         (pcd_name_of second.now))
         (pair_row line.now first.now second.now (pcd_name_of first.now) (pcd_name_of second.now))) }
 {
@@ -318,7 +318,7 @@ fn fields_line(
     fields: &[Text],
 ) -> Result<Option<Row>, Refusal>
     ensures { Answers result
-        (judged (fields_faults line.now waiting fields.now) (fields_row line.now fields.now)) }
+        (unless_faulty (fields_faults line.now waiting fields.now) (fields_row line.now fields.now)) }
 {
     match fields {
         [field] => one_field(alloc, line, waiting, field.bytes()),
@@ -329,7 +329,7 @@ fn fields_line(
 
 fn unkeyed_line(alloc: Global, line: &Taken, waiting: Waiting) -> Result<Option<Row>, Refusal>
     ensures { Answers result
-        (judged (unkeyed_faults line.now waiting (device_word (word_of line.now.text)))
+        (unless_faulty (unkeyed_faults line.now waiting (device_word (word_of line.now.text)))
         (unkeyed_row line.now (device_word (word_of line.now.text)))) }
 {
     let (word, _) = first_word(line.text.bytes());
@@ -345,7 +345,7 @@ fn unkeyed_line(alloc: Global, line: &Taken, waiting: Waiting) -> Result<Option<
 /// What a line of a device says below these marks.
 #[tactic(auto, unfolding(crate::specs::DeviceLines::device_faults, crate::specs::DeviceLines::device_row))]
 pub fn device_line(alloc: Global, line: &Taken, marks: Marks) -> Result<Option<Row>, Refusal>
-    ensures { Answers result (judged (device_faults line.now marks) (device_row line.now)) }
+    ensures { Answers result (unless_faulty (device_faults line.now marks) (device_row line.now)) }
 {
     match key_pair(line.text.bytes()) {
         Some((key, value)) => keyed_line(alloc, line, marks, key, value),

@@ -2,7 +2,7 @@
 ghost use Rattle.std.specs.Prelude.{◌≡◌, IfOk, Some, ◌∷◌, []};
 ghost use Rattle.build_base.specs.Answer.{Answers, Checks, Finds};
 ghost use Rattle.doc_reading.specs.Least.{least_of};
-ghost use Rattle.doc_reading.specs.Gathering.{judged};
+ghost use Rattle.doc_reading.specs.Gathering.{unless_faulty};
 ghost use Rattle.doc_reading.specs.ValueFields.{undefined_macro};
 ghost use Rattle.build_base.specs.FaultText.{fault_of};
 ghost use Rattle.fdf_words.specs.Numbers.{bad_line, bad_value, later_macros, named_pcd, form_fault, limit_fault, order_fault, fields_faults, fields_number, number_faults, number_of_field};
@@ -157,7 +157,7 @@ fn numbered_fields(
     fields: &[Text],
 ) -> Result<Option<Numbered>, Refusal>
     ensures { Answers result
-        (judged (fields_faults line.now form key.now value.now misplaced fields.now)
+        (unless_faulty (fields_faults line.now form key.now value.now misplaced fields.now)
         (fields_number line.now form fields.now)) }
 {
     let pcd = named_pcd(alloc, form, fields)?;
@@ -194,7 +194,7 @@ pub fn number_field(
     misplaced: bool,
 ) -> Result<Option<Numbered>, Refusal>
     ensures { Answers result
-        (judged (number_faults line.now form key.now value.now misplaced)
+        (unless_faulty (number_faults line.now form key.now value.now misplaced)
         (number_of_field line.now form value.now)) }
 {
     let fields = field_texts(alloc, value)?;

@@ -1,7 +1,7 @@
 //! The lines `SET PCD = value`.
 ghost use Rattle.std.specs.Prelude.{◌≡◌, IfOk};
 ghost use Rattle.build_base.specs.Answer.{Answers, Checks};
-ghost use Rattle.doc_reading.specs.Gathering.{judged};
+ghost use Rattle.doc_reading.specs.Gathering.{unless_faulty};
 ghost use Rattle.doc_types.specs.Pcds.{pcd_name_of};
 ghost use Rattle.fdf_words.specs.SetLines.{parts_fault, parts_faults, made_set, told_of, set_faults, set_row};
 
@@ -64,7 +64,7 @@ fn parts_row(
     value: &[u8],
 ) -> Result<Option<Row>, Refusal>
     ensures { Answers result
-        (judged (parts_faults line.now name.now value.now)
+        (unless_faulty (parts_faults line.now name.now value.now)
         (made_set line.now rank (pcd_name_of name.now) value.now)) }
 {
     let pcd = pcd_name_of(alloc, name)?;
@@ -90,7 +90,7 @@ fn told_of<'a>(line: &'a Taken, text: &'a [u8]) -> &'a [u8]
 /// The value that a line gives to a PCD.
 #[tactic(auto, unfolding(crate::specs::SetLines::set_faults, crate::specs::SetLines::set_row))]
 pub fn set_line(alloc: Global, line: &Taken, rank: u8) -> Result<Option<Row>, Refusal>
-    ensures { Answers result (judged (set_faults line.now) (set_row line.now rank)) }
+    ensures { Answers result (unless_faulty (set_faults line.now) (set_row line.now rank)) }
 {
     let (_, rest) = first_word(line.text.bytes());
     match split_once(b'=', rest) {

@@ -15,7 +15,7 @@ use Rattle.macro_conditions.specs.Sources.{without_workspace}
 use Rattle.meta_lexer.specs.Lookup.{lookup}
 use Rattle.meta_lexer.specs.Words.{same_word}
 use Rattle.meta_lexer.specs.declared.head.Head.{Head}
-use Rattle.doc_reading.specs.Gathering.{given_in, gathered, least_in, judged}
+use Rattle.doc_reading.specs.Gathering.{given_in, gathered, least_in, unless_faulty}
 use Rattle.doc_reading.specs.Grammar.{Grammar, Read, entered, gave, entry_of, outcome_of, heads_entered, rows_given, body_given, entry_read, body_read, form_read, more_read, read_of, scopes_above}
 use Rattle.doc_reading.specs.Least.{least_of}
 use Rattle.doc_reading.specs.declared.form.LineForm.{LineForm}
@@ -505,18 +505,18 @@ module _ {X T : Type 0} (P : T → Type 0) (conditions : X → List (Option Faul
   given_fits None (Some x) h = All-cons P x [] h (All-nil P)
   given_fits (Some fault) o h = All-nil P
 
-  all_given : (xs : List X) → All P (flat_map given_in (map (λ x. judged (conditions x) (value x)) xs))
+  all_given : (xs : List X) → All P (flat_map given_in (map (λ x. unless_faulty (conditions x) (value x)) xs))
   all_given [] = All-nil P
   all_given (x ∷ xs) =
-      All-append P (given_in (judged (conditions x) (value x))) (flat_map given_in (map (λ y. judged (conditions y) (value y)) xs))
+      All-append P (given_in (unless_faulty (conditions x) (value x))) (flat_map given_in (map (λ y. unless_faulty (conditions y) (value y)) xs))
       (given_fits (least_of (conditions x)) (value x) (fits x)) (all_given xs)
 
   kept_fits : (fault : Option Fault) (xs : List T) → All P xs → IfOk (unless fault xs) (All P)
   kept_fits None xs all = all
   kept_fits (Some fault) xs all = tt
 
-  gathered_fits : (xs : List X) → IfOk (gathered (map (λ x. judged (conditions x) (value x)) xs)) (All P)
-  gathered_fits xs = kept_fits (least_in (map (λ x. judged (conditions x) (value x)) xs)) (flat_map given_in (map (λ x. judged (conditions x) (value x)) xs)) (all_given xs)
+  gathered_fits : (xs : List X) → IfOk (gathered (map (λ x. unless_faulty (conditions x) (value x)) xs)) (All P)
+  gathered_fits xs = kept_fits (least_in (map (λ x. unless_faulty (conditions x) (value x)) xs)) (flat_map given_in (map (λ x. unless_faulty (conditions x) (value x)) xs)) (all_given xs)
 
 -- what a line came to
 abbrev pub ReadFits : Read Scope Row → Type 0

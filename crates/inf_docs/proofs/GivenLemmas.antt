@@ -7,7 +7,7 @@ use Rattle.build_base.specs.declared.fault.Fault.{Fault}
 use Rattle.build_base.specs.declared.lines.Taken.{Taken}
 use Rattle.doc_reading.specs.Least.{least_of}
 use Rattle.doc_reading.specs.ValueFields.{undefined_macro}
-use Rattle.doc_reading.specs.Values.{wanted}
+use Rattle.doc_reading.specs.Values.{require}
 use Rattle.doc_reading.proofs.FaultlessLemmas.{least_first, least_rest, least_read, wanted_given}
 use Rattle.doc_types.specs.ModuleTypes.{module_type_named}
 use Rattle.doc_types.specs.Pcds.{pcd_name_of}
@@ -30,7 +30,7 @@ mapped : {A B : Type 0} (f : A → B) (o : Option A) → IsSome o → IsSome (op
 mapped f (Some x) h = refl
 mapped f None h = absurd cc
 
-in_form : (t : Bool) (pcd : Option PcdName) (one other : Fault) → (if t then wanted pcd one else Some other) ≡ None → IsSome pcd
+in_form : (t : Bool) (pcd : Option PcdName) (one other : Fault) → (if t then require pcd one else Some other) ≡ None → IsSome pcd
 in_form true pcd one other e = wanted_given pcd one e
 in_form false pcd one other e = absurd cc
 
@@ -73,8 +73,8 @@ class_given line fields e = form_given line fields (least_rest (first_fault (und
 pub value_given : (line : Taken) (k : ModuleKey) (value : List ℕ) → least_of (value_faults line k value) ≡ None → IsSome (value_row line k value)
 unfolding value_faults value_row
 value_given line key.BaseName value e = refl
-value_given line key.FileGuid value e = mapped _ (guid_of value) (wanted_given (guid_of value) (fault_of INF_BAD_GUID line.at value) (least_first _ [] (least_rest (undefined_macro line.at value) (wanted (guid_of value) (fault_of INF_BAD_GUID line.at value) ∷ []) e)))
-value_given line key.Kind value e = mapped _ (module_type_named value) (wanted_given (module_type_named value) (fault_of BAD_TYPE line.at value) (least_first _ [] (least_rest (undefined_macro line.at value) (wanted (module_type_named value) (fault_of BAD_TYPE line.at value) ∷ []) e)))
+value_given line key.FileGuid value e = mapped _ (guid_of value) (wanted_given (guid_of value) (fault_of INF_BAD_GUID line.at value) (least_first _ [] (least_rest (undefined_macro line.at value) (require (guid_of value) (fault_of INF_BAD_GUID line.at value) ∷ []) e)))
+value_given line key.Kind value e = mapped _ (module_type_named value) (wanted_given (module_type_named value) (fault_of BAD_TYPE line.at value) (least_first _ [] (least_rest (undefined_macro line.at value) (require (module_type_named value) (fault_of BAD_TYPE line.at value) ∷ []) e)))
 value_given line key.Version value e = refl
 value_given line key.EntryPoint value e = refl
 value_given line key.Constructor value e = refl

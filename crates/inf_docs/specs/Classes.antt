@@ -7,7 +7,7 @@ use Rattle.build_base.specs.declared.fault.Fault.{Fault}
 use Rattle.build_base.specs.declared.fault.Place.{Place}
 use Rattle.build_base.specs.declared.lines.Taken.{Taken}
 use Rattle.doc_reading.specs.ValueFields.{undefined_macro}
-use Rattle.doc_reading.specs.Values.{wanted}
+use Rattle.doc_reading.specs.Values.{require}
 use Rattle.doc_types.specs.ModuleTypes.{module_type_named}
 use Rattle.doc_types.specs.declared.module.Served.{Served}
 use Rattle.doc_types.specs.declared.module_type.ModuleType.{ModuleType}
@@ -21,7 +21,7 @@ bad_class line = fault_of BAD_CLASS_LINE line.at line.text
 
 -- a word that is no type of modules
 abbrev pub type_fault : Place → List ℕ → Option Fault
-type_fault at word = wanted (module_type_named word) (fault_of BAD_TYPE at word)
+type_fault at word = require (module_type_named word) (fault_of BAD_TYPE at word)
 
 abbrev pub class_name_fault : Taken → List ℕ → Option Fault
 class_name_fault line name = if is_identifier name then None else Some (bad_class line)

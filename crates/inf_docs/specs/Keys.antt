@@ -6,7 +6,7 @@ use Rattle.build_base.specs.Guid.{guid_of}
 use Rattle.build_base.specs.declared.fault.Fault.{Fault}
 use Rattle.build_base.specs.declared.lines.Taken.{Taken}
 use Rattle.doc_reading.specs.ValueFields.{undefined_macro}
-use Rattle.doc_reading.specs.Values.{wanted, of_read_line}
+use Rattle.doc_reading.specs.Values.{require, of_read_line}
 use Rattle.doc_types.specs.ModuleTypes.{module_type_named}
 use Rattle.doc_types.specs.declared.arch.Arch.TheVariants.{Common}
 use Rattle.meta_lexer.specs.Lookup.{lookup}
@@ -34,14 +34,14 @@ key_named word = lookup keys word
 -- a GUID in registry form
 abbrev pub guid_faults : Taken → List ℕ → List (Option Fault)
 guid_faults line value =
-    undefined_macro line.at value ∷ wanted (guid_of value) (fault_of INF_BAD_GUID line.at value)
+    undefined_macro line.at value ∷ require (guid_of value) (fault_of INF_BAD_GUID line.at value)
     ∷ []
 
 -- a type of modules
 abbrev pub type_faults : Taken → List ℕ → List (Option Fault)
 type_faults line value =
     undefined_macro line.at value ∷
-    wanted (module_type_named value) (fault_of BAD_TYPE line.at value) ∷ []
+    require (module_type_named value) (fault_of BAD_TYPE line.at value) ∷ []
 
 -- the faults of a key's value
 unfoldable pub value_faults : Taken → ModuleKey → List ℕ → List (Option Fault)

@@ -8,7 +8,7 @@ use Rattle.build_base.specs.declared.fault.Fault.{Fault}
 use Rattle.build_base.specs.declared.fault.Place.{Place}
 use Rattle.build_base.specs.declared.lines.Taken.{Taken}
 use Rattle.doc_reading.specs.ValueFields.{undefined_macro}
-use Rattle.doc_reading.specs.Values.{wanted, of_read_line}
+use Rattle.doc_reading.specs.Values.{require, of_read_line}
 use Rattle.doc_types.specs.declared.arch.Arch.{Arch}
 use Rattle.doc_types.specs.declared.module.Named.{Named}
 use Rattle.macro_conditions.specs.Sources.{without_workspace}
@@ -46,7 +46,7 @@ path_of field = path_field (without_workspace field)
 unfoldable pub package_faults : Taken → List (Option Fault)
 package_faults line =
     of_read_line line
-    (wanted (path_of (first_field line)) (fault_of BAD_PATH line.at (first_field line)) ∷ [])
+    (require (path_of (first_field line)) (fault_of BAD_PATH line.at (first_field line)) ∷ [])
 
 unfoldable pub package_row : Taken → Arch → Option Row
 package_row line arch =

@@ -6,7 +6,7 @@ use Rattle.build_base.specs.FaultText.{fault_of}
 use Rattle.build_base.specs.declared.fault.Fault.{Fault}
 use Rattle.build_base.specs.declared.lines.Taken.{Taken}
 use Rattle.doc_reading.specs.ValueFields.{undefined_macro}
-use Rattle.doc_reading.specs.Values.{wanted, of_read_line}
+use Rattle.doc_reading.specs.Values.{require, of_read_line}
 use Rattle.doc_types.specs.Pcds.{pcd_name_of}
 use Rattle.doc_types.specs.declared.arch.Arch.{Arch}
 use Rattle.doc_types.specs.declared.module.UsedPcd.{UsedPcd}
@@ -25,7 +25,7 @@ is_pcd_form fields = false
 abbrev pub pcd_fault : Taken → List (List ℕ) → Option Fault
 pcd_fault line fields =
     if is_pcd_form fields
-    then wanted (pcd_name_of (first_text fields))
+    then require (pcd_name_of (first_text fields))
     (fault_of BAD_PCD_NAME line.at (first_text fields))
     else Some (fault_of BAD_PCD_NAME line.at (first_text fields))
 

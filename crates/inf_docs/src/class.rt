@@ -2,7 +2,7 @@
 ghost use Rattle.std.specs.Prelude.{◌≡◌, ◌++◌, IfOk, OnOk};
 ghost use Rattle.build_base.specs.Answer.{Answers, Checks};
 ghost use Rattle.meta_lexer.specs.Faults.{first_fault};
-ghost use Rattle.doc_reading.specs.Gathering.{judged};
+ghost use Rattle.doc_reading.specs.Gathering.{unless_faulty};
 ghost use Rattle.doc_reading.specs.Least.{least_of};
 ghost use Rattle.doc_types.specs.ModuleTypes.{module_type_named};
 ghost use Rattle.inf_docs.specs.Classes.{bad_class, type_fault, class_name_fault, served_fault, class_form, class_faults, type_given, types_named, class_served};
@@ -12,7 +12,7 @@ use build_base::fault_codes::{BAD_CLASS_LINE, BAD_TYPE};
 use build_base::{Place, Refusal, Rows, Taken, Text, WantOfMemory, refuse};
 use doc_reading::least_check::{least_of_one, least_of_two, lesser_check};
 use doc_reading::value_fields::undefined_macros;
-use doc_reading::values::wanted;
+use doc_reading::values::require;
 use doc_types::module::Served;
 use doc_types::module_type::{ModuleType, module_type_named};
 use meta_lexer::parts::words;
@@ -28,7 +28,7 @@ fn bad_class(alloc: Global, line: &Taken) -> Result<(), Refusal>
 fn check_type(alloc: Global, at: &Place, word: &[u8]) -> Result<(), Refusal>
     ensures { Checks result (type_fault at.now word.now) }
 {
-    wanted(alloc, &module_type_named(word), BAD_TYPE, at, word)
+    require(alloc, &module_type_named(word), BAD_TYPE, at, word)
 }
 
 fn check_types(alloc: Global, at: &Place, words: &[Text]) -> Result<(), Refusal>

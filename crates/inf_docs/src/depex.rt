@@ -2,7 +2,7 @@
 ghost use Rattle.std.specs.Prelude.{◌≡◌, ◌++◌, [], IfOk, OnOk, Option, Some, option_map};
 ghost use Rattle.std.specs.List.{flat_map};
 ghost use Rattle.build_base.specs.Answer.{Answers};
-ghost use Rattle.doc_reading.specs.Gathering.{judged};
+ghost use Rattle.doc_reading.specs.Gathering.{unless_faulty};
 ghost use Rattle.doc_reading.specs.Grammar.{entered};
 ghost use Rattle.inf_docs.specs.Depex.{apart, terms_of, terms_faults, has_terms, terms_in, line_terms, opened_section, with_terms, is_depex, part_of, parts_of, parts_in};
 
@@ -55,7 +55,7 @@ fn terms_of(alloc: Global, text: &[u8]) -> Result<Rows<Text>, WantOfMemory>
 /// The terms of a line.
 #[tactic(auto, unfolding(crate::specs::Depex::terms_faults))]
 pub(crate) fn terms_line(alloc: Global, line: &Taken) -> Result<Rows<Text>, Refusal>
-    ensures { Answers result (judged (terms_faults line.now) (terms_of line.now.text)) }
+    ensures { Answers result (unless_faulty (terms_faults line.now) (terms_of line.now.text)) }
 {
     open_quote(alloc, &line.at, line.text.bytes())?;
     least_of_one(undefined_macro(alloc, &line.at, line.text.bytes()))?;

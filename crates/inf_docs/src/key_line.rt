@@ -1,7 +1,7 @@
 //! The lines of [Defines].
 ghost use Rattle.std.specs.Prelude.{◌≡◌, IfOk};
 ghost use Rattle.build_base.specs.Answer.{Answers, Checks};
-ghost use Rattle.doc_reading.specs.Gathering.{judged};
+ghost use Rattle.doc_reading.specs.Gathering.{unless_faulty};
 ghost use Rattle.doc_reading.specs.Least.{least_of};
 ghost use Rattle.inf_docs.specs.Keys.{guid_faults, type_faults, value_faults, value_row, key_faults, key_row, key_line_faults, key_line_row};
 
@@ -13,7 +13,7 @@ use build_base::fault_codes::{BAD_TYPE, INF_BAD_GUID};
 use build_base::{Guid, Refusal, Taken, Text, WantOfMemory};
 use doc_reading::least_check::{least_of_one, least_of_two};
 use doc_reading::value_fields::{open_quote, undefined_macro};
-use doc_reading::values::wanted;
+use doc_reading::values::require;
 use doc_types::arch::Arch;
 use doc_types::module_type::module_type_named;
 use meta_lexer::parts::field_texts;
@@ -25,7 +25,7 @@ fn check_guid(alloc: Global, line: &Taken, value: &[u8]) -> Result<(), Refusal>
 {
     least_of_two(
         undefined_macro(alloc, &line.at, value),
-        wanted(alloc, &Guid::of_text(value), INF_BAD_GUID, &line.at, value),
+        require(alloc, &Guid::of_text(value), INF_BAD_GUID, &line.at, value),
     )
 }
 
@@ -34,7 +34,7 @@ fn check_type(alloc: Global, line: &Taken, value: &[u8]) -> Result<(), Refusal>
 {
     least_of_two(
         undefined_macro(alloc, &line.at, value),
-        wanted(alloc, &module_type_named(value), BAD_TYPE, &line.at, value),
+        require(alloc, &module_type_named(value), BAD_TYPE, &line.at, value),
     )
 }
 
@@ -96,7 +96,7 @@ fn key_row(
     value: &[u8],
 ) -> Result<Option<Row>, Refusal>
     ensures { Answers result
-        (judged (key_faults line.now key value.now) (key_row line.now key value.now)) }
+        (unless_faulty (key_faults line.now key value.now) (key_row line.now key value.now)) }
 {
     match key {
         Some(key) => {
@@ -112,7 +112,7 @@ fn key_row(
 /// What a line of [Defines] says.
 #[tactic(auto, unfolding(crate::specs::Keys::key_line_faults, crate::specs::Keys::key_line_row))]
 pub fn key_line(alloc: Global, line: &Taken) -> Result<Option<Row>, Refusal>
-    ensures { Answers result (judged (key_line_faults line.now) (key_line_row line.now)) }
+    ensures { Answers result (unless_faulty (key_line_faults line.now) (key_line_row line.now)) }
 {
     match split_once(b'=', line.text.bytes()) {
         Some((key, value)) => key_row(alloc, line, key_named(key), value),

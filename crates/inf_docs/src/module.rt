@@ -1,7 +1,7 @@
 //! The format of a module's description, and what its lines come to.
 ghost use Rattle.std.specs.Prelude.{◌≡◌, ◌∷◌, ◌++◌, [], List, OnOk};
 ghost use Rattle.build_base.specs.Answer.{Answers};
-ghost use Rattle.doc_reading.specs.Gathering.{judged};
+ghost use Rattle.doc_reading.specs.Gathering.{unless_faulty};
 ghost use Rattle.doc_reading.specs.Grammar.{Read, entered, gave};
 ghost use Rattle.inf_docs.specs.Rows.{line_faults, line_row};
 ghost use Rattle.inf_docs.specs.Reading.{Holds};
@@ -52,7 +52,7 @@ impl ModuleFormat {
 // What a line says below a head.
 #[tactic(auto, unfolding(crate::specs::Rows::line_faults, crate::specs::Rows::line_row))]
 fn line_row(alloc: Global, line: &Taken, scope: Scope) -> Result<Option<Row>, Refusal>
-    ensures { Answers result (judged (line_faults line.now scope) (line_row line.now scope)) }
+    ensures { Answers result (unless_faulty (line_faults line.now scope) (line_row line.now scope)) }
 {
     match scope.kind {
         SectionKind::Defines => key_line(alloc, line),

@@ -2,17 +2,17 @@
 ghost use Rattle.std.specs.Prelude.{◌≡◌, IfOk, option_map, map};
 ghost use Rattle.build_base.specs.Answer.{Answers, Checks};
 ghost use Rattle.doc_types.specs.Pcds.{pcd_name_of};
-ghost use Rattle.doc_reading.specs.Gathering.{judged};
+ghost use Rattle.doc_reading.specs.Gathering.{unless_faulty};
 ghost use Rattle.meta_lexer.specs.Parts.{first_text};
 ghost use Rattle.inf_docs.specs.Pcds.{is_pcd_form, pcd_fault, asked_faults, pcd_faults, default_of, used_as, asked_pcd, pcd_used};
-ghost use Rattle.doc_reading.specs.Values.{wanted};
+ghost use Rattle.doc_reading.specs.Values.{require};
 ghost use Rattle.build_base.specs.FaultText.{fault_of};
 
 use build_base::fault_codes::BAD_PCD_NAME;
 use build_base::{Refusal, Same, Taken, Text, WantOfMemory, refuse};
 use doc_reading::least_check::least_of_two;
 use doc_reading::value_fields::{open_quote, undefined_macros};
-use doc_reading::values::wanted;
+use doc_reading::values::require;
 use doc_types::arch::Arch;
 use doc_types::module::UsedPcd;
 use doc_types::pcd::{Asked, PcdName, pcd_name_of};
@@ -42,7 +42,7 @@ fn check_pcd(
     if !is_pcd_form(fields) {
         return Err(refuse(alloc, BAD_PCD_NAME, &line.at, name));
     }
-    wanted(alloc, pcd, BAD_PCD_NAME, &line.at, name)
+    require(alloc, pcd, BAD_PCD_NAME, &line.at, name)
 }
 
 fn default_of(alloc: Global, fields: &[Text]) -> Result<Option<Text>, WantOfMemory>
@@ -84,7 +84,7 @@ fn asked_pcd(
     fields: &[Text],
 ) -> Result<Option<UsedPcd>, Refusal>
     ensures { Answers result
-        (judged (asked_faults line.now fields.now) (asked_pcd line.now arch asked fields.now)) }
+        (unless_faulty (asked_faults line.now fields.now) (asked_pcd line.now arch asked fields.now)) }
 {
     let pcd = pcd_name_of(alloc, first_text(fields))?;
     least_of_two(
@@ -103,7 +103,7 @@ pub fn pcd_line(
     arch: Arch,
     asked: Asked,
 ) -> Result<Option<UsedPcd>, Refusal>
-    ensures { Answers result (judged (pcd_faults line.now) (pcd_used line.now arch asked)) }
+    ensures { Answers result (unless_faulty (pcd_faults line.now) (pcd_used line.now arch asked)) }
 {
     open_quote(alloc, &line.at, line.text.bytes())?;
     let fields = field_texts(alloc, line.text.bytes())?;

@@ -10,7 +10,7 @@ use crate::tables::ModuleTables;
 use build_base::fault_codes::INF_MISSING_KEY;
 use build_base::{Lines, Path, Permit, Place, Refusal, Rows, Same, Text, WantOfMemory};
 use doc_reading::missing::refuse_missing;
-use doc_reading::{Whole, read_whole};
+use doc_reading::{DocumentFormat, read_whole};
 use doc_types::depex::DepexPart;
 use doc_types::module::InfDoc;
 use std::alloc::Global;
@@ -93,7 +93,7 @@ fn finished_document(root: &Path, format: ModuleFormat) -> Result<InfDoc, Refusa
     document(alloc, root, tables, parts)
 }
 
-impl Whole for ModuleFormat {
+impl DocumentFormat for ModuleFormat {
     ghost use Rattle.inf_docs.specs.Modules.{module_made};
 
     type Made = InfDoc;

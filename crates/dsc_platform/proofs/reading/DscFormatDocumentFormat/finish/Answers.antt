@@ -7,7 +7,7 @@ use Rattle.dsc_lines.specs.SkuNames.{Placed}
 use Rattle.dsc_platform.specs.SkuUses.{uses_of}
 use Rattle.dsc_platform.specs.Stating.{nothing, with_rows, names_of}
 use Rattle.dsc_platform.proofs.BlockLemmas.{block_ended}
-use Rattle.dsc_platform.proofs.reading.DscFormatWhole.finish.Goals as goal
+use Rattle.dsc_platform.proofs.reading.DscFormatDocumentFormat.finish.Goals as goal
 
 pub returns : goal.returns
 unfolding platform_made
