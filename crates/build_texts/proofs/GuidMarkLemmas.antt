@@ -5,7 +5,7 @@ use Rattle.std.specs.List.{All}
 use Rattle.std.proofs.lemmas.List.Elements.{All-nil, All-cons, All-weaker}
 use Rattle.doc_types.specs.declared.module.InfDoc.{InfDoc}
 use Rattle.doc_types.specs.declared.module.Named.{Named}
-use Rattle.pcd_resolve.specs.Marks.{is_kept}
+use Rattle.pcd_resolve.specs.NameFilter.{is_kept}
 use Rattle.pcd_resolve.proofs.MarkLemmas.{each_kept, stays, unmapped}
 use Rattle.build_texts.specs.Named.{with_guids}
 

@@ -18,7 +18,7 @@ use Rattle.doc_types.specs.declared.module.Named.{Named}
 use Rattle.doc_types.specs.declared.parts.ModuleParts.{ModuleParts}
 use Rattle.doc_types.specs.declared.parts.Package.{Package}
 use Rattle.pcd_resolve.specs.Listing.{packages_of}
-use Rattle.pcd_resolve.specs.Marks.{with_marks}
+use Rattle.pcd_resolve.specs.NameFilter.{with_marks}
 use Rattle.pcd_resolve.specs.Names.{serves}
 use Rattle.build_base.specs.FaultCodes.{AUTOGEN_GUID_UNKNOWN}
 

@@ -7,7 +7,7 @@ ghost use Rattle.std.specs.Ordering.{nat_cmp};
 ghost use Rattle.build_base.specs.Answer.{AnswersAs};
 ghost use Rattle.build_texts.specs.Named.{Declared, all_of, by_name, declared_name, found_guid, inf_guids, line_guids, module_guids, with_guids};
 ghost use Rattle.pcd_resolve.specs.Groups.{by_bytes, GroupedAt};
-ghost use Rattle.pcd_resolve.specs.Marks.{is_kept, with_marks};
+ghost use Rattle.pcd_resolve.specs.NameFilter.{is_kept, with_marks};
 ghost use Rattle.build_texts.specs.Views.{declared_view, entry_view, given, seen};
 
 use crate::packages::{DeclaredGuid, first_guid, lines_by_name};
@@ -18,7 +18,7 @@ use doc_types::module::{InfDoc, Named};
 use doc_types::parts::ModuleParts;
 use indexmap::IndexMap;
 use pcd_resolve::groups::group;
-use pcd_resolve::marks::{mark, no_marks};
+use pcd_resolve::name_filter::{mark, no_marks};
 use pcd_resolve::names::serves;
 use pcd_resolve::packages::packages_of;
 use shared_value::Shared;

@@ -12,7 +12,7 @@ use doc_types::depex::NamedGuid;
 use doc_types::parts::Package;
 use indexmap::IndexMap;
 use pcd_resolve::groups::add;
-use pcd_resolve::marks::is_kept;
+use pcd_resolve::name_filter::is_kept;
 use pcd_resolve::names::serves;
 use std::alloc::Global;
 

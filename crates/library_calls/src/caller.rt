@@ -4,7 +4,7 @@ use doc_types::choice::Call;
 
 /// An instance that has a constructor or a destructor, and the line of the first of them.
 #[derive(Drop)]
-pub struct Caller {
+pub struct WithCalls {
     pub inf: Path,
     pub at: Place,
     pub constructors: Rows<Call>,

@@ -5,7 +5,7 @@ ghost use Rattle.std.specs.Option.{option_copied};
 ghost use Rattle.build_base.specs.Answer.{Answers, Checks};
 ghost use Rattle.library_calls.specs.Calls.{caller_fault, looped, constructors_at, destructors_at, choice_in, choice_by};
 
-use crate::caller::Caller;
+use crate::caller::WithCalls;
 use crate::order::{call_order, first_looped, places};
 use build_base::fault_codes::CONSTRUCTOR_LOOP;
 use build_base::{Path, Refusal, Rows, Same, WantOfMemory, refuse};
@@ -26,7 +26,7 @@ fn push_calls(alloc: Global, calls: &[Call], out: &mut Vec<Call>) -> Result<(), 
     Ok(())
 }
 
-fn constructors_at(callers: &[Caller], place: usize) -> &[Call]
+fn constructors_at(callers: &[WithCalls], place: usize) -> &[Call]
     ensures { result.now ≡ constructors_at callers.now place }
 {
     match callers.get(place) {
@@ -35,7 +35,7 @@ fn constructors_at(callers: &[Caller], place: usize) -> &[Call]
     }
 }
 
-fn destructors_at(callers: &[Caller], place: usize) -> &[Call]
+fn destructors_at(callers: &[WithCalls], place: usize) -> &[Call]
     ensures { result.now ≡ destructors_at callers.now place }
 {
     match callers.get(place) {
@@ -46,7 +46,7 @@ fn destructors_at(callers: &[Caller], place: usize) -> &[Call]
 
 fn constructors(
     alloc: Global,
-    callers: &[Caller],
+    callers: &[WithCalls],
     order: &[usize],
 ) -> Result<Vec<Call>, WantOfMemory>
     ensures { IfOk result (λ calls. calls.items
@@ -63,7 +63,7 @@ fn constructors(
 
 fn destructors(
     alloc: Global,
-    callers: &[Caller],
+    callers: &[WithCalls],
     order: &[usize],
 ) -> Result<Vec<Call>, WantOfMemory>
     ensures { IfOk result (λ calls. calls.items ≡ flat_map (destructors_at callers.now) order.now) }
@@ -77,7 +77,11 @@ fn destructors(
     Ok(calls)
 }
 
-fn reversed(alloc: Global, callers: &[Caller], order: &[usize]) -> Result<Vec<Call>, WantOfMemory>
+fn reversed(
+    alloc: Global,
+    callers: &[WithCalls],
+    order: &[usize],
+) -> Result<Vec<Call>, WantOfMemory>
     ensures { IfOk result (λ calls. calls.items
         ≡ reverse (flat_map (destructors_at callers.now) order.now)) }
 {
@@ -90,7 +94,7 @@ fn reversed(alloc: Global, callers: &[Caller], order: &[usize]) -> Result<Vec<Ca
 fn choice_in(
     alloc: Global,
     found: Rows<Path>,
-    callers: &[Caller],
+    callers: &[WithCalls],
     order: &[usize],
 ) -> Result<Choice, WantOfMemory>
     ensures { IfOk result (λ c. c ≡ choice_in found callers.now order.now) }
@@ -105,7 +109,7 @@ fn choice_in(
     })
 }
 
-fn check_caller(alloc: Global, caller: Option<&Caller>) -> Result<(), Refusal>
+fn check_caller(alloc: Global, caller: Option<&WithCalls>) -> Result<(), Refusal>
     ensures { Checks result (caller_fault (option_copied caller.entry)) }
 {
     match caller {
@@ -114,7 +118,7 @@ fn check_caller(alloc: Global, caller: Option<&Caller>) -> Result<(), Refusal>
     }
 }
 
-fn check_looped(alloc: Global, callers: &[Caller], place: Option<usize>) -> Result<(), Refusal>
+fn check_looped(alloc: Global, callers: &[WithCalls], place: Option<usize>) -> Result<(), Refusal>
     ensures { Checks result (looped callers.now place) }
 {
     match place {
@@ -130,7 +134,7 @@ fn check_looped(alloc: Global, callers: &[Caller], place: Option<usize>) -> Resu
 pub fn choice_by(
     alloc: Global,
     found: Rows<Path>,
-    callers: &[Caller],
+    callers: &[WithCalls],
     rows: &[Rows<bool>],
 ) -> Result<Choice, Refusal>
     ensures { Answers result (choice_by found callers.now rows.now) }

@@ -6,5 +6,5 @@ mod caller;
 mod calls;
 mod order;
 
-pub use caller::Caller;
+pub use caller::WithCalls;
 pub use calls::choice_by;

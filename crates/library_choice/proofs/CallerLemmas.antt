@@ -5,7 +5,7 @@ use Rattle.std.specs.List.{All, cons_option}
 use Rattle.std.specs.Cmp.Lexicographic.{pointwise, same_text}
 use Rattle.std.proofs.lemmas.List.Elements.{All-cons}
 use Rattle.doc_types.specs.declared.module.InfDoc.{InfDoc}
-use Rattle.library_calls.specs.declared.caller.Caller.{Caller}
+use Rattle.library_calls.specs.declared.caller.WithCalls.{WithCalls}
 use Rattle.library_choice.specs.Choices.{has_call, caller_of, caller_in, callers}
 use Rattle.library_choice.specs.Closure.{known, same_path}
 use Rattle.library_choice.specs.Found.{is_in}
@@ -27,29 +27,29 @@ known-path : (infs : List InfDoc) (path : List ℕ) (inf : InfDoc) → known inf
 unfolding known
 known-path infs path inf e = same_text inf.at.path path (sym (found-passes (λ (x : InfDoc). pointwise nat_eq x.at.path path) infs inf e))
 
-caller-path : (inf : InfDoc) (b : Bool) (c : Caller) → cond b (Some (caller_of inf)) None ≡ Some c → c.inf ≡ inf.at.path
+caller-path : (inf : InfDoc) (b : Bool) (c : WithCalls) → cond b (Some (caller_of inf)) None ≡ Some c → c.inf ≡ inf.at.path
 unfolding caller_of
 caller-path inf true c e = sym (some-is (caller_of inf) c e)
   where
-    some-is : (x y : Caller) → Some x ≡ Some y → x.inf ≡ y.inf
+    some-is : (x y : WithCalls) → Some x ≡ Some y → x.inf ≡ y.inf
     some-is x y e = cc
 caller-path inf false c e = absurd (cc)
 
-caller-known : (infs : List InfDoc) (path : List ℕ) (o : Option InfDoc) → known infs path ≡ o → (c : Caller) → caller_in o ≡ Some c → c.inf ≡ path
+caller-known : (infs : List InfDoc) (path : List ℕ) (o : Option InfDoc) → known infs path ≡ o → (c : WithCalls) → caller_in o ≡ Some c → c.inf ≡ path
 caller-known infs path None k c e = absurd (cc)
 caller-known infs path (Some inf) k c e = caller-path inf (has_call inf) c e ∙ known-path infs path inf k
 
-all-kept : (P : Caller → Type 0) (o : Option Caller) (rest : List Caller) → ((c : Caller) → o ≡ Some c → P c) → All P rest → All P (cons_option o rest)
+all-kept : (P : WithCalls → Type 0) (o : Option WithCalls) (rest : List WithCalls) → ((c : WithCalls) → o ≡ Some c → P c) → All P rest → All P (cons_option o rest)
 all-kept P None rest f h = h
 all-kept P (Some c) rest f h = All-cons P c rest (f c refl) h
 
-among : (infs : List InfDoc) (found xs : List (List ℕ)) → ((x : List ℕ) → is_in same_path xs x ≡ true → is_in same_path found x ≡ true) → All (λ (c : Caller). is_in same_path found c.inf ≡ true) (callers infs xs)
+among : (infs : List InfDoc) (found xs : List (List ℕ)) → ((x : List ℕ) → is_in same_path xs x ≡ true → is_in same_path found x ≡ true) → All (λ (c : WithCalls). is_in same_path found c.inf ≡ true) (callers infs xs)
 among infs found [] f = λ k d h. absurd (omega arith)
 among infs found (x ∷ xs) f =
-    all-kept (λ (c : Caller). is_in same_path found c.inf ≡ true) (caller_in (known infs x)) (callers infs xs)
+    all-kept (λ (c : WithCalls). is_in same_path found c.inf ≡ true) (caller_in (known infs x)) (callers infs xs)
     (λ c e. subst (λ p. is_in same_path found p ≡ true) (sym (caller-known infs x (known infs x) refl c e)) (f x (or-left (same_path x x) (is_in same_path xs x) (path_same.itself x))))
     (among infs found xs (λ z h. f z (or-right (same_path x z) (is_in same_path xs z) h)))
 
-pub callers_within : (s : Setting) (found : List (List ℕ)) → IsWhole s found → All (λ (c : Caller). IsWithin s c.inf) (callers s.infs found)
+pub callers_within : (s : Setting) (found : List (List ℕ)) → IsWhole s found → All (λ (c : WithCalls). IsWithin s c.inf) (callers s.infs found)
 callers_within s found w = λ k d h.
     record { found = found; closed = w.closed; few = w.few; there = among s.infs found found (λ x e. e) k d h }

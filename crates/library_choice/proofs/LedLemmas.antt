@@ -1,7 +1,7 @@
 -- To what one leads.
 use Rattle.std.proofs.Common.{◌≡◌, ◌∙◌, ◌||◌, ℕ, Bool, true, false, cond, List, [], ◌∷◌, ◌++◌, map, refl, sym, ap, subst, arith}
 use Rattle.std.proofs.lemmas.List.Folds.{list_any-append}
-use Rattle.library_calls.specs.declared.caller.Caller.{Caller}
+use Rattle.library_calls.specs.declared.caller.WithCalls.{WithCalls}
 use Rattle.library_choice.specs.Choices.{leads}
 use Rattle.library_choice.specs.Closure.{next, same_path}
 use Rattle.library_choice.specs.Found.{is_in, put, add, ends}
@@ -35,9 +35,9 @@ in-add eq s b (y ∷ ys) x =
     in-add eq s (put eq b y) ys x ∙ ap (λ v. v || is_in eq ys x) (in-put eq s b y x (is_in eq b y) refl) ∙ or-shift (is_in eq b x) (eq y x) (is_in eq ys x)
 
 -- a row of what was reached
-pub row-led : (s : Setting) (from : List ℕ) (found : List (List ℕ)) → LedTo s from found → (cs : List Caller) → map (λ (x : Caller). is_in same_path found x.inf) cs ≡ map (λ (x : Caller). leads s from x.inf) cs
+pub row-led : (s : Setting) (from : List ℕ) (found : List (List ℕ)) → LedTo s from found → (cs : List WithCalls) → map (λ (x : WithCalls). is_in same_path found x.inf) cs ≡ map (λ (x : WithCalls). leads s from x.inf) cs
 unfolding leads
 row-led s from found led [] = refl
 row-led s from found led (c ∷ cs) =
-    ap (λ v. v ∷ map (λ (x : Caller). is_in same_path found x.inf) cs) (ap (λ l. is_in same_path l c.inf) (sym (led 1025 (omega arith))) ∙ in-add same_path path_same [] (ends (next s) (next s from) 1025) c.inf)
+    ap (λ v. v ∷ map (λ (x : WithCalls). is_in same_path found x.inf) cs) (ap (λ l. is_in same_path l c.inf) (sym (led 1025 (omega arith))) ∙ in-add same_path path_same [] (ends (next s) (next s from) 1025) c.inf)
     ∙ ap (λ l. leads s from c.inf ∷ l) (row-led s from found led cs)

@@ -6,7 +6,7 @@ use Rattle.std.proofs.lemmas.Bool.{cases_lt, eqb-true}
 use Rattle.std.proofs.lemmas.List.FromFn.{get_or-range_with_len, length-range_with_len}
 use Rattle.std.proofs.lemmas.List.{get_or-map, get_or_past, length-map}
 use Rattle.std.proofs.lemmas.Option.{slice_get-get_or}
-use Rattle.library_calls.specs.declared.caller.Caller.{Caller}
+use Rattle.library_calls.specs.declared.caller.WithCalls.{WithCalls}
 use Rattle.library_choice.specs.Choices.{leads, reach, before, places, is_looped, caller_fault, looped, loop_fault}
 use Rattle.library_choice.specs.Closure.{next, same_path}
 use Rattle.library_choice.specs.Found.{is_in, add, ends}
@@ -41,21 +41,21 @@ leads-on : (s : Setting) (z y x : List ℕ) → IsWithin s z → leads s z y ≡
 unfolding leads
 leads-on s z y x w a b = enough s z x (1025 + 1025) w (omega arith) (onward same_path path_same (next s) (next s z) 1025 1025 y x a b)
 
-record Told (s : Setting) (cs : List Caller) (d : Caller) (x y : ℕ) : Type 0 where
+record Told (s : Setting) (cs : List WithCalls) (d : WithCalls) (x y : ℕ) : Type 0 where
   other : (x == y) ≡ false
   x_in : x < length cs
   y_in : y < length cs
   leads_to : leads s (get_or cs y d).inf (get_or cs x d).inf ≡ true
 
-abbrev pub row : (s : Setting) (cs : List Caller) → Caller → List Bool
-row s cs y = map (λ (x : Caller). leads s y.inf x.inf) cs
+abbrev pub row : (s : Setting) (cs : List WithCalls) → WithCalls → List Bool
+row s cs y = map (λ (x : WithCalls). leads s y.inf x.inf) cs
 
-row-at : (s : Setting) (cs : List Caller) (d : Caller) (y : ℕ) → y < length cs → get_or (reach s cs) y [] ≡ row s cs (get_or cs y d)
+row-at : (s : Setting) (cs : List WithCalls) (d : WithCalls) (y : ℕ) → y < length cs → get_or (reach s cs) y [] ≡ row s cs (get_or cs y d)
 unfolding reach
-row-at s cs d y h = get_or-map (λ (y : Caller). map (λ (x : Caller). leads s y.inf x.inf) cs) cs y d [] h
+row-at s cs d y h = get_or-map (λ (y : WithCalls). map (λ (x : WithCalls). leads s y.inf x.inf) cs) cs y d [] h
 
-cell-at : (s : Setting) (cs : List Caller) (d : Caller) (x : ℕ) (y : Caller) → x < length cs → get_or (row s cs y) x false ≡ leads s y.inf (get_or cs x d).inf
-cell-at s cs d x y h = get_or-map (λ (x : Caller). leads s y.inf x.inf) cs x d false h
+cell-at : (s : Setting) (cs : List WithCalls) (d : WithCalls) (x : ℕ) (y : WithCalls) → x < length cs → get_or (row s cs y) x false ≡ leads s y.inf (get_or cs x d).inf
+cell-at s cs d x y h = get_or-map (λ (x : WithCalls). leads s y.inf x.inf) cs x d false h
 
 nothing : (x : ℕ) → get_or {A = Bool} [] x false ≡ true → ⊥
 nothing zero f = absurd (cc)
@@ -64,24 +64,24 @@ nothing (suc x) f = absurd (cc)
 no-row : (x : ℕ) (r : List Bool) → r ≡ [] → get_or r x false ≡ true → ⊥
 no-row x r p e = nothing x (subst (λ (l : List Bool). get_or l x false ≡ true) p e)
 
-y-inside : (s : Setting) (cs : List Caller) (x y : ℕ) → get_or (get_or (reach s cs) y []) x false ≡ true → y < length cs
+y-inside : (s : Setting) (cs : List WithCalls) (x y : ℕ) → get_or (get_or (reach s cs) y []) x false ≡ true → y < length cs
 unfolding reach
 y-inside s cs x y e =
     ⊎_elim (λ (h : y < length cs). h)
     (λ (h : length cs ≤ y).
-    let past : get_or (map (λ (y : Caller). map (λ (x : Caller). leads s y.inf x.inf) cs) cs) y [] ≡ [] = get_or_past (map (λ (y : Caller). map (λ (x : Caller). leads s y.inf x.inf) cs) cs) y [] (omega (arith, h, length-map cs (λ (y : Caller). map (λ (x : Caller). leads s y.inf x.inf) cs))) in
-    absurd (no-row x (get_or (map (λ (y : Caller). map (λ (x : Caller). leads s y.inf x.inf) cs) cs) y []) past e))
+    let past : get_or (map (λ (y : WithCalls). map (λ (x : WithCalls). leads s y.inf x.inf) cs) cs) y [] ≡ [] = get_or_past (map (λ (y : WithCalls). map (λ (x : WithCalls). leads s y.inf x.inf) cs) cs) y [] (omega (arith, h, length-map cs (λ (y : WithCalls). map (λ (x : WithCalls). leads s y.inf x.inf) cs))) in
+    absurd (no-row x (get_or (map (λ (y : WithCalls). map (λ (x : WithCalls). leads s y.inf x.inf) cs) cs) y []) past e))
     (cases_lt y (length cs))
 
-x-inside : (s : Setting) (cs : List Caller) (y : Caller) (x : ℕ) → get_or (row s cs y) x false ≡ true → x < length cs
+x-inside : (s : Setting) (cs : List WithCalls) (y : WithCalls) (x : ℕ) → get_or (row s cs y) x false ≡ true → x < length cs
 x-inside s cs y x e =
     ⊎_elim (λ (h : x < length cs). h)
     (λ (h : length cs ≤ x).
-    let past : get_or (row s cs y) x false ≡ false = get_or_past (row s cs y) x false (omega (arith, h, length-map cs (λ (x : Caller). leads s y.inf x.inf))) in
+    let past : get_or (row s cs y) x false ≡ false = get_or_past (row s cs y) x false (omega (arith, h, length-map cs (λ (x : WithCalls). leads s y.inf x.inf))) in
     absurd (cc))
     (cases_lt x (length cs))
 
-told : (s : Setting) (cs : List Caller) (d : Caller) (x y : ℕ) → before (reach s cs) x y ≡ true → Told s cs d x y
+told : (s : Setting) (cs : List WithCalls) (d : WithCalls) (x y : ℕ) → before (reach s cs) x y ≡ true → Told s cs d x y
 unfolding before
 told s cs d x y e =
     let parts = and-true (not (x == y)) (get_or (get_or (reach s cs) y []) x false) e in
@@ -90,13 +90,13 @@ told s cs d x y e =
     let x_in = x-inside s cs (get_or cs y d) x here in
     record { other = not-is (x == y) parts.0; x_in = x_in; y_in = y_in; leads_to = sym (cell-at s cs d x (get_or cs y d) x_in) ∙ here }
 
-tell : (s : Setting) (cs : List Caller) (d : Caller) (x y : ℕ) → x < length cs → y < length cs → (x == y) ≡ false → leads s (get_or cs y d).inf (get_or cs x d).inf ≡ true → before (reach s cs) x y ≡ true
+tell : (s : Setting) (cs : List WithCalls) (d : WithCalls) (x y : ℕ) → x < length cs → y < length cs → (x == y) ≡ false → leads s (get_or cs y d).inf (get_or cs x d).inf ≡ true → before (reach s cs) x y ≡ true
 unfolding before
 tell s cs d x y x_in y_in other l =
     ap (λ v. not v && get_or (get_or (reach s cs) y []) x false) other
     ∙ ap (λ (r : List Bool). get_or r x false) (row-at s cs d y y_in) ∙ cell-at s cs d x (get_or cs y d) x_in ∙ l
 
-on-by : (s : Setting) (cs : List Caller) (d : Caller) → All (λ (c : Caller). IsWithin s c.inf) cs → (x y z : ℕ) → before (reach s cs) x y ≡ true → before (reach s cs) y z ≡ true → before (reach s cs) x z ≡ false → (v : Bool) → (x == z) ≡ v → x ≡ z
+on-by : (s : Setting) (cs : List WithCalls) (d : WithCalls) → All (λ (c : WithCalls). IsWithin s c.inf) cs → (x y z : ℕ) → before (reach s cs) x y ≡ true → before (reach s cs) y z ≡ true → before (reach s cs) x z ≡ false → (v : Bool) → (x == z) ≡ v → x ≡ z
 on-by s cs d all x y z a b c true e = eqb-true x z e
 on-by s cs d all x y z a b c false e =
     let p = told s cs d x y a in
@@ -104,7 +104,7 @@ on-by s cs d all x y z a b c false e =
     let t : before (reach s cs) x z ≡ true = tell s cs d x z p.x_in q.y_in e (leads-on s (get_or cs z d).inf (get_or cs y d).inf (get_or cs x d).inf (all z d q.y_in) q.leads_to p.leads_to) in
     absurd (cc)
 
-first-of : (s : Setting) (cs : List Caller) (x y : ℕ) → before (reach s cs) x y ≡ true → Caller
+first-of : (s : Setting) (cs : List WithCalls) (x y : ℕ) → before (reach s cs) x y ≡ true → WithCalls
 unfolding before
 first-of s [] x y e = absurd (let parts = and-true (not (x == y)) (get_or (get_or (reach s []) y []) x false) e in let h = y-inside s [] x y parts.1 in omega (arith, h))
 first-of s (c ∷ cs) x y e = c
@@ -121,7 +121,7 @@ never : (p : ℕ → Bool) (xs : List ℕ) → find p xs ≡ None → list_any p
 never p [] e = refl
 never p (x ∷ xs) e = never-by p x xs (p x) refl e (never p xs)
 
-some-place : (cs : List Caller) (x : ℕ) → x < length cs → looped cs (Some x) ≡ None → ⊥
+some-place : (cs : List WithCalls) (x : ℕ) → x < length cs → looped cs (Some x) ≡ None → ⊥
 some-place [] x h e = absurd (omega (arith, h))
 some-place (c ∷ cs) x h e =
     let f : caller_fault (Some (get_or (c ∷ cs) x c)) ≡ None = subst (λ o. caller_fault o ≡ None) (slice_get-get_or (c ∷ cs) x c h) e in
@@ -141,22 +141,22 @@ found-in : (p : ℕ → Bool) (xs : List ℕ) (x : ℕ) → find p xs ≡ Some x
 found-in p [] x e = absurd (cc)
 found-in p (y ∷ ys) x e = found-in-by y ys (find p ys) x (p y) e (found-in p ys x)
 
-none-looped : (s : Setting) (cs : List Caller) (o : Option ℕ) → find (is_looped (reach s cs) (places cs)) (places cs) ≡ o → looped cs o ≡ None → find (is_looped (reach s cs) (places cs)) (places cs) ≡ None
+none-looped : (s : Setting) (cs : List WithCalls) (o : Option ℕ) → find (is_looped (reach s cs) (places cs)) (places cs) ≡ o → looped cs o ≡ None → find (is_looped (reach s cs) (places cs)) (places cs) ≡ None
 none-looped s cs None e h = e
 none-looped s cs (Some x) e h = absurd (some-place cs x (inside (length cs) x (found-in (is_looped (reach s cs) (places cs)) (places cs) x e)) h)
 
-one-way : (s : Setting) (cs : List Caller) → loop_fault (reach s cs) cs ≡ None → (x y : ℕ) → IsIn (places cs) x → IsIn (places cs) y → before (reach s cs) x y ≡ true → before (reach s cs) y x ≡ false
+one-way : (s : Setting) (cs : List WithCalls) → loop_fault (reach s cs) cs ≡ None → (x y : ℕ) → IsIn (places cs) x → IsIn (places cs) y → before (reach s cs) x y ≡ true → before (reach s cs) y x ≡ false
 unfolding loop_fault
 one-way s cs h x y in_x in_y e =
     let none = none-looped s cs (find (is_looped (reach s cs) (places cs)) (places cs)) refl h in
     let free : is_looped (reach s cs) (places cs) x ≡ false = none_of (is_looped (reach s cs) (places cs)) (places cs) (never (is_looped (reach s cs) (places cs)) (places cs) none) x in_x in
     apart (before (reach s cs) x y) (before (reach s cs) y x) true (none_of (λ y. before (reach s cs) x y && before (reach s cs) y x) (places cs) free y in_y) e
 
-itself : (s : Setting) (cs : List Caller) (x : ℕ) → before (reach s cs) x x ≡ false
+itself : (s : Setting) (cs : List WithCalls) (x : ℕ) → before (reach s cs) x x ≡ false
 unfolding before
 itself s cs x = ap (λ v. not v && get_or (get_or (reach s cs) x []) x false) (eq-eqb x x refl)
 
-pub sortable : (s : Setting) (cs : List Caller) → All (λ (c : Caller). IsWithin s c.inf) cs → loop_fault (reach s cs) cs ≡ None → Sortable (before (reach s cs)) (places cs)
+pub sortable : (s : Setting) (cs : List WithCalls) → All (λ (c : WithCalls). IsWithin s c.inf) cs → loop_fault (reach s cs) cs ≡ None → Sortable (before (reach s cs)) (places cs)
 sortable s cs all h = record {
   itself = itself s cs;
   one_way = one-way s cs h;
@@ -168,5 +168,5 @@ ascends a n = λ i k d l h.
     let below : k < n = omega (arith, h, length-range_with_len a n) in
     omega (arith, l, get_or-range_with_len a n i d (omega (arith, l, below)), get_or-range_with_len a n k d below)
 
-pub places-ascend : (cs : List Caller) → AllPairs (λ x z. x < z) (places cs)
+pub places-ascend : (cs : List WithCalls) → AllPairs (λ x z. x < z) (places cs)
 places-ascend cs = ascends 0 (length cs)

@@ -18,10 +18,10 @@ use Rattle.doc_types.specs.declared.module_type.ModuleType.{ModuleType}
 use Rattle.doc_types.specs.declared.module_type.ModuleType.TheVariants.{UserDefined, HostApplication}
 use Rattle.doc_types.specs.declared.platform.LibraryLine.{LibraryLine}
 use Rattle.doc_types.specs.declared.platform.PlatformDoc.{PlatformDoc}
-use Rattle.library_calls.specs.declared.caller.Caller.{Caller}
+use Rattle.library_calls.specs.declared.caller.WithCalls.{WithCalls}
 unfoldable pub use Rattle.library_calls.specs.Calls.{before, loop_fault, choice_in, choice_by}
 pub use Rattle.library_calls.specs.Calls.{places, is_looped, caller_fault, looped, constructors_in, destructors_in, constructors_at, destructors_at}
-use Rattle.line_ranks.specs.declared.user.User.{User}
+use Rattle.line_ranks.specs.declared.user.Consumer.{Consumer}
 use Rattle.library_choice.specs.Closure.{known, classes_of, next, instances, are_few, setting_of, is_library, same_path}
 use Rattle.library_choice.specs.Found.{is_in, ends}
 use Rattle.library_choice.specs.Lines.{covers, same_type, chosen_line, Setting}
@@ -34,7 +34,7 @@ is_free HostApplication = true
 is_free kind = false
 
 -- no types are all
-abbrev pub takes : User → Served → Bool
+abbrev pub takes : Consumer → Served → Bool
 takes user served =
     is_free user.kind || length served.types == 0
     || list_any (λ t. same_type t user.kind) served.types
@@ -43,14 +43,14 @@ abbrev pub names : List ℕ → Served → Bool
 names class served = pointwise nat_eq served.name class
 
 -- a LIBRARY_CLASS must name the class, and one that names it must take the module's type
-unfoldable pub served_fault : User → LibraryLine → List ℕ → List Served → Option Fault
+unfoldable pub served_fault : Consumer → LibraryLine → List ℕ → List Served → Option Fault
 served_fault user line class serves =
     if list_any (names class) serves
     then (if list_any (λ served. names class served && takes user served) serves then None
     else Some (fault_of TYPE_NOT_SERVED line.at class))
     else Some (fault_of CLASS_NOT_SERVED line.at class)
 
-abbrev pub instance_fault : User → LibraryLine → List ℕ → Option InfDoc → Option Fault
+abbrev pub instance_fault : Consumer → LibraryLine → List ℕ → Option InfDoc → Option Fault
 instance_fault user line class None = None
 instance_fault user line class (Some inf) = served_fault user line class inf.serves
 
@@ -83,7 +83,7 @@ call_of inf named = record { inf = inf; name = named.name }
 
 -- an instance that has something called; its place is its first constructor's, else its first
 -- destructor's
-unfoldable pub caller_of : InfDoc → Caller
+unfoldable pub caller_of : InfDoc → WithCalls
 caller_of inf =
     record {
       inf = inf.at.path;
@@ -92,11 +92,11 @@ caller_of inf =
       destructors = map (call_of inf.at.path) inf.destructors;
     }
 
-abbrev pub caller_in : Option InfDoc → Option Caller
+abbrev pub caller_in : Option InfDoc → Option WithCalls
 caller_in None = None
 caller_in (Some inf) = if has_call inf then Some (caller_of inf) else None
 
-abbrev pub callers : List InfDoc → List (List ℕ) → List Caller
+abbrev pub callers : List InfDoc → List (List ℕ) → List WithCalls
 callers infs found = filter_map (λ path. caller_in (known infs path)) found
 
 -- a walk of one or more classes leads from y to x; none is longer than there are instances
@@ -104,8 +104,8 @@ unfoldable pub leads : Setting → List ℕ → List ℕ → Bool
 leads s y x = is_in same_path (ends (next s) (next s y) 1025) x
 
 -- row y says of each x whether y leads to it
-unfoldable pub reach : Setting → List Caller → List (List Bool)
-reach s cs = map (λ (y : Caller). map (λ (x : Caller). leads s y.inf x.inf) cs) cs
+unfoldable pub reach : Setting → List WithCalls → List (List Bool)
+reach s cs = map (λ (y : WithCalls). map (λ (x : WithCalls). leads s y.inf x.inf) cs) cs
 
 unfoldable pub choice_of : Setting → List (List ℕ) → Result Choice Fault
 choice_of s found = choice_by found (callers s.infs found) (reach s (callers s.infs found))

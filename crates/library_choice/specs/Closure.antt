@@ -10,7 +10,7 @@ use Rattle.doc_types.specs.declared.module.Named.{Named}
 use Rattle.doc_types.specs.declared.platform.Component.{Component}
 use Rattle.doc_types.specs.declared.platform.LibraryLine.{LibraryLine}
 use Rattle.doc_types.specs.declared.platform.PlatformDoc.{PlatformDoc}
-use Rattle.line_ranks.specs.declared.user.User.{User}
+use Rattle.line_ranks.specs.declared.user.Consumer.{Consumer}
 use Rattle.library_choice.specs.Found.{found_in}
 use Rattle.library_choice.specs.Lines.{covers, applies, chosen_line, Setting}
 
@@ -36,7 +36,7 @@ unfoldable pub next : Setting → List ℕ → List (List ℕ)
 next s path = filter_map (instance_of s) (classes_of (known s.infs path))
 
 -- a line that links its instance without a class
-unfoldable pub null_of : User → LibraryLine → Option (List ℕ)
+unfoldable pub null_of : Consumer → LibraryLine → Option (List ℕ)
 null_of user line =
     if pointwise nat_eq line.class (codes "NULL") && applies user line then Some line.instance
     else None

@@ -5,7 +5,7 @@ use Rattle.doc_types.specs.declared.choice.Module.{Module}
 use Rattle.doc_types.specs.declared.module.InfDoc.{InfDoc}
 use Rattle.doc_types.specs.declared.platform.PlatformDoc.{PlatformDoc}
 use Rattle.doc_types.specs.declared.platform.LibraryLine.{LibraryLine}
-use Rattle.line_ranks.specs.declared.user.User.{User}
+use Rattle.line_ranks.specs.declared.user.Consumer.{Consumer}
 use Rattle.build_base.specs.Best.{best, Greatest}
 use Rattle.library_choice.specs.Choices.{callers, reach, before, places, loop_fault}
 use Rattle.library_choice.specs.Closure.{same_path, known, instance_of, next, nulls, instances, are_few, is_library, setting_of}
@@ -33,6 +33,6 @@ AreLawful user platform infs =
     → IsLawful (setting_of user platform infs inf) inf
 
 -- the line of a class is the greatest by rank, and of one rank the last
-abbrev pub IsByRank : User → Bool → List ℕ → List LibraryLine → Type 0
+abbrev pub IsByRank : Consumer → Bool → List ℕ → List LibraryLine → Type 0
 IsByRank user own class lines =
     Greatest (weight user own class) lines (best (weight user own class) lines)

@@ -5,14 +5,14 @@ use Rattle.build_base.specs.Best.{best}
 use Rattle.build_base.specs.First.{or_else}
 use Rattle.doc_types.specs.declared.module.InfDoc.{InfDoc}
 use Rattle.doc_types.specs.declared.platform.LibraryLine.{LibraryLine}
-use Rattle.line_ranks.specs.declared.user.User.{User}
+use Rattle.line_ranks.specs.declared.user.Consumer.{Consumer}
 unfoldable pub use Rattle.line_ranks.specs.Lines.{covers, same_type, applies, section_rank, rank}
 pub use Rattle.line_ranks.specs.Lines.{type_covers, is_common, weight}
 
 -- what a choice is made from: who asks, the lines of the platform's sections, those of the module's
 -- own braces, and the INF files that are known
 pub record Setting : Type 0 where
-  pub user : User
+  pub user : Consumer
   pub sections : List LibraryLine
   pub own : List LibraryLine
   pub infs : List InfDoc

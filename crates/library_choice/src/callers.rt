@@ -8,7 +8,7 @@ use crate::tables::Tables;
 use build_base::{Path, Place, Rows, Same, WantOfMemory};
 use doc_types::choice::Call;
 use doc_types::module::{InfDoc, Named};
-use library_calls::Caller;
+use library_calls::WithCalls;
 use std::alloc::Global;
 
 fn has_call(inf: &InfDoc) -> bool
@@ -49,14 +49,14 @@ fn calls_of(alloc: Global, inf: &Path, names: &[Named]) -> Result<Rows<Call>, Wa
 }
 
 #[tactic(auto, unfolding(crate::specs::Choices::caller_of))]
-fn caller_of(alloc: Global, inf: &InfDoc) -> Result<Caller, WantOfMemory>
+fn caller_of(alloc: Global, inf: &InfDoc) -> Result<WithCalls, WantOfMemory>
     ensures { IfOk result (λ caller. caller ≡ caller_of inf.now) }
 {
     let path = inf.at.path.copy(alloc)?;
     let at = first_place(inf).copy(alloc)?;
     let constructors = calls_of(alloc, &inf.at.path, inf.constructors.items())?;
     let destructors = calls_of(alloc, &inf.at.path, inf.destructors.items())?;
-    Ok(Caller {
+    Ok(WithCalls {
         inf: path,
         at,
         constructors,
@@ -64,7 +64,7 @@ fn caller_of(alloc: Global, inf: &InfDoc) -> Result<Caller, WantOfMemory>
     })
 }
 
-fn caller_in(alloc: Global, inf: Option<&InfDoc>) -> Result<Option<Caller>, WantOfMemory>
+fn caller_in(alloc: Global, inf: Option<&InfDoc>) -> Result<Option<WithCalls>, WantOfMemory>
     ensures { IfOk result (λ caller. caller ≡ caller_in (option_copied inf.entry)) }
 {
     let Some(inf) = inf else {
@@ -80,7 +80,7 @@ fn push_caller(
     alloc: Global,
     tables: &Tables<'_>,
     path: &Path,
-    rows: &mut Rows<Caller>,
+    rows: &mut Rows<WithCalls>,
 ) -> Result<(), WantOfMemory>
     ensures { OnOk result (rows.new ≡ rows.old ++ callers tables.now.infs (path.now ∷ [])) }
 {
@@ -96,7 +96,7 @@ pub fn callers(
     alloc: Global,
     tables: &Tables<'_>,
     found: &[Path],
-) -> Result<Rows<Caller>, WantOfMemory>
+) -> Result<Rows<WithCalls>, WantOfMemory>
     ensures { IfOk result (λ rows. rows ≡ callers tables.now.infs found.now) }
 {
     let mut rows = Rows::new(alloc);

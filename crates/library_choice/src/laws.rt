@@ -1,7 +1,7 @@
 //! Laws of what is chosen.
 ghost use Rattle.std.specs.Prelude.{ℕ, Bool, List};
 ghost use Rattle.doc_types.specs.declared.platform.LibraryLine.{LibraryLine as Line};
-ghost use Rattle.line_ranks.specs.declared.user.User.{User as Asking};
+ghost use Rattle.line_ranks.specs.declared.user.Consumer.{Consumer as Asking};
 ghost use Rattle.library_choice.specs.Closure.{next};
 ghost use Rattle.library_choice.specs.Laws.{IsByRank};
 ghost use Rattle.library_choice.specs.Lines.{Setting};

@@ -1,7 +1,7 @@
 //! Which instances lead to which by their classes.
 ghost use Rattle.std.specs.Prelude.{◌≡◌, IfOk, OnOk, map};
 ghost use Rattle.std.specs.List.{All};
-ghost use Rattle.library_calls.specs.declared.caller.Caller.{Caller as CallerRow};
+ghost use Rattle.library_calls.specs.declared.caller.WithCalls.{WithCalls as CallerRow};
 ghost use Rattle.library_choice.specs.Closure.{same_path, next};
 ghost use Rattle.library_choice.specs.Choices.{leads, reach};
 ghost use Rattle.library_choice.specs.Found.{add, is_in};
@@ -11,7 +11,7 @@ use crate::closure::{pass, put_classes};
 use crate::found::Found;
 use crate::tables::Tables;
 use build_base::{Path, Rows, WantOfMemory};
-use library_calls::Caller;
+use library_calls::WithCalls;
 use std::alloc::Global;
 
 // Puts the instances one step on from a path.
@@ -44,7 +44,7 @@ fn led_to(alloc: Global, tables: &Tables<'_>, from: &Path) -> Result<Found, Want
     Ok(found)
 }
 
-fn row_in(alloc: Global, found: &Found, callers: &[Caller]) -> Result<Rows<bool>, WantOfMemory>
+fn row_in(alloc: Global, found: &Found, callers: &[WithCalls]) -> Result<Rows<bool>, WantOfMemory>
     ensures { IfOk result
         (λ row. row ≡ map (λ (x : CallerRow). is_in same_path found.now x.inf) callers.now) }
 {
@@ -59,7 +59,7 @@ fn row_of(
     alloc: Global,
     tables: &Tables<'_>,
     from: &Path,
-    callers: &[Caller],
+    callers: &[WithCalls],
 ) -> Result<Rows<bool>, WantOfMemory>
     requires { IsWithin tables.now from.now }
     ensures { IfOk result
@@ -75,7 +75,7 @@ fn row_of(
 pub fn reach(
     alloc: Global,
     tables: &Tables<'_>,
-    callers: &[Caller],
+    callers: &[WithCalls],
 ) -> Result<Rows<Rows<bool>>, WantOfMemory>
     requires within { All (λ (c : CallerRow). IsWithin tables.now c.inf) callers.now }
     ensures { IfOk result (λ rows. rows ≡ reach tables.now callers.now) }

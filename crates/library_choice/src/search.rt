@@ -15,7 +15,7 @@ use build_base::{Path, Permit, Refusal, Rows, Same, WantOfMemory};
 use doc_types::choice::{Choice, Module};
 use doc_types::module::InfDoc;
 use doc_types::platform::PlatformDoc;
-use line_ranks::User;
+use line_ranks::Consumer;
 use shared_value::Shared;
 use std::alloc::Global;
 use std::marker::Model;
@@ -77,7 +77,7 @@ fn tables_for<'a>(
     ensures { IfOk result (λ t. t ≡ setting_of user.now platform.now infs inf.now) }
 {
     let own = own_lines(user, platform.components.items());
-    let asking = User {
+    let asking = Consumer {
         arch: user.arch,
         kind: inf.module_type,
     };

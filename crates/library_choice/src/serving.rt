@@ -14,7 +14,7 @@ use build_base::{Path, Refusal, refuse};
 use doc_types::module::{InfDoc, Named, Served};
 use doc_types::module_type::ModuleType;
 use doc_types::platform::LibraryLine;
-use line_ranks::{User, covers, same_type};
+use line_ranks::{Consumer, covers, same_type};
 use std::alloc::Global;
 
 fn is_free(kind: ModuleType) -> bool
@@ -29,7 +29,7 @@ fn lists(types: &[ModuleType], kind: ModuleType) -> bool
     types.iter().any(|stated| same_type(*stated, kind))
 }
 
-fn takes(user: User, served: &Served) -> bool
+fn takes(user: Consumer, served: &Served) -> bool
     ensures { result ≡ takes user served.now }
 {
     is_free(user.kind) || served.types.items().is_empty() || lists(served.types.items(), user.kind)
@@ -47,7 +47,7 @@ fn any_names(class: &[u8], serves: &[Served]) -> bool
     serves.iter().any(|served| names(class, served))
 }
 
-fn any_takes(user: User, class: &[u8], serves: &[Served]) -> bool
+fn any_takes(user: Consumer, class: &[u8], serves: &[Served]) -> bool
     ensures { result ≡ list_any (λ (served : ServedRow).
         names class.now served && takes user served) serves.now }
 {
@@ -60,7 +60,7 @@ fn any_takes(user: User, class: &[u8], serves: &[Served]) -> bool
 #[tactic(auto, unfolding(crate::specs::Choices::served_fault))]
 fn check_served(
     alloc: Global,
-    user: User,
+    user: Consumer,
     line: &LibraryLine,
     class: &[u8],
     serves: &[Served],
@@ -78,7 +78,7 @@ fn check_served(
 
 fn check_instance(
     alloc: Global,
-    user: User,
+    user: Consumer,
     line: &LibraryLine,
     class: &[u8],
     inf: Option<&InfDoc>,

@@ -11,7 +11,7 @@ use build_base::{Path, Rows, Same, Text, WantOfMemory};
 use doc_types::module::{InfDoc, Named};
 use doc_types::platform::LibraryLine;
 use indexmap::IndexMap;
-use line_ranks::{User, applies, covers, line_places, picked};
+use line_ranks::{Consumer, applies, covers, line_places, picked};
 use shared_value::Shared;
 use std::alloc::Global;
 use std::marker::Model;
@@ -23,7 +23,7 @@ fn is_null(class: &[u8]) -> bool
 }
 
 #[tactic(auto, unfolding(crate::specs::Closure::null_of))]
-fn null_of(user: User, line: &LibraryLine) -> Option<&Path>
+fn null_of(user: Consumer, line: &LibraryLine) -> Option<&Path>
     ensures { option_copied result ≡ null_of user line.now }
 {
     if is_null(line.class.bytes()) && applies(user, line) {
@@ -35,7 +35,7 @@ fn null_of(user: User, line: &LibraryLine) -> Option<&Path>
 
 fn push_null(
     alloc: Global,
-    user: User,
+    user: Consumer,
     line: &LibraryLine,
     paths: &mut Rows<Path>,
 ) -> Result<(), WantOfMemory>
@@ -49,7 +49,7 @@ fn push_null(
 
 fn push_nulls(
     alloc: Global,
-    user: User,
+    user: Consumer,
     lines: &[LibraryLine],
     paths: &mut Rows<Path>,
 ) -> Result<(), WantOfMemory>
@@ -66,7 +66,7 @@ fn push_nulls(
 // The instances that are linked without a class.
 fn nulls(
     alloc: Global,
-    user: User,
+    user: Consumer,
     sections: &[LibraryLine],
     own: &[LibraryLine],
 ) -> Result<Rows<Path>, WantOfMemory>
@@ -82,7 +82,7 @@ fn nulls(
 
 /// What a choice is made from, with tables over it.
 pub struct Tables<'a> {
-    user: User,
+    user: Consumer,
     sections: &'a [LibraryLine],
     own: &'a [LibraryLine],
     section_places: IndexMap<Text, usize>,
@@ -128,7 +128,7 @@ impl<'a> Tables<'a> {
     /// The tables over these lines and files.
     pub fn new(
         alloc: Global,
-        user: User,
+        user: Consumer,
         sections: &'a [LibraryLine],
         own: &'a [LibraryLine],
         infs: KnownInfs,
@@ -181,7 +181,7 @@ impl<'a> Tables<'a> {
     }
 
     /// Who asks.
-    pub fn user(&self) -> User
+    pub fn user(&self) -> Consumer
         ensures { result ≡ self.now.user }
     {
         self.user

@@ -8,7 +8,7 @@ use Rattle.std.proofs.lemmas.Option.{slice_get-get_or}
 use Rattle.build_base.specs.Best.{best, counted, over}
 use Rattle.build_base.proofs.BestLemmas.{best-append, over-none, best-counts}
 use Rattle.doc_types.specs.declared.platform.LibraryLine.{LibraryLine}
-use Rattle.line_ranks.specs.declared.user.User.{User}
+use Rattle.line_ranks.specs.declared.user.Consumer.{Consumer}
 use Rattle.line_ranks.specs.Lines.{rank, weight}
 use Rattle.line_ranks.specs.Places.{same_key, picked, Lines, outweighs}
 
@@ -50,14 +50,14 @@ some-either true r h = refl
 some-either false r h = absurd (omega (arith, h))
 
 -- a line that doesn't hold
-pub lines_skipped : {S : Type 0} (user : User) (own : Bool) (lines : List LibraryLine) (i : ℕ) (line : LibraryLine) (table : HashMap (List ℕ) ℕ S)
+pub lines_skipped : {S : Type 0} (user : Consumer) (own : Bool) (lines : List LibraryLine) (i : ℕ) (line : LibraryLine) (table : HashMap (List ℕ) ℕ S)
     → i < length lines → line ≡ get_or lines i line → rank user own line ≡ 0 → Lines user own lines (take i lines) table → Lines user own lines (take (i + 1) lines) table
 lines_skipped user own lines i line table h e zero held = λ key.
     let w = weight user own key in
     held key ∙ sym (best_next (weight user own key) lines i line h e ∙ skipped (weight user own key) (best (weight user own key) (take i lines)) line (zero-either (pointwise nat_eq line.class key) (rank user own line) zero))
 
 -- of the class of the line, what is held weighs its rank
-beaten : (user : User) (own : Bool) (class : List ℕ) (line : LibraryLine) (held : Option LibraryLine) (b : Bool)
+beaten : (user : Consumer) (own : Bool) (class : List ℕ) (line : LibraryLine) (held : Option LibraryLine) (b : Bool)
     → pointwise nat_eq line.class class ≡ b → ((x : LibraryLine) → held ≡ Some x → 0 < weight user own class x) → outweighs user own (rank user own line) held ≡ true → over (weight user own class) held (counted (weight user own class) line) ≡ held
 beaten user own class line held false e counts o = skipped (weight user own class) held line (ap (λ v. cond v (rank user own line) 0) e)
 beaten user own class line None true e counts o = absurd (cc)
@@ -66,7 +66,7 @@ beaten user own class line (Some x) true e counts o =
     let wl : weight user own class line ≡ rank user own line = ap (λ v. cond v (rank user own line) 0) e in
     less (weight user own class) x line (omega (arith, wx, wl, ltb-true (rank user own line) (rank user own x) o))
 
-taken : (user : User) (own : Bool) (class : List ℕ) (line : LibraryLine) (held : Option LibraryLine)
+taken : (user : Consumer) (own : Bool) (class : List ℕ) (line : LibraryLine) (held : Option LibraryLine)
     → pointwise nat_eq line.class class ≡ true → 0 < rank user own line → ((x : LibraryLine) → held ≡ Some x → 0 < weight user own class x) → outweighs user own (rank user own line) held ≡ false → over (weight user own class) held (counted (weight user own class) line) ≡ Some line
 taken user own class line None e p counts o =
     let wl : weight user own class line ≡ rank user own line = ap (λ v. cond v (rank user own line) 0) e in
@@ -81,7 +81,7 @@ held_same : {S X : Type 0} (xs : List X) (table : HashMap (List ℕ) ℕ S) (k q
 held_same xs table k q e = ap (λ (t : List ℕ). picked xs (get {K = List ℕ} (λ a b. pointwise nat_eq t b) table k)) e
 
 -- a line that one above goes before
-pub lines_beaten : {S : Type 0} (user : User) (own : Bool) (lines : List LibraryLine) (i : ℕ) (line : LibraryLine) (table : HashMap (List ℕ) ℕ S) (k : List ℕ)
+pub lines_beaten : {S : Type 0} (user : Consumer) (own : Bool) (lines : List LibraryLine) (i : ℕ) (line : LibraryLine) (table : HashMap (List ℕ) ℕ S) (k : List ℕ)
     → i < length lines → line ≡ get_or lines i line → k ≡ line.class → outweighs user own (rank user own line) (picked lines (get same_key table k)) ≡ true → Lines user own lines (take i lines) table → Lines user own lines (take (i + 1) lines) table
 lines_beaten user own lines i line table k h e is o held = λ key.
     held key ∙ sym (best_next (weight user own key) lines i line h e ∙ kept key (pointwise nat_eq line.class key) refl)
@@ -94,7 +94,7 @@ lines_beaten user own lines i line table k h e is o held = λ key.
         beaten user own key line (best (weight user own key) (take i lines)) true f (best-counts (weight user own key) (take i lines)) (subst (λ p. outweighs user own (rank user own line) p ≡ true) there o)
 
 -- a line that holds from now on
-pub lines_added : {S : Type 0} (user : User) (own : Bool) (lines : List LibraryLine) (i : ℕ) (line : LibraryLine) (table new : HashMap (List ℕ) ℕ S) (k : List ℕ)
+pub lines_added : {S : Type 0} (user : Consumer) (own : Bool) (lines : List LibraryLine) (i : ℕ) (line : LibraryLine) (table new : HashMap (List ℕ) ℕ S) (k : List ℕ)
     → i < length lines → line ≡ get_or lines i line → k ≡ line.class → 0 < rank user own line → outweighs user own (rank user own line) (picked lines (get same_key table k)) ≡ false
     → ((q : List ℕ) → get same_key new q ≡ cond (same_key k q) (Some i) (get same_key table q)) → Lines user own lines (take i lines) table → Lines user own lines (take (i + 1) lines) new
 lines_added user own lines i line table new k h e is p o update held = λ key.
@@ -109,6 +109,6 @@ lines_added user own lines i line table new k h e is p o update held = λ key.
         slice_get-get_or lines i line h ∙ ap (λ (l : LibraryLine). Some l) (sym e)
         ∙ sym (taken user own key line (best (weight user own key) (take i lines)) f p (best-counts (weight user own key) (take i lines)) (subst (λ r. outweighs user own (rank user own line) r ≡ false) there o))
 
-pub lines_none : {S : Type 0} (user : User) (own : Bool) (lines : List LibraryLine) (table : HashMap (List ℕ) ℕ S) → table.entries ≡ [] → Lines user own lines [] table
+pub lines_none : {S : Type 0} (user : Consumer) (own : Bool) (lines : List LibraryLine) (table : HashMap (List ℕ) ℕ S) → table.entries ≡ [] → Lines user own lines [] table
 unfolding best
 lines_none user own lines table e = λ key. rw e refl

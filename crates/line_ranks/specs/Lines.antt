@@ -8,7 +8,7 @@ use Rattle.doc_types.specs.declared.arch.Arch.TheVariants.{Common, Ia32, X64, Ar
 use Rattle.doc_types.specs.declared.module_type.ModuleType.{ModuleType}
 use Rattle.doc_types.specs.declared.module_type.ModuleType.TheVariants.{Base, Sec, PeiCore, Peim, DxeCore, DxeDriver, DxeRuntimeDriver, DxeSalDriver, DxeSmmDriver, SmmCore, MmStandalone, MmCoreStandalone, UefiDriver, UefiApplication, UserDefined, HostApplication}
 use Rattle.doc_types.specs.declared.platform.LibraryLine.{LibraryLine}
-use Rattle.line_ranks.specs.declared.user.User.{User}
+use Rattle.line_ranks.specs.declared.user.Consumer.{Consumer}
 
 -- what is stated for an architecture, or for all, holds for one
 unfoldable pub covers : Arch → Arch → Bool
@@ -46,7 +46,7 @@ type_covers None own = true
 type_covers (Some stated) own = same_type stated own
 
 -- a line of a section for this architecture or for all, and for this type or for all
-unfoldable pub applies : User → LibraryLine → Bool
+unfoldable pub applies : Consumer → LibraryLine → Bool
 applies user line = covers line.arch user.arch && type_covers line.kind user.kind
 
 abbrev pub is_common : Arch → Bool
@@ -60,9 +60,9 @@ section_rank line =
     else (if is_common line.arch then 1 else 2)
 
 -- a line of the module's own braces goes before all of those; 0 where it doesn't apply
-unfoldable pub rank : User → Bool → LibraryLine → ℕ
+unfoldable pub rank : Consumer → Bool → LibraryLine → ℕ
 rank user own line =
     if applies user line then (if own then 5 else section_rank line) else 0
 
-abbrev pub weight : User → Bool → List ℕ → LibraryLine → ℕ
+abbrev pub weight : Consumer → Bool → List ℕ → LibraryLine → ℕ
 weight user own class line = if pointwise nat_eq line.class class then rank user own line else 0

@@ -4,7 +4,7 @@ use Rattle.std.specs.Cmp.Lexicographic.{pointwise}
 use Rattle.std.specs.HashMap.{HashMap, get}
 use Rattle.build_base.specs.Best.{best}
 use Rattle.doc_types.specs.declared.platform.LibraryLine.{LibraryLine}
-use Rattle.line_ranks.specs.declared.user.User.{User}
+use Rattle.line_ranks.specs.declared.user.Consumer.{Consumer}
 use Rattle.line_ranks.specs.Lines.{rank, weight}
 
 abbrev pub same_key : List ℕ → List ℕ → Bool
@@ -15,11 +15,11 @@ picked xs None = None
 picked xs (Some place) = slice_get xs place
 
 -- a table gives for each class the place of its line among those above
-abbrev pub Lines : {S : Type 0} → User → Bool → List LibraryLine → List LibraryLine
+abbrev pub Lines : {S : Type 0} → Consumer → Bool → List LibraryLine → List LibraryLine
     → HashMap (List ℕ) ℕ S → Type 0
 Lines user own lines above table =
     (key : List ℕ) → picked lines (get same_key table key) ≡ best (weight user own key) above
 
-abbrev pub outweighs : User → Bool → ℕ → Option LibraryLine → Bool
+abbrev pub outweighs : Consumer → Bool → ℕ → Option LibraryLine → Bool
 outweighs user own weight None = false
 outweighs user own weight (Some held) = nat_lt weight (rank user own held)

@@ -8,4 +8,4 @@ mod user;
 
 pub use lines::{applies, covers, rank, same_type, type_covers};
 pub use places::{line_places, picked};
-pub use user::User;
+pub use user::Consumer;

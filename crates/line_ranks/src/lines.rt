@@ -2,7 +2,7 @@
 ghost use Rattle.std.specs.Prelude.{◌≡◌};
 ghost use Rattle.line_ranks.specs.Lines.{covers, same_type, type_covers, applies, is_common, section_rank, rank};
 
-use crate::user::User;
+use crate::user::Consumer;
 use doc_types::arch::Arch;
 use doc_types::module_type::ModuleType;
 use doc_types::platform::LibraryLine;
@@ -63,7 +63,7 @@ pub fn type_covers(stated: Option<ModuleType>, own: ModuleType) -> bool
 
 /// Whether a line holds for a module's architecture and type.
 #[tactic(auto, unfolding(crate::specs::Lines::applies))]
-pub fn applies(user: User, line: &LibraryLine) -> bool
+pub fn applies(user: Consumer, line: &LibraryLine) -> bool
     ensures { result ≡ applies user line.now }
 {
     covers(line.arch, user.arch) && type_covers(line.kind, user.kind)
@@ -91,7 +91,7 @@ fn section_rank(line: &LibraryLine) -> u8
 /// How much a line counts: 5 in the module's own braces, 4 to 1 in a section, 0 where it doesn't
 /// hold.
 #[tactic(auto, unfolding(crate::specs::Lines::rank))]
-pub fn rank(user: User, own: bool, line: &LibraryLine) -> u8
+pub fn rank(user: Consumer, own: bool, line: &LibraryLine) -> u8
     ensures { result ≡ rank user own line.now }
 {
     if !applies(user, line) {

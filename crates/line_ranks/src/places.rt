@@ -5,7 +5,7 @@ ghost use Rattle.std.specs.Option.{option_copied};
 ghost use Rattle.line_ranks.specs.Places.{Lines, outweighs, picked};
 
 use crate::lines::rank;
-use crate::user::User;
+use crate::user::Consumer;
 use build_base::{Same, Text, WantOfMemory};
 use doc_types::platform::LibraryLine;
 use indexmap::IndexMap;
@@ -26,7 +26,7 @@ pub fn picked<'a, K: Hash + Eq, T>(
     }
 }
 
-fn outweighs(user: User, own: bool, weight: u8, held: Option<&LibraryLine>) -> bool
+fn outweighs(user: Consumer, own: bool, weight: u8, held: Option<&LibraryLine>) -> bool
     ensures { result ≡ outweighs user own weight (option_copied held.entry) }
 {
     match held {
@@ -38,7 +38,7 @@ fn outweighs(user: User, own: bool, weight: u8, held: Option<&LibraryLine>) -> b
 // Adds a line under its class, unless it doesn't hold or one above goes before it.
 fn add_line(
     alloc: Global,
-    user: User,
+    user: Consumer,
     own: bool,
     lines: &[LibraryLine],
     place: usize,
@@ -66,7 +66,7 @@ fn add_line(
 /// For each class the place of the line that holds.
 pub fn line_places(
     alloc: Global,
-    user: User,
+    user: Consumer,
     own: bool,
     lines: &[LibraryLine],
 ) -> Result<IndexMap<Text, usize>, WantOfMemory>

@@ -104,18 +104,18 @@ assignments user line uses lines sets =
 
 -- The higher one is greater; of two lines of the platform's sections one for an architecture is
 -- greater than a common one.
-unfoldable pub height : Assignment → ℕ
-height a = 2 * (256 - a.rank) + (if a.own then 1 else 0)
+unfoldable pub precedence : Assignment → ℕ
+precedence a = 2 * (256 - a.rank) + (if a.own then 1 else 0)
 
 abbrev pub height_if : {T : Type 0} → Option T → ℕ → ℕ
 height_if None n = 0
 height_if (Some x) n = n
 
 unfoldable pub value_height : Assignment → ℕ
-value_height a = height_if a.value (height a)
+value_height a = height_if a.value (precedence a)
 
 unfoldable pub max_height : Assignment → ℕ
-max_height a = height_if a.max (height a)
+max_height a = height_if a.max (precedence a)
 
 -- The value is that of the greatest assignment that states one, of equal ones the last; the maximum
 -- likewise.

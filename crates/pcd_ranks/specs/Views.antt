@@ -6,7 +6,7 @@ use Rattle.doc_types.specs.declared.parts.ModuleParts.{ModuleParts}
 use Rattle.pcd_ranks.specs.declared.listing.UseAt.{UseAt}
 use Rattle.pcd_ranks.specs.declared.listing.UseLine.{UseLine}
 use Rattle.pcd_ranks.specs.declared.listing.StatedLine.{StatedLine}
-use Rattle.pcd_ranks.specs.declared.assign.Given.{Given}
+use Rattle.pcd_ranks.specs.declared.assign.LentAssignment.{LentAssignment}
 use Rattle.pcd_ranks.specs.Listing.{Declared, Use, Stated, use_of}
 use Rattle.pcd_ranks.specs.Assignments.{Assignment}
 
@@ -28,7 +28,7 @@ at_view parts at = use_of parts at.inf.now at.line.now
 abbrev pub stated_view : StatedLine → Stated
 stated_view s = record { home = option_map (λ h. h.now) s.home; line = s.line.now }
 
-abbrev pub given_view : Given → Assignment
+abbrev pub given_view : LentAssignment → Assignment
 given_view g =
     record {
       rank = g.rank;

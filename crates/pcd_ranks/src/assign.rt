@@ -2,7 +2,7 @@
 ghost use Rattle.std.specs.Prelude.{◌≡◌, ◌++◌, ◌∷◌, [], map, filter, IfOk, OnOk, option_copied};
 ghost use Rattle.std.specs.Option.{option_map};
 ghost use Rattle.build_base.specs.Best.{best, over, counted};
-ghost use Rattle.pcd_ranks.specs.Assignments.{Parts, small, one_field, vpd_parts, parts_by, parts_stated, by_declaration, first_default, by_line, by_set, assignments, height, height_if, value_height, max_height, value_from, max_from};
+ghost use Rattle.pcd_ranks.specs.Assignments.{Parts, small, one_field, vpd_parts, parts_by, parts_stated, by_declaration, first_default, by_line, by_set, assignments, precedence, height_if, value_height, max_height, value_from, max_from};
 ghost use Rattle.meta_lexer.specs.Numbers.{number_of};
 ghost use Rattle.pcd_ranks.specs.Listing.{applies};
 ghost use Rattle.pcd_ranks.specs.Views.{use_view, stated_view, given_view};
@@ -20,7 +20,7 @@ use std::alloc::Global;
 /// An assignment: its rank, whether it is for an architecture of its own, where it stands, and what
 /// it states.
 #[derive(Clone, Copy)]
-pub struct Given<'a> {
+pub struct LentAssignment<'a> {
     pub rank: u8,
     pub own: bool,
     pub at: &'a Place,
@@ -37,35 +37,38 @@ fn small(n: Option<u64>) -> Option<u32>
     }
 }
 
-#[tactic(auto, unfolding(crate::specs::Assignments::height))]
-fn height(a: &Given<'_>) -> u64
-    ensures { result ≡ height (given_view a.now) }
+#[tactic(auto, unfolding(crate::specs::Assignments::precedence))]
+fn precedence(a: &LentAssignment<'_>) -> u64
+    ensures { result ≡ precedence (given_view a.now) }
 {
     let base = 2 * (256 - a.rank as u64);
     if a.own { base + 1 } else { base }
 }
 
 #[tactic(auto, unfolding(crate::specs::Assignments::value_height))]
-fn value_height(a: &Given<'_>) -> u64
+fn value_height(a: &LentAssignment<'_>) -> u64
     ensures { result ≡ value_height (given_view a.now) }
 {
     match a.value {
-        Some(_) => height(a),
+        Some(_) => precedence(a),
         None => 0,
     }
 }
 
 #[tactic(auto, unfolding(crate::specs::Assignments::max_height))]
-fn max_height(a: &Given<'_>) -> u64
+fn max_height(a: &LentAssignment<'_>) -> u64
     ensures { result ≡ max_height (given_view a.now) }
 {
     match a.max {
-        Some(_) => height(a),
+        Some(_) => precedence(a),
         None => 0,
     }
 }
 
-fn higher_value<'a>(held: Option<Given<'a>>, a: Given<'a>) -> Option<Given<'a>>
+fn higher_value<'a>(
+    held: Option<LentAssignment<'a>>,
+    a: LentAssignment<'a>,
+) -> Option<LentAssignment<'a>>
     ensures { option_map given_view result
         ≡ over value_height (option_map given_view held.entry)
         (counted value_height (given_view a.entry)) }
@@ -86,7 +89,7 @@ fn higher_value<'a>(held: Option<Given<'a>>, a: Given<'a>) -> Option<Given<'a>>
 }
 
 /// The assignment that gives the value.
-pub fn value_from<'a>(all: &[Given<'a>]) -> Option<Given<'a>>
+pub fn value_from<'a>(all: &[LentAssignment<'a>]) -> Option<LentAssignment<'a>>
     ensures { option_map given_view result ≡ best value_height (map given_view all.now) }
 {
     let mut held = None;
@@ -96,7 +99,10 @@ pub fn value_from<'a>(all: &[Given<'a>]) -> Option<Given<'a>>
     held
 }
 
-fn higher_max<'a>(held: Option<Given<'a>>, a: Given<'a>) -> Option<Given<'a>>
+fn higher_max<'a>(
+    held: Option<LentAssignment<'a>>,
+    a: LentAssignment<'a>,
+) -> Option<LentAssignment<'a>>
     ensures { option_map given_view result
         ≡ over max_height (option_map given_view held.entry)
         (counted max_height (given_view a.entry)) }
@@ -117,7 +123,7 @@ fn higher_max<'a>(held: Option<Given<'a>>, a: Given<'a>) -> Option<Given<'a>>
 }
 
 /// The assignment that gives the maximum.
-pub fn max_from<'a>(all: &[Given<'a>]) -> Option<Given<'a>>
+pub fn max_from<'a>(all: &[LentAssignment<'a>]) -> Option<LentAssignment<'a>>
     ensures { option_map given_view result ≡ best max_height (map given_view all.now) }
 {
     let mut held = None;
@@ -129,10 +135,10 @@ pub fn max_from<'a>(all: &[Given<'a>]) -> Option<Given<'a>>
 
 /// The default of a declaration.
 #[tactic(auto, unfolding(crate::specs::Assignments::by_declaration))]
-pub fn by_declaration<'a>(line: &'a DecPcd) -> Given<'a>
+pub fn by_declaration<'a>(line: &'a DecPcd) -> LentAssignment<'a>
     ensures { given_view result ≡ by_declaration line.now }
 {
-    Given {
+    LentAssignment {
         rank: 8,
         own: false,
         at: &line.at,
@@ -142,10 +148,10 @@ pub fn by_declaration<'a>(line: &'a DecPcd) -> Given<'a>
 }
 
 #[tactic(auto, unfolding(crate::specs::Assignments::by_set))]
-fn by_set<'a>(set: &'a PcdSet) -> Given<'a>
+fn by_set<'a>(set: &'a PcdSet) -> LentAssignment<'a>
     ensures { given_view result ≡ by_set set.now }
 {
-    Given {
+    LentAssignment {
         rank: set.rank,
         own: false,
         at: &set.at,
@@ -222,20 +228,20 @@ fn max_stated(datum: Datum, line: &PcdLine) -> Option<u32>
 }
 
 #[tactic(auto, unfolding(crate::specs::Assignments::by_line))]
-pub fn by_line<'a>(datum: Datum, stated: &StatedLine<'a>) -> Given<'a>
+pub fn by_line<'a>(datum: Datum, stated: &StatedLine<'a>) -> LentAssignment<'a>
     ensures { given_view result ≡ by_line datum (stated_view stated.now) }
 {
     let value = value_stated(datum, stated.line);
     let max = max_stated(datum, stated.line);
     match stated.home {
-        None => Given {
+        None => LentAssignment {
             rank: 6,
             own: !is_common(stated.line.arch),
             at: &stated.line.at,
             value,
             max,
         },
-        Some(_) => Given {
+        Some(_) => LentAssignment {
             rank: 2,
             own: false,
             at: &stated.line.at,
@@ -245,7 +251,7 @@ pub fn by_line<'a>(datum: Datum, stated: &StatedLine<'a>) -> Given<'a>
     }
 }
 
-pub fn put<'a>(all: &mut Vec<Given<'a>>, a: Given<'a>) -> Result<(), WantOfMemory>
+pub fn put<'a>(all: &mut Vec<LentAssignment<'a>>, a: LentAssignment<'a>) -> Result<(), WantOfMemory>
     ensures { OnOk result (map given_view all.new.items
         ≡ map given_view all.old.items ++ given_view a.entry ∷ []) }
 {
@@ -256,13 +262,16 @@ pub fn put<'a>(all: &mut Vec<Given<'a>>, a: Given<'a>) -> Result<(), WantOfMemor
 }
 
 // The first default that an INF of the module states.
-fn put_default<'a>(all: &mut Vec<Given<'a>>, uses: &[UseLine<'a>]) -> Result<(), WantOfMemory>
+fn put_default<'a>(
+    all: &mut Vec<LentAssignment<'a>>,
+    uses: &[UseLine<'a>],
+) -> Result<(), WantOfMemory>
     ensures { OnOk result (map given_view all.new.items
         ≡ map given_view all.old.items ++ first_default (map use_view uses.now)) }
 {
     for used in uses {
         if let Some(text) = &used.line.default {
-            let a = Given {
+            let a = LentAssignment {
                 rank: 7,
                 own: false,
                 at: &used.line.at,
@@ -277,7 +286,7 @@ fn put_default<'a>(all: &mut Vec<Given<'a>>, uses: &[UseLine<'a>]) -> Result<(),
 }
 
 fn put_line<'a>(
-    all: &mut Vec<Given<'a>>,
+    all: &mut Vec<LentAssignment<'a>>,
     user: &Module,
     datum: Datum,
     stated: &StatedLine<'a>,
@@ -293,7 +302,7 @@ fn put_line<'a>(
 }
 
 fn put_stated<'a>(
-    all: &mut Vec<Given<'a>>,
+    all: &mut Vec<LentAssignment<'a>>,
     user: &Module,
     datum: Datum,
     lines: &[StatedLine<'a>],
@@ -308,7 +317,10 @@ fn put_stated<'a>(
     Ok(())
 }
 
-pub fn put_sets<'a>(all: &mut Vec<Given<'a>>, sets: &[&'a PcdSet]) -> Result<(), WantOfMemory>
+pub fn put_sets<'a>(
+    all: &mut Vec<LentAssignment<'a>>,
+    sets: &[&'a PcdSet],
+) -> Result<(), WantOfMemory>
     ensures { OnOk result (map given_view all.new.items
         ≡ map given_view all.old.items ++ map by_set (map (λ s. s.now) sets.now)) }
 {
@@ -321,7 +333,7 @@ pub fn put_sets<'a>(all: &mut Vec<Given<'a>>, sets: &[&'a PcdSet]) -> Result<(),
 // Adds the assignments of a PCD for a module.
 #[tactic(auto, unfolding(crate::specs::Assignments::assignments))]
 fn put_all<'a>(
-    all: &mut Vec<Given<'a>>,
+    all: &mut Vec<LentAssignment<'a>>,
     user: &Module,
     line: &'a DecPcd,
     uses: &[UseLine<'a>],
@@ -347,7 +359,7 @@ pub fn assignments<'a>(
     uses: &[UseLine<'a>],
     lines: &[StatedLine<'a>],
     sets: &[&'a PcdSet],
-) -> Result<Vec<Given<'a>>, WantOfMemory>
+) -> Result<Vec<LentAssignment<'a>>, WantOfMemory>
     ensures { IfOk result (λ v. map given_view v.items
         ≡ assignments user.now line.now (map use_view uses.now) (map stated_view lines.now)
         (map (λ s. s.now) sets.now)) }

@@ -11,7 +11,7 @@ use Rattle.build_base.proofs.Steps.{map-passed}
 use Rattle.std.proofs.lemmas.List.{map-append, append-nil, flat_map_more}
 use Rattle.std.proofs.lemmas.List.Elements.{filter-append}
 use Rattle.pcd_resolve.specs.Groups.{same_key, group, Grouped, GroupedAt}
-use Rattle.pcd_resolve.specs.Marks.{is_kept}
+use Rattle.pcd_resolve.specs.NameFilter.{is_kept}
 
 bytes_same : (xs ys : List ℕ) → bytes_eq xs ys ≡ true → xs ≡ ys
 bytes_same xs ys e = same_text xs ys (sym e)

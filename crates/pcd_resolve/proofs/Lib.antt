@@ -1,6 +1,6 @@
 pub mod DatumLemmas
 pub mod GroupLemmas
-pub mod MarkLemmas
+pub mod NameFilterLemmas
 pub mod SkuLemmas
 pub mod SortedLemmas
 pub mod SoughtLemmas

@@ -9,14 +9,14 @@ use Rattle.doc_types.specs.declared.asks.PlatformAsk.{PlatformAsk}
 use Rattle.doc_types.specs.declared.package.DecPcd.{DecPcd}
 use Rattle.doc_types.specs.declared.parts.ModuleParts.{ModuleParts}
 use Rattle.doc_types.specs.declared.pcd.Kind.{Kind}
-use Rattle.pcd_resolve.specs.declared.sought.Sought.{Sought}
+use Rattle.pcd_resolve.specs.declared.sought.DeclarationSearch.{DeclarationSearch}
 use Rattle.pcd_resolve.specs.Kinds.{head_of}
 use Rattle.pcd_ranks.specs.Listing.{declared_in}
-use Rattle.pcd_resolve.specs.Marks.{is_kept}
+use Rattle.pcd_resolve.specs.NameFilter.{is_kept}
 use Rattle.pcd_resolve.specs.Platform.{declaration_among}
 use Rattle.pcd_resolve.specs.Sought.{Quest, begun, found, front_if, is_open, kind_at, look, look_each, misses, of_some, open_names, sought_view}
 use Rattle.pcd_resolve.specs.Tables.{AllKept}
-use Rattle.pcd_resolve.proofs.MarkLemmas.{map_twice}
+use Rattle.pcd_resolve.proofs.NameFilterLemmas.{map_twice}
 
 none_last : (x : Option DecPcd) → or_else x None ≡ x
 none_last None = refl
@@ -67,7 +67,7 @@ kept_there : (marks : List Bool) (b : Bool) (name : List ℕ) (names : List (Lis
 kept_there marks true name names h = All-tail (λ n. is_kept marks n ≡ true) name names h
 kept_there marks false name names h = h
 
-pub open_kept : (marks : List Bool) (all : List Sought) → AllKept marks (open_names (map sought_view all))
+pub open_kept : (marks : List Bool) (all : List DeclarationSearch) → AllKept marks (open_names (map sought_view all))
     → All (λ s. is_open (sought_view s) ≡ true → is_kept marks s.name.now.items ≡ true) all
 open_kept marks [] h = All-nil (λ s. is_open (sought_view s) ≡ true → is_kept marks s.name.now.items ≡ true)
 open_kept marks (s ∷ all) h =
@@ -109,18 +109,18 @@ found_all : (ask : PlatformAsk) (names : List (List ℕ)) → map (look_all ask.
 found_all ask [] = refl
 found_all ask (name ∷ names) = ap (λ xs. found ask name ∷ xs) (found_all ask names)
 
-pub found_each : (ask : PlatformAsk) (names : List (List ℕ)) (start all : List Sought)
+pub found_each : (ask : PlatformAsk) (names : List (List ℕ)) (start all : List DeclarationSearch)
     → map sought_view start ≡ map (begun ask) names → map sought_view all ≡ fold look_each (map sought_view start) ask.modules
     → map sought_view all ≡ map (found ask) names
 found_each ask names start all s e =
     e ∙ ap (λ qs. fold look_each qs ask.modules) s ∙ looked_all ask.modules (map (begun ask) names) ∙ found_all ask names
 
-pub names_found : (ask : PlatformAsk) (all : List Sought) (names : List (List ℕ)) → map sought_view all ≡ map (found ask) names → map (λ s. s.name.now.items) all ≡ names
+pub names_found : (ask : PlatformAsk) (all : List DeclarationSearch) (names : List (List ℕ)) → map sought_view all ≡ map (found ask) names → map (λ s. s.name.now.items) all ≡ names
 names_found ask all names e =
     sym (map_twice (λ (q : Quest). q.name) sought_view all) ∙ ap (map (λ (q : Quest). q.name)) e
     ∙ map_twice (λ (q : Quest). q.name) (found ask) names ∙ map-id names
 
-pub each_found : (ask : PlatformAsk) (all : List Sought) (names : List (List ℕ)) → map sought_view all ≡ map (found ask) names → All (λ s. sought_view s ≡ found ask s.name.now.items) all
+pub each_found : (ask : PlatformAsk) (all : List DeclarationSearch) (names : List (List ℕ)) → map sought_view all ≡ map (found ask) names → All (λ s. sought_view s ≡ found ask s.name.now.items) all
 each_found ask [] names e = All-nil (λ s. sought_view s ≡ found ask s.name.now.items)
 each_found ask (s ∷ all) [] e = absurd cc
 each_found ask (s ∷ all) (name ∷ names) e =
@@ -130,7 +130,7 @@ each_found ask (s ∷ all) (name ∷ names) e =
     All-cons (λ s. sought_view s ≡ found ask s.name.now.items) s all (here ∙ ap (found ask) (sym named)) (each_found ask all names rest)
 
 -- the line of a PCD of a kind
-pub declared_among : (ask : PlatformAsk) (kind : Kind) (s : Sought) → s.kind ≡ Some kind → sought_view s ≡ found ask s.name.now.items
+pub declared_among : (ask : PlatformAsk) (kind : Kind) (s : DeclarationSearch) → s.kind ≡ Some kind → sought_view s ≡ found ask s.name.now.items
     → or_else (option_copied s.line) (option_copied s.first) ≡ declaration_among kind s.name.now.items ask.modules
 unfolding declaration_among
 declared_among ask kind s k e =

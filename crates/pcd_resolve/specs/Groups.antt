@@ -6,7 +6,7 @@ use Rattle.std.specs.declared.cmp.Ordering.{Ordering}
 use Rattle.std.specs.Global.{Vec}
 use Rattle.std.specs.HashMap.{HashMap, get}
 use Rattle.std.specs.Str.{bytes_eq}
-use Rattle.pcd_resolve.specs.Marks.{is_kept}
+use Rattle.pcd_resolve.specs.NameFilter.{is_kept}
 
 abbrev pub same_key : Vec ℕ → Vec ℕ → Bool
 same_key x y = pointwise nat_eq x.items y.items

@@ -6,7 +6,7 @@ use Rattle.doc_types.specs.declared.asks.PlatformAsk.{PlatformAsk}
 use Rattle.doc_types.specs.declared.package.DecPcd.{DecPcd}
 use Rattle.doc_types.specs.declared.parts.ModuleParts.{ModuleParts}
 use Rattle.doc_types.specs.declared.pcd.Kind.{Kind}
-use Rattle.pcd_resolve.specs.declared.sought.Sought.{Sought}
+use Rattle.pcd_resolve.specs.declared.sought.DeclarationSearch.{DeclarationSearch}
 use Rattle.pcd_resolve.specs.Kinds.{claims, head_of, kind_of, of_kind}
 use Rattle.pcd_ranks.specs.Listing.{declared_in, stated_for, stated_in, uses_in, uses_of}
 
@@ -18,7 +18,7 @@ pub record Quest : Type 0 where
   pub line : Option DecPcd
   pub first : Option DecPcd
 
-abbrev pub sought_view : Sought → Quest
+abbrev pub sought_view : DeclarationSearch → Quest
 sought_view s =
     record {
       name = s.name.now.items;

@@ -7,7 +7,7 @@ use Rattle.doc_types.specs.declared.platform.PcdLine.{PcdLine}
 use Rattle.doc_types.specs.declared.values.PcdRow.{PcdRow}
 use Rattle.pcd_resolve.specs.declared.packages.ModuleTables.{ModuleTables}
 use Rattle.pcd_resolve.specs.Groups.{GroupedAt}
-use Rattle.pcd_resolve.specs.Marks.{is_kept}
+use Rattle.pcd_resolve.specs.NameFilter.{is_kept}
 use Rattle.pcd_ranks.specs.Names.{dotted}
 use Rattle.pcd_ranks.specs.Listing.{Declared, Use, Stated, arch_of, package_lines, packages_in}
 use Rattle.pcd_ranks.specs.Views.{declared_view}

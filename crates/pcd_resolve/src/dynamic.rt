@@ -27,7 +27,7 @@ use doc_types::platform::{Sku, Store};
 use doc_types::values::{PcdRow, SkuRow};
 use indexmap::IndexMap;
 use meta_lexer::numbers::number;
-use pcd_ranks::assign::{Given, by_declaration, by_line, put, put_sets, value_from};
+use pcd_ranks::assign::{LentAssignment, by_declaration, by_line, put, put_sets, value_from};
 use pcd_ranks::listing::StatedLine;
 use pcd_ranks::names::is_void;
 use pcd_values::sku_value;
@@ -104,7 +104,7 @@ pub(crate) fn vpd_faults(
 }
 
 fn put_default<'a>(
-    all: &mut Vec<Given<'a>>,
+    all: &mut Vec<LentAssignment<'a>>,
     line: &'a DecPcd,
     sku: &[u8],
 ) -> Result<(), WantOfMemory>
@@ -118,7 +118,7 @@ fn put_default<'a>(
 }
 
 fn put_line<'a>(
-    all: &mut Vec<Given<'a>>,
+    all: &mut Vec<LentAssignment<'a>>,
     datum: Datum,
     stated: &StatedLine<'a>,
     sku: &[u8],
@@ -134,7 +134,7 @@ fn put_line<'a>(
 }
 
 fn put_lines<'a>(
-    all: &mut Vec<Given<'a>>,
+    all: &mut Vec<LentAssignment<'a>>,
     datum: Datum,
     lines: &[StatedLine<'a>],
     sku: &[u8],
@@ -157,7 +157,7 @@ pub(crate) fn sku_assignments<'a>(
     lines: &[StatedLine<'a>],
     sets: &[&'a PcdSet],
     sku: &[u8],
-) -> Result<Vec<Given<'a>>, WantOfMemory>
+) -> Result<Vec<LentAssignment<'a>>, WantOfMemory>
     ensures { IfOk result (λ v. map given_view v.items
         ≡ sku_assignments line.now (map stated_view lines.now) (map (λ s. s.now) sets.now)
         sku.now) }
@@ -173,7 +173,7 @@ fn put_named(
     alloc: Global,
     rows: &mut Rows<SkuRow>,
     sku: &Text,
-    taken: Option<Given<'_>>,
+    taken: Option<LentAssignment<'_>>,
 ) -> Result<(), WantOfMemory>
     ensures { OnOk result (rows.new ≡ rows.old
         ++ named_if sku.now (option_map given_view taken.entry)) }

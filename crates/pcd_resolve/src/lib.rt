@@ -5,7 +5,7 @@ pub mod dynamic;
 pub mod faults;
 pub mod groups;
 pub mod kinds;
-pub mod marks;
+pub mod name_filter;
 pub mod packages;
 pub mod platform;
 pub mod resolve;

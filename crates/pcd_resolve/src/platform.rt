@@ -20,7 +20,7 @@ use crate::resolve::append;
 use crate::sku_tables::{SkuTables, tables_of};
 use crate::skus::{chosen, is_all, skus_known};
 use crate::sorted::names_of_modules;
-use crate::sought::{Sought, declaration, sought_of};
+use crate::sought::{DeclarationSearch, declaration, sought_of};
 use crate::tables::{all_lines, all_sets};
 use crate::used::all_uses_by_name;
 use build_base::{Permit, Refusal, Rows, Text, WantOfMemory};
@@ -84,7 +84,7 @@ pub fn counted<'a>(
 fn rows_by<'a>(
     alloc: Global,
     ask: &'a PlatformAsk,
-    sought: &Sought<'_, 'a>,
+    sought: &DeclarationSearch<'_, 'a>,
     skus: &SkuTables,
     picked: &[&'a Sku],
     lines: &[StatedLine<'a>],
@@ -123,7 +123,7 @@ fn rows_by<'a>(
 fn rows_at<'a>(
     alloc: Global,
     ask: &'a PlatformAsk,
-    sought: &Sought<'_, 'a>,
+    sought: &DeclarationSearch<'_, 'a>,
     skus: &SkuTables,
     picked: &[&'a Sku],
     uses: &IndexMap<Vec<u8>, Vec<UseLine<'a>>>,
@@ -162,7 +162,7 @@ fn rows_at<'a>(
 fn all_rows<'a>(
     alloc: Global,
     ask: &'a PlatformAsk,
-    all: &[Sought<'_, 'a>],
+    all: &[DeclarationSearch<'_, 'a>],
     skus: &SkuTables,
     picked: &[&'a Sku],
     uses: &IndexMap<Vec<u8>, Vec<UseLine<'a>>>,

@@ -3,13 +3,13 @@ ghost use Rattle.std.specs.Prelude.{◌≡◌, ◌++◌, true, map, IfOk, OnOk};
 ghost use Rattle.build_base.specs.Answer.{Answers};
 ghost use Rattle.pcd_resolve.specs.Groups.{Grouped, GroupedAt};
 ghost use Rattle.pcd_ranks.specs.Listing.{stated_in, uses_of_module};
-ghost use Rattle.pcd_resolve.specs.Marks.{is_kept};
+ghost use Rattle.pcd_resolve.specs.NameFilter.{is_kept};
 ghost use Rattle.pcd_resolve.specs.Rows.{all_rows, module_values, names_of, rows_in, sets_in};
 ghost use Rattle.pcd_resolve.specs.Tables.{AllKept, IsTabled, row_name, set_name, stated_name, use_name};
 ghost use Rattle.pcd_ranks.specs.Views.{stated_view, use_view};
 
 use crate::groups::group;
-use crate::marks::marks_of;
+use crate::name_filter::marks_of;
 use crate::packages::{ModuleTables, declared_in, tables_of};
 use crate::rows::rows_of;
 use crate::sorted::names_of_module;

@@ -15,13 +15,13 @@ use doc_types::choice::Module;
 use doc_types::package::DecPcd;
 use doc_types::pcd::{Datum, Kind, PcdSet};
 use doc_types::values::PcdRow;
-use pcd_ranks::assign::{Given, assignments, max_from, value_from};
+use pcd_ranks::assign::{LentAssignment, assignments, max_from, value_from};
 use pcd_ranks::listing::{StatedLine, UseLine};
 use pcd_ranks::names::{is_dynamic, is_void};
 use pcd_values::parse::{parse_value, width};
 use std::alloc::Global;
 
-fn stated_max(found: Option<Given<'_>>) -> Option<u32>
+fn stated_max(found: Option<LentAssignment<'_>>) -> Option<u32>
     ensures { result ≡ stated_max (option_map given_view found.entry) }
 {
     match found {
@@ -34,7 +34,7 @@ fn stated_max(found: Option<Given<'_>>) -> Option<u32>
 fn maximum(
     alloc: Global,
     datum: Datum,
-    taken: &Given<'_>,
+    taken: &LentAssignment<'_>,
     text: &[u8],
     bytes: &[u8],
     stated: Option<u32>,
@@ -86,7 +86,7 @@ pub fn row_of(
     kind: Kind,
     line: &DecPcd,
     sku: &[u8],
-    all: &[Given<'_>],
+    all: &[LentAssignment<'_>],
 ) -> Result<Rows<PcdRow>, Refusal>
     ensures { Answers result (row_of kind line.now sku.now (map given_view all.now)) }
 {

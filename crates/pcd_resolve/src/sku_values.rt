@@ -23,7 +23,7 @@ use doc_types::pcd::{Kind, PcdSet};
 use doc_types::platform::Sku;
 use doc_types::values::PcdRow;
 use indexmap::IndexMap;
-use pcd_ranks::assign::{Given, value_from};
+use pcd_ranks::assign::{LentAssignment, value_from};
 use pcd_ranks::listing::StatedLine;
 use std::alloc::Global;
 
@@ -62,7 +62,7 @@ fn assignments_of<'a>(
     own: &IndexMap<Vec<u8>, Vec<StatedLine<'a>>>,
     sets: &[&'a PcdSet],
     sku: &[u8],
-) -> Result<Vec<Given<'a>>, WantOfMemory>
+) -> Result<Vec<LentAssignment<'a>>, WantOfMemory>
     ensures { (lines : List Stated) → Grouped stated_view stated_sku lines own.now
         → IfOk result (λ v. map given_view v.items
         ≡ sku_assignments line.now lines (map (λ s. s.now) sets.now) sku.now) }

@@ -7,7 +7,7 @@ ghost use Rattle.build_base.specs.First.{or_else};
 ghost use Rattle.doc_types.specs.declared.asks.PlatformAsk.{PlatformAsk as Ask};
 ghost use Rattle.pcd_resolve.specs.Groups.{Grouped};
 ghost use Rattle.pcd_ranks.specs.Listing.{stated_in, uses_in};
-ghost use Rattle.pcd_resolve.specs.Marks.{is_kept, with_marks};
+ghost use Rattle.pcd_resolve.specs.NameFilter.{is_kept, with_marks};
 ghost use Rattle.pcd_resolve.specs.Platform.{declaration_among};
 ghost use Rattle.pcd_resolve.specs.Sought.{begun, found, front_if, is_open, look, look_each, of_some, open_names, sought_view, widen};
 ghost use Rattle.pcd_resolve.specs.Tables.{IsTabled, stated_name, use_name};
@@ -15,7 +15,7 @@ ghost use Rattle.pcd_ranks.specs.Views.{stated_view, use_view};
 
 use crate::groups::group;
 use crate::kinds::{first_of_kind, head_of, kind_of};
-use crate::marks::{mark, no_marks};
+use crate::name_filter::{mark, no_marks};
 use crate::packages::{ModuleTables, declared_in, tables_of};
 use build_base::WantOfMemory;
 use doc_types::asks::PlatformAsk;
@@ -29,7 +29,7 @@ use std::alloc::Global;
 /// A PCD of modules: its kind, and of the lines by which the modules' packages declare it the first
 /// one of the kind and the first one.
 #[derive(Clone, Copy)]
-pub struct Sought<'n, 'a> {
+pub struct DeclarationSearch<'n, 'a> {
     pub name: &'n Vec<u8>,
     pub kind: Option<Kind>,
     pub line: Option<&'a DecPcd>,
@@ -57,7 +57,7 @@ fn or_else<'a>(first: Option<&'a DecPcd>, second: Option<&'a DecPcd>) -> Option<
 
 /// The line that gives a PCD its type and its token.
 #[tactic(auto, using(crate::proofs::SoughtLemmas::declared_among))]
-pub fn declaration<'a>(kind: Kind, one: &Sought<'_, 'a>) -> Option<&'a DecPcd>
+pub fn declaration<'a>(kind: Kind, one: &DeclarationSearch<'_, 'a>) -> Option<&'a DecPcd>
     ensures { (ask : Ask) → one.now.kind ≡ Some kind
         → sought_view one.now ≡ found ask one.now.name.now.items
         → option_copied result ≡ declaration_among kind one.now.name.now.items ask.modules }
@@ -66,7 +66,7 @@ pub fn declaration<'a>(kind: Kind, one: &Sought<'_, 'a>) -> Option<&'a DecPcd>
 }
 
 // Whether one of the lines isn't found yet.
-fn is_open(one: &Sought<'_, '_>) -> bool
+fn is_open(one: &DeclarationSearch<'_, '_>) -> bool
     ensures { result ≡ is_open (sought_view one.now) }
 {
     match one.line {
@@ -78,7 +78,7 @@ fn is_open(one: &Sought<'_, '_>) -> bool
     }
 }
 
-fn any_open(all: &[Sought<'_, '_>]) -> bool
+fn any_open(all: &[DeclarationSearch<'_, '_>]) -> bool
     ensures { result ≡ list_any is_open (map sought_view all.now) }
 {
     for one in all {
@@ -89,7 +89,7 @@ fn any_open(all: &[Sought<'_, '_>]) -> bool
     false
 }
 
-fn mark_open(marks: &mut Vec<bool>, one: &Sought<'_, '_>)
+fn mark_open(marks: &mut Vec<bool>, one: &DeclarationSearch<'_, '_>)
     ensures { marks.new.items ≡ with_marks marks.old.items
         (front_if (is_open (sought_view one.now)) (sought_view one.now).name []) }
 {
@@ -98,7 +98,7 @@ fn mark_open(marks: &mut Vec<bool>, one: &Sought<'_, '_>)
     }
 }
 
-fn mark_all_open(marks: &mut Vec<bool>, all: &[Sought<'_, '_>])
+fn mark_all_open(marks: &mut Vec<bool>, all: &[DeclarationSearch<'_, '_>])
     ensures { marks.new.items ≡ with_marks marks.old.items (open_names (map sought_view all.now)) }
 {
     let mut left = all;
@@ -108,7 +108,7 @@ fn mark_all_open(marks: &mut Vec<bool>, all: &[Sought<'_, '_>])
     }
 }
 
-fn open_marks(alloc: Global, all: &[Sought<'_, '_>]) -> Result<Vec<bool>, WantOfMemory>
+fn open_marks(alloc: Global, all: &[DeclarationSearch<'_, '_>]) -> Result<Vec<bool>, WantOfMemory>
     ensures { IfOk result
         (λ marks. All (λ s. is_open (sought_view s) ≡ true
         → is_kept marks.items s.name.now.items ≡ true) all.now) }
@@ -118,12 +118,15 @@ fn open_marks(alloc: Global, all: &[Sought<'_, '_>]) -> Result<Vec<bool>, WantOf
     Ok(marks)
 }
 
-fn widened<'n, 'a>(one: &Sought<'n, 'a>, lines: &[&'a DecPcd]) -> Sought<'n, 'a>
+fn widened<'n, 'a>(
+    one: &DeclarationSearch<'n, 'a>,
+    lines: &[&'a DecPcd],
+) -> DeclarationSearch<'n, 'a>
     ensures { sought_view result ≡ widen (sought_view one.now) (map (λ l. l.now) lines.now) }
 {
     let line = or_else(one.line, of_some(one.kind, lines));
     let first = or_else(one.first, head_of(lines));
-    Sought {
+    DeclarationSearch {
         name: one.name,
         kind: one.kind,
         line,
@@ -134,8 +137,8 @@ fn widened<'n, 'a>(one: &Sought<'n, 'a>, lines: &[&'a DecPcd]) -> Sought<'n, 'a>
 fn looked<'n, 'a>(
     alloc: Global,
     tables: &ModuleTables<'a>,
-    one: &Sought<'n, 'a>,
-) -> Result<Sought<'n, 'a>, WantOfMemory>
+    one: &DeclarationSearch<'n, 'a>,
+) -> Result<DeclarationSearch<'n, 'a>, WantOfMemory>
     requires tabled { IsTabled tables.now }
     requires kept { is_open (sought_view one.now) ≡ true
         → is_kept tables.now.marks.items one.now.name.now.items ≡ true }
@@ -151,8 +154,8 @@ fn looked<'n, 'a>(
 fn looked_by<'n, 'a>(
     alloc: Global,
     tables: &ModuleTables<'a>,
-    all: &[Sought<'n, 'a>],
-) -> Result<Vec<Sought<'n, 'a>>, WantOfMemory>
+    all: &[DeclarationSearch<'n, 'a>],
+) -> Result<Vec<DeclarationSearch<'n, 'a>>, WantOfMemory>
     requires tabled { IsTabled tables.now }
     requires kept { All (λ s. is_open (sought_view s) ≡ true
         → is_kept tables.now.marks.items s.name.now.items ≡ true) all.now }
@@ -172,8 +175,8 @@ fn looked_by<'n, 'a>(
 fn looked_in<'n, 'a>(
     alloc: Global,
     parts: &'a ModuleParts,
-    all: &[Sought<'n, 'a>],
-) -> Result<Vec<Sought<'n, 'a>>, WantOfMemory>
+    all: &[DeclarationSearch<'n, 'a>],
+) -> Result<Vec<DeclarationSearch<'n, 'a>>, WantOfMemory>
     ensures { IfOk result (λ v. map sought_view v.items
         ≡ look_each (map sought_view all.now) parts.now) }
 {
@@ -186,8 +189,8 @@ fn looked_in<'n, 'a>(
 fn looked_further<'n, 'a>(
     alloc: Global,
     parts: &'a ModuleParts,
-    all: Vec<Sought<'n, 'a>>,
-) -> Result<Vec<Sought<'n, 'a>>, WantOfMemory>
+    all: Vec<DeclarationSearch<'n, 'a>>,
+) -> Result<Vec<DeclarationSearch<'n, 'a>>, WantOfMemory>
     ensures { IfOk result (λ v. map sought_view v.items
         ≡ look_each (map sought_view all.entry.items) parts.now) }
 {
@@ -201,8 +204,8 @@ fn looked_further<'n, 'a>(
 fn looked_among<'n, 'a>(
     alloc: Global,
     modules: &'a [ModuleParts],
-    start: Vec<Sought<'n, 'a>>,
-) -> Result<Vec<Sought<'n, 'a>>, WantOfMemory>
+    start: Vec<DeclarationSearch<'n, 'a>>,
+) -> Result<Vec<DeclarationSearch<'n, 'a>>, WantOfMemory>
     ensures { IfOk result (λ v. map sought_view v.items
         ≡ fold look_each (map sought_view start.entry.items) modules.now) }
 {
@@ -220,13 +223,13 @@ fn begun_at<'n, 'a>(
     name: &'n Vec<u8>,
     uses: &IndexMap<Vec<u8>, Vec<UseLine<'a>>>,
     lines: &IndexMap<Vec<u8>, Vec<StatedLine<'a>>>,
-) -> Sought<'n, 'a>
+) -> DeclarationSearch<'n, 'a>
     requires uses { Grouped use_view use_name (uses_in ask.now.modules) uses.now }
     requires lines { Grouped stated_view stated_name (stated_in ask.now.platform) lines.now }
     ensures { sought_view result ≡ begun ask.now name.now.items }
 {
     let kind = kind_of(group(uses, name), group(lines, name));
-    Sought {
+    DeclarationSearch {
         name,
         kind,
         line: None,
@@ -240,7 +243,7 @@ fn begun<'n, 'a>(
     names: &'n [Vec<u8>],
     uses: &IndexMap<Vec<u8>, Vec<UseLine<'a>>>,
     lines: &IndexMap<Vec<u8>, Vec<StatedLine<'a>>>,
-) -> Result<Vec<Sought<'n, 'a>>, WantOfMemory>
+) -> Result<Vec<DeclarationSearch<'n, 'a>>, WantOfMemory>
     requires uses { Grouped use_view use_name (uses_in ask.now.modules) uses.now }
     requires lines { Grouped stated_view stated_name (stated_in ask.now.platform) lines.now }
     ensures { IfOk result (λ v. map sought_view v.items
@@ -263,7 +266,7 @@ pub(crate) fn sought_of<'n, 'a>(
     names: &'n [Vec<u8>],
     uses: &IndexMap<Vec<u8>, Vec<UseLine<'a>>>,
     lines: &IndexMap<Vec<u8>, Vec<StatedLine<'a>>>,
-) -> Result<Vec<Sought<'n, 'a>>, WantOfMemory>
+) -> Result<Vec<DeclarationSearch<'n, 'a>>, WantOfMemory>
     requires uses { Grouped use_view use_name (uses_in ask.now.modules) uses.now }
     requires lines { Grouped stated_view stated_name (stated_in ask.now.platform) lines.now }
     ensures names { IfOk result (λ v. map (λ s. s.name.now.items) v.items

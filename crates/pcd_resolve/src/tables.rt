@@ -11,7 +11,7 @@ ghost use Rattle.pcd_resolve.specs.Tables.{declared_name, stated_name, set_name,
 ghost use Rattle.pcd_ranks.specs.Views.{declared_view, stated_view};
 
 use crate::groups::add;
-use crate::marks::is_pcd_kept;
+use crate::name_filter::is_pcd_kept;
 use build_base::{Path, WantOfMemory};
 use doc_types::package::DecPcd;
 use doc_types::parts::Package;

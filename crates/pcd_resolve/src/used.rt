@@ -3,12 +3,12 @@ ghost use Rattle.std.specs.Prelude.{◌≡◌, ◌++◌, ◌∷◌, [], true, Li
 ghost use Rattle.std.specs.List.{flat_map};
 ghost use Rattle.pcd_resolve.specs.Groups.{Grouped};
 ghost use Rattle.pcd_ranks.specs.Listing.{Use, uses_in, uses_of_module};
-ghost use Rattle.pcd_resolve.specs.Marks.{is_kept};
+ghost use Rattle.pcd_resolve.specs.NameFilter.{is_kept};
 ghost use Rattle.pcd_resolve.specs.Tables.{AllKept, IsTabled, use_name};
 ghost use Rattle.pcd_ranks.specs.Views.{at_view, use_view};
 
 use crate::groups::add;
-use crate::marks::marks_of;
+use crate::name_filter::marks_of;
 use crate::packages::{ModuleTables, declared_for, declared_in, tables_of};
 use crate::uses::uses_of_module;
 use build_base::WantOfMemory;

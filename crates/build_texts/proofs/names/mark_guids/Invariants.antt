@@ -1,5 +1,5 @@
 use Rattle.std.proofs.Common.{◌≡◌, map, length}
-use Rattle.pcd_resolve.specs.Marks.{with_marks}
+use Rattle.pcd_resolve.specs.NameFilter.{with_marks}
 use Rattle.build_texts.proofs.names.mark_guids.Given as goal
 
 abbrev pub invariant-loop-left : goal.invariant-loop-left

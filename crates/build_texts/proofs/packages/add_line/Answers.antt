@@ -1,7 +1,7 @@
 use Rattle.std.proofs.Common.{◌∙◌, ap, sym}
 use Rattle.build_texts.specs.Named.{declared_name, line_from}
 use Rattle.build_texts.specs.Views.{declared_view}
-use Rattle.pcd_resolve.specs.Marks.{is_kept}
+use Rattle.pcd_resolve.specs.NameFilter.{is_kept}
 use Rattle.pcd_resolve.proofs.GroupLemmas.{kept_more, kept_passed}
 use Rattle.build_texts.proofs.packages.add_line.Goals as goal
 

@@ -1,6 +1,6 @@
 use Rattle.std.proofs.Common.{ℕ}
 use Rattle.std.specs.Global.{Vec}
-use Rattle.pcd_resolve.proofs.MarkLemmas.{kept_at}
+use Rattle.pcd_resolve.proofs.NameFilterLemmas.{kept_at}
 use Rattle.pcd_resolve.proofs.resolve.all_rows.Goals as goal
 
 pub rows_at-requires-clause-kept : goal.rows_at-requires-clause-kept

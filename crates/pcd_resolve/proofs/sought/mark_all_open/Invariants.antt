@@ -1,5 +1,5 @@
 use Rattle.std.proofs.Common.{◌≡◌, map, length}
-use Rattle.pcd_resolve.specs.Marks.{with_marks}
+use Rattle.pcd_resolve.specs.NameFilter.{with_marks}
 use Rattle.pcd_resolve.specs.Sought.{open_names, sought_view}
 use Rattle.pcd_resolve.proofs.sought.mark_all_open.Given as goal
 

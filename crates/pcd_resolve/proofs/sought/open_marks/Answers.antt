@@ -1,4 +1,4 @@
-use Rattle.pcd_resolve.proofs.MarkLemmas.{last_kept}
+use Rattle.pcd_resolve.proofs.NameFilterLemmas.{last_kept}
 use Rattle.pcd_resolve.proofs.SoughtLemmas.{open_kept}
 use Rattle.pcd_resolve.proofs.sought.open_marks.Goals as goal
 

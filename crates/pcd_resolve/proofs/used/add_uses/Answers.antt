@@ -1,7 +1,7 @@
 use Rattle.pcd_resolve.specs.Tables.{use_name}
 use Rattle.pcd_ranks.specs.Views.{at_view, use_view}
 use Rattle.pcd_resolve.proofs.GroupLemmas.{grown_by_one}
-use Rattle.pcd_resolve.proofs.MarkLemmas.{kept_twice}
+use Rattle.pcd_resolve.proofs.NameFilterLemmas.{kept_twice}
 use Rattle.pcd_resolve.proofs.used.add_uses.Goals as goal
 
 pub loop-at-preserved : goal.loop-at-preserved

@@ -1,6 +1,6 @@
 use Rattle.std.proofs.Common.{◌≡◌, ◌<◌, fold, drop}
-use Rattle.pcd_resolve.specs.Marks.{step}
-use Rattle.pcd_resolve.proofs.marks.place_from.Given as goal
+use Rattle.pcd_resolve.specs.NameFilter.{step}
+use Rattle.pcd_resolve.proofs.name_filter.place_from.Given as goal
 
 abbrev pub invariant-loop-byte : goal.invariant-loop-byte
 invariant-loop-byte l = record {

@@ -1,7 +1,7 @@
 use Rattle.std.proofs.Common.{◌∙◌, ◌++◌, codes, ap, sym}
-use Rattle.pcd_resolve.specs.Marks.{is_kept}
-use Rattle.pcd_resolve.proofs.MarkLemmas.{kept_by_end}
-use Rattle.pcd_resolve.proofs.marks.is_pcd_kept.Goals as goal
+use Rattle.pcd_resolve.specs.NameFilter.{is_kept}
+use Rattle.pcd_resolve.proofs.NameFilterLemmas.{kept_by_end}
+use Rattle.pcd_resolve.proofs.name_filter.is_pcd_kept.Goals as goal
 
 pub returns : goal.returns
 returns c =

@@ -1,8 +1,8 @@
 use Rattle.std.proofs.Common.{◌≡◌, map, length}
-use Rattle.pcd_resolve.specs.Marks.{with_marks}
+use Rattle.pcd_resolve.specs.NameFilter.{with_marks}
 use Rattle.pcd_resolve.specs.Tables.{use_name}
 use Rattle.pcd_ranks.specs.Views.{at_view}
-use Rattle.pcd_resolve.proofs.marks.mark_each.Given as goal
+use Rattle.pcd_resolve.proofs.name_filter.mark_each.Given as goal
 
 abbrev pub invariant-loop-left : goal.invariant-loop-left
 invariant-loop-left l =

@@ -2,8 +2,8 @@ use Rattle.std.proofs.Common.{ℕ, List, map}
 use Rattle.std.specs.Global.{Vec}
 use Rattle.pcd_ranks.specs.Listing.{uses_of_module}
 use Rattle.pcd_resolve.specs.Tables.{use_name}
-use Rattle.pcd_resolve.proofs.MarkLemmas.{first_kept, last_kept}
-use Rattle.pcd_resolve.proofs.marks.marks_of.Goals as goal
+use Rattle.pcd_resolve.proofs.NameFilterLemmas.{first_kept, last_kept}
+use Rattle.pcd_resolve.proofs.name_filter.marks_of.Goals as goal
 
 pub returns-clause-names : goal.returns-clause-names
 returns-clause-names c =

@@ -6,7 +6,7 @@ use Rattle.std.proofs.lemmas.List.{length-append, drop-append-le}
 use Rattle.std.proofs.lemmas.List.Sums.{fold-append}
 use Rattle.std.proofs.lemmas.List.Elements.{All-nil, All-cons, All-head, All-tail, All-get_or, All-weaker}
 use Rattle.pcd_resolve.specs.Tables.{AllKept}
-use Rattle.pcd_resolve.specs.Marks.{is_kept, mark_of, place_of, step, tail_of, with_mark, with_marks}
+use Rattle.pcd_resolve.specs.NameFilter.{is_kept, mark_of, place_of, step, tail_of, with_mark, with_marks}
 
 marked_there : (marks : List Bool) (k : ℕ) → mark_of (slice_get (set marks k true) k) ≡ true
 marked_there [] k = refl

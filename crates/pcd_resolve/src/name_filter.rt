@@ -3,7 +3,7 @@
 //! for are marked, and a line without a mark is passed by.
 ghost use Rattle.std.specs.Prelude.{◌≡◌, ◌<◌, ◌++◌, codes, fold, length, map, slice_get, OnOk, IfOk};
 ghost use Rattle.pcd_ranks.specs.Listing.{uses_of_module};
-ghost use Rattle.pcd_resolve.specs.Marks.{is_kept, mark_of, place_of, step, with_mark, with_marks};
+ghost use Rattle.pcd_resolve.specs.NameFilter.{is_kept, mark_of, place_of, step, with_mark, with_marks};
 ghost use Rattle.pcd_ranks.specs.Names.{dotted};
 ghost use Rattle.pcd_resolve.specs.Tables.{use_name, AllKept};
 ghost use Rattle.pcd_ranks.specs.Views.{at_view};
@@ -28,7 +28,7 @@ fn place_from(start: usize, bytes: &[u8]) -> usize
     place
 }
 
-#[tactic(auto, unfolding(crate::specs::Marks::place_of))]
+#[tactic(auto, unfolding(crate::specs::NameFilter::place_of))]
 fn place_of(name: &[u8]) -> usize
     ensures { result ≡ place_of name.now }
 {
