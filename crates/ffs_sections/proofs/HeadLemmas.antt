@@ -6,7 +6,7 @@ use Rattle.byteorder.specs.Endian.{little_bytes}
 use Rattle.doc_types.specs.declared.image.ImagePlan.{ImagePlan}
 use Rattle.ffs_sections.specs.declared.header.Head.{Head}
 use Rattle.ffs_sections.specs.Sums.{header_sum, summed}
-use Rattle.ffs_sections.specs.File.{short_fields, long_fields, file_head, head_len, head_at, is_large_file, plan_head, plan_step, attributes_of, file_bytes}
+use Rattle.ffs_sections.specs.File.{short_fields, long_fields, file_head, head_len, header_len, is_large_file, plan_head, plan_step, attributes_of, file_bytes}
 
 pub length_short : (name : List ℕ) (head : Head) → length (short_fields name head) ≡ length name + 8
 unfolding short_fields
@@ -57,16 +57,16 @@ short_nineteen name head n = rw (short_is name head) (byte_nineteen name (short_
 long_nineteen : (name : List ℕ) (head : Head) → length name ≡ 16 → get_or (summed (long_fields name head)) 19 0 ≡ head.attributes + 1
 long_nineteen name head n = rw (long_is name head) (byte_nineteen name (long_tail head) (header_sum (name ++ long_tail head)) n)
 
-head_even : (bytes : List ℕ) (a : ℕ) → get_or bytes 19 0 ≡ a → a % 2 ≡ 0 → head_at bytes ≡ 24
-unfolding head_at
+head_even : (bytes : List ℕ) (a : ℕ) → get_or bytes 19 0 ≡ a → a % 2 ≡ 0 → header_len bytes ≡ 24
+unfolding header_len
 head_even bytes a k e = rw (k, e) refl
 
-head_odd : (bytes : List ℕ) (a : ℕ) → get_or bytes 19 0 ≡ a → a % 2 ≡ 1 → head_at bytes ≡ 32
-unfolding head_at
+head_odd : (bytes : List ℕ) (a : ℕ) → get_or bytes 19 0 ≡ a → a % 2 ≡ 1 → header_len bytes ≡ 32
+unfolding header_len
 head_odd bytes a k e = rw (k, e) refl
 
 -- a file begins with a header of the length that byte 19 says
-pub head_at_file : (large : Bool) (name : List ℕ) (head : Head) (body : List ℕ) → length name ≡ 16 → head.attributes % 2 ≡ 0 → head_at (file_head large name head ++ body) ≡ head_len large
+pub head_at_file : (large : Bool) (name : List ℕ) (head : Head) (body : List ℕ) → length name ≡ 16 → head.attributes % 2 ≡ 0 → header_len (file_head large name head ++ body) ≡ head_len large
 unfolding file_head
 head_at_file true name head body n e =
     let h : List ℕ = summed (long_fields name head) in
@@ -89,7 +89,7 @@ evens false true false step = omega arith
 evens false false true step = omega arith
 evens false false false step = omega arith
 
-pub file_shape : (plan : ImagePlan) (body : List ℕ) → length plan.guid.0 ≡ 16 → head_at (file_bytes plan body) ≤ length (file_bytes plan body)
+pub file_shape : (plan : ImagePlan) (body : List ℕ) → length plan.guid.0 ≡ 16 → header_len (file_bytes plan body) ≤ length (file_bytes plan body)
 unfolding file_bytes
 file_shape plan body n =
     let large : Bool = is_large_file plan.ffs3 (length body) in

@@ -8,7 +8,7 @@ use Rattle.std.specs.List.{range_with_len}
 use Rattle.std.proofs.lemmas.List.Folds.{Any-from_list_any}
 use Rattle.std.proofs.lemmas.List.Sums.{AllPass-from_list_all}
 use Rattle.build_base.proofs.Least.{find_least, find_none}
-use Rattle.ffs_sections.specs.Alignment.{IsPad, is_pad, pad_of, is_align}
+use Rattle.ffs_sections.specs.Alignment.{IsPad, is_pad, pad_of, is_section_alignment}
 
 -- a remainder of what is below twice the divisor
 wrap : (x a : ℕ) → x < a + a → ((x < a) × (x % a ≡ x)) ⊎ ((a ≤ x) × (x % a + a ≡ x))
@@ -79,8 +79,8 @@ pad_none place align shift h four =
 abbrev powers : List ℕ
 powers = map (λ k. 2 ^ k) (range_with_len 0 25)
 
-align_known : (align : ℕ) → is_align align ≡ true → (nat_lt 0 align && nat_le align 16777216 && (align == 1 || align == 2 || align % 4 == 0)) ≡ true
-unfolding is_align
+align_known : (align : ℕ) → is_section_alignment align ≡ true → (nat_lt 0 align && nat_le align 16777216 && (align == 1 || align == 2 || align % 4 == 0)) ≡ true
+unfolding is_section_alignment
 align_known align h =
     let any = Any-from_list_any (λ power. power == align) powers h in
     let same : any.1 ≡ align = eqb-true any.1 align any.4 in
@@ -95,9 +95,9 @@ pub record Aligned (align : ℕ) : Type 0 where
   pub small : align ≤ 16777216
   pub kind : (align ≤ 2) ⊎ (align % 4 ≡ 0)
 
-pub aligned : (align : ℕ) → IsTrue (is_align align) → Aligned align
+pub aligned : (align : ℕ) → IsTrue (is_section_alignment align) → Aligned align
 aligned align h =
-    let t : is_align align ≡ true = is_true (is_align align) h in
+    let t : is_section_alignment align ≡ true = is_true (is_section_alignment align) h in
     let k : (nat_lt 0 align && nat_le align 16777216 && (align == 1 || align == 2 || align % 4 == 0)) ≡ true = align_known align t in
     record { positive = grind (arith, nat_tests); small = grind (arith, nat_tests); kind = grind (arith, nat_tests) }
 

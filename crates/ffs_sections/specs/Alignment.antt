@@ -3,8 +3,8 @@ use Rattle.std.specs.Prelude.{◌≡◌, ℕ, ◌+◌, ◌-◌, ◌*◌, ◌%◌
 use Rattle.std.specs.List.{range_with_len, find, list_any}
 
 -- whether an alignment is a power of two of at most 16M
-unfoldable pub is_align : ℕ → Bool
-is_align align = list_any (λ power. power == align) (map (λ k. 2 ^ k) (range_with_len 0 25))
+unfoldable pub is_section_alignment : ℕ → Bool
+is_section_alignment align = list_any (λ power. power == align) (map (λ k. 2 ^ k) (range_with_len 0 25))
 
 -- a pad of this size makes the alignment of what stands at a place, less a shift, hold
 abbrev pub is_pad : ℕ → ℕ → ℕ → ℕ → Bool
@@ -29,8 +29,8 @@ abbrev pub IsAlignment : ℕ → Type 0
 IsAlignment align = Contains alignments align
 
 -- the index of the least of them that is at least this
-unfoldable pub step_of : ℕ → ℕ
-step_of align = unwrap_or (position (λ stated. nat_le align stated) alignments) 15
+unfoldable pub alignment_index : ℕ → ℕ
+alignment_index align = unwrap_or (position (λ stated. nat_le align stated) alignments) 15
 
 -- its bits in the attributes: 0x38, and 0x02 from 128K on
 abbrev pub step_bits : ℕ → ℕ

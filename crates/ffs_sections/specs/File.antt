@@ -11,7 +11,7 @@ use Rattle.doc_types.specs.declared.image.ImagePlan.{ImagePlan}
 use Rattle.doc_types.specs.declared.image.FileImage.{FileImage}
 use Rattle.ffs_sections.specs.declared.header.Head.{Head}
 use Rattle.ffs_sections.specs.Sums.{zero_byte, summed}
-use Rattle.ffs_sections.specs.Alignment.{is_align, alignments, IsAlignment, step_of, step_bits}
+use Rattle.ffs_sections.specs.Alignment.{is_section_alignment, alignments, IsAlignment, alignment_index, step_bits}
 use Rattle.ffs_sections.specs.Sections.{with_parts, sized}
 use Rattle.ffs_sections.specs.Standard.{FFS_ATTRIB_LARGE_FILE, FFS_ATTRIB_FIXED, FFS_ATTRIB_CHECKSUM, FFS_FIXED_CHECKSUM, FILE_STATE, FILE_LIMIT, FFS3_LIMIT}
 use Rattle.build_base.specs.FaultCodes.{ALIGNMENT_REFUSED, IMAGE_FILE_TOO_LONG}
@@ -25,7 +25,7 @@ body_align align (Whole bytes) = align
 body_align align (Sections parts) = greatest align parts
 
 abbrev pub plan_step : ImagePlan → ℕ
-plan_step plan = step_of (body_align plan.align plan.body)
+plan_step plan = alignment_index (body_align plan.align plan.body)
 
 -- a header without its own checksum
 unfoldable pub short_fields : List ℕ → Head → List ℕ
@@ -110,15 +110,15 @@ file_sized plan body =
     else Ok (image_of plan body)
 
 unfoldable pub file_of : ImagePlan → Result FileImage Fault
-file_of plan = if is_align plan.align then and_then (body_of plan plan.body) (file_sized plan)
+file_of plan = if is_section_alignment plan.align then and_then (body_of plan plan.body) (file_sized plan)
     else Err (sized ALIGNMENT_REFUSED plan.at plan.align)
 
 -- the length of the header that a file begins with: where byte 19 has the attribute of large files
 -- it is 32
-unfoldable pub head_at : List ℕ → ℕ
-head_at bytes = if slice_index bytes 19 % 2 == 1 then 32 else 24
+unfoldable pub header_len : List ℕ → ℕ
+header_len bytes = if slice_index bytes 19 % 2 == 1 then 32 else 24
 
 -- what a volume can hold: a file whose alignment a header can state, and with a header
 pub record IsFileImage (file : FileImage) : Type 0 where
   pub align : IsAlignment file.align
-  pub head : head_at file.bytes ≤ length file.bytes
+  pub head : header_len file.bytes ≤ length file.bytes

@@ -9,7 +9,7 @@ use Rattle.build_base.specs.declared.guid.Guid.{Guid}
 use Rattle.doc_types.specs.declared.image.Part.{Part}
 use Rattle.doc_types.specs.declared.image.Body.{Body}
 use Rattle.doc_types.specs.declared.image.Body.TheVariants.{Whole, Sections}
-use Rattle.ffs_sections.specs.Alignment.{is_align, pad_of}
+use Rattle.ffs_sections.specs.Alignment.{is_section_alignment, pad_of}
 use Rattle.doc_types.specs.Standard.{EFI_SECTION_FREEFORM_SUBTYPE_GUID, EFI_SECTION_RAW}
 use Rattle.ffs_sections.specs.Standard.{EXTENDED_SIZE, SECTION_LIMIT, FFS3_LIMIT}
 use Rattle.build_base.specs.FaultCodes.{ALIGNMENT_REFUSED, SECTION_TOO_LONG}
@@ -78,7 +78,7 @@ unfoldable pub part_fault : Bool → Place → ℕ → Part → Option Fault
 part_fault ffs3 place at part =
     let size = section_size ffs3 part.guid (length part.bytes) in
     first_holding (
-    (not (is_align part.align), sized ALIGNMENT_REFUSED place part.align)
+    (not (is_section_alignment part.align), sized ALIGNMENT_REFUSED place part.align)
     ∷ (is_none (part_pad ffs3 at part), sized ALIGNMENT_REFUSED place part.align)
     ∷ (nat_lt (section_limit ffs3) size, sized SECTION_TOO_LONG place size)
     ∷ [])

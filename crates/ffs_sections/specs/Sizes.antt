@@ -8,7 +8,7 @@ use Rattle.doc_types.specs.declared.image.Part.{Part}
 use Rattle.doc_types.specs.declared.image.Body.{Body}
 use Rattle.doc_types.specs.declared.image.Body.TheVariants.{Whole, Sections}
 use Rattle.doc_types.specs.declared.image.ImagePlan.{ImagePlan}
-use Rattle.ffs_sections.specs.Alignment.{is_align}
+use Rattle.ffs_sections.specs.Alignment.{is_section_alignment}
 use Rattle.ffs_sections.specs.Sections.{up4, part_pad, part_fault, section_size, sized}
 use Rattle.ffs_sections.specs.File.{file_size, size_fault, file_of}
 use Rattle.build_base.specs.FaultCodes.{ALIGNMENT_REFUSED}
@@ -35,7 +35,7 @@ size_checked plan count = unless (size_fault plan count) (file_size plan.ffs3 co
 -- the size of the file, or its fault
 unfoldable pub file_length : ImagePlan → Result ℕ Fault
 file_length plan =
-    if is_align plan.align then and_then (body_length plan plan.body) (size_checked plan)
+    if is_section_alignment plan.align then and_then (body_length plan plan.body) (size_checked plan)
     else Err (sized ALIGNMENT_REFUSED plan.at plan.align)
 
 -- that of the file's own bytes

@@ -1,7 +1,7 @@
 //! Alignments of sections and of files.
 ghost use Rattle.std.specs.Prelude.{◌≡◌, ℕ, ◌≤◌, ◌<◌, ◌^◌, ◌%◌, ◌↔◌, IsTrue, IfSome, Some, None, position, nat_le, slice_index};
 ghost use Rattle.build_base.specs.Least.{IsLeast};
-ghost use Rattle.ffs_sections.specs.Alignment.{IsPad, is_align, pad_of, alignments, IsAlignment, step_of, step_bits};
+ghost use Rattle.ffs_sections.specs.Alignment.{IsPad, is_section_alignment, pad_of, alignments, IsAlignment, alignment_index, step_bits};
 
 static POWERS: [u32; 25] = [
     1, 2, 4, 8, 16, 32, 64, 128, 256, 512, 1024, 2048, 4096, 8192, 16384, 32768, 65536, 131072,
@@ -14,16 +14,16 @@ static ALIGNMENTS: [u32; 16] = [
 ];
 
 /// Whether this is a power of two of at most 16M.
-#[tactic(auto, unfolding(crate::specs::Alignment::is_align))]
-pub fn is_align(align: u32) -> bool
-    ensures { result ≡ is_align align }
+#[tactic(auto, unfolding(crate::specs::Alignment::is_section_alignment))]
+pub fn is_section_alignment(align: u32) -> bool
+    ensures { result ≡ is_section_alignment align }
 {
     POWERS.contains(&align)
 }
 
 /// The size in bytes of the least pad that aligns what stands at a place, less a shift.
 pub fn pad(place: u64, align: u32, shift: u32) -> Option<u64>
-    requires { IsTrue (is_align align) }
+    requires { IsTrue (is_section_alignment align) }
     ensures value { result ≡ pad_of place align shift }
     ensures four { IfSome result (λ p. p % 4 ≡ 0) }
     ensures small { IfSome result (λ p. p < 2 ^ 24) }
@@ -36,9 +36,9 @@ pub fn pad(place: u64, align: u32, shift: u32) -> Option<u64>
 }
 
 /// The index of the least alignment of a file's header that is at least this.
-#[tactic(auto, unfolding(crate::specs::Alignment::step_of))]
-pub fn step_of(align: u32) -> usize
-    ensures value { result ≡ step_of align }
+#[tactic(auto, unfolding(crate::specs::Alignment::alignment_index))]
+pub fn alignment_index(align: u32) -> usize
+    ensures value { result ≡ alignment_index align }
     ensures below { result < 16 }
 {
     match first_from(align) {
@@ -55,7 +55,7 @@ fn first_from(align: u32) -> Option<usize>
 }
 
 /// Whether a file's header can state this alignment.
-pub fn is_alignment(align: u32) -> bool
+pub fn is_file_alignment(align: u32) -> bool
     ensures { IsTrue result ↔ IsAlignment align }
 {
     ALIGNMENTS.contains(&align)

@@ -4,12 +4,12 @@ ghost use Rattle.build_base.specs.Answer.{Answers, AnswersAs};
 ghost use Rattle.doc_types.specs.declared.image.Body.TheVariants.{Whole, Sections};
 ghost use Rattle.ffs_sections.specs.Sections.{HaveGuids, with_parts};
 ghost use Rattle.ffs_sections.specs.Standard.{FFS_FIXED_CHECKSUM};
-ghost use Rattle.ffs_sections.specs.File.{greatest, body_align, plan_step, attributes_of, plan_head, file_bytes, file_size, file_limit, file_of, head_at, image_of, IsFileImage};
+ghost use Rattle.ffs_sections.specs.File.{greatest, body_align, plan_step, attributes_of, plan_head, file_bytes, file_size, file_limit, file_of, header_len, image_of, IsFileImage};
 ghost use Rattle.ffs_sections.specs.LentPlans.{lent_body};
 ghost use Rattle.ffs_sections.specs.Sizes.{file_length};
 ghost use Rattle.ffs_sections.specs.Sums.{zero_byte};
 
-use crate::alignment::{step_align, step_bits, step_of};
+use crate::alignment::{step_align, step_bits, alignment_index};
 use crate::header::{Head, append_head, state_of};
 use crate::lent::LentPart;
 use crate::lent_plan::{LentBody, LentPlan, lent_plan};
@@ -116,7 +116,7 @@ fn shaped(
     requires step { step ≡ plan_step plan.now }
     requires below { step < 16 }
     ensures value { IfOk result (λ t. t ≡ file_bytes plan.now body.now) }
-    ensures head { IfOk result (λ t. head_at t ≤ length t) }
+    ensures head { IfOk result (λ t. header_len t ≤ length t) }
     ensures size { IfOk result (λ t. length t ≡ file_size plan.now.ffs3 (length body.now)) }
 {
     let text = bytes(alloc, plan, name, body, step)?;
@@ -130,7 +130,7 @@ fn image(alloc: Global, plan: &LentPlan<'_>, body: &[u8]) -> Result<FileImage, W
     ensures shape { IfOk result IsFileImage }
     ensures short { IfOk result (λ file. length file.bytes ≤ file_limit plan.now.ffs3) }
 {
-    let step = step_of(body_align(plan.align, &plan.body));
+    let step = alignment_index(body_align(plan.align, &plan.body));
     Ok(FileImage {
         at: plan.at.copy(alloc)?,
         guid: plan.guid,

@@ -1,6 +1,6 @@
 //! A file's header.
 ghost use Rattle.std.specs.Prelude.{◌≡◌, ◌+◌, ◌<◌, ◌++◌, ◌⊎◌, ◌%◌, ◌==◌, slice_index, OnOk, IfOk, length, vec_len};
-ghost use Rattle.ffs_sections.specs.File.{short_fields, long_fields, file_head, head_len, head_at, state_of};
+ghost use Rattle.ffs_sections.specs.File.{short_fields, long_fields, file_head, head_len, header_len, state_of};
 ghost use Rattle.ffs_sections.specs.Sums.{summed};
 
 use crate::standard::{FFS_ATTRIB_LARGE_FILE, FILE_STATE};
@@ -38,9 +38,9 @@ fn says_large(bytes: &[u8]) -> bool
 }
 
 /// The length of the header that a file begins with.
-#[tactic(auto, unfolding(crate::specs::File::head_at))]
-pub fn head_at(bytes: &[u8]) -> u32
-    ensures value { result ≡ head_at bytes.now }
+#[tactic(auto, unfolding(crate::specs::File::header_len))]
+pub fn header_len(bytes: &[u8]) -> u32
+    ensures value { result ≡ header_len bytes.now }
     ensures either { (result ≡ 24) ⊎ (result ≡ 32) }
 {
     if says_large(bytes) { 32 } else { 24 }

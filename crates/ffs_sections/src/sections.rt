@@ -6,7 +6,7 @@ ghost use Rattle.doc_types.specs.Standard.{EFI_SECTION_FREEFORM_SUBTYPE_GUID};
 ghost use Rattle.ffs_sections.specs.Sections.{guid_bytes, is_large, content_at, section_limit, section_size, section_head, section_bytes, part_pad, pad_section, with_part, part_fault, with_parts, HaveGuids};
 ghost use Rattle.ffs_sections.specs.Sizes.{part_end, parts_end};
 
-use crate::alignment::{is_align, pad};
+use crate::alignment::{is_section_alignment, pad};
 use crate::faults::sized;
 use crate::lent::LentPart;
 use crate::standard::{FFS3_LIMIT, SECTION_LIMIT};
@@ -75,7 +75,7 @@ fn check_part(
     ensures small { IfOk result (λ p. p < 2 ^ 24) }
     ensures short { OnOk result (length part.now.bytes < 2 ^ 29) }
 {
-    if !is_align(part.align) {
+    if !is_section_alignment(part.align) {
         return Err(Refusal::Bad(sized(alloc, ALIGNMENT_REFUSED, place, part.align as u64)?));
     }
     let count = part.content.length();

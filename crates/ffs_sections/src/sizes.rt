@@ -5,7 +5,7 @@ ghost use Rattle.build_base.specs.First.{and_then};
 ghost use Rattle.ffs_sections.specs.File.{file_size, file_limit, is_large_file, head_len, size_fault};
 ghost use Rattle.ffs_sections.specs.Sizes.{body_length, size_checked, file_length, IsFileLength};
 
-use crate::alignment::is_align;
+use crate::alignment::is_section_alignment;
 use crate::faults::sized;
 use crate::lent_plan::{LentBody, LentPlan};
 use crate::sections::parts_end;
@@ -80,7 +80,7 @@ pub fn file_length(alloc: Global, plan: &LentPlan<'_>) -> Result<u64, Refusal>
     ensures law { IsFileLength plan.now }
 {
     size_law(plan, &plan.guid.0);
-    if !is_align(plan.align) {
+    if !is_section_alignment(plan.align) {
         return Err(Refusal::Bad(sized(alloc, ALIGNMENT_REFUSED, plan.at, plan.align as u64)?));
     }
     aligned_length(alloc, plan)

@@ -8,8 +8,8 @@ use Rattle.build_base.specs.Pieces.{Piece, piece_end, put_pieces}
 use Rattle.build_base.proofs.PieceLemmas.{Laid, Laid-one, length_put, put_two, put_pieces-append}
 use Rattle.doc_types.specs.declared.image.FileImage.{FileImage}
 use Rattle.ffs_sections.specs.Alignment.{IsAlignment}
-use Rattle.ffs_sections.specs.File.{head_at}
-use Rattle.fv_compose.specs.Place.{IsHead, up}
+use Rattle.ffs_sections.specs.File.{header_len}
+use Rattle.fv_compose.specs.Place.{IsHead, align_up}
 use Rattle.fv_compose.specs.Files.{is_top, top_of, plain_files, end_of, file_start, file_end, pad_fault, pads_fault, AreAligned, placed_pieces, files_pieces, top_start, bytes_in, top_bytes}
 use Rattle.fv_compose.specs.Pads.{pad_bytes}
 use Rattle.fv_compose.proofs.PadLemmas.{length_pad}
@@ -88,8 +88,8 @@ unfolding end_of AreAligned
 end_after at [] a = omega arith
 end_after at (file ∷ files) a =
     let k : Known file.align = known_alignment file.align (a 0 file (omega arith)) in
-    let near = start_near at file.align (head_at file.bytes) k in
-    let first : at ≤ up 8 at = up_after 8 at (omega arith) in
+    let near = start_near at file.align (header_len file.bytes) k in
+    let first : at ≤ align_up 8 at = up_after 8 at (omega arith) in
     let more : file_end at file ≤ end_of (file_end at file) files = end_after (file_end at file) files (All-tail (λ f. IsAlignment f.align) file files a) in
     omega arith
 
@@ -99,22 +99,22 @@ end_left at files i a = end_after at (plain_files (drop i files)) (aligned_plain
 
 -- a start that leaves no space, or that of a pad file
 abbrev pub Spaced : ℕ → ℕ → Type 0
-Spaced at start = (start ≡ up 8 at) ⊎ (up 8 at + 24 ≤ start)
+Spaced at start = (start ≡ align_up 8 at) ⊎ (align_up 8 at + 24 ≤ start)
 
 -- where the pieces of a file at its start end
 pub length_placed : (free erase : ℕ) (out : List ℕ) (start : ℕ) (bytes : List ℕ) → Spaced (length out) start → length (put_pieces free out (placed_pieces erase (length out) start bytes)) ≡ start + length bytes
 unfolding placed_pieces
 length_placed free erase out start bytes s =
     let at : ℕ = length out in
-    let first : at ≤ up 8 at = up_after 8 at (omega arith) in
+    let first : at ≤ align_up 8 at = up_after 8 at (omega arith) in
     let p : Piece = record { start = start; bytes = bytes } in
-    elim (cases_eq start (up 8 at)) [
-      | inl e ↦ let t : (start == up 8 at) ≡ true = eq-eqb start (up 8 at) e in rw t (length_put free out p (omega arith))
+    elim (cases_eq start (align_up 8 at)) [
+      | inl e ↦ let t : (start == align_up 8 at) ≡ true = eq-eqb start (align_up 8 at) e in rw t (length_put free out p (omega arith))
       | inr n ↦
-          let t : (start == up 8 at) ≡ false = ne_eqb start (up 8 at) n in
-          let room : up 8 at + 24 ≤ start = elim s [ inl e ↦ absurd (n e) | inr h ↦ h ] in
-          let q : Piece = record { start = up 8 at; bytes = pad_bytes erase (start - up 8 at) } in
-          let l : length (pad_bytes erase (start - up 8 at)) ≡ start - up 8 at = length_pad erase (start - up 8 at) (omega arith) in
+          let t : (start == align_up 8 at) ≡ false = ne_eqb start (align_up 8 at) n in
+          let room : align_up 8 at + 24 ≤ start = elim s [ inl e ↦ absurd (n e) | inr h ↦ h ] in
+          let q : Piece = record { start = align_up 8 at; bytes = pad_bytes erase (start - align_up 8 at) } in
+          let l : length (pad_bytes erase (start - align_up 8 at)) ≡ start - align_up 8 at = length_pad erase (start - align_up 8 at) (omega arith) in
           let one : length (put_pieces free out (q ∷ [])) ≡ start = length_put free out q first ∙ omega arith in
           rw (t, put_two free out q p) (length_put free (put_pieces free out (q ∷ [])) p (omega arith))
     ]
@@ -123,15 +123,15 @@ length_placed free erase out start bytes s =
 pub laid_placed : (erase at size start : ℕ) (bytes : List ℕ) (ps : List Piece) → Spaced at start → Laid (start + length bytes) size ps → Laid at size (placed_pieces erase at start bytes ++ ps)
 unfolding placed_pieces
 laid_placed erase at size start bytes ps s rest =
-    let first : at ≤ up 8 at = up_after 8 at (omega arith) in
+    let first : at ≤ align_up 8 at = up_after 8 at (omega arith) in
     let p : Piece = record { start = start; bytes = bytes } in
-    elim (cases_eq start (up 8 at)) [
-      | inl e ↦ let t : (start == up 8 at) ≡ true = eq-eqb start (up 8 at) e in rw t (Laid-one at size p ps (omega arith) rest)
+    elim (cases_eq start (align_up 8 at)) [
+      | inl e ↦ let t : (start == align_up 8 at) ≡ true = eq-eqb start (align_up 8 at) e in rw t (Laid-one at size p ps (omega arith) rest)
       | inr n ↦
-          let t : (start == up 8 at) ≡ false = ne_eqb start (up 8 at) n in
-          let room : up 8 at + 24 ≤ start = elim s [ inl e ↦ absurd (n e) | inr m ↦ m ] in
-          let q : Piece = record { start = up 8 at; bytes = pad_bytes erase (start - up 8 at) } in
-          let l : length (pad_bytes erase (start - up 8 at)) ≡ start - up 8 at = length_pad erase (start - up 8 at) (omega arith) in
+          let t : (start == align_up 8 at) ≡ false = ne_eqb start (align_up 8 at) n in
+          let room : align_up 8 at + 24 ≤ start = elim s [ inl e ↦ absurd (n e) | inr m ↦ m ] in
+          let q : Piece = record { start = align_up 8 at; bytes = pad_bytes erase (start - align_up 8 at) } in
+          let l : length (pad_bytes erase (start - align_up 8 at)) ≡ start - align_up 8 at = length_pad erase (start - align_up 8 at) (omega arith) in
           rw t (Laid-one at size q (p ∷ ps) first (Laid-one (piece_end q) size p ps (omega arith) rest))
     ]
 
@@ -139,12 +139,12 @@ head_either : (b : Bool) → IsHead (if b then 32 else 24)
 head_either true = inr refl
 head_either false = inl refl
 
-pub is_head : (bytes : List ℕ) → IsHead (head_at bytes)
-unfolding head_at
+pub is_head : (bytes : List ℕ) → IsHead (header_len bytes)
+unfolding header_len
 is_head bytes = head_either (get_or bytes 19 0 % 2 == 1)
 
 pub spaced_start : (at : ℕ) (file : FileImage) → IsAlignment file.align → Spaced at (file_start at file)
-spaced_start at file a = (start_is at file.align (head_at file.bytes) (known_alignment file.align a) (is_head file.bytes)).pad
+spaced_start at file a = (start_is at file.align (header_len file.bytes) (known_alignment file.align a) (is_head file.bytes)).pad
 
 pub laid_files : (erase at size : ℕ) (files : List FileImage) (ps : List Piece) → AreAligned files → Laid (end_of at files) size ps → Laid at size (files_pieces erase at files ++ ps)
 unfolding end_of files_pieces AreAligned
@@ -184,14 +184,14 @@ filed_end whole last erase out files i s h =
     (sym (s.items ∙ ap (λ z. put_pieces (free_byte erase) out z) (pieces_all erase (length out) files i h)), sym (s.last_is ∙ end_all (length out) files i h))
 
 -- the start of a top file in a length that holds it
-pub top_spaced : (at : ℕ) (file : FileImage) (size : ℕ) → holds true (taken_by at (Some file)) size ≡ true → (up 8 at ≤ top_start file size) × Spaced at (top_start file size)
+pub top_spaced : (at : ℕ) (file : FileImage) (size : ℕ) → holds true (taken_by at (Some file)) size ≡ true → (align_up 8 at ≤ top_start file size) × Spaced at (top_start file size)
 top_spaced at file size h =
-    let room : up 8 at + length file.bytes ≤ size = holds_room true (up 8 at + length file.bytes) size h in
-    (omega arith, elim (holds_space (up 8 at + length file.bytes) size h) [ inl e ↦ inl (omega arith) | inr m ↦ inr (omega arith) ])
+    let room : align_up 8 at + length file.bytes ≤ size = holds_room true (align_up 8 at + length file.bytes) size h in
+    (omega arith, elim (holds_space (align_up 8 at + length file.bytes) size h) [ inl e ↦ inl (omega arith) | inr m ↦ inr (omega arith) ])
 
 pub top_low : (at : ℕ) (file : FileImage) (size : ℕ) → holds true (taken_by at (Some file)) size ≡ true → at ≤ size
 top_low at file size h =
-    let room : up 8 at + length file.bytes ≤ size = holds_room true (up 8 at + length file.bytes) size h in
+    let room : align_up 8 at + length file.bytes ≤ size = holds_room true (align_up 8 at + length file.bytes) size h in
     omega (arith, up_after 8 at (omega arith))
 
 -- the first top file, by turns

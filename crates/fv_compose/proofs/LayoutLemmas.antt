@@ -5,7 +5,7 @@ use Rattle.std.proofs.lemmas.Bool.{cases_lt}
 use Rattle.doc_types.specs.declared.image.FileImage.{FileImage}
 use Rattle.ffs_sections.specs.Alignment.{IsAlignment}
 use Rattle.fv_compose.specs.Files.{is_top, file_start, file_end, plain_files, end_of, AreAligned}
-use Rattle.fv_compose.specs.Place.{up}
+use Rattle.fv_compose.specs.Place.{align_up}
 use Rattle.fv_compose.specs.Turns.{own_start, own_starts, next_end}
 use Rattle.fv_compose.specs.Places.{placed_at, placed_from}
 use Rattle.fv_compose.proofs.FileLemmas.{end_more, end_left, Spaced, spaced_start}
@@ -61,6 +61,6 @@ start_below at files i file a h e = omega (arith, own_after at file, end_more at
 pub spaced_own : (at : ℕ) (file : FileImage) → IsAlignment file.align → is_top file ≡ false → Spaced at (own_start at file)
 spaced_own at file a t = rw t (spaced_start at file a)
 
-pub spaced_after : (at start : ℕ) → Spaced at start → up 8 at ≤ start
+pub spaced_after : (at start : ℕ) → Spaced at start → align_up 8 at ≤ start
 spaced_after at start (inl e) = omega arith
 spaced_after at start (inr h) = omega arith

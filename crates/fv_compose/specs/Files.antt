@@ -9,11 +9,11 @@ use Rattle.build_base.specs.declared.run.Run.{Run}
 use Rattle.build_base.specs.declared.fault.Fault.{Fault}
 use Rattle.doc_types.specs.declared.image.FileImage.{FileImage}
 use Rattle.ffs_sections.specs.Alignment.{IsAlignment}
-use Rattle.ffs_sections.specs.File.{head_at}
+use Rattle.ffs_sections.specs.File.{header_len}
 use Rattle.ffs_sections.specs.Sections.{sized}
 use Rattle.ffs_sections.specs.Standard.{FILE_LIMIT}
 use Rattle.fv_compose.specs.Pads.{pad_bytes}
-use Rattle.fv_compose.specs.Place.{start_of, up}
+use Rattle.fv_compose.specs.Place.{start_of, align_up}
 use Rattle.build_base.specs.FaultCodes.{PAD_TOO_LONG}
 
 -- EFI_FFS_VOLUME_TOP_FILE_GUID, 1BA0062E-C779-4582-8566-336AE8F78F09
@@ -40,13 +40,13 @@ plain_files files = filter (λ file. not (is_top file)) files
 -- a file at its start, and between an end and it a pad file where there is space
 unfoldable pub placed_pieces : ℕ → ℕ → ℕ → List ℕ → List Piece
 placed_pieces erase at start bytes =
-    if start == up 8 at then record { start = start; bytes = bytes } ∷ []
-    else record { start = up 8 at; bytes = pad_bytes erase (start - up 8 at) }
+    if start == align_up 8 at then record { start = start; bytes = bytes } ∷ []
+    else record { start = align_up 8 at; bytes = pad_bytes erase (start - align_up 8 at) }
     ∷ record { start = start; bytes = bytes } ∷ []
 
 -- where a file starts after an end
 abbrev pub file_start : ℕ → FileImage → ℕ
-file_start at file = start_of at file.align (head_at file.bytes)
+file_start at file = start_of at file.align (header_len file.bytes)
 
 abbrev pub file_end : ℕ → FileImage → ℕ
 file_end at file = file_start at file + length file.bytes
@@ -75,7 +75,7 @@ top_pieces erase at (Some file) size = placed_pieces erase at (top_start file si
 unfoldable pub pad_fault : Bool → ℕ → ℕ → FileImage → Option Fault
 pad_fault ffs3 at start file =
     first_holding
-    ((not ffs3 && nat_lt FILE_LIMIT (start - up 8 at), sized PAD_TOO_LONG file.at (start - up 8 at))
+    ((not ffs3 && nat_lt FILE_LIMIT (start - align_up 8 at), sized PAD_TOO_LONG file.at (start - align_up 8 at))
     ∷ [])
 
 -- the first such pad between files one after another

@@ -67,6 +67,6 @@ start_pieces plan size = record { start = 0; bytes = head_of plan size }
     ∷ extended_pieces plan.erase plan.name_guid
 
 -- where they end
-abbrev pub first_end : Option Guid → ℕ
-first_end None = 0x48
-first_end (Some name) = 0x74
+abbrev pub header_end : Option Guid → ℕ
+header_end None = 0x48
+header_end (Some name) = 0x74

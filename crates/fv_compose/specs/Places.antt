@@ -5,7 +5,7 @@ use Rattle.build_base.specs.First.{unless, and_then}
 use Rattle.build_base.specs.declared.fault.Fault.{Fault}
 use Rattle.doc_types.specs.declared.image.FileImage.{FileImage}
 use Rattle.doc_types.specs.declared.volume_head.VolumeHead.{VolumeHead}
-use Rattle.fv_compose.specs.Header.{first_end}
+use Rattle.fv_compose.specs.Header.{header_end}
 use Rattle.fv_compose.specs.Files.{is_top, top_of, top_start, file_start}
 use Rattle.fv_compose.specs.Turns.{next_end}
 use Rattle.fv_compose.specs.Volume.{last_end, taken_by, full_fault, place_fault, twice_fault, length_of}
@@ -22,7 +22,7 @@ placed_from size at (file ∷ files) = placed_at size at file
     ∷ placed_from size (next_end at file) files
 
 abbrev pub places_in : VolumeHead → List FileImage → ℕ → List ℕ
-places_in plan files size = placed_from size (first_end plan.name_guid) files
+places_in plan files size = placed_from size (header_end plan.name_guid) files
 
 abbrev pub places_with : VolumeHead → List FileImage → Option ℕ → Result (List ℕ) Fault
 places_with plan files None =

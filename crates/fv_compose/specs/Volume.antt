@@ -8,9 +8,9 @@ use Rattle.build_base.specs.declared.fault.Place.{Place}
 use Rattle.build_base.specs.declared.fault.Fault.{Fault}
 use Rattle.doc_types.specs.declared.image.FileImage.{FileImage}
 use Rattle.doc_types.specs.declared.volume_head.VolumeHead.{VolumeHead}
-use Rattle.ffs_sections.specs.File.{head_at}
-use Rattle.fv_compose.specs.Place.{up}
-use Rattle.fv_compose.specs.Header.{start_pieces, first_end}
+use Rattle.ffs_sections.specs.File.{header_len}
+use Rattle.fv_compose.specs.Place.{align_up}
+use Rattle.fv_compose.specs.Header.{start_pieces, header_end}
 use Rattle.fv_compose.specs.Files.{top_files, top_of, plain_files, files_pieces, end_of, top_start, top_pieces, pads_fault, top_pad_fault}
 use Rattle.doc_types.specs.Volumes.{size_limit}
 use Rattle.build_base.specs.FaultCodes.{TOP_FILE_TWICE, TOP_FILE_UNALIGNED, VOLUME_FULL}
@@ -18,12 +18,12 @@ pub use Rattle.doc_types.specs.Volumes.{SizeFits, HasShape}
 
 -- the end of the files but the top file
 abbrev pub last_end : VolumeHead → List FileImage → ℕ
-last_end plan files = end_of (first_end plan.name_guid) (plain_files files)
+last_end plan files = end_of (header_end plan.name_guid) (plain_files files)
 
 -- what is taken from an end on: with a top file its bytes from the next multiple of 8 on
 abbrev pub taken_by : ℕ → Option FileImage → ℕ
 taken_by at None = at
-taken_by at (Some file) = up 8 at + length file.bytes
+taken_by at (Some file) = align_up 8 at + length file.bytes
 
 -- whether a length holds what is taken; the space before a top file is none or that of a pad file
 abbrev pub holds : Bool → ℕ → ℕ → Bool
@@ -80,7 +80,7 @@ abbrev pub start_fault : VolumeHead → ℕ → FileImage → Option Fault
 start_fault plan start file =
     first_holding
     ((
-      not (start % 8 == 0 && (start + head_at file.bytes) % file.align == 0),
+      not (start % 8 == 0 && (start + header_len file.bytes) % file.align == 0),
       named TOP_FILE_UNALIGNED file.at plan,
     ) ∷ [])
 
@@ -92,7 +92,7 @@ top_fault plan (Some file) size = start_fault plan (top_start file size) file
 abbrev pub place_fault : VolumeHead → List FileImage → ℕ → Option Fault
 place_fault plan files size =
     or_else (top_fault plan (top_of files) size)
-    (or_else (pads_fault plan.ffs3 (first_end plan.name_guid) (plain_files files))
+    (or_else (pads_fault plan.ffs3 (header_end plan.name_guid) (plain_files files))
     (top_pad_fault plan.ffs3 (last_end plan files) (top_of files) size))
 
 -- each byte is that of the header, the file or the pad that covers its place, or else the erase
@@ -101,7 +101,7 @@ unfoldable pub volume_image : VolumeHead → List FileImage → ℕ → List ℕ
 volume_image plan files size =
     image_of (free_byte plan.erase)
     (start_pieces plan size
-    ++ (files_pieces plan.erase (first_end plan.name_guid) (plain_files files)
+    ++ (files_pieces plan.erase (header_end plan.name_guid) (plain_files files)
     ++ top_pieces plan.erase (last_end plan files) (top_of files) size)) size
 
 abbrev pub with_length : VolumeHead → List FileImage → Option ℕ → Result (List ℕ) Fault

@@ -5,14 +5,14 @@ ghost use Rattle.build_base.specs.Pieces.{put_pieces};
 ghost use Rattle.build_base.specs.Runs.{free_byte, Written};
 ghost use Rattle.ffs_sections.specs.Alignment.{IsAlignment};
 ghost use Rattle.ffs_sections.specs.Standard.{FILE_LIMIT};
-ghost use Rattle.fv_compose.specs.Place.{up};
+ghost use Rattle.fv_compose.specs.Place.{align_up};
 ghost use Rattle.fv_compose.specs.Files.{is_top, top_of, plain_files, bytes_in, top_bytes, placed_pieces, file_end, files_pieces, end_of, top_pieces, pad_fault, pads_fault, top_pad_fault, AreAligned};
 ghost use Rattle.fv_compose.specs.Turns.{pointed, own_start, own_starts, own_pad_fault, own_pieces, own_bytes};
 ghost use Rattle.fv_compose.specs.Volume.{taken_by, holds};
 
 use crate::layout::next_end;
 use crate::pad::put_pad;
-use crate::place::up;
+use crate::place::align_up;
 use build_base::fault_codes::PAD_TOO_LONG;
 use build_base::{Refusal, RunWriter, Same, Text, WantOfMemory};
 use doc_types::image::FileImage;
@@ -61,11 +61,11 @@ fn check_pad(
     start: u128,
     file: &FileImage,
 ) -> Result<(), Refusal>
-    requires after { up 8 at ≤ start }
+    requires after { align_up 8 at ≤ start }
     requires near { start ≤ 2 ^ 28 }
     ensures { Checks result (pad_fault ffs3 at start file.now) }
 {
-    let pad = (start - up(8, at)) as u64;
+    let pad = (start - align_up(8, at)) as u64;
     if is_long(ffs3, pad) {
         return Err(Refusal::Bad(sized(alloc, PAD_TOO_LONG, &file.at, pad)?));
     }
@@ -146,7 +146,7 @@ pub(crate) fn taken_by(end: u128, top: Option<&FileImage>) -> u128
 {
     match top {
         None => end,
-        Some(file) => up(8, end) + file.bytes.bytes().len() as u128,
+        Some(file) => align_up(8, end) + file.bytes.bytes().len() as u128,
     }
 }
 
@@ -160,8 +160,8 @@ fn put_placed(
     erase: u8,
 ) -> Result<(), WantOfMemory>
     requires near { length out.old.bytes ≤ 2 ^ 28 }
-    requires room { (start ≡ up 8 (length out.old.bytes))
-        ⊎ (up 8 (length out.old.bytes) + 24 ≤ start) }
+    requires room { (start ≡ align_up 8 (length out.old.bytes))
+        ⊎ (align_up 8 (length out.old.bytes) + 24 ≤ start) }
     requires free { out.old.free ≡ free_byte erase }
     ensures bytes { OnOk result
         (out.new.bytes ≡ put_pieces (free_byte erase) out.old.bytes
@@ -169,7 +169,7 @@ fn put_placed(
     ensures kept { OnOk result (out.new.kept ≤ out.old.kept + length bytes.now + 32) }
     ensures free { OnOk result (out.new.free ≡ out.old.free) }
 {
-    let first = up(8, out.length() as u128) as u64;
+    let first = align_up(8, out.length() as u128) as u64;
     let copy = bytes.copy(alloc)?;
     if start == first {
         out.put_at(start, copy)?;

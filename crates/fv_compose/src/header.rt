@@ -3,7 +3,7 @@ ghost use Rattle.std.specs.Prelude.{◌≡◌, ◌≤◌, ◌<◌, ◌+◌, ◌%
 ghost use Rattle.byteorder.specs.Endian.{little_bytes};
 ghost use Rattle.build_base.specs.Pieces.{put_pieces};
 ghost use Rattle.build_base.specs.Runs.{free_byte};
-ghost use Rattle.fv_compose.specs.Header.{words_sum, zero_word, file_system, head_start, head_front, head_back, head_list, head_of, extended_place, extended_bytes, start_pieces, first_end};
+ghost use Rattle.fv_compose.specs.Header.{words_sum, zero_word, file_system, head_start, head_front, head_back, head_list, head_of, extended_place, extended_bytes, start_pieces, header_end};
 
 use crate::pad::pad_head;
 use build_base::bytes::fill;
@@ -125,8 +125,8 @@ fn extended_place(name: &Option<Guid>) -> u16
 }
 
 /// The end of the header, and of the extended header where the volume has a name.
-pub(crate) fn first_end(name: &Option<Guid>) -> u64
-    ensures value { result ≡ first_end name.now }
+pub(crate) fn header_end(name: &Option<Guid>) -> u64
+    ensures value { result ≡ header_end name.now }
     ensures near { result ≤ 116 }
     ensures some { 0 < result }
 {
@@ -209,7 +209,7 @@ pub(crate) fn start_bytes(
     requires size { size < 2 ^ 32 }
     ensures items { IfOk result (λ out. out.items
         ≡ put_pieces (free_byte plan.now.erase) [] (start_pieces plan.now size)) }
-    ensures length { IfOk result (λ out. vec_len out ≡ first_end plan.now.name_guid) }
+    ensures length { IfOk result (λ out. vec_len out ≡ header_end plan.now.name_guid) }
 {
     let mut out = Vec::new(alloc);
     put_volume_head(alloc, &mut out, plan, size)?;

@@ -3,21 +3,21 @@ ghost use Rattle.std.specs.Prelude.{◌≡◌, ◌≤◌, ◌%◌, ◌+◌, ◌^
 ghost use Rattle.build_base.specs.Answer.{AnswersAs, Checks};
 ghost use Rattle.build_base.specs.Runs.{runs_bytes};
 ghost use Rattle.ffs_sections.specs.Alignment.{IsAlignment};
-ghost use Rattle.fv_compose.specs.Header.{first_end};
+ghost use Rattle.fv_compose.specs.Header.{header_end};
 ghost use Rattle.fv_compose.specs.Files.{plain_files, top_of, AreAligned, AreRunsOf};
 ghost use Rattle.fv_compose.specs.Turns.{pointed, own_starts, IsLaid};
 ghost use Rattle.fv_compose.specs.Volume.{last_end, taken_by, holds, named, twice_fault, start_fault, top_fault, place_fault, volume_image, with_length, length_of, volume_of, HasShape, IsLength};
 
 use crate::files::{check_pads, check_top_pad, is_top, put_files, put_top, taken_by, top_of};
-use crate::header::{first_end, start_bytes};
+use crate::header::{header_end, start_bytes};
 use crate::layout::{Layout, lay_out};
 use crate::length::{full, length_for};
 use build_base::fault_codes::{TOP_FILE_TWICE, TOP_FILE_UNALIGNED};
 use build_base::{Fault, Permit, Place, Refusal, Rows, Run, RunWriter, Same, Text, WantOfMemory};
 use doc_types::image::FileImage;
 use doc_types::volume_head::{SIZE_LIMIT, VolumeHead};
-use ffs_sections::alignment::is_alignment;
-use ffs_sections::header::head_at;
+use ffs_sections::alignment::is_file_alignment;
+use ffs_sections::header::header_len;
 use std::alloc::Global;
 
 /// Whether a stated size is a whole number of blocks and at most 256M.
@@ -53,7 +53,7 @@ fn all_aligned(files: &[FileImage]) -> bool
     ensures { IsTrue result ↔ AreAligned files.now }
 {
     for file in files {
-        if !is_alignment(file.align) {
+        if !is_file_alignment(file.align) {
             return false;
         }
     }
@@ -101,7 +101,7 @@ fn check_start(
     requires aligned { IsAlignment file.now.align }
     ensures { Checks result (start_fault plan.now start file.now) }
 {
-    if start % 8 == 0 && (start + head_at(file.bytes.bytes()) as u64) % file.align as u64 == 0 {
+    if start % 8 == 0 && (start + header_len(file.bytes.bytes()) as u64) % file.align as u64 == 0 {
         return Ok(());
     }
     Err(Refusal::Bad(named(alloc, TOP_FILE_UNALIGNED, &file.at, plan)?))
@@ -137,12 +137,12 @@ pub(crate) fn check_places(
 ) -> Result<(), Refusal>
     requires aligned { AreAligned files.now }
     requires top { pointed top ≡ top_of files.now }
-    requires laid { IsLaid (first_end plan.now.name_guid) files.now layout.now }
+    requires laid { IsLaid (header_end plan.now.name_guid) files.now layout.now }
     requires length { IsLength plan.now.block_size (is_some (pointed top))
         (taken_by layout.now.end (pointed top)) size }
     ensures { Checks result (place_fault plan.now files.now size) }
 {
-    let first = first_end(&plan.name_guid) as u128;
+    let first = header_end(&plan.name_guid) as u128;
     check_top(alloc, plan, top, layout.end, size)?;
     check_pads(alloc, plan.ffs3, first, files, layout.starts.items())?;
     check_top_pad(alloc, plan.ffs3, layout.end, top, size)?;
@@ -160,7 +160,7 @@ fn image(
 ) -> Result<Rows<Run>, WantOfMemory>
     requires aligned { AreAligned files.now }
     requires top { pointed top ≡ top_of files.now }
-    requires starts { starts.now ≡ own_starts (first_end plan.now.name_guid) files.now }
+    requires starts { starts.now ≡ own_starts (header_end plan.now.name_guid) files.now }
     requires length { IsLength plan.now.block_size (is_some (pointed top))
         (taken_by (last_end plan.now files.now) (pointed top)) size }
     ensures value { IfOk result (λ runs. runs_bytes runs ≡ volume_image plan.now files.now size) }
@@ -186,7 +186,7 @@ fn composed(
 ) -> Result<Rows<Run>, Refusal>
     requires aligned { AreAligned files.now }
     requires top { pointed top ≡ top_of files.now }
-    requires laid { IsLaid (first_end plan.now.name_guid) files.now layout.now }
+    requires laid { IsLaid (header_end plan.now.name_guid) files.now layout.now }
     requires length { IsLength plan.now.block_size (is_some (pointed top))
         (taken_by layout.now.end (pointed top)) size }
     ensures value { AnswersAs runs_bytes result (with_length plan.now files.now (Some size)) }
@@ -210,7 +210,7 @@ fn volume(alloc: Global, plan: &VolumeHead, files: &[FileImage]) -> Result<Rows<
     ensures runs { IfOk result (AreRunsOf files.now) }
 {
     let top = top_of(files);
-    let layout = lay_out(alloc, first_end(&plan.name_guid) as u128, files)?;
+    let layout = lay_out(alloc, header_end(&plan.name_guid) as u128, files)?;
     let taken = taken_by(layout.end, top);
     match length_for(plan.block_size, plan.size, top.is_some(), taken) {
         Some(size) => composed(alloc, plan, files, top, &layout, size),

@@ -8,7 +8,7 @@ use crate::files::is_top;
 use crate::place::start;
 use build_base::{Rows, WantOfMemory};
 use doc_types::image::FileImage;
-use ffs_sections::header::head_at;
+use ffs_sections::header::header_len;
 use std::alloc::Global;
 
 /// The start of each file of a volume, in order, and the end of the last. The top file stands at
@@ -29,7 +29,7 @@ fn own_start(at: u128, file: &FileImage) -> u128
     if is_top(file) {
         return at;
     }
-    start(at, file.align, head_at(file.bytes.bytes()))
+    start(at, file.align, header_len(file.bytes.bytes()))
 }
 
 /// The end of a file that stands at its own start.

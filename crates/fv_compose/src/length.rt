@@ -1,10 +1,10 @@
 //! The length of a volume.
 ghost use Rattle.std.specs.Prelude.{◌≡◌, ◌≤◌, ◌<◌, ◌+◌, ◌^◌, IfOk, IfSome, Some, None, if◌then◌else◌};
 ghost use Rattle.build_base.specs.Least.{IsLeast};
-ghost use Rattle.fv_compose.specs.Place.{up};
+ghost use Rattle.fv_compose.specs.Place.{align_up};
 ghost use Rattle.fv_compose.specs.Volume.{holds, Fits, blocks_for, length_for, given_size, needed_of, full_fault, SizeFits, IsLength};
 
-use crate::place::{LEAST_PAD, up};
+use crate::place::{LEAST_PAD, align_up};
 use build_base::fault_codes::VOLUME_FULL;
 use build_base::{Fault, Same, Text, WantOfMemory};
 use doc_types::volume_head::{SIZE_LIMIT, VolumeHead};
@@ -26,11 +26,11 @@ fn least_length(block: u128, top: bool, taken: u128) -> u128
     requires near { taken ≤ 2 ^ 126 + 2 ^ 64 }
     ensures least { IsLeast (Fits block top taken) result }
 {
-    let least = up(block, taken);
+    let least = align_up(block, taken);
     if holds(top, taken, least) {
         least
     } else {
-        up(block, taken + LEAST_PAD)
+        align_up(block, taken + LEAST_PAD)
     }
 }
 

@@ -2,7 +2,7 @@
 ghost use Rattle.std.specs.Prelude.{◌≡◌, ◌≤◌, ◌+◌, ◌^◌, ◌<◌, ◌⊎◌};
 ghost use Rattle.build_base.specs.Least.{IsLeast};
 ghost use Rattle.ffs_sections.specs.Alignment.{IsAlignment};
-ghost use Rattle.fv_compose.specs.Place.{IsStart, IsUp, IsHead, up, start_of};
+ghost use Rattle.fv_compose.specs.Place.{IsStart, IsUp, IsHead, align_up, start_of};
 
 /// The length of a pad file without a body.
 pub(crate) const LEAST_PAD: u128 = 24;
@@ -16,11 +16,11 @@ pub struct Placed {
 }
 
 /// The least multiple of a unit from `at` on.
-#[tactic(auto, unfolding(crate::specs::Place::up))]
-pub fn up(unit: u128, at: u128) -> u128
+#[tactic(auto, unfolding(crate::specs::Place::align_up))]
+pub fn align_up(unit: u128, at: u128) -> u128
     requires some { 0 < unit }
     requires fits { at + unit ≤ 2 ^ 127 }
-    ensures value { result ≡ up unit at }
+    ensures value { result ≡ align_up unit at }
     ensures least { IsLeast (IsUp unit at) result }
     ensures near { result < at + unit }
 {
@@ -34,15 +34,15 @@ pub fn start(at: u128, align: u32, head: u32) -> u128
     requires head { IsHead head }
     ensures value { result ≡ start_of at align head }
     ensures least { IsLeast (IsStart at align head) result }
-    ensures after { up 8 at ≤ result }
+    ensures after { align_up 8 at ≤ result }
     ensures near { result < at + 2 ^ 25 }
 {
-    start_from(up(8, at), at, align as u128, head as u128)
+    start_from(align_up(8, at), at, align as u128, head as u128)
 }
 
 #[tactic(auto, unfolding(crate::specs::Place::start_of))]
 fn start_from(first: u128, at: u128, unit: u128, head: u128) -> u128
-    requires first { first ≡ up 8 at }
+    requires first { first ≡ align_up 8 at }
     requires near { first ≤ 2 ^ 126 + 8 }
     requires alignment { IsAlignment unit }
     requires head { IsHead head }
@@ -54,7 +54,7 @@ fn start_from(first: u128, at: u128, unit: u128, head: u128) -> u128
     if (first + head) % unit == 0 {
         first
     } else {
-        up(unit, first + LEAST_PAD + head) - head
+        align_up(unit, first + LEAST_PAD + head) - head
     }
 }
 
@@ -65,13 +65,13 @@ pub fn place_of(at: u64, align: u32, head: u32) -> Placed
     requires alignment { IsAlignment align }
     requires head { IsHead head }
     ensures value { result.file ≡ start_of at align head }
-    ensures pad { result.pad + up 8 at ≡ result.file }
+    ensures pad { result.pad + align_up 8 at ≡ result.file }
     ensures least { IsLeast (IsStart at align head) result.file }
     ensures after { at + result.pad ≤ result.file }
     ensures near { result.file < at + 2 ^ 25 }
     ensures room { (result.pad ≡ 0) ⊎ (24 ≤ result.pad) }
 {
-    let first = up(8, at as u128) as u64;
+    let first = align_up(8, at as u128) as u64;
     let file = start(at as u128, align, head) as u64;
     Placed {
         pad: file - first,

@@ -1,14 +1,14 @@
 //! The places of a volume's files, told without an image.
 ghost use Rattle.std.specs.Prelude.{◌≡◌, ◌≤◌, ◌+◌, ◌-◌, ◌^◌, IfOk, Some, is_some, length};
 ghost use Rattle.build_base.specs.Answer.{Answers};
-ghost use Rattle.fv_compose.specs.Header.{first_end};
+ghost use Rattle.fv_compose.specs.Header.{header_end};
 ghost use Rattle.fv_compose.specs.Files.{plain_files, top_of, end_of, AreAligned};
 ghost use Rattle.fv_compose.specs.Turns.{pointed, own_start, own_starts, IsLaid};
 ghost use Rattle.fv_compose.specs.Volume.{taken_by, length_of, HasShape, IsLength};
 ghost use Rattle.fv_compose.specs.Places.{placed_at, placed_from, places_with, places_of};
 
 use crate::files::{is_top, taken_by, top_of};
-use crate::header::first_end;
+use crate::header::header_end;
 use crate::image::{check_places, check_tops};
 use crate::layout::{Layout, lay_out, next_end};
 use crate::length::{full, length_for};
@@ -60,7 +60,7 @@ fn places_in(
 ) -> Result<Rows<u64>, Refusal>
     requires aligned { AreAligned files.now }
     requires top { pointed top ≡ top_of files.now }
-    requires laid { IsLaid (first_end plan.now.name_guid) files.now layout.now }
+    requires laid { IsLaid (header_end plan.now.name_guid) files.now layout.now }
     requires length { IsLength plan.now.block_size (is_some (pointed top))
         (taken_by layout.now.end (pointed top)) size }
     ensures { Answers result (places_with plan.now files.now (Some size)) }
@@ -68,7 +68,7 @@ fn places_in(
     if let Err(refusal) = check_places(alloc, plan, files, top, layout, size) {
         return Err(refusal);
     }
-    let first = first_end(&plan.name_guid) as u128;
+    let first = header_end(&plan.name_guid) as u128;
     match placed_from(alloc, size, first, files, layout.starts.items()) {
         Ok(places) => Ok(places),
         Err(_) => Err(Refusal::WantOfMemory),
@@ -82,7 +82,7 @@ fn places(alloc: Global, plan: &VolumeHead, files: &[FileImage]) -> Result<Rows<
     ensures { Answers result (places_with plan.now files.now (length_of plan.now files.now)) }
 {
     let top = top_of(files);
-    let layout = lay_out(alloc, first_end(&plan.name_guid) as u128, files)?;
+    let layout = lay_out(alloc, header_end(&plan.name_guid) as u128, files)?;
     let taken = taken_by(layout.end, top);
     match length_for(plan.block_size, plan.size, top.is_some(), taken) {
         Some(size) => places_in(alloc, plan, files, top, &layout, size),

@@ -10,7 +10,7 @@ use Rattle.build_base.specs.declared.fault.Place.{Place}
 use Rattle.build_base.specs.declared.fault.Fault.{Fault}
 use Rattle.ffs_sections.specs.Sums.{zero_byte}
 use Rattle.ffs_sections.specs.Sections.{up4}
-use Rattle.ffs_sections.specs.File.{head_at}
+use Rattle.ffs_sections.specs.File.{header_len}
 use Rattle.volume_reader.specs.declared.listed.ListedSection.{ListedSection}
 use Rattle.volume_reader.specs.Sections.{section_kind, section_size, content_at as content_start, is_extended, extended_size, short_size, has_size_form, is_section, listed_section, follows, sections_from, sections_of}
 use Rattle.volume_reader.proofs.SectionLemmas.{size_within}
@@ -279,11 +279,11 @@ same_parts head bytes body moved sum k inner outer s lb t e =
 
 same_found : (place : Place) (base address : ℕ) (bytes : List ℕ) (found : Option (List ListedSection)) (moved : List ℕ) (k : ℕ)
     → ((sections : List ListedSection) → found ≡ Some sections → Ordered (length (file_body bytes)) 0 sections) → with_found place base address bytes found ≡ Ok moved
-    → SameAt ((has_checksum (file_head bytes) && k == 0x11) || (nat_le (head_at bytes) k && sections_change place (file_body bytes) (k - head_at bytes) found)) k bytes moved
+    → SameAt ((has_checksum (file_head bytes) && k == 0x11) || (nat_le (header_len bytes) k && sections_change place (file_body bytes) (k - header_len bytes) found)) k bytes moved
 same_found place base address bytes None moved k o e =
-    let s : bytes ≡ moved = cc in same_self ((has_checksum (file_head bytes) && k == 0x11) || (nat_le (head_at bytes) k && false)) k bytes moved s
+    let s : bytes ≡ moved = cc in same_self ((has_checksum (file_head bytes) && k == 0x11) || (nat_le (header_len bytes) k && false)) k bytes moved s
 same_found place base address bytes (Some sections) moved k o e =
-    let head : ℕ = head_at bytes in
+    let head : ℕ = header_len bytes in
     let outer : Bool = list_any (section_changes place (file_body bytes) (k - head)) sections in
     through (moved_from place base (address + head) (file_body bytes) 0 sections) (λ body. Ok (with_body (file_head bytes) body)) moved e
     (λ body a b.
@@ -301,7 +301,7 @@ same_file ffs3 place base address bytes moved k e =
     let found : Option (List ListedSection) = sections_of ffs3 0 (file_body bytes) in
     let inner : Bool = has_checksum (file_head bytes) && k == 0x11 in
     elim (has_sections bytes) as (λ b. (if b then with_found place base address bytes found else Ok bytes) ≡ Ok moved
-    → SameAt (inner || (b && nat_le (head_at bytes) k && sections_change place (file_body bytes) (k - head_at bytes) found)) k bytes moved) [
+    → SameAt (inner || (b && nat_le (header_len bytes) k && sections_change place (file_body bytes) (k - header_len bytes) found)) k bytes moved) [
       | true ↦ λ o. same_found place base address bytes found moved k (λ sections f. ordered_sections ffs3 (file_body bytes) sections f) o
       | false ↦ λ o. let s : bytes ≡ moved = cc in same_self (inner || false) k bytes moved s
     ] e

@@ -13,10 +13,10 @@ use Rattle.build_base.specs.declared.refusal.Refusal.{Refusal}
 use Rattle.build_base.specs.declared.fault.Fault.{Fault}
 use Rattle.doc_types.specs.declared.image.FileImage.{FileImage}
 use Rattle.doc_types.specs.declared.volume_head.VolumeHead.{VolumeHead}
-use Rattle.ffs_sections.specs.File.{head_at}
-use Rattle.fv_compose.specs.Header.{first_end, start_pieces}
+use Rattle.ffs_sections.specs.File.{header_len}
+use Rattle.fv_compose.specs.Header.{header_end, start_pieces}
 use Rattle.fv_compose.specs.Pads.{pad_bytes}
-use Rattle.fv_compose.specs.Place.{up, start_of}
+use Rattle.fv_compose.specs.Place.{align_up, start_of}
 use Rattle.fv_compose.specs.Files.{is_top, top_name, top_of, top_start, plain_files, placed_pieces, file_start, file_end, files_pieces, end_of, top_pieces, bytes_in, AreRunsOf}
 use Rattle.fv_compose.specs.Turns.{next_end}
 use Rattle.fv_compose.specs.Volume.{taken_by, last_end, length_for, length_of, twice_fault, place_fault, with_length, volume_image, volume_of}
@@ -48,8 +48,8 @@ none_of true false y = refl
 none_of false true y = refl
 none_of false false y = refl
 
-low_head : (bytes : List ℕ) → nat_le (head_at bytes) 19 ≡ false
-unfolding head_at
+low_head : (bytes : List ℕ) → nat_le (header_len bytes) 19 ≡ false
+unfolding header_len
 low_head bytes = grind (arith, nat_tests)
 
 -- the attributes stay
@@ -57,8 +57,8 @@ nineteen : (ffs3 : Bool) (place : Place) (bytes : List ℕ) → file_changes ffs
 unfolding file_changes
 nineteen ffs3 place bytes = rw (low_head bytes) (none_of (has_checksum (file_head bytes)) (has_sections bytes) _)
 
-kin_head : (ffs3 : Bool) (file moved : FileImage) → FileKin ffs3 file moved → head_at moved.bytes ≡ head_at file.bytes
-unfolding head_at
+kin_head : (ffs3 : Bool) (file moved : FileImage) → FileKin ffs3 file moved → header_len moved.bytes ≡ header_len file.bytes
+unfolding header_len
 kin_head ffs3 file moved f =
     let e : get_or moved.bytes 19 0 ≡ get_or file.bytes 19 0 = (f.same 19).byte (nineteen ffs3 file.at file.bytes) 0 in
     ap (λ n. if n % 2 == 1 then 32 else 24) e
@@ -71,7 +71,7 @@ unfolding is_top
 kin_top ffs3 file moved f = ap (λ g. bytes_eq g.0 top_name) f.guid
 
 kin_start : (ffs3 : Bool) (at : ℕ) (file moved : FileImage) → FileKin ffs3 file moved → file_start at moved ≡ file_start at file
-kin_start ffs3 at file moved f = ap (λ n. start_of at n (head_at moved.bytes)) f.align ∙ ap (λ n. start_of at file.align n) (kin_head ffs3 file moved f)
+kin_start ffs3 at file moved f = ap (λ n. start_of at n (header_len moved.bytes)) f.align ∙ ap (λ n. start_of at file.align n) (kin_head ffs3 file moved f)
 
 kin_end : (ffs3 : Bool) (at : ℕ) (file moved : FileImage) → FileKin ffs3 file moved → file_end at moved ≡ file_end at file
 kin_end ffs3 at file moved f = let a = kin_start ffs3 at file moved f in let b = kin_size ffs3 file moved f in ap (λ n. n + length moved.bytes) a ∙ ap (λ n. file_start at file + n) b
@@ -160,11 +160,11 @@ kin_taken : (ffs3 : Bool) (block : ℕ) (size : Option ℕ) (at : ℕ) (top othe
 kin_taken ffs3 block size at None None t = refl
 kin_taken ffs3 block size at None (Some moved) t = absurd t
 kin_taken ffs3 block size at (Some file) None t = absurd t
-kin_taken ffs3 block size at (Some file) (Some moved) t = ap (λ n. length_for block size true (up 8 at + n)) (kin_size ffs3 file moved t)
+kin_taken ffs3 block size at (Some file) (Some moved) t = ap (λ n. length_for block size true (align_up 8 at + n)) (kin_size ffs3 file moved t)
 
 kin_length : (head : VolumeHead) (files moved : List FileImage) → Kin head.ffs3 files moved → length_of head moved ≡ length_of head files
 kin_length head files moved k =
-    ap (λ n. length_for head.block_size head.size (is_some (top_of moved)) (taken_by n (top_of moved))) (kin_last head.ffs3 files moved (first_end head.name_guid) k)
+    ap (λ n. length_for head.block_size head.size (is_some (top_of moved)) (taken_by n (top_of moved))) (kin_last head.ffs3 files moved (header_end head.name_guid) k)
     ∙ kin_taken head.ffs3 head.block_size head.size (last_end head files) (top_of files) (top_of moved) (kin_tops head.ffs3 files moved k)
 
 -- Pieces: the byte at a place.
@@ -198,8 +198,8 @@ placed_byte : (free erase at start : ℕ) (old new : List ℕ) (k : ℕ) (change
 unfolding placed_pieces
 placed_byte free erase at start old new k changes ps qs s h e =
     let one : byte_of free (record { start = start; bytes = new } ∷ ps) k ≡ byte_of free (record { start = start; bytes = old } ∷ qs) k = one_piece free start old new k changes ps qs s h e in
-    let pad : Piece = record { start = up 8 at; bytes = pad_bytes erase (start - up 8 at) } in
-    elim (start == up 8 at) as (λ b. byte_of free ((if b then record { start = start; bytes = new } ∷ [] else pad ∷ record { start = start; bytes = new } ∷ []) ++ ps) k
+    let pad : Piece = record { start = align_up 8 at; bytes = pad_bytes erase (start - align_up 8 at) } in
+    elim (start == align_up 8 at) as (λ b. byte_of free ((if b then record { start = start; bytes = new } ∷ [] else pad ∷ record { start = start; bytes = new } ∷ []) ++ ps) k
     ≡ byte_of free ((if b then record { start = start; bytes = old } ∷ [] else pad ∷ record { start = start; bytes = old } ∷ []) ++ qs) k) [
       | true ↦ one
       | false ↦ behind free k (pad ∷ []) (record { start = start; bytes = new } ∷ ps) (record { start = start; bytes = old } ∷ qs) one
@@ -285,7 +285,7 @@ volume_byte : (head : VolumeHead) (files moved : List FileImage) (size k d : ℕ
 unfolding volume_image
 volume_byte head files moved size k d kin n =
     let free : ℕ = free_byte head.erase in
-    let first : ℕ = first_end head.name_guid in
+    let first : ℕ = header_end head.name_guid in
     let last : ℕ = last_end head files in
     let start : List Piece = start_pieces head size in
     let tops : byte_of free (top_pieces head.erase last (top_of moved) size) k ≡ byte_of free (top_pieces head.erase last (top_of files) size) k =
@@ -345,7 +345,7 @@ image_is head moved size image l e =
 stays_with : (head : VolumeHead) (files moved : List FileImage) (starts : List ℕ) (size : ℕ) (image : List ℕ) → places_of head files ≡ Ok starts → Placed head files starts size
     → moved_files head.ffs3 (base_of head) files starts ≡ Ok moved → volume_of head moved ≡ Ok image → StaysBut head files image (volume_of head files)
 stays_with head files moved starts size image o p m v =
-    let kin : Kin head.ffs3 files moved = kin_files head.ffs3 (base_of head) size (first_end head.name_guid) files moved (ap (moved_files head.ffs3 (base_of head) files) p.starts_are ∙ m) in
+    let kin : Kin head.ffs3 files moved = kin_files head.ffs3 (base_of head) size (header_end head.name_guid) files moved (ap (moved_files head.ffs3 (base_of head) files) p.starts_are ∙ m) in
     let i : volume_image head moved size ≡ image = image_is head moved size image (kin_length head files moved kin ∙ p.length_is) v in
     let s : Stays head files (volume_image head files size) image = record {
       size = ap length (sym i) ∙ volume_long head files moved size;

@@ -6,7 +6,7 @@ use Rattle.build_base.specs.declared.fault.Place.{Place}
 use Rattle.build_base.specs.declared.fault.Fault.{Fault}
 use Rattle.doc_types.specs.declared.image.FileImage.{FileImage}
 use Rattle.doc_types.specs.declared.volume_head.VolumeHead.{VolumeHead}
-use Rattle.ffs_sections.specs.File.{head_at}
+use Rattle.ffs_sections.specs.File.{header_len}
 use Rattle.fv_compose.specs.Places.{places_of}
 use Rattle.fv_compose.specs.Volume.{volume_of}
 use Rattle.volume_reader.specs.declared.listed.ListedSection.{ListedSection}
@@ -60,8 +60,8 @@ sections_change place body k (Some sections) = list_any (section_changes place b
 unfoldable pub file_changes : Bool → Place → List ℕ → ℕ → Bool
 file_changes ffs3 place bytes k =
     (has_checksum (file_head bytes) && k == 0x11)
-    || (has_sections bytes && nat_le (head_at bytes) k
-    && sections_change place (file_body bytes) (k - head_at bytes)
+    || (has_sections bytes && nat_le (header_len bytes) k
+    && sections_change place (file_body bytes) (k - header_len bytes)
     (sections_of ffs3 0 (file_body bytes)))
 
 -- places of a volume, in the files at these places

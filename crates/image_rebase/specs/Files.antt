@@ -7,7 +7,7 @@ use Rattle.doc_types.specs.Standard.{EFI_FV_FILETYPE_RAW, EFI_FV_FILETYPE_FFS_PA
 use Rattle.doc_types.specs.declared.image.FileImage.{FileImage}
 use Rattle.ffs_sections.specs.Standard.{FFS_ATTRIB_CHECKSUM, SECTION_LIMIT}
 use Rattle.ffs_sections.specs.Sums.{zero_byte}
-use Rattle.ffs_sections.specs.File.{head_at}
+use Rattle.ffs_sections.specs.File.{header_len}
 use Rattle.volume_reader.specs.declared.listed.ListedSection.{ListedSection}
 use Rattle.volume_reader.specs.Sections.{sections_of}
 use Rattle.volume_reader.specs.Files.{file_type, file_attributes}
@@ -51,15 +51,15 @@ with_body head body = resummed head body ++ body
 
 -- a file's header and body
 abbrev pub file_head : List ℕ → List ℕ
-file_head bytes = take (head_at bytes) bytes
+file_head bytes = take (header_len bytes) bytes
 
 abbrev pub file_body : List ℕ → List ℕ
-file_body bytes = drop (head_at bytes) bytes
+file_body bytes = drop (header_len bytes) bytes
 
 -- a file that starts at an address of memory, with the modules of these sections moved
 abbrev pub with_sections : Place → ℕ → ℕ → List ℕ → List ListedSection → Result (List ℕ) Fault
 with_sections place base address bytes sections =
-    and_then (moved_from place base (address + head_at bytes) (file_body bytes) 0 sections)
+    and_then (moved_from place base (address + header_len bytes) (file_body bytes) 0 sections)
     (λ body. Ok (with_body (file_head bytes) body))
 
 -- where its body is no list of sections it stays

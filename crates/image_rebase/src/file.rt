@@ -9,7 +9,7 @@ use build_base::{Place, Refusal, Same, Text, WantOfMemory};
 use doc_types::image::FileImage;
 use doc_types::standard::{EFI_FV_FILETYPE_FFS_PAD, EFI_FV_FILETYPE_RAW};
 use ffs_sections::body_sum;
-use ffs_sections::header::head_at;
+use ffs_sections::header::header_len;
 use ffs_sections::standard::FFS_ATTRIB_CHECKSUM;
 use std::alloc::Global;
 use volume_reader::{ListedSection, sections_of};
@@ -17,13 +17,13 @@ use volume_reader::{ListedSection, sections_of};
 fn file_head(bytes: &[u8]) -> &[u8]
     ensures { result.now ≡ file_head bytes.now }
 {
-    front(bytes, head_at(bytes) as u128)
+    front(bytes, header_len(bytes) as u128)
 }
 
 fn file_body(bytes: &[u8]) -> &[u8]
     ensures { result.now ≡ file_body bytes.now }
 {
-    rest(bytes, head_at(bytes) as u128)
+    rest(bytes, header_len(bytes) as u128)
 }
 
 // Whether a header has the attribute CHECKSUM.
@@ -69,7 +69,7 @@ fn with_sections(
     requires near { address < 2 ^ 99 }
     ensures { Answers result (with_sections place.now base address bytes.now sections.now) }
 {
-    let start = address + head_at(bytes) as u128;
+    let start = address + header_len(bytes) as u128;
     match move_from(alloc, place, base, start, file_body(bytes), sections) {
         Ok(body) => Ok(with_body(alloc, file_head(bytes), body.bytes())?),
         Err(refusal) => Err(refusal),

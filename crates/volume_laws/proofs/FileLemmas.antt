@@ -5,7 +5,7 @@ use Rattle.build_base.specs.declared.fault.Place.{Place}
 use Rattle.doc_types.specs.declared.image.ImagePlan.{ImagePlan}
 use Rattle.doc_types.specs.declared.image.FileImage.{FileImage}
 use Rattle.doc_types.specs.declared.volume_head.VolumeHead.{VolumeHead}
-use Rattle.ffs_sections.specs.File.{head_len, head_at, plan_step, is_large_file, file_size, file_limit, file_bytes, body_of, image_of}
+use Rattle.ffs_sections.specs.File.{head_len, header_len, plan_step, is_large_file, file_size, file_limit, file_bytes, body_of, image_of}
 use Rattle.ffs_sections.proofs.HeadLemmas.{length_head, head_at_file}
 use Rattle.volume_reader.specs.declared.listed.ListedSection.{ListedSection}
 use Rattle.volume_reader.specs.Sections.{sections_of}
@@ -22,7 +22,7 @@ use Rattle.volume_laws.proofs.PlanLemmas.{with_whole, head_by, front_by, image_b
 -- the file of a plan with this body: its length, and where its body stands
 record Shape (plan : ImagePlan) (count : ℕ) (body : List ℕ) : Type 0 where
   size : length (front_by plan (plan_step plan) count body ++ body) ≡ head_len (is_large_file plan.ffs3 count) + length body
-  head : head_at (front_by plan (plan_step plan) count body ++ body) ≡ head_len (is_large_file plan.ffs3 count)
+  head : header_len (front_by plan (plan_step plan) count body ++ body) ≡ head_len (is_large_file plan.ffs3 count)
   front : length (front_by plan (plan_step plan) count body) ≡ head_len (is_large_file plan.ffs3 count)
 
 shape_of : (plan : ImagePlan) (count : ℕ) (body : List ℕ) → length plan.guid.0 ≡ 16 → Shape plan count body
@@ -49,8 +49,8 @@ built_is plan body = refl
 
 -- the sections of a file with another body
 same_sections : (ffs3 : Bool) (place : ℕ) (made now : Made) (body moved : List ℕ) → body_of made.plan made.plan.body ≡ Ok body → body_of now.plan now.plan.body ≡ Ok moved
-    → now.plan.file_type ≡ made.plan.file_type → head_at now.file.bytes ≡ head_at made.file.bytes
-    → sections_of ffs3 (place + head_at made.file.bytes) moved ≡ sections_of ffs3 (place + head_at made.file.bytes) body → made_sections ffs3 place now ≡ made_sections ffs3 place made
+    → now.plan.file_type ≡ made.plan.file_type → header_len now.file.bytes ≡ header_len made.file.bytes
+    → sections_of ffs3 (place + header_len made.file.bytes) moved ≡ sections_of ffs3 (place + header_len made.file.bytes) body → made_sections ffs3 place now ≡ made_sections ffs3 place made
 unfolding made_sections
 same_sections ffs3 place made now body moved a b k h s = rw (a, b, k, h, s) refl
 
@@ -81,8 +81,8 @@ with_other head made body moved bytes m e parts room l b s =
         guid = ap (λ f. f.guid) (sym e);
         align = ap (λ f. f.align) (sym e);
         size = new.size ∙ ap (λ n. head_len (is_large_file plan.ffs3 (length body)) + n) l ∙ sym old.size ∙ ap (λ f. length f.bytes) (sym e);
-        head = new.head ∙ sym old.head ∙ ap (λ f. head_at f.bytes) (sym e);
-        sections = λ place. same_sections head.ffs3 place made now body moved parts refl refl (new.head ∙ sym old.head ∙ ap (λ f. head_at f.bytes) (sym e)) (s (place + head_at made.file.bytes));
+        head = new.head ∙ sym old.head ∙ ap (λ f. header_len f.bytes) (sym e);
+        sections = λ place. same_sections head.ffs3 place made now body moved parts refl refl (new.head ∙ sym old.head ∙ ap (λ f. header_len f.bytes) (sym e)) (s (place + header_len made.file.bytes));
       };
     }
 
@@ -99,7 +99,7 @@ found_parts plan body place base address (Some sections) bytes n e l k =
     let front : List ℕ = front_by plan (plan_step plan) (length body) body in
     let old : List ℕ = front ++ body in
     let was : Shape plan (length body) body = shape_of plan (length body) body n in
-    through (moved_from place base (address + head_at old) (file_body old) 0 sections) (λ moved. Ok (with_body (file_head old) moved)) bytes e
+    through (moved_from place base (address + header_len old) (file_body old) 0 sections) (λ moved. Ok (with_body (file_head old) moved)) bytes e
     (λ moved a b.
     let s : with_body (file_head old) moved ≡ bytes = cc in
     let t : file_head old ≡ front = ap (λ h. take h old) (was.head ∙ sym was.front) ∙ take-append_seam front body in

@@ -3,8 +3,8 @@ use Rattle.std.proofs.Common.{◌≡◌, ℕ, zero, suc, ◌+◌, ◌-◌, ◌%�
 use Rattle.std.proofs.lemmas.Bool.Decides.{nat_tests}
 use Rattle.std.proofs.lemmas.List.Folds.{list_all_at}
 use Rattle.build_base.specs.Runs.{free_byte}
-use Rattle.ffs_sections.specs.File.{head_at, state_of}
-use Rattle.fv_compose.specs.Place.{up}
+use Rattle.ffs_sections.specs.File.{header_len, state_of}
+use Rattle.fv_compose.specs.Place.{align_up}
 use Rattle.fv_compose.proofs.PlaceLemmas.{up_after}
 use Rattle.volume_reader.specs.declared.listed.Listed.{Listed}
 use Rattle.volume_reader.specs.declared.listed.VolumeList.{VolumeList}
@@ -22,8 +22,8 @@ Held = Found (held_from 0 true 0 [] 0)
 
 -- What is known of a file: it is within the bytes, and longer than its header.
 record IsFile (erase : ℕ) (bytes : List ℕ) : Type 0 where
-  head : head_at bytes ≤ length bytes
-  least : head_at bytes ≤ stated_size bytes
+  head : header_len bytes ≤ length bytes
+  least : header_len bytes ≤ stated_size bytes
   inside : stated_size bytes ≤ length bytes
   state : file_state bytes ≡ state_of erase
 
@@ -36,8 +36,8 @@ file_known ffs3 erase bytes e = record {
   state = grind (arith, nat_tests, e);
 }
 
-head_least : (bytes : List ℕ) → 24 ≤ head_at bytes
-unfolding head_at
+head_least : (bytes : List ℕ) → 24 ≤ header_len bytes
+unfolding header_len
 head_least bytes = elim (get_or bytes 19 0 % 2 == 1) as (λ b. 24 ≤ (if b then 32 else 24)) [ true ↦ omega arith | false ↦ omega arith ]
 
 state_other : (erase : ℕ) → (state_of erase == free_byte erase) ≡ false
@@ -48,8 +48,8 @@ used : (ffs3 : Bool) (erase : ℕ) (bytes : List ℕ) → is_file ffs3 erase byt
 unfolding are_erased file_state
 used ffs3 erase bytes e =
     let k : IsFile erase bytes = file_known ffs3 erase bytes e in
-    let h : head_at bytes ≤ length bytes = k.head in
-    let l : 24 ≤ head_at bytes = head_least bytes in
+    let h : header_len bytes ≤ length bytes = k.head in
+    let l : 24 ≤ header_len bytes = head_least bytes in
     let other : (get_or bytes 23 0 == free_byte erase) ≡ false = ap (λ z. z == free_byte erase) k.state ∙ state_other erase in
     list_all_at (λ b. b == free_byte erase) bytes 23 0 (omega arith) other
 
@@ -75,7 +75,7 @@ HasFile ffs3 erase volume at = is_file ffs3 erase (drop at volume)
 
 held_turn : (n : ℕ) (ffs3 : Bool) (erase : ℕ) (volume : List ℕ) (at : ℕ)
     → held_from (suc n) ffs3 erase volume at
-    ≡ turn ffs3 volume at (IsErased erase volume at) (HasFile ffs3 erase volume at) (held_from n ffs3 erase volume (up 8 (end_at volume at)))
+    ≡ turn ffs3 volume at (IsErased erase volume at) (HasFile ffs3 erase volume at) (held_from n ffs3 erase volume (align_up 8 (end_at volume at)))
 unfolding held_from
 held_turn n ffs3 erase volume at = refl
 
@@ -88,83 +88,83 @@ within : (ffs3 : Bool) (erase : ℕ) (volume : List ℕ) (at : ℕ) → HasFile 
 within ffs3 erase volume at e =
     let bytes : List ℕ = drop at volume in
     let k : IsFile erase bytes = file_known ffs3 erase bytes e in
-    let a : head_at bytes ≤ stated_size bytes = k.least in
+    let a : header_len bytes ≤ stated_size bytes = k.least in
     let b : stated_size bytes ≤ length bytes = k.inside in
-    let c : 24 ≤ head_at bytes = head_least bytes in
+    let c : 24 ≤ header_len bytes = head_least bytes in
     let d : length bytes ≡ length volume - at = length-drop at volume in
     record { some = omega arith; inside = omega arith }
 
 -- the steps that are left after a file
 less : (ffs3 : Bool) (erase : ℕ) (volume : List ℕ) (at n : ℕ) → HasFile ffs3 erase volume at ≡ true → length volume < suc n + at
-    → (length volume < n + up 8 (end_at volume at)) × (0 < n)
+    → (length volume < n + align_up 8 (end_at volume at)) × (0 < n)
 less ffs3 erase volume at n e h =
     let w : IsWithin volume at = within ffs3 erase volume at e in
     let a : at + 24 ≤ end_at volume at = w.some in
     let b : end_at volume at ≤ length volume = w.inside in
-    let c : end_at volume at ≤ up 8 (end_at volume at) = up_after 8 (end_at volume at) (omega arith) in
+    let c : end_at volume at ≤ align_up 8 (end_at volume at) = up_after 8 (end_at volume at) (omega arith) in
     (omega arith, omega arith)
 
 -- What the walk finds stands in the relation.
 
 held_by : (ffs3 : Bool) (erase : ℕ) (volume : List ℕ) (end : ℕ) (erased file : Bool) (rest : Result Held ℕ) (held : Held)
-    → IsErased erase volume (up 8 end) ≡ erased → HasFile ffs3 erase volume (up 8 end) ≡ file
-    → ((more : Held) → rest ≡ Ok more → AreFilesFrom ffs3 erase volume (end_at volume (up 8 end)) more.files more.free)
-    → turn ffs3 volume (up 8 end) erased file rest ≡ Ok held → AreFilesFrom ffs3 erase volume end held.files held.free
+    → IsErased erase volume (align_up 8 end) ≡ erased → HasFile ffs3 erase volume (align_up 8 end) ≡ file
+    → ((more : Held) → rest ≡ Ok more → AreFilesFrom ffs3 erase volume (end_at volume (align_up 8 end)) more.files more.free)
+    → turn ffs3 volume (align_up 8 end) erased file rest ≡ Ok held → AreFilesFrom ffs3 erase volume end held.files held.free
 unfolding listed_file
 held_by ffs3 erase volume end true file rest held a f k e =
-    let free : ℕ = length volume - up 8 end in
+    let free : ℕ = length volume - align_up 8 end in
     let last : Held = record { files = []; free = free } in
     let s : last ≡ held = cc in
     subst (λ h. AreFilesFrom ffs3 erase volume end h.files h.free) s (none end free (record { erased = a; rest = refl }))
 held_by ffs3 erase volume end false true (Ok more) held a f k e =
-    let row : Listed = row_at ffs3 volume (up 8 end) in
+    let row : Listed = row_at ffs3 volume (align_up 8 end) in
     let whole : Held = record { files = row ∷ more.files; free = more.free } in
     let s : whole ≡ held = cc in
     subst (λ h. AreFilesFrom ffs3 erase volume end h.files h.free) s (some end more.free row more.files (record { file = f; told = refl }) (k more refl))
 held_by ffs3 erase volume end false true (Err place) held a f k e = absurd cc
 held_by ffs3 erase volume end false false rest held a f k e = absurd cc
 
-held_stands : (n : ℕ) (ffs3 : Bool) (erase : ℕ) (volume : List ℕ) (end : ℕ) (held : Held) → held_from n ffs3 erase volume (up 8 end) ≡ Ok held
+held_stands : (n : ℕ) (ffs3 : Bool) (erase : ℕ) (volume : List ℕ) (end : ℕ) (held : Held) → held_from n ffs3 erase volume (align_up 8 end) ≡ Ok held
     → AreFilesFrom ffs3 erase volume end held.files held.free
 unfolding held_from
 held_stands zero ffs3 erase volume end held e = absurd cc
 held_stands (suc n) ffs3 erase volume end held e =
-    held_by ffs3 erase volume end (IsErased erase volume (up 8 end)) (HasFile ffs3 erase volume (up 8 end))
-    (held_from n ffs3 erase volume (up 8 (end_at volume (up 8 end)))) held refl refl
-    (λ more o. held_stands n ffs3 erase volume (end_at volume (up 8 end)) more o) e
+    held_by ffs3 erase volume end (IsErased erase volume (align_up 8 end)) (HasFile ffs3 erase volume (align_up 8 end))
+    (held_from n ffs3 erase volume (align_up 8 (end_at volume (align_up 8 end)))) held refl refl
+    (λ more o. held_stands n ffs3 erase volume (end_at volume (align_up 8 end)) more o) e
 
 wrong_by : (ffs3 : Bool) (erase : ℕ) (volume : List ℕ) (end place : ℕ) (erased file : Bool) (rest : Result Held ℕ)
-    → IsErased erase volume (up 8 end) ≡ erased → HasFile ffs3 erase volume (up 8 end) ≡ file
-    → (HasFile ffs3 erase volume (up 8 end) ≡ true → rest ≡ Err place → IsWrongFrom ffs3 erase volume (end_at volume (up 8 end)) place)
-    → turn ffs3 volume (up 8 end) erased file rest ≡ Err place → IsWrongFrom ffs3 erase volume end place
+    → IsErased erase volume (align_up 8 end) ≡ erased → HasFile ffs3 erase volume (align_up 8 end) ≡ file
+    → (HasFile ffs3 erase volume (align_up 8 end) ≡ true → rest ≡ Err place → IsWrongFrom ffs3 erase volume (end_at volume (align_up 8 end)) place)
+    → turn ffs3 volume (align_up 8 end) erased file rest ≡ Err place → IsWrongFrom ffs3 erase volume end place
 unfolding listed_file
 wrong_by ffs3 erase volume end place true file rest a f k e = absurd cc
 wrong_by ffs3 erase volume end place false true (Ok more) a f k e = absurd cc
 wrong_by ffs3 erase volume end place false true (Err other) a f k e =
-    later end place (row_at ffs3 volume (up 8 end)) (record { file = f; told = refl }) (k f e)
+    later end place (row_at ffs3 volume (align_up 8 end)) (record { file = f; told = refl }) (k f e)
 wrong_by ffs3 erase volume end place false false rest a f k e =
-    let s : place ≡ up 8 end = cc in
+    let s : place ≡ align_up 8 end = cc in
     here end place s (record {
       file = ap (λ z. is_file ffs3 erase (drop z volume)) s ∙ f;
       erased = ap (λ z. are_erased erase (drop z volume)) s ∙ a;
     })
 
-wrong_stands : (n : ℕ) (ffs3 : Bool) (erase : ℕ) (volume : List ℕ) (end place : ℕ) → length volume < n + up 8 end → 0 < n
-    → held_from n ffs3 erase volume (up 8 end) ≡ Err place → IsWrongFrom ffs3 erase volume end place
+wrong_stands : (n : ℕ) (ffs3 : Bool) (erase : ℕ) (volume : List ℕ) (end place : ℕ) → length volume < n + align_up 8 end → 0 < n
+    → held_from n ffs3 erase volume (align_up 8 end) ≡ Err place → IsWrongFrom ffs3 erase volume end place
 unfolding held_from
 wrong_stands zero ffs3 erase volume end place h k e = absurd (omega arith)
 wrong_stands (suc n) ffs3 erase volume end place h k e =
-    wrong_by ffs3 erase volume end place (IsErased erase volume (up 8 end)) (HasFile ffs3 erase volume (up 8 end))
-    (held_from n ffs3 erase volume (up 8 (end_at volume (up 8 end)))) refl refl
-    (λ f o. let l = less ffs3 erase volume (up 8 end) n f h in wrong_stands n ffs3 erase volume (end_at volume (up 8 end)) place l.0 l.1 o) e
+    wrong_by ffs3 erase volume end place (IsErased erase volume (align_up 8 end)) (HasFile ffs3 erase volume (align_up 8 end))
+    (held_from n ffs3 erase volume (align_up 8 (end_at volume (align_up 8 end)))) refl refl
+    (λ f o. let l = less ffs3 erase volume (align_up 8 end) n f h in wrong_stands n ffs3 erase volume (end_at volume (align_up 8 end)) place l.0 l.1 o) e
 
 -- What stands in the relation the walk finds.
 
 file_turn : (n : ℕ) (ffs3 : Bool) (erase : ℕ) (volume : List ℕ) (at : ℕ) → HasFile ffs3 erase volume at ≡ true
-    → held_from (suc n) ffs3 erase volume at ≡ with_files (row_at ffs3 volume at ∷ []) (held_from n ffs3 erase volume (up 8 (end_at volume at)))
+    → held_from (suc n) ffs3 erase volume at ≡ with_files (row_at ffs3 volume at ∷ []) (held_from n ffs3 erase volume (align_up 8 (end_at volume at)))
 file_turn n ffs3 erase volume at f =
     let a : IsErased erase volume at ≡ false = used ffs3 erase (drop at volume) f in
-    let rest : Result Held ℕ = held_from n ffs3 erase volume (up 8 (end_at volume at)) in
+    let rest : Result Held ℕ = held_from n ffs3 erase volume (align_up 8 (end_at volume at)) in
     held_turn n ffs3 erase volume at ∙ ap (λ b. turn ffs3 volume at b (HasFile ffs3 erase volume at) rest) a ∙ ap (λ b. turn ffs3 volume at false b rest) f
 
 -- a row tells where its file ends
@@ -173,14 +173,14 @@ unfolding listed_file
 row_end ffs3 volume at row e = ap (λ r. r.place + r.size) e
 
 files_found : (ffs3 : Bool) (erase : ℕ) (volume : List ℕ) (end free : ℕ) (rows : List Listed) → AreFilesFrom ffs3 erase volume end rows free
-    → (n : ℕ) → length volume < n + up 8 end → 0 < n → held_from n ffs3 erase volume (up 8 end) ≡ Ok (record { files = rows; free = free })
+    → (n : ℕ) → length volume < n + align_up 8 end → 0 < n → held_from n ffs3 erase volume (align_up 8 end) ≡ Ok (record { files = rows; free = free })
 files_found ffs3 erase volume end free rows s zero h k = absurd (omega arith)
 files_found ffs3 erase volume end free [] (none _ _ f) (suc n) h k =
-    let rest : Result Held ℕ = held_from n ffs3 erase volume (up 8 (end_at volume (up 8 end))) in
-    held_turn n ffs3 erase volume (up 8 end) ∙ ap (λ b. turn ffs3 volume (up 8 end) b (HasFile ffs3 erase volume (up 8 end)) rest) f.erased
+    let rest : Result Held ℕ = held_from n ffs3 erase volume (align_up 8 (end_at volume (align_up 8 end))) in
+    held_turn n ffs3 erase volume (align_up 8 end) ∙ ap (λ b. turn ffs3 volume (align_up 8 end) b (HasFile ffs3 erase volume (align_up 8 end)) rest) f.erased
     ∙ ap (λ z. Ok (record { files = []; free = z })) (sym f.rest)
 files_found ffs3 erase volume end free (row ∷ rows) (some _ _ _ _ f more) (suc n) h k =
-    let at : ℕ = up 8 end in
+    let at : ℕ = align_up 8 end in
     let next : row.place + row.size ≡ end_at volume at = row_end ffs3 volume at row f.told in
     let l = less ffs3 erase volume at n f.file h in
     let there : AreFilesFrom ffs3 erase volume (end_at volume at) rows free = subst (λ z. AreFilesFrom ffs3 erase volume z rows free) next more in
@@ -188,17 +188,17 @@ files_found ffs3 erase volume end free (row ∷ rows) (some _ _ _ _ f more) (suc
     ∙ ap (λ z. Ok (record { files = z ∷ rows; free = free })) (sym f.told)
 
 wrong_found : (ffs3 : Bool) (erase : ℕ) (volume : List ℕ) (end place : ℕ) → IsWrongFrom ffs3 erase volume end place
-    → (n : ℕ) → length volume < n + up 8 end → 0 < n → held_from n ffs3 erase volume (up 8 end) ≡ Err place
+    → (n : ℕ) → length volume < n + align_up 8 end → 0 < n → held_from n ffs3 erase volume (align_up 8 end) ≡ Err place
 wrong_found ffs3 erase volume end place s zero h k = absurd (omega arith)
 wrong_found ffs3 erase volume end place (here _ _ e w) (suc n) h k =
-    let at : ℕ = up 8 end in
-    let rest : Result Held ℕ = held_from n ffs3 erase volume (up 8 (end_at volume at)) in
+    let at : ℕ = align_up 8 end in
+    let rest : Result Held ℕ = held_from n ffs3 erase volume (align_up 8 (end_at volume at)) in
     let a : IsErased erase volume at ≡ false = ap (IsErased erase volume) (sym e) ∙ w.erased in
     let f : HasFile ffs3 erase volume at ≡ false = ap (HasFile ffs3 erase volume) (sym e) ∙ w.file in
     held_turn n ffs3 erase volume at ∙ ap (λ b. turn ffs3 volume at b (HasFile ffs3 erase volume at) rest) a ∙ ap (λ b. turn ffs3 volume at false b rest) f
     ∙ ap (λ z. Err z) (sym e)
 wrong_found ffs3 erase volume end place (later _ _ row f more) (suc n) h k =
-    let at : ℕ = up 8 end in
+    let at : ℕ = align_up 8 end in
     let next : row.place + row.size ≡ end_at volume at = row_end ffs3 volume at row f.told in
     let l = less ffs3 erase volume at n f.file h in
     let there : IsWrongFrom ffs3 erase volume (end_at volume at) place = subst (λ z. IsWrongFrom ffs3 erase volume z place) next more in
@@ -210,7 +210,7 @@ abbrev bytes_of : List ℕ → List ℕ
 bytes_of bytes = take (fv_length bytes) bytes
 
 abbrev held_of : List ℕ → Result Held ℕ
-held_of bytes = held_from (length (bytes_of bytes) + 1) (is_ffs3 bytes) (erase_polarity bytes) (bytes_of bytes) (up 8 (header_length bytes))
+held_of bytes = held_from (length (bytes_of bytes) + 1) (is_ffs3 bytes) (erase_polarity bytes) (bytes_of bytes) (align_up 8 (header_length bytes))
 
 list_is : (bytes : List ℕ) → volume_list bytes ≡ list_of bytes (held_of bytes)
 unfolding volume_list
@@ -230,7 +230,7 @@ holds_by bytes (Err place) list f e = absurd cc
 pub list_holds : (bytes : List ℕ) (list : VolumeList) → volume_list bytes ≡ Ok list → Holds bytes list
 list_holds bytes list e = holds_by bytes (held_of bytes) list refl (sym (list_is bytes) ∙ e)
 
-steps_left : (volume : List ℕ) (end : ℕ) → (length volume < (length volume + 1) + up 8 end) × (0 < length volume + 1)
+steps_left : (volume : List ℕ) (end : ℕ) → (length volume < (length volume + 1) + align_up 8 end) × (0 < length volume + 1)
 steps_left volume end = (omega arith, omega arith)
 
 pub holds_list : (bytes : List ℕ) (list : VolumeList) → Holds bytes list → volume_list bytes ≡ Ok list

@@ -3,9 +3,9 @@ use Rattle.std.proofs.Common.{◌≡◌, ℕ, ◌+◌, ◌-◌, ◌==◌, Bool, 
 use Rattle.std.specs.Str.{bytes_eq}
 use Rattle.build_base.specs.declared.guid.Guid.{Guid}
 use Rattle.doc_types.specs.declared.volume_head.VolumeHead.{VolumeHead}
-use Rattle.ffs_sections.specs.File.{head_at}
-use Rattle.fv_compose.specs.Place.{up, start_of}
-use Rattle.fv_compose.specs.Header.{first_end}
+use Rattle.ffs_sections.specs.File.{header_len}
+use Rattle.fv_compose.specs.Place.{align_up, start_of}
+use Rattle.fv_compose.specs.Header.{header_end}
 use Rattle.fv_compose.specs.Files.{is_top, top_name, top_start, file_start, file_end, end_of}
 use Rattle.volume_reader.specs.declared.listed.Listed.{Listed}
 use Rattle.volume_reader.specs.declared.listed.ListedSection.{ListedSection}
@@ -18,7 +18,7 @@ pub record Like (ffs3 : Bool) (old new : Made) : Type 0 where
   pub guid : new.file.guid ≡ old.file.guid
   pub align : new.file.align ≡ old.file.align
   pub size : length new.file.bytes ≡ length old.file.bytes
-  pub head : head_at new.file.bytes ≡ head_at old.file.bytes
+  pub head : header_len new.file.bytes ≡ header_len old.file.bytes
   pub sections : (place : ℕ) → made_sections ffs3 place new ≡ made_sections ffs3 place old
 
 -- files, one by one
@@ -33,7 +33,7 @@ unfolding is_top
 like_top ffs3 old new l = ap (λ g. bytes_eq g.0 top_name) l.guid
 
 like_start : (ffs3 : Bool) (at : ℕ) (old new : Made) → Like ffs3 old new → file_start at new.file ≡ file_start at old.file
-like_start ffs3 at old new l = ap (λ n. start_of at n (head_at new.file.bytes)) l.align ∙ ap (λ n. start_of at old.file.align n) l.head
+like_start ffs3 at old new l = ap (λ n. start_of at n (header_len new.file.bytes)) l.align ∙ ap (λ n. start_of at old.file.align n) l.head
 
 like_end : (ffs3 : Bool) (at : ℕ) (old new : Made) → Like ffs3 old new → file_end at new.file ≡ file_end at old.file
 like_end ffs3 at old new l = ap (λ n. n + length new.file.bytes) (like_start ffs3 at old new l) ∙ ap (λ n. file_start at old.file + n) l.size
@@ -52,8 +52,8 @@ like_row ffs3 place old new l =
 like_placed : (ffs3 : Bool) (at start : ℕ) (old new : Made) → Like ffs3 old new → placed_rows ffs3 at start new ≡ placed_rows ffs3 at start old
 unfolding placed_rows
 like_placed ffs3 at start old new l =
-    let pad : Listed = pad_row (up 8 at) (start - up 8 at) in
-    ap (λ r. if start == up 8 at then r ∷ [] else pad ∷ r ∷ []) (like_row ffs3 start old new l)
+    let pad : Listed = pad_row (align_up 8 at) (start - align_up 8 at) in
+    ap (λ r. if start == align_up 8 at then r ∷ [] else pad ∷ r ∷ []) (like_row ffs3 start old new l)
 
 like_rows : (ffs3 : Bool) (at : ℕ) (olds news : List Made) → AreLike ffs3 olds news → files_rows ffs3 at news ≡ files_rows ffs3 at olds
 unfolding AreLike files_rows
@@ -125,7 +125,7 @@ like_written : (head : VolumeHead) (olds news : List Made) (size : ℕ) → AreL
 unfolding written_rows
 like_written head olds news size l =
     let ffs3 : Bool = head.ffs3 in
-    let first : ℕ = first_end head.name_guid in
+    let first : ℕ = header_end head.name_guid in
     let p : AreLike ffs3 (plain_made olds) (plain_made news) = like_plain ffs3 olds news l in
     let front : List Listed = extended_rows head.name_guid in
     let old : List Listed = files_rows ffs3 first (plain_made olds) in
@@ -140,7 +140,7 @@ pub like_list : (head : VolumeHead) (olds news : List Made) (size : ℕ) → Are
 unfolding written_list
 like_list head olds news size l =
     let free : free_behind (plain_end head news) size (top_made news) ≡ free_behind (plain_end head olds) size (top_made olds) =
-    ap (λ n. free_behind n size (top_made news)) (like_last head.ffs3 (first_end head.name_guid) (plain_made olds) (plain_made news) (like_plain head.ffs3 olds news l))
+    ap (λ n. free_behind n size (top_made news)) (like_last head.ffs3 (header_end head.name_guid) (plain_made olds) (plain_made news) (like_plain head.ffs3 olds news l))
     ∙ like_free head.ffs3 (plain_end head olds) size (top_made olds) (top_made news) (like_tops head.ffs3 olds news l) in
     ap (λ r. record { length = size; ffs3 = head.ffs3; files = r; free = free_behind (plain_end head news) size (top_made news) }) (like_written head olds news size l)
     ∙ ap (λ n. record { length = size; ffs3 = head.ffs3; files = written_rows head olds size; free = n }) free

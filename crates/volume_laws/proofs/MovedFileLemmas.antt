@@ -7,7 +7,7 @@ use Rattle.build_base.specs.First.{and_then, with_front}
 use Rattle.build_base.specs.declared.fault.Place.{Place}
 use Rattle.doc_types.specs.declared.image.FileImage.{FileImage}
 use Rattle.ffs_sections.specs.Sums.{zero_byte}
-use Rattle.ffs_sections.specs.File.{head_at}
+use Rattle.ffs_sections.specs.File.{header_len}
 use Rattle.volume_reader.specs.declared.listed.ListedSection.{ListedSection}
 use Rattle.volume_reader.specs.Sections.{sections_of}
 use Rattle.image_rebase.specs.Moves.{moved_content}
@@ -100,15 +100,15 @@ sum_read : (head body : List ℕ) → has_checksum head ≡ true → 17 < length
 unfolding resummed
 sum_read head body c h = ap (λ b. get_or (if b then slice_set head 0x11 (zero_byte body) else head) 17 0) c ∙ get_or-set_same head 17 (zero_byte body) 0 h
 
-body_with : (place : Place) (base address : ℕ) (sections : List ListedSection) (bytes body moved : List ℕ) → head_at bytes ≤ length bytes → Ordered (length (file_body bytes)) 0 sections
-    → head_at moved ≡ head_at bytes → moved_from place base address (file_body bytes) 0 sections ≡ Ok body → with_body (file_head bytes) body ≡ moved
+body_with : (place : Place) (base address : ℕ) (sections : List ListedSection) (bytes body moved : List ℕ) → header_len bytes ≤ length bytes → Ordered (length (file_body bytes)) 0 sections
+    → header_len moved ≡ header_len bytes → moved_from place base address (file_body bytes) 0 sections ≡ Ok body → with_body (file_head bytes) body ≡ moved
     → IsMovedBody place address sections bytes moved
 body_with place base address sections bytes body moved h o n e w =
     let head : List ℕ = file_head bytes in
     let sum : List ℕ = resummed head body in
-    let lh : length head ≡ head_at bytes = length-take-le (head_at bytes) bytes h in
-    let ls : length sum ≡ head_at bytes = sum_long head body ∙ lh in
-    let long : 24 ≤ head_at bytes = head_long bytes in
+    let lh : length head ≡ header_len bytes = length-take-le (header_len bytes) bytes h in
+    let ls : length sum ≡ header_len bytes = sum_long head body ∙ lh in
+    let long : 24 ≤ header_len bytes = head_long bytes in
     let b : file_body moved ≡ body = ap (λ k. drop k moved) (n ∙ sym ls) ∙ ap (drop (length sum)) (sym w) ∙ drop-append_seam sum body in
     record {
       contents =
@@ -123,17 +123,17 @@ body_with place base address sections bytes body moved h o n e w =
           ap (λ z. get_or z 17 0) (sym w) ∙ get_or_append_left sum body 0 17 (omega arith) ∙ sum_read head body c (omega arith) ∙ ap zero_byte (sym b);
     }
 
-body_moved : (ffs3 : Bool) (place : Place) (base address : ℕ) (bytes moved : List ℕ) (sections : List ListedSection) → moved_bytes ffs3 place base address bytes ≡ Ok moved → head_at bytes ≤ length bytes
-    → has_sections bytes ≡ true → sections_of ffs3 0 (file_body bytes) ≡ Some sections → IsMovedBody place (address + head_at bytes) sections bytes moved
+body_moved : (ffs3 : Bool) (place : Place) (base address : ℕ) (bytes moved : List ℕ) (sections : List ListedSection) → moved_bytes ffs3 place base address bytes ≡ Ok moved → header_len bytes ≤ length bytes
+    → has_sections bytes ≡ true → sections_of ffs3 0 (file_body bytes) ≡ Some sections → IsMovedBody place (address + header_len bytes) sections bytes moved
 unfolding moved_bytes moved_sections
 body_moved ffs3 place base address bytes moved sections e h s f =
-    let n : head_at moved ≡ head_at bytes = head_same bytes moved ((same_file ffs3 place base address bytes moved 19 e).byte (nineteen_stays ffs3 place bytes) 0) in
+    let n : header_len moved ≡ header_len bytes = head_same bytes moved ((same_file ffs3 place base address bytes moved 19 e).byte (nineteen_stays ffs3 place bytes) 0) in
     let a : with_found place base address bytes (Some sections) ≡ Ok moved =
     ap (with_found place base address bytes) (sym f) ∙ ap (λ b. if b then with_found place base address bytes (sections_of ffs3 0 (file_body bytes)) else Ok bytes) (sym s) ∙ e in
-    through (moved_from place base (address + head_at bytes) (file_body bytes) 0 sections) (λ body. Ok (with_body (file_head bytes) body)) moved a
+    through (moved_from place base (address + header_len bytes) (file_body bytes) 0 sections) (λ body. Ok (with_body (file_head bytes) body)) moved a
     (λ body b c.
     let w : with_body (file_head bytes) body ≡ moved = cc in
-    body_with place base (address + head_at bytes) sections bytes body moved h (ordered_sections ffs3 (file_body bytes) sections f) n b w)
+    body_with place base (address + header_len bytes) sections bytes body moved h (ordered_sections ffs3 (file_body bytes) sections f) n b w)
 
 pub file_moved : (ffs3 : Bool) (base start : ℕ) (file moved : FileImage) → moved_file ffs3 base start file ≡ Ok moved → IsMovedFile ffs3 base start file moved
 unfolding moved_file

@@ -5,7 +5,7 @@ use Rattle.build_base.specs.First.{unless, with_front}
 use Rattle.build_base.specs.declared.fault.Fault.{Fault}
 use Rattle.doc_types.specs.declared.image.FileImage.{FileImage}
 use Rattle.doc_types.specs.declared.volume_head.VolumeHead.{VolumeHead}
-use Rattle.fv_compose.specs.Header.{first_end}
+use Rattle.fv_compose.specs.Header.{header_end}
 use Rattle.fv_compose.specs.Turns.{next_end}
 use Rattle.fv_compose.specs.Volume.{place_fault, twice_fault, length_of, volume_of}
 use Rattle.fv_compose.specs.Places.{placed_at, placed_from, places_in, places_with, places_of}
@@ -94,7 +94,7 @@ moved_written head made image b e k =
     some_size head (files_of made) starts o
     (λ size s.
     let all : AreMoved head made files =
-    all_moved head (base_of head) size (first_end head.name_guid) made files b.files (ap (moved_files head.ffs3 (base_of head) (files_of made)) s ∙ m) in
+    all_moved head (base_of head) size (header_end head.name_guid) made files b.files (ap (moved_files head.ffs3 (base_of head) (files_of made)) s ∙ m) in
     k all.now (written_by head made files image b all v) all.like)))
 
 alike_of : (list other : VolumeList) → list ≡ other → IsAlike list other

@@ -4,7 +4,7 @@ use Rattle.build_base.specs.First.{with_front}
 use Rattle.build_base.specs.declared.fault.Fault.{Fault}
 use Rattle.doc_types.specs.declared.image.FileImage.{FileImage}
 use Rattle.doc_types.specs.declared.volume_head.VolumeHead.{VolumeHead}
-use Rattle.fv_compose.specs.Header.{first_end}
+use Rattle.fv_compose.specs.Header.{header_end}
 use Rattle.fv_compose.specs.Turns.{next_end}
 use Rattle.fv_compose.specs.Volume.{volume_of}
 use Rattle.fv_compose.specs.Places.{placed_at, placed_from, places_of}
@@ -38,7 +38,7 @@ volume_moved head files image e =
     (λ moved m v.
     some_size head files starts o
     (λ size s.
-    let first : ℕ = first_end head.name_guid in
+    let first : ℕ = header_end head.name_guid in
     let each : AreMovedFiles head.ffs3 (base_of head) files (placed_from size first files) moved =
     files_moved head.ffs3 (base_of head) size first files moved (ap (moved_files head.ffs3 (base_of head) files) s ∙ m) in
     record {

@@ -9,7 +9,7 @@ use Rattle.doc_types.specs.declared.image.ImagePlan.{ImagePlan}
 use Rattle.doc_types.specs.declared.image.FileImage.{FileImage}
 use Rattle.ffs_sections.specs.declared.header.Head.{Head}
 use Rattle.ffs_sections.specs.Sums.{zero_byte}
-use Rattle.ffs_sections.specs.Alignment.{is_align, alignments, step_of, step_bits}
+use Rattle.ffs_sections.specs.Alignment.{is_section_alignment, alignments, alignment_index, step_bits}
 use Rattle.ffs_sections.specs.File.{short_fields, long_fields, file_head as head_of, state_of, body_align, plan_step, is_large_file, file_size, file_limit, file_bytes, image_of, file_of}
 use Rattle.volume_reader.specs.Files.{file_attributes}
 use Rattle.volume_reader.proofs.FieldLemmas.{sixteen, sixteen_of, Fields, fields_of}
@@ -19,10 +19,10 @@ use Rattle.image_rebase.specs.Files.{has_checksum, resummed}
 -- The alignment that a header states by a step is one, and its step is that.
 
 abbrev step_stays : ℕ → Bool
-step_stays step = is_align (get_or alignments step 0) && step_of (get_or alignments step 0) == step
+step_stays step = is_section_alignment (get_or alignments step 0) && alignment_index (get_or alignments step 0) == step
 
 all_stay : list_all step_stays (range_with_len 0 16) ≡ true
-unfolding is_align step_of
+unfolding is_section_alignment alignment_index
 all_stay = refl
 
 stays_by : (step : ℕ) (b : Bool) → step < 16 → step_stays step ≡ b → step_stays step ≡ true
@@ -38,10 +38,10 @@ both : (a b : Bool) → (a && b) ≡ true → (a ≡ true) × (b ≡ true)
 both true b e = (refl, e)
 both false b e = absurd cc
 
-step_is : (step : ℕ) → step < 16 → (is_align (get_or alignments step 0) ≡ true) × (step_of (get_or alignments step 0) ≡ step)
+step_is : (step : ℕ) → step < 16 → (is_section_alignment (get_or alignments step 0) ≡ true) × (alignment_index (get_or alignments step 0) ≡ step)
 step_is step h =
-    let p = both (is_align (get_or alignments step 0)) (step_of (get_or alignments step 0) == step) (stays_by step (step_stays step) h refl) in
-    (p.0, let e : (step_of (get_or alignments step 0) == step) ≡ true = p.1 in grind (arith, nat_tests))
+    let p = both (is_section_alignment (get_or alignments step 0)) (alignment_index (get_or alignments step 0) == step) (stays_by step (step_stays step) h refl) in
+    (p.0, let e : (alignment_index (get_or alignments step 0) == step) ≡ true = p.1 in grind (arith, nat_tests))
 
 -- The plan of a file with another body.
 
@@ -82,7 +82,7 @@ pub anew_is : (plan : ImagePlan) (count : ℕ) (body : List ℕ) → length body
 unfolding file_bytes
 anew_is plan count body l =
     let s = step_is (plan_step plan) (plan_step_small plan) in
-    let a : image_of (with_whole plan body) body ≡ record { at = plan.at; guid = plan.guid; align = get_or alignments (step_of (get_or alignments (plan_step plan) 0)) 0; bytes = front_by plan (step_of (get_or alignments (plan_step plan) 0)) (length body) body ++ body } = refl in
+    let a : image_of (with_whole plan body) body ≡ record { at = plan.at; guid = plan.guid; align = get_or alignments (alignment_index (get_or alignments (plan_step plan) 0)) 0; bytes = front_by plan (alignment_index (get_or alignments (plan_step plan) 0)) (length body) body ++ body } = refl in
     a ∙ ap (λ k. record { at = plan.at; guid = plan.guid; align = get_or alignments k 0; bytes = front_by plan k (length body) body ++ body }) s.1 ∙ ap (λ n. image_by plan (plan_step plan) n body) l
 
 pub file_anew : (plan : ImagePlan) (body : List ℕ) → file_size plan.ffs3 (length body) ≤ file_limit plan.ffs3 → file_of (with_whole plan body) ≡ Ok (image_of (with_whole plan body) body)

@@ -7,7 +7,7 @@ use Rattle.std.specs.List.{list_any, list_all}
 use Rattle.std.specs.Option.{option_map}
 use Rattle.build_base.specs.declared.fault.Place.{Place}
 use Rattle.ffs_sections.specs.Sections.{up4}
-use Rattle.ffs_sections.specs.File.{head_at}
+use Rattle.ffs_sections.specs.File.{header_len}
 use Rattle.volume_reader.specs.declared.listed.ListedSection.{ListedSection}
 use Rattle.volume_reader.specs.Sections.{short_size, section_kind, extended_size, is_extended, section_size, content_at, has_size_form, is_section, listed_section, follows, sections_from, sections_of}
 use Rattle.volume_reader.proofs.SectionLemmas.{four_least}
@@ -281,10 +281,10 @@ no_list true false c e = refl
 no_list false b c e = refl
 
 body_stays : (ffs3 : Bool) (place : Place) (bytes : List ℕ) (k : ℕ) (sections : List ListedSection) → sections_of ffs3 0 (file_body bytes) ≡ Some sections → list_any (holds k) sections ≡ false
-    → file_changes ffs3 place bytes (head_at bytes + k) ≡ false
+    → file_changes ffs3 place bytes (header_len bytes + k) ≡ false
 unfolding file_changes
 body_stays ffs3 place bytes k sections f h =
-    let at : ℕ = head_at bytes in
+    let at : ℕ = header_len bytes in
     let z : at + k - at ≡ k = omega arith in
     let none : list_any (section_changes place (file_body bytes) k) sections ≡ false = any_less (holds k) (section_changes place (file_body bytes) k) sections (held_same place (file_body bytes) k) h in
     neither (has_checksum (file_head bytes) && at + k == 0x11) (has_sections bytes && nat_le at (at + k) && sections_change place (file_body bytes) (at + k - at) (sections_of ffs3 0 (file_body bytes)))
@@ -295,10 +295,10 @@ body_stays ffs3 place bytes k sections f h =
 body_kept : (ffs3 : Bool) (place : Place) (base address : ℕ) (bytes moved : List ℕ) (sections : List ListedSection) → moved_bytes ffs3 place base address bytes ≡ Ok moved
     → sections_of ffs3 0 (file_body bytes) ≡ Some sections → Kept sections (file_body bytes) (file_body moved)
 body_kept ffs3 place base address bytes moved sections e f =
-    let at : ℕ = head_at bytes in
-    let n : head_at moved ≡ at = head_same bytes moved ((same_file ffs3 place base address bytes moved 19 e).byte (nineteen_stays ffs3 place bytes) 0) in
+    let at : ℕ = header_len bytes in
+    let n : header_len moved ≡ at = head_same bytes moved ((same_file ffs3 place base address bytes moved 19 e).byte (nineteen_stays ffs3 place bytes) 0) in
     record {
-      size = length-drop (head_at moved) moved ∙ ap (λ k. length moved - k) n ∙ ap (λ k. k - at) (same_file ffs3 place base address bytes moved 0 e).size ∙ sym (length-drop at bytes);
+      size = length-drop (header_len moved) moved ∙ ap (λ k. length moved - k) n ∙ ap (λ k. k - at) (same_file ffs3 place base address bytes moved 0 e).size ∙ sym (length-drop at bytes);
       byte = λ k h.
           ap (λ j. get_or (drop j moved) k 0) n ∙ get_or-drop at moved k 0 ∙ (same_file ffs3 place base address bytes moved (at + k) e).byte (body_stays ffs3 place bytes k sections f h) 0 ∙ sym (get_or-drop at bytes k 0);
     }
@@ -362,7 +362,7 @@ at_least a b h = grind (arith, nat_tests, h)
 pub outside_stays : (ffs3 : Bool) (place : Place) (bytes : List ℕ) (k : ℕ) → IsOutside ffs3 bytes k → file_changes ffs3 place bytes k ≡ false
 unfolding file_changes
 outside_stays ffs3 place bytes k o =
-    let head : ℕ = head_at bytes in
+    let head : ℕ = header_len bytes in
     let found : Option (List ListedSection) = sections_of ffs3 0 (file_body bytes) in
     neither (has_checksum (file_head bytes) && k == 0x11) (has_sections bytes && nat_le head k && sections_change place (file_body bytes) (k - head) found)
     (no_check (has_checksum (file_head bytes)) k o.check)

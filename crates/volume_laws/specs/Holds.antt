@@ -1,7 +1,7 @@
 -- What a volume that is read holds, as a relation on its bytes (UEFI PI specification, volume 3,
 -- sections 3.2.1 to 3.2.3).
 use Rattle.std.specs.Prelude.{◌≡◌, ℕ, ◌+◌, ◌-◌, Bool, true, false, List, [], ◌∷◌, length, take, drop}
-use Rattle.fv_compose.specs.Place.{up}
+use Rattle.fv_compose.specs.Place.{align_up}
 use Rattle.volume_reader.specs.declared.listed.Listed.{Listed}
 use Rattle.volume_reader.specs.declared.listed.VolumeList.{VolumeList}
 use Rattle.volume_reader.specs.Head.{fv_length, header_length, is_ffs3, erase_polarity}
@@ -29,18 +29,18 @@ pub record IsWrongAt (ffs3 : Bool) (erase : ℕ) (volume : List ℕ) (place : �
 -- erased.
 pub data AreFilesFrom (ffs3 : Bool) (erase : ℕ) (volume : List ℕ)
     : ℕ → List Listed → ℕ → Type 0 where
-  none : (end free : ℕ) → IsFreeFrom erase volume (up 8 end) free
+  none : (end free : ℕ) → IsFreeFrom erase volume (align_up 8 end) free
       → AreFilesFrom ffs3 erase volume end [] free
   some : (end free : ℕ) (row : Listed) (rows : List Listed)
-      → IsFileAt ffs3 erase volume (up 8 end) row
+      → IsFileAt ffs3 erase volume (align_up 8 end) row
       → AreFilesFrom ffs3 erase volume (row.place + row.size) rows free
       → AreFilesFrom ffs3 erase volume end (row ∷ rows) free
 
 -- From an end on files stand in this way up to a place that is wrong.
 pub data IsWrongFrom (ffs3 : Bool) (erase : ℕ) (volume : List ℕ) : ℕ → ℕ → Type 0 where
-  here : (end place : ℕ) → place ≡ up 8 end → IsWrongAt ffs3 erase volume place
+  here : (end place : ℕ) → place ≡ align_up 8 end → IsWrongAt ffs3 erase volume place
       → IsWrongFrom ffs3 erase volume end place
-  later : (end place : ℕ) (row : Listed) → IsFileAt ffs3 erase volume (up 8 end) row
+  later : (end place : ℕ) (row : Listed) → IsFileAt ffs3 erase volume (align_up 8 end) row
       → IsWrongFrom ffs3 erase volume (row.place + row.size) place
       → IsWrongFrom ffs3 erase volume end place
 

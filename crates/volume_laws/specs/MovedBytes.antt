@@ -7,7 +7,7 @@ use Rattle.build_base.specs.declared.fault.Place.{Place}
 use Rattle.doc_types.specs.declared.image.FileImage.{FileImage}
 use Rattle.doc_types.specs.declared.volume_head.VolumeHead.{VolumeHead}
 use Rattle.ffs_sections.specs.Sums.{zero_byte}
-use Rattle.ffs_sections.specs.File.{head_at}
+use Rattle.ffs_sections.specs.File.{header_len}
 use Rattle.fv_compose.specs.Places.{places_of}
 use Rattle.fv_compose.specs.Volume.{volume_of}
 use Rattle.volume_reader.specs.declared.listed.ListedSection.{ListedSection}
@@ -97,7 +97,7 @@ pub record IsOutside (ffs3 : Bool) (bytes : List ℕ) (k : ℕ) : Type 0 where
   pub contents : (sections : List ListedSection) → has_sections bytes ≡ true
       → sections_of ffs3 0 (file_body bytes) ≡ Some sections
       → All (λ section. has_module section ≡ true
-      → is_in (head_at bytes + section.start) (content_length section) k ≡ false) sections
+      → is_in (header_len bytes + section.start) (content_length section) k ≡ false) sections
 
 -- The file that stands at this place of a volume with this base is moved. It is as long, it has the
 -- same sections in the same places, and all bytes outside of its modules and of the file checksum
@@ -113,10 +113,10 @@ pub record IsMovedFile (ffs3 : Bool) (base start : ℕ) (file moved : FileImage)
       → get_or moved.bytes k d ≡ get_or file.bytes k d
   pub lists : (place : ℕ) → sections_of ffs3 place (file_body moved.bytes)
       ≡ sections_of ffs3 place (file_body file.bytes)
-  pub body : (sections : List ListedSection) → head_at file.bytes ≤ length file.bytes
+  pub body : (sections : List ListedSection) → header_len file.bytes ≤ length file.bytes
       → has_sections file.bytes ≡ true
       → sections_of ffs3 0 (file_body file.bytes) ≡ Some sections
-      → IsMovedBody file.at (base + start + head_at file.bytes) sections file.bytes moved.bytes
+      → IsMovedBody file.at (base + start + header_len file.bytes) sections file.bytes moved.bytes
 
 -- files that stand at these places are moved, one by one
 unfoldable pub AreMovedFiles : Bool → ℕ → List FileImage → List ℕ → List FileImage → Type 0

@@ -13,12 +13,12 @@ use Rattle.build_base.specs.declared.guid.Guid.{Guid}
 use Rattle.build_base.specs.declared.fault.Fault.{Fault}
 use Rattle.doc_types.specs.declared.image.FileImage.{FileImage}
 use Rattle.doc_types.specs.declared.volume_head.VolumeHead.{VolumeHead}
-use Rattle.ffs_sections.specs.File.{file_head, head_len, head_at}
+use Rattle.ffs_sections.specs.File.{file_head, head_len, header_len}
 use Rattle.ffs_sections.specs.Alignment.{IsAlignment}
 use Rattle.ffs_sections.proofs.HeadLemmas.{length_head}
-use Rattle.fv_compose.specs.Place.{up, IsStart}
+use Rattle.fv_compose.specs.Place.{align_up, IsStart}
 use Rattle.fv_compose.specs.Pads.{is_large_pad, pad_bytes}
-use Rattle.fv_compose.specs.Header.{extended_bytes, extended_pieces, first_end}
+use Rattle.fv_compose.specs.Header.{extended_bytes, extended_pieces, header_end}
 use Rattle.fv_compose.specs.Files.{is_top, top_of, plain_files, placed_pieces, files_pieces, file_start, file_end, end_of, top_start, top_pieces, pad_fault, pads_fault, top_pad_fault}
 use Rattle.fv_compose.specs.Volume.{holds, taken_by, start_fault, top_fault}
 use Rattle.fv_compose.proofs.PlaceLemmas.{up_after, start_is, known_alignment}
@@ -38,13 +38,13 @@ pub both_none : {T : Type 0} (a b : Option T) → or_else a b ≡ None → (a �
 both_none None b e = (refl, e)
 both_none (Some x) b e = absurd cc
 
-up_same : (at : ℕ) → at % 8 ≡ 0 → up 8 at ≡ at
-unfolding up
+up_same : (at : ℕ) → at % 8 ≡ 0 → align_up 8 at ≡ at
+unfolding align_up
 up_same at h = omega arith
 
-pad_allowed : (ffs3 : Bool) (at start : ℕ) (file : FileImage) → pad_fault ffs3 at start file ≡ None → (not ffs3 && is_large_pad (start - up 8 at)) ≡ false
+pad_allowed : (ffs3 : Bool) (at start : ℕ) (file : FileImage) → pad_fault ffs3 at start file ≡ None → (not ffs3 && is_large_pad (start - align_up 8 at)) ≡ false
 unfolding pad_fault
-pad_allowed ffs3 at start file e = no_fault (not ffs3 && is_large_pad (start - up 8 at)) _ e
+pad_allowed ffs3 at start file e = no_fault (not ffs3 && is_large_pad (start - align_up 8 at)) _ e
 
 pad_length : (erase size : ℕ) → 24 ≤ size → length (pad_bytes erase size) ≡ size
 unfolding pad_bytes
@@ -70,22 +70,22 @@ unfolding placed_pieces placed_rows
 chain_placed head polarity size last at start made ps rs r m s w f rest =
     let p : Piece = record { start = start; bytes = made.file.bytes } in
     let row : IsRow head.ffs3 polarity start made.file.bytes (made_row head.ffs3 start made) = made_is_row head made polarity start m r.same in
-    elim (cases_eq start (up 8 at)) [
-      | inl e ↦ let t : (start == up 8 at) ≡ true = eq-eqb start (up 8 at) e in rw t (chain_one head.ffs3 polarity size last at p ps (made_row head.ffs3 start made) rs e row rest)
+    elim (cases_eq start (align_up 8 at)) [
+      | inl e ↦ let t : (start == align_up 8 at) ≡ true = eq-eqb start (align_up 8 at) e in rw t (chain_one head.ffs3 polarity size last at p ps (made_row head.ffs3 start made) rs e row rest)
       | inr n ↦
-          let t : (start == up 8 at) ≡ false = ne_eqb start (up 8 at) n in
-          let room : up 8 at + 24 ≤ start = elim s [ inl e ↦ absurd (n e) | inr h ↦ h ] in
-          let gap : ℕ = start - up 8 at in
-          let q : Piece = record { start = up 8 at; bytes = pad_bytes head.erase gap } in
+          let t : (start == align_up 8 at) ≡ false = ne_eqb start (align_up 8 at) n in
+          let room : align_up 8 at + 24 ≤ start = elim s [ inl e ↦ absurd (n e) | inr h ↦ h ] in
+          let gap : ℕ = start - align_up 8 at in
+          let q : Piece = record { start = align_up 8 at; bytes = pad_bytes head.erase gap } in
           let within : start + length made.file.bytes ≤ size = chain_within head.ffs3 polarity size last (start + length made.file.bytes) ps rs rest in
           let small : size < 2 ^ 64 = r.small in
           let l : length (pad_bytes head.erase gap) ≡ gap = pad_length head.erase gap (omega arith) in
           let e : piece_end q ≡ start = omega arith in
-          let pad : IsRow head.ffs3 polarity (up 8 at) (pad_bytes head.erase gap) (pad_row (up 8 at) gap) =
-          pad_is_row head.ffs3 head.erase polarity (up 8 at) gap r.same (omega arith) (omega arith) (pad_allowed head.ffs3 at start made.file f) in
-          let next : start ≡ up 8 (piece_end q) = sym (ap (λ z. up 8 z) e ∙ up_same start w) in
+          let pad : IsRow head.ffs3 polarity (align_up 8 at) (pad_bytes head.erase gap) (pad_row (align_up 8 at) gap) =
+          pad_is_row head.ffs3 head.erase polarity (align_up 8 at) gap r.same (omega arith) (omega arith) (pad_allowed head.ffs3 at start made.file f) in
+          let next : start ≡ align_up 8 (piece_end q) = sym (ap (λ z. align_up 8 z) e ∙ up_same start w) in
           rw t
-          (chain_one head.ffs3 polarity size last at q (p ∷ ps) (pad_row (up 8 at) gap) (made_row head.ffs3 start made ∷ rs) refl pad
+          (chain_one head.ffs3 polarity size last at q (p ∷ ps) (pad_row (align_up 8 at) gap) (made_row head.ffs3 start made ∷ rs) refl pad
           (chain_one head.ffs3 polarity size last (piece_end q) p ps (made_row head.ffs3 start made) rs next row rest))
     ]
 
@@ -98,7 +98,7 @@ chain_files head polarity size last at (m ∷ made) ps rs r a f rest =
     let one : IsMade head m = All-head (IsMade head) m made a in
     let start : ℕ = file_start at m.file in
     let faults = both_none (pad_fault head.ffs3 at start m.file) (pads_fault head.ffs3 (file_end at m.file) (files_of made)) f in
-    let s : IsStart at m.file.align (head_at m.file.bytes) start = start_is at m.file.align (head_at m.file.bytes) (known_alignment m.file.align (made_aligned head m one)) (is_head m.file.bytes) in
+    let s : IsStart at m.file.align (header_len m.file.bytes) start = start_is at m.file.align (header_len m.file.bytes) (known_alignment m.file.align (made_aligned head m one)) (is_head m.file.bytes) in
     let more : Chain head.ffs3 polarity size last (file_end at m.file) (files_pieces head.erase (file_end at m.file) (files_of made) ++ ps) (files_rows head.ffs3 (file_end at m.file) made ++ rs) =
     chain_files head polarity size last (file_end at m.file) made ps rs r (All-tail (IsMade head) m made a) faults.1 rest in
     let first : List Piece = placed_pieces head.erase at start m.file.bytes in
@@ -121,7 +121,7 @@ top_file top = option_map (λ one. one.file) top
 
 start_even : (head : VolumeHead) (start : ℕ) (file : FileImage) → start_fault head start file ≡ None → start % 8 ≡ 0
 start_even head start file e =
-    let n : not (start % 8 == 0 && (start + head_at file.bytes) % file.align == 0) ≡ false = no_fault (not (start % 8 == 0 && (start + head_at file.bytes) % file.align == 0)) _ e in
+    let n : not (start % 8 == 0 && (start + header_len file.bytes) % file.align == 0) ≡ false = no_fault (not (start % 8 == 0 && (start + header_len file.bytes) % file.align == 0)) _ e in
     grind (arith, nat_tests)
 
 pub chain_top : (head : VolumeHead) (polarity size at : ℕ) (top : Option Made) → Reading head polarity size → IfSome top (IsMade head) → holds (is_some (top_file top)) (taken_by at (top_file top)) size ≡ true
@@ -139,8 +139,8 @@ chain_top head polarity size at (Some made) r m h f g =
     subst (λ z. Chain head.ffs3 polarity size size at ps z) (append-nil rs) (subst (λ z. Chain head.ffs3 polarity size size at z (rs ++ [])) (append-nil ps) whole)
 
 pub chain_extended : (head : VolumeHead) (polarity size last : ℕ) (name : Option Guid) (ps : List Piece) (rs : List Listed) → Reading head polarity size → IfSome name (λ guid. length guid.0 ≡ 16)
-    → Chain head.ffs3 polarity size last (first_end name) ps rs → Chain head.ffs3 polarity size last 0x48 (extended_pieces head.erase name ++ ps) (extended_rows name ++ rs)
-unfolding up
+    → Chain head.ffs3 polarity size last (header_end name) ps rs → Chain head.ffs3 polarity size last 0x48 (extended_pieces head.erase name ++ ps) (extended_rows name ++ rs)
+unfolding align_up
 chain_extended head polarity size last None ps rs r n rest = rest
 chain_extended head polarity size last (Some name) ps rs r n rest =
     let p : Piece = record { start = 0x48; bytes = extended_bytes head.erase name.0 } in

@@ -7,7 +7,7 @@ use Rattle.byteorder.specs.Numbers.{little_from-bytes}
 use Rattle.build_base.proofs.Places.{places_of}
 use Rattle.ffs_sections.specs.declared.header.Head.{Head}
 use Rattle.ffs_sections.specs.Sums.{header_sum}
-use Rattle.ffs_sections.specs.File.{short_fields, long_fields, file_head, head_len, head_at}
+use Rattle.ffs_sections.specs.File.{short_fields, long_fields, file_head, head_len, header_len}
 use Rattle.ffs_sections.proofs.HeadLemmas.{length_head, head_at_file}
 use Rattle.volume_reader.specs.Files.{file_name, header_check, file_check, file_type, file_attributes, file_state, stated_size}
 
@@ -47,23 +47,23 @@ fields_of false name head rest n =
 abbrev pub size_end : Bool → ℕ
 size_end large = if large then 2 ^ 64 else 2 ^ 24
 
-short_size : (g : ℕ → ℕ) (head : Head) (rest : List ℕ) → head_at (file_head false (sixteen g) head ++ rest) ≡ 24 → head.size < 2 ^ 24 → stated_size (file_head false (sixteen g) head ++ rest) ≡ head.size
+short_size : (g : ℕ → ℕ) (head : Head) (rest : List ℕ) → header_len (file_head false (sixteen g) head ++ rest) ≡ 24 → head.size < 2 ^ 24 → stated_size (file_head false (sixteen g) head ++ rest) ≡ head.size
 unfolding file_head short_fields stated_size
 short_size g head rest a h =
     let e : head.size / 256 ^ 0 % 256 ^ 3 ≡ head.size = ap (λ z. z % 256 ^ 3) (div-one head.size) ∙ mod-eq_of_lt h in
     rw a (little_from-bytes 3 0 head.size (head.state ∷ rest) ∙ e)
 
-long_size : (g : ℕ → ℕ) (head : Head) (rest : List ℕ) → head_at (file_head true (sixteen g) head ++ rest) ≡ 32 → head.size < 2 ^ 64 → stated_size (file_head true (sixteen g) head ++ rest) ≡ head.size
+long_size : (g : ℕ → ℕ) (head : Head) (rest : List ℕ) → header_len (file_head true (sixteen g) head ++ rest) ≡ 32 → head.size < 2 ^ 64 → stated_size (file_head true (sixteen g) head ++ rest) ≡ head.size
 unfolding file_head long_fields stated_size
 long_size g head rest a h =
     let e : head.size / 256 ^ 0 % 256 ^ 8 ≡ head.size = ap (λ z. z % 256 ^ 8) (div-one head.size) ∙ mod-eq_of_lt h in
     rw a (little_from-bytes 8 0 head.size rest ∙ e)
 
-pub size_of : (large : Bool) (name : List ℕ) (head : Head) (rest : List ℕ) → length name ≡ 16 → head_at (file_head large name head ++ rest) ≡ head_len large → head.size < size_end large
+pub size_of : (large : Bool) (name : List ℕ) (head : Head) (rest : List ℕ) → length name ≡ 16 → header_len (file_head large name head ++ rest) ≡ head_len large → head.size < size_end large
     → stated_size (file_head large name head ++ rest) ≡ head.size
 size_of true name head rest n a h =
-    let P : List ℕ → Type 0 = λ z. head_at (file_head true z head ++ rest) ≡ 32 → stated_size (file_head true z head ++ rest) ≡ head.size in
+    let P : List ℕ → Type 0 = λ z. header_len (file_head true z head ++ rest) ≡ 32 → stated_size (file_head true z head ++ rest) ≡ head.size in
     subst P (sym (sixteen_of name n)) (λ b. long_size (λ k. get_or name k 0) head rest b h) a
 size_of false name head rest n a h =
-    let P : List ℕ → Type 0 = λ z. head_at (file_head false z head ++ rest) ≡ 24 → stated_size (file_head false z head ++ rest) ≡ head.size in
+    let P : List ℕ → Type 0 = λ z. header_len (file_head false z head ++ rest) ≡ 24 → stated_size (file_head false z head ++ rest) ≡ head.size in
     subst P (sym (sixteen_of name n)) (λ b. short_size (λ k. get_or name k 0) head rest b h) a

@@ -1,7 +1,7 @@
 -- Files of a volume, one after another.
 use Rattle.std.proofs.Common.{◌≡◌, ℕ, ◌+◌, ◌-◌, ◌<◌, ◌≤◌, Bool, true, false, List, [], ◌∷◌, ◌++◌, length, drop, Result, Ok, Err, refl, suc, ap, sym, ◌∙◌, arith, append_assoc, append-nil, length-append, nat_le}
 use Rattle.std.proofs.lemmas.Bool.Decides.{nat_tests}
-use Rattle.fv_compose.specs.Place.{up}
+use Rattle.fv_compose.specs.Place.{align_up}
 use Rattle.volume_reader.specs.declared.listed.Listed.{Listed}
 use Rattle.volume_reader.specs.declared.volume.Held.{Held}
 use Rattle.volume_reader.specs.Files.{is_file, stated_size, listed_file}
@@ -11,7 +11,7 @@ abbrev file_here : Bool → List ℕ → ℕ → Listed
 file_here ffs3 volume at = listed_file ffs3 at (drop at volume)
 
 abbrev next_place : List ℕ → ℕ → ℕ
-next_place volume at = up 8 (at + stated_size (drop at volume))
+next_place volume at = align_up 8 (at + stated_size (drop at volume))
 
 front_one : (files : List Listed) (x : Listed) (r : Result Held ℕ) → with_files files (with_files (x ∷ []) r) ≡ with_files (files ++ x ∷ []) r
 front_one files x (Ok held) = ap (λ z. Ok (record { files = z; free = held.free })) (sym (append_assoc files (x ∷ []) held.files))
@@ -56,7 +56,7 @@ pub record Turned (ffs3 : Bool) (erase : ℕ) (volume : List ℕ) (first : ℕ) 
   pub whole : SoFar ffs3 erase volume first files at
 
 pub held_turn : (ffs3 : Bool) (erase : ℕ) (volume : List ℕ) (first : ℕ) (files new : List Listed) (at size next : ℕ) (bytes : List ℕ) (file : Listed)
-    → bytes ≡ drop at volume → file ≡ listed_file ffs3 at bytes → size ≡ stated_size bytes → next ≡ up 8 (at + size) → new ≡ files ++ file ∷ [] → at + size ≤ next → 0 < size
+    → bytes ≡ drop at volume → file ≡ listed_file ffs3 at bytes → size ≡ stated_size bytes → next ≡ align_up 8 (at + size) → new ≡ files ++ file ∷ [] → at + size ≤ next → 0 < size
     → length files ≤ at → at < length volume → are_erased erase (drop at volume) ≡ false → is_file ffs3 erase bytes ≡ true → SoFar ffs3 erase volume first files at
     → Turned ffs3 erase volume first new next
 held_turn ffs3 erase volume first files new at size next bytes file by fe sz nx nw after some count lt er f so =

@@ -14,9 +14,9 @@ use Rattle.doc_types.specs.declared.image.FileImage.{FileImage}
 use Rattle.doc_types.specs.declared.volume_head.VolumeHead.{VolumeHead}
 use Rattle.ffs_sections.specs.declared.header.Head.{Head}
 use Rattle.ffs_sections.specs.Sums.{zero_byte}
-use Rattle.ffs_sections.specs.Alignment.{is_align, alignments, IsAlignment, step_of, step_bits}
+use Rattle.ffs_sections.specs.Alignment.{is_section_alignment, alignments, IsAlignment, alignment_index, step_bits}
 use Rattle.ffs_sections.specs.Sections.{sized}
-use Rattle.ffs_sections.specs.File.{file_head, head_len, head_at, state_of, body_of, body_align, plan_step, attributes_of, is_large_file, file_size, file_limit, plan_head, file_bytes, image_of, file_sized, file_of}
+use Rattle.ffs_sections.specs.File.{file_head, head_len, header_len, state_of, body_of, body_align, plan_step, attributes_of, is_large_file, file_size, file_limit, plan_head, file_bytes, image_of, file_sized, file_of}
 use Rattle.ffs_sections.proofs.HeadLemmas.{length_head, head_at_file}
 use Rattle.fv_compose.specs.Pads.{is_large_pad, pad_header, pad_bytes}
 use Rattle.fv_compose.specs.Header.{extended_bytes}
@@ -105,15 +105,15 @@ built_from plan file false r p e = absurd cc
 
 pub built_of : (plan : ImagePlan) (file : FileImage) → file_of plan ≡ Ok file → Built plan file
 unfolding file_of
-built_of plan file e = built_from plan file (is_align plan.align) (body_of plan plan.body) refl e
+built_of plan file e = built_from plan file (is_section_alignment plan.align) (body_of plan plan.body) refl e
 
 -- the alignment that a header states is one of the sixteen
 step_below : (o : Option ℕ) (align : ℕ) → position (λ stated. nat_le align stated) alignments ≡ o → unwrap_or o 15 < 16
 step_below None align e = let g : 15 < 16 = omega arith in g
 step_below (Some i) align e = let s = (position-Some (λ stated. nat_le align stated) alignments i 0 e).0 in s
 
-pub step_small : (align : ℕ) → step_of align < 16
-unfolding step_of
+pub step_small : (align : ℕ) → alignment_index align < 16
+unfolding alignment_index
 step_small align = step_below (position (λ stated. nat_le align stated) alignments) align refl
 
 pub aligned_at : (step : ℕ) → step < 16 → IsAlignment (get_or alignments step 0)
@@ -167,7 +167,7 @@ file_fits plan body polarity n e room =
     }
 
 -- the row of the file of a plan
-row_is : (ffs3 : Bool) (place head : ℕ) (made : Made) (body : List ℕ) → body_of made.plan made.plan.body ≡ Ok body → head_at made.file.bytes ≡ head
+row_is : (ffs3 : Bool) (place head : ℕ) (made : Made) (body : List ℕ) → body_of made.plan made.plan.body ≡ Ok body → header_len made.file.bytes ≡ head
     → row_by ffs3 place made.plan.guid.0 made.plan.file_type (length made.file.bytes) head body ≡ made_row ffs3 place made
 unfolding made_row made_sections
 row_is ffs3 place head made body p a = rw (p, a) refl
@@ -184,7 +184,7 @@ made_is_row head made polarity place m e =
     let l : length f ≡ head_len large = length_head large plan.guid.0 (plan_head plan body) m.name in
     let o : length (f ++ body) ≡ length f + length body = length-append f body in
     let size : length made.file.bytes ≡ file_size plan.ffs3 (length body) = ap length bytes ∙ omega arith in
-    let at : head_at made.file.bytes ≡ head_len large = ap head_at bytes ∙ head_at_file large plan.guid.0 (plan_head plan body) body m.name (plan_bits plan).even in
+    let at : header_len made.file.bytes ≡ head_len large = ap header_len bytes ∙ head_at_file large plan.guid.0 (plan_head plan body) body m.name (plan_bits plan).even in
     let g : IsRow plan.ffs3 polarity place (f ++ body) (row_by plan.ffs3 place plan.guid.0 plan.file_type (file_size plan.ffs3 (length body)) (head_len large) body) =
     row_of plan.ffs3 large polarity place plan.guid.0 (plan_head plan body) body (file_fits plan body polarity m.name (m.erase ∙ e) b.room) in
     let r : row_by plan.ffs3 place plan.guid.0 plan.file_type (file_size plan.ffs3 (length body)) (head_len large) body ≡ made_row plan.ffs3 place made =

@@ -7,7 +7,7 @@ use Rattle.build_base.specs.Runs.{free_byte}
 use Rattle.doc_types.specs.Standard.{EFI_FV_FILETYPE_RAW, EFI_FV_FILETYPE_FFS_PAD}
 use Rattle.ffs_sections.specs.declared.header.Head.{Head}
 use Rattle.ffs_sections.specs.Sums.{zero_byte, header_sum}
-use Rattle.ffs_sections.specs.File.{file_head, head_len, head_at, state_of}
+use Rattle.ffs_sections.specs.File.{file_head, head_len, header_len, state_of}
 use Rattle.ffs_sections.proofs.HeadLemmas.{length_head, head_at_file}
 use Rattle.volume_reader.specs.declared.listed.Listed.{Listed}
 use Rattle.volume_reader.specs.declared.listed.ListedSection.{ListedSection}
@@ -37,21 +37,21 @@ row_by ffs3 place name kind size head body = record {
   sections = if kind == EFI_FV_FILETYPE_RAW || kind == EFI_FV_FILETYPE_FFS_PAD then [] else unwrap_or (sections_of ffs3 (place + head) body) [];
 }
 
-header_true : (ffs3 large : Bool) (bytes : List ℕ) → (not ffs3 && large) ≡ false → head_at bytes ≡ head_len large → head_len large ≤ length bytes → has_header ffs3 bytes ≡ true
+header_true : (ffs3 large : Bool) (bytes : List ℕ) → (not ffs3 && large) ≡ false → header_len bytes ≡ head_len large → head_len large ≤ length bytes → has_header ffs3 bytes ≡ true
 unfolding has_header
 header_true true true bytes a e h = rw e (grind (arith, nat_tests))
 header_true true false bytes a e h = rw e (grind (arith, nat_tests))
 header_true false true bytes a e h = absurd cc
 header_true false false bytes a e h = rw e (grind (arith, nat_tests))
 
-state_true : (erase : ℕ) (bytes : List ℕ) → header_check bytes ≡ header_sum (take (head_at bytes) bytes) → file_state bytes ≡ state_of erase → has_state erase bytes ≡ true
+state_true : (erase : ℕ) (bytes : List ℕ) → header_check bytes ≡ header_sum (take (header_len bytes) bytes) → file_state bytes ≡ state_of erase → has_state erase bytes ≡ true
 unfolding has_state
 state_true erase bytes c s =
-    let a : (header_check bytes == header_sum (take (head_at bytes) bytes)) ≡ true = eq-eqb (header_check bytes) (header_sum (take (head_at bytes) bytes)) c in
+    let a : (header_check bytes == header_sum (take (header_len bytes) bytes)) ≡ true = eq-eqb (header_check bytes) (header_sum (take (header_len bytes) bytes)) c in
     let b : (file_state bytes == state_of erase) ≡ true = eq-eqb (file_state bytes) (state_of erase) s in
     rw (a, b) refl
 
-size_true : (bytes : List ℕ) → head_at bytes ≤ stated_size bytes → stated_size bytes ≤ length bytes → has_size bytes ≡ true
+size_true : (bytes : List ℕ) → header_len bytes ≤ stated_size bytes → stated_size bytes ≤ length bytes → has_size bytes ≡ true
 unfolding has_size
 size_true bytes a b = grind (arith, nat_tests)
 
@@ -77,7 +77,7 @@ same_bit : (large : Bool) (a : ℕ) → a % 2 ≡ 0 → (a + (if large then 1 el
 same_bit true a h = omega arith
 same_bit false a h = omega arith
 
-listed_is : (ffs3 : Bool) (place : ℕ) (bytes name : List ℕ) (kind size head : ℕ) (body : List ℕ) → file_name bytes ≡ name → file_type bytes ≡ kind → stated_size bytes ≡ size → head_at bytes ≡ head → body_in bytes ≡ body
+listed_is : (ffs3 : Bool) (place : ℕ) (bytes name : List ℕ) (kind size head : ℕ) (body : List ℕ) → file_name bytes ≡ name → file_type bytes ≡ kind → stated_size bytes ≡ size → header_len bytes ≡ head → body_in bytes ≡ body
     → listed_file ffs3 place bytes ≡ row_by ffs3 place name kind size head body
 unfolding listed_file file_sections
 listed_is ffs3 place bytes name kind size head body n k s a b = rw (n, k, s, a, b) refl
@@ -112,10 +112,10 @@ seen_of ffs3 large erase name head body rest f =
     let e : bytes ≡ h ++ (body ++ rest) = append_assoc h body rest in
     let n : length name ≡ 16 = f.long in
     let g : Fields large name head (h ++ (body ++ rest)) = fields_of large name head (body ++ rest) n in
-    let at : head_at bytes ≡ head_len large = ap head_at e ∙ head_at_file large name head (body ++ rest) n f.even in
+    let at : header_len bytes ≡ head_len large = ap header_len e ∙ head_at_file large name head (body ++ rest) n f.even in
     let size : stated_size bytes ≡ head.size = ap stated_size e ∙ size_of large name head (body ++ rest) n (head_at_file large name head (body ++ rest) n f.even) f.small in
     let state : file_state bytes ≡ state_of erase = ap file_state e ∙ g.state ∙ f.state in
-    let sum : header_check bytes ≡ header_sum (take (head_at bytes) bytes) = ap header_check e ∙ g.sum ∙ ap (λ z. header_sum (take (head_len large) z)) (sym e) ∙ ap (λ k. header_sum (take k bytes)) (sym at) in
+    let sum : header_check bytes ≡ header_sum (take (header_len bytes) bytes) = ap header_check e ∙ g.sum ∙ ap (λ z. header_sum (take (head_len large) z)) (sym e) ∙ ap (λ k. header_sum (take k bytes)) (sym at) in
     let attributes : file_attributes bytes / 64 % 2 ≡ head.attributes / 64 % 2 = ap (λ z. file_attributes z / 64 % 2) e ∙ ap (λ z. z / 64 % 2) g.attributes ∙ same_bit large head.attributes f.even in
     let body_at : body_in bytes ≡ body =
     ap (λ k. drop k (take (stated_size bytes) bytes)) at ∙ ap (λ k. drop (head_len large) (take k bytes)) size ∙ body_is large name head body rest n f.size in

@@ -12,8 +12,8 @@ use Rattle.build_base.specs.declared.fault.Fault.{Fault}
 use Rattle.build_base.proofs.PieceLemmas.{Laid, Laid-one}
 use Rattle.doc_types.specs.declared.image.FileImage.{FileImage}
 use Rattle.doc_types.specs.declared.volume_head.VolumeHead.{VolumeHead}
-use Rattle.fv_compose.specs.Place.{up}
-use Rattle.fv_compose.specs.Header.{head_of, extended_pieces, start_pieces, first_end}
+use Rattle.fv_compose.specs.Place.{align_up}
+use Rattle.fv_compose.specs.Header.{head_of, extended_pieces, start_pieces, header_end}
 use Rattle.fv_compose.specs.Files.{is_top, top_of, plain_files, files_pieces, end_of, top_pieces, pads_fault, top_pad_fault}
 use Rattle.fv_compose.specs.Volume.{SizeFits, holds, taken_by, last_end, blocks_for, length_for, twice_fault, top_fault, place_fault, volume_image, with_length, length_of, volume_of, IsLength}
 use Rattle.fv_compose.proofs.PlaceLemmas.{up_after}
@@ -93,22 +93,22 @@ sized_of block (Some s) top taken size fits e = stated_size block taken s size t
 -- the pieces behind the header
 abbrev pieces_by : VolumeHead → ℕ → List FileImage → Option FileImage → List Piece
 pieces_by head size plain top =
-    extended_pieces head.erase head.name_guid ++ (files_pieces head.erase (first_end head.name_guid) plain ++ top_pieces head.erase (end_of (first_end head.name_guid) plain) top size)
+    extended_pieces head.erase head.name_guid ++ (files_pieces head.erase (header_end head.name_guid) plain ++ top_pieces head.erase (end_of (header_end head.name_guid) plain) top size)
 
 abbrev faults_by : VolumeHead → ℕ → List FileImage → Option FileImage → Option Fault
 faults_by head size plain top =
-    or_else (top_fault head top size) (or_else (pads_fault head.ffs3 (first_end head.name_guid) plain) (top_pad_fault head.ffs3 (end_of (first_end head.name_guid) plain) top size))
+    or_else (top_fault head top size) (or_else (pads_fault head.ffs3 (header_end head.name_guid) plain) (top_pad_fault head.ffs3 (end_of (header_end head.name_guid) plain) top size))
 
 -- where the files have room and no fault, they stand one behind the other
 abbrev Whole : VolumeHead → ℕ → ℕ → ℕ → List Listed → List FileImage → Option FileImage → Type 0
 Whole head polarity size last rows plain top =
-    holds (is_some top) (taken_by (end_of (first_end head.name_guid) plain) top) size ≡ true → faults_by head size plain top ≡ None → Chain head.ffs3 polarity size last 0x48 (pieces_by head size plain top) rows
+    holds (is_some top) (taken_by (end_of (header_end head.name_guid) plain) top) size ≡ true → faults_by head size plain top ≡ None → Chain head.ffs3 polarity size last 0x48 (pieces_by head size plain top) rows
 
 whole_of : (head : VolumeHead) (polarity size : ℕ) (plain : List Made) (top : Option Made) → Reading head polarity size → IfSome head.name_guid (λ name. length name.0 ≡ 16) → All (IsMade head) plain → IfSome top (IsMade head)
-    → Whole head polarity size (last_of (end_of (first_end head.name_guid) (files_of plain)) size top)
-    (extended_rows head.name_guid ++ (files_rows head.ffs3 (first_end head.name_guid) plain ++ top_rows head.ffs3 (end_of (first_end head.name_guid) (files_of plain)) size top)) (files_of plain) (top_file top)
+    → Whole head polarity size (last_of (end_of (header_end head.name_guid) (files_of plain)) size top)
+    (extended_rows head.name_guid ++ (files_rows head.ffs3 (header_end head.name_guid) plain ++ top_rows head.ffs3 (end_of (header_end head.name_guid) (files_of plain)) size top)) (files_of plain) (top_file top)
 whole_of head polarity size plain top r n a t h f =
-    let first : ℕ = first_end head.name_guid in
+    let first : ℕ = header_end head.name_guid in
     let at : ℕ = end_of first (files_of plain) in
     let last : ℕ = last_of at size top in
     let p = both_none (top_fault head (top_file top) size) (or_else (pads_fault head.ffs3 first (files_of plain)) (top_pad_fault head.ffs3 at (top_file top) size)) f in
@@ -130,21 +130,21 @@ written_chain head made polarity size r n a =
 
 -- a volume whose header is read so, and that holds this
 list_by : (bytes : List ℕ) (ffs3 : Bool) (polarity size : ℕ) (held : Held) → fv_length bytes ≡ size → length bytes ≡ size → is_ffs3 bytes ≡ ffs3 → erase_polarity bytes ≡ polarity → header_length bytes ≡ 0x48
-    → held_from (size + 1) ffs3 polarity bytes (up 8 0x48) ≡ Ok held → volume_list bytes ≡ Ok (record { length = size; ffs3 = ffs3; files = held.files; free = held.free })
+    → held_from (size + 1) ffs3 polarity bytes (align_up 8 0x48) ≡ Ok held → volume_list bytes ≡ Ok (record { length = size; ffs3 = ffs3; files = held.files; free = held.free })
 unfolding volume_list
 list_by bytes ffs3 polarity size held f l s p h e =
     let t : take (fv_length bytes) bytes ≡ bytes = ap (λ k. take k bytes) (f ∙ sym l) ∙ take-length bytes in
-    let w : held_from (length (take (fv_length bytes) bytes) + 1) (is_ffs3 bytes) (erase_polarity bytes) (take (fv_length bytes) bytes) (up 8 (header_length bytes)) ≡ Ok held =
-    ap (λ v. held_from (length v + 1) (is_ffs3 bytes) (erase_polarity bytes) v (up 8 (header_length bytes))) t
-    ∙ ap (λ n. held_from (n + 1) (is_ffs3 bytes) (erase_polarity bytes) bytes (up 8 (header_length bytes))) l
-    ∙ ap (λ b. held_from (size + 1) b (erase_polarity bytes) bytes (up 8 (header_length bytes))) s
-    ∙ ap (λ n. held_from (size + 1) ffs3 n bytes (up 8 (header_length bytes))) p ∙ ap (λ n. held_from (size + 1) ffs3 polarity bytes (up 8 n)) h ∙ e in
+    let w : held_from (length (take (fv_length bytes) bytes) + 1) (is_ffs3 bytes) (erase_polarity bytes) (take (fv_length bytes) bytes) (align_up 8 (header_length bytes)) ≡ Ok held =
+    ap (λ v. held_from (length v + 1) (is_ffs3 bytes) (erase_polarity bytes) v (align_up 8 (header_length bytes))) t
+    ∙ ap (λ n. held_from (n + 1) (is_ffs3 bytes) (erase_polarity bytes) bytes (align_up 8 (header_length bytes))) l
+    ∙ ap (λ b. held_from (size + 1) b (erase_polarity bytes) bytes (align_up 8 (header_length bytes))) s
+    ∙ ap (λ n. held_from (size + 1) ffs3 n bytes (align_up 8 (header_length bytes))) p ∙ ap (λ n. held_from (size + 1) ffs3 polarity bytes (align_up 8 n)) h ∙ e in
     ap (list_of bytes) w ∙ ap (λ n. Ok (record { length = n; ffs3 = is_ffs3 bytes; files = held.files; free = held.free })) f
     ∙ ap (λ b. Ok (record { length = size; ffs3 = b; files = held.files; free = held.free })) s
 
-free_is : (at size : ℕ) (top : Option Made) → size - up 8 (last_of at size top) ≡ free_behind at size top
+free_is : (at size : ℕ) (top : Option Made) → size - align_up 8 (last_of at size top) ≡ free_behind at size top
 free_is at size None = refl
-free_is at size (Some made) = let u : size ≤ up 8 size = up_after 8 size (omega arith) in omega arith
+free_is at size (Some made) = let u : size ≤ align_up 8 size = up_after 8 size (omega arith) in omega arith
 
 holds_itself : (n : ℕ) → holds false n n ≡ true
 holds_itself n = grind (arith, nat_tests)
@@ -225,10 +225,10 @@ written_read head made bytes w =
     let told : Told head.ffs3 size head.attributes (size / head.block_size) head.block_size bytes =
     subst (λ v. Told head.ffs3 size head.attributes (size / head.block_size) head.block_size v) (sym image) (head_told head size rest (omega arith) w.attributes block.block_small) in
     let behind : drop 72 bytes ≡ tail (free_byte polarity) size 72 ps = behind_by head size polarity bytes ps image same in
-    let held : held_from (size + 1) head.ffs3 polarity bytes (up 8 72) ≡ Ok (record { files = rows; free = size - up 8 last }) =
+    let held : held_from (size + 1) head.ffs3 polarity bytes (align_up 8 72) ≡ Ok (record { files = rows; free = size - align_up 8 last }) =
     walk head.ffs3 polarity size last bytes 72 ps rows (size + 1) long behind chain (omega arith) (omega arith) in
-    let list : volume_list bytes ≡ Ok (record { length = size; ffs3 = head.ffs3; files = rows; free = size - up 8 last }) =
-    list_by bytes head.ffs3 polarity size (record { files = rows; free = size - up 8 last }) told.length long (system_is head.ffs3 size head.attributes (size / head.block_size) head.block_size bytes told)
+    let list : volume_list bytes ≡ Ok (record { length = size; ffs3 = head.ffs3; files = rows; free = size - align_up 8 last }) =
+    list_by bytes head.ffs3 polarity size (record { files = rows; free = size - align_up 8 last }) told.length long (system_is head.ffs3 size head.attributes (size / head.block_size) head.block_size bytes told)
     (polarity_read head bytes told.bits_are) told.head held in
     record {
       head_is = ap is_head image ∙ head_true head size rest (omega arith) w.attributes block.block_some block.block_small z.whole within (omega arith);

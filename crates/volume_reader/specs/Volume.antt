@@ -2,7 +2,7 @@
 use Rattle.std.specs.Prelude.{◌≡◌, ℕ, zero, suc, ◌+◌, ◌-◌, ◌^◌, ◌<◌, ◌==◌, Bool, if◌then◌else◌, List, [], ◌∷◌, ◌++◌, length, take, drop, Result, Ok, Err}
 use Rattle.std.specs.List.{list_all}
 use Rattle.build_base.specs.Runs.{free_byte}
-use Rattle.fv_compose.specs.Place.{up}
+use Rattle.fv_compose.specs.Place.{align_up}
 use Rattle.volume_reader.specs.declared.listed.Listed.{Listed}
 use Rattle.volume_reader.specs.declared.listed.VolumeList.{VolumeList}
 use Rattle.volume_reader.specs.declared.listed.ReadRefusal.{ReadRefusal}
@@ -30,7 +30,7 @@ held_from (suc n) ffs3 erase volume at =
     if are_erased erase (drop at volume) then Ok (record { files = []; free = length volume - at })
     else if is_file ffs3 erase (drop at volume) then
     with_files (listed_file ffs3 at (drop at volume) ∷ [])
-    (held_from n ffs3 erase volume (up 8 (at + stated_size (drop at volume))))
+    (held_from n ffs3 erase volume (align_up 8 (at + stated_size (drop at volume))))
     else Err at
 
 abbrev pub list_of : List ℕ → Result Held ℕ → Result VolumeList ℕ
@@ -51,7 +51,7 @@ unfoldable pub volume_list : List ℕ → Result VolumeList ℕ
 volume_list bytes =
     let volume = take (fv_length bytes) bytes in
     list_of bytes (held_from (length volume + 1) (is_ffs3 bytes) (erase_polarity bytes) volume
-    (up 8 (header_length bytes)))
+    (align_up 8 (header_length bytes)))
 
 -- the refusal is that of this outcome, unless memory was wanting
 abbrev pub Fails : {T : Type 0} → ReadRefusal → Result T ℕ → Type 0

@@ -9,9 +9,9 @@ use Rattle.doc_types.specs.Standard.{EFI_FV_FILETYPE_RAW, EFI_FV_FILETYPE_FFS_PA
 use Rattle.doc_types.specs.declared.image.ImagePlan.{ImagePlan}
 use Rattle.doc_types.specs.declared.image.FileImage.{FileImage}
 use Rattle.doc_types.specs.declared.volume_head.VolumeHead.{VolumeHead}
-use Rattle.ffs_sections.specs.File.{file_of, body_of, head_at}
-use Rattle.fv_compose.specs.Place.{up}
-use Rattle.fv_compose.specs.Header.{first_end}
+use Rattle.ffs_sections.specs.File.{file_of, body_of, header_len}
+use Rattle.fv_compose.specs.Place.{align_up}
+use Rattle.fv_compose.specs.Header.{header_end}
 use Rattle.fv_compose.specs.Files.{is_top, file_start, file_end, end_of, plain_files, top_start}
 use Rattle.fv_compose.specs.Volume.{HasShape, volume_of}
 use Rattle.volume_reader.specs.declared.listed.Listed.{Listed}
@@ -53,7 +53,7 @@ unfoldable pub made_sections : Bool → ℕ → Made → List ListedSection
 made_sections ffs3 place made =
     if made.plan.file_type == EFI_FV_FILETYPE_RAW || made.plan.file_type == EFI_FV_FILETYPE_FFS_PAD
     then []
-    else body_sections ffs3 (place + head_at made.file.bytes) (body_of made.plan made.plan.body)
+    else body_sections ffs3 (place + header_len made.file.bytes) (body_of made.plan made.plan.body)
 
 -- a file of a plan, at a place
 unfoldable pub made_row : Bool → ℕ → Made → Listed
@@ -80,8 +80,8 @@ pad_row place size =
 -- a file at its start, and between an end and it a pad file where there is space
 unfoldable pub placed_rows : Bool → ℕ → ℕ → Made → List Listed
 placed_rows ffs3 at start made =
-    if start == up 8 at then made_row ffs3 start made ∷ []
-    else pad_row (up 8 at) (start - up 8 at) ∷ made_row ffs3 start made ∷ []
+    if start == align_up 8 at then made_row ffs3 start made ∷ []
+    else pad_row (align_up 8 at) (start - align_up 8 at) ∷ made_row ffs3 start made ∷ []
 
 -- files one after another from an end on
 unfoldable pub files_rows : Bool → ℕ → List Made → List Listed
@@ -107,18 +107,18 @@ top_rows ffs3 at size (Some made) = placed_rows ffs3 at (top_start made.file siz
 
 -- where the files end but the top file
 abbrev pub plain_end : VolumeHead → List Made → ℕ
-plain_end head made = end_of (first_end head.name_guid) (files_of (plain_made made))
+plain_end head made = end_of (header_end head.name_guid) (files_of (plain_made made))
 
 -- the files and pad files of a volume of this length, in the order of their places
 unfoldable pub written_rows : VolumeHead → List Made → ℕ → List Listed
 written_rows head made size =
     extended_rows head.name_guid
-    ++ (files_rows head.ffs3 (first_end head.name_guid) (plain_made made)
+    ++ (files_rows head.ffs3 (header_end head.name_guid) (plain_made made)
     ++ top_rows head.ffs3 (plain_end head made) size (top_made made))
 
 -- what is free behind the last file, from the next multiple of 8 on; behind a top file nothing
 abbrev pub free_behind : ℕ → ℕ → Option Made → ℕ
-free_behind at size None = size - up 8 at
+free_behind at size None = size - align_up 8 at
 free_behind at size (Some made) = 0
 
 -- what is read of a volume of this length

@@ -1,7 +1,7 @@
 //! The files of a volume (UEFI PI specification, volume 3, section 3.2.3).
 ghost use Rattle.std.specs.Prelude.{◌≡◌, ◌≤◌, ◌<◌, ◌+◌, ◌^◌, ◌==◌, ◌||◌, IsTrue, IfOk, take, length, not, unwrap_or, []};
 ghost use Rattle.ffs_sections.specs.Sums.{header_sum};
-ghost use Rattle.ffs_sections.specs.File.{head_at as spec_head_at};
+ghost use Rattle.ffs_sections.specs.File.{header_len as spec_head_at};
 ghost use Rattle.volume_reader.specs.Sections.{sections_of};
 ghost use Rattle.volume_reader.specs.Files.{file_name, file_type, stated_size, body_in, has_header, has_state, has_size, has_check, is_file, HasBody, file_sections, listed_file};
 
@@ -10,7 +10,7 @@ use crate::sections::sections_of;
 use crate::slices::{u24_at, u64_at};
 use build_base::{Guid, Rows, WantOfMemory};
 use doc_types::standard::{EFI_FV_FILETYPE_FFS_PAD, EFI_FV_FILETYPE_RAW};
-use ffs_sections::header::{head_at, state_of};
+use ffs_sections::header::{header_len, state_of};
 use ffs_sections::standard::{FFS_ATTRIB_CHECKSUM, FFS_FIXED_CHECKSUM};
 use ffs_sections::{body_sum, header_sum, header_sum_long};
 use std::alloc::Global;
@@ -38,7 +38,7 @@ pub(crate) fn stated_size(bytes: &[u8]) -> u64
     requires { spec_head_at bytes.now ≤ length bytes.now }
     ensures { result ≡ stated_size bytes.now }
 {
-    if head_at(bytes) == 32 {
+    if header_len(bytes) == 32 {
         u64_at(bytes, 0x18)
     } else {
         u24_at(bytes, 0x14) as u64
@@ -51,7 +51,7 @@ fn has_header(ffs3: bool, bytes: &[u8]) -> bool
     ensures inside { IsTrue result → spec_head_at bytes.now ≤ length bytes.now }
     ensures least { IsTrue result → 24 ≤ spec_head_at bytes.now }
 {
-    let head = head_at(bytes);
+    let head = header_len(bytes);
     if bytes.len() < head as usize {
         return false;
     }
@@ -81,7 +81,7 @@ fn wanted_sum(bytes: &[u8]) -> u8
     requires { spec_head_at bytes.now ≤ length bytes.now }
     ensures { result ≡ header_sum (take (spec_head_at bytes.now) bytes.now) }
 {
-    if head_at(bytes) == 32 {
+    if header_len(bytes) == 32 {
         long_sum(bytes)
     } else {
         short_sum(bytes)
@@ -108,7 +108,7 @@ fn has_size(bytes: &[u8]) -> bool
     ensures inside { IsTrue result → stated_size bytes.now ≤ length bytes.now }
 {
     let size = stated_size(bytes);
-    if size < head_at(bytes) as u64 {
+    if size < header_len(bytes) as u64 {
         return false;
     }
     size <= bytes.len() as u64
@@ -120,7 +120,7 @@ fn body_in(bytes: &[u8]) -> &[u8]
     ensures { result.now ≡ body_in bytes.now }
 {
     let file = &bytes[..stated_size(bytes) as usize];
-    &file[head_at(bytes) as usize..]
+    &file[header_len(bytes) as usize..]
 }
 
 #[tactic(auto, unfolding(crate::specs::Files::has_check, crate::specs::Files::file_check, crate::specs::Files::file_attributes))]
@@ -193,7 +193,7 @@ fn file_sections(
     if !is_listed(file_type(bytes)) {
         return Ok(Rows::new(alloc));
     }
-    body_sections(alloc, ffs3, place + head_at(bytes) as u64, body_in(bytes))
+    body_sections(alloc, ffs3, place + header_len(bytes) as u64, body_in(bytes))
 }
 
 /// The file at the front of some bytes, which stand at a place of the volume.

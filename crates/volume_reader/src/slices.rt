@@ -1,7 +1,7 @@
 //! Parts of bytes, and numbers in them.
 ghost use Rattle.std.specs.Prelude.{◌≡◌, ◌≤◌, ◌+◌, ◌<◌, ◌^◌, take, drop, length};
 ghost use Rattle.byteorder.specs.Endian.{little_from};
-ghost use Rattle.fv_compose.specs.Place.{up as spec_up};
+ghost use Rattle.fv_compose.specs.Place.{align_up as spec_up};
 
 use byteorder::{ByteOrder, LittleEndian};
 
@@ -28,7 +28,7 @@ pub fn front(bytes: &[u8], count: u64) -> &[u8]
 }
 
 /// The least multiple of 8 from a place on.
-#[tactic(auto, unfolding(fv_compose::specs::Place::up))]
+#[tactic(auto, unfolding(fv_compose::specs::Place::align_up))]
 pub(crate) fn up8(at: u64) -> u64
     requires { at < 2 ^ 63 + 2 ^ 16 }
     ensures value { result ≡ spec_up 8 at }

@@ -9,4 +9,4 @@ check_top-requires-clause-aligned c = rw c.requires.top (aligned_top c.args.file
 pub check_pads-requires-clause-short : goal.check_pads-requires-clause-short
 check_pads-requires-clause-short c =
     let room = taken_after c.args.layout.now.end c.args.size _ c.requires.length.room in
-    rw c.first_end-first.ensures.value (omega (arith, c.requires.laid.end))
+    rw c.header_end-first.ensures.value (omega (arith, c.requires.laid.end))

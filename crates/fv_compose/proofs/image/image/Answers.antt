@@ -2,7 +2,7 @@ use Rattle.std.proofs.Common.{◌≡◌, length, arith, ◌∙◌, ap, refl}
 use Rattle.std.proofs.lemmas.Grind.{common_steps}
 use Rattle.build_base.specs.Pieces.{put_pieces}
 use Rattle.build_base.specs.Runs.{free_byte}
-use Rattle.fv_compose.specs.Header.{first_end}
+use Rattle.fv_compose.specs.Header.{header_end}
 use Rattle.fv_compose.specs.Files.{plain_files, files_pieces, top_pieces, top_of}
 use Rattle.fv_compose.specs.Volume.{last_end}
 use Rattle.fv_compose.proofs.FileLemmas.{bytes_with_top}
@@ -12,7 +12,7 @@ use Rattle.fv_compose.proofs.image.image.Goals as goal
 pub put_files-requires-clause-short : goal.put_files-requires-clause-short
 put_files-requires-clause-short c =
     let e : c.put.new.self.bytes ≡ c.in_ok-head.head.items = c.in_ok-put.ensures.bytes ∙ rw (c.new-out.ensures, c.from_vec.ensures) refl in
-    let l : length c.put.new.self.bytes ≡ first_end c.args.plan.now.name_guid = ap length e ∙ (let k = c.in_ok-head.ensures.length in grind (arith, common_steps)) in
+    let l : length c.put.new.self.bytes ≡ header_end c.args.plan.now.name_guid = ap length e ∙ (let k = c.in_ok-head.ensures.length in grind (arith, common_steps)) in
     let room = taken_after (last_end c.args.plan.now c.args.files.now) c.args.size _ c.requires.length.room in
     rw l (omega arith)
 
@@ -24,8 +24,8 @@ returns-clause-value c =
     let body = c.put_files.new.out.bytes in
     let out = c.put_top.new.out.bytes in
     let e : head ≡ c.in_ok-head.head.items = c.in_ok-put.ensures.bytes ∙ rw (c.new-out.ensures, c.from_vec.ensures) refl in
-    let l : length head ≡ first_end plan.name_guid = ap length e ∙ (let k = c.in_ok-head.ensures.length in grind (arith, common_steps)) in
-    let b : body ≡ put_pieces (free_byte plan.erase) head (files_pieces plan.erase (first_end plan.name_guid) (plain_files files)) = rw l at c.in_ok-put_files.ensures.bytes in
+    let l : length head ≡ header_end plan.name_guid = ap length e ∙ (let k = c.in_ok-head.ensures.length in grind (arith, common_steps)) in
+    let b : body ≡ put_pieces (free_byte plan.erase) head (files_pieces plan.erase (header_end plan.name_guid) (plain_files files)) = rw l at c.in_ok-put_files.ensures.bytes in
     let m : length body ≡ last_end plan files = rw l at c.in_ok-put_files.ensures.len in
     let o : out ≡ put_pieces (free_byte plan.erase) body (top_pieces plan.erase (last_end plan files) (top_of files) c.args.size) = rw (m, c.requires.top) at c.in_ok-put_top.ensures.bytes in
     let f : c.put_top.new.out.free ≡ free_byte plan.erase =
@@ -39,7 +39,7 @@ returns-clause-runs c =
     let files = c.args.files.now in
     let head = c.put.new.self.bytes in
     let e : head ≡ c.in_ok-head.head.items = c.in_ok-put.ensures.bytes ∙ rw (c.new-out.ensures, c.from_vec.ensures) refl in
-    let l : length head ≡ first_end plan.name_guid = ap length e ∙ (let k = c.in_ok-head.ensures.length in grind (arith, common_steps)) in
+    let l : length head ≡ header_end plan.name_guid = ap length e ∙ (let k = c.in_ok-head.ensures.length in grind (arith, common_steps)) in
     let s = first_small plan.name_guid in
     let t = bytes_with_top files in
     let p = rw c.requires.top at c.in_ok-put_top.ensures.kept in

@@ -3,7 +3,7 @@ use Rattle.std.specs.List.{list_any, Contains}
 use Rattle.std.proofs.lemmas.List.Folds.{Any-from_list_any, list_any_at}
 use Rattle.std.proofs.lemmas.Bool.{eqb-true}
 use Rattle.ffs_sections.specs.Alignment.{alignments}
-use Rattle.ffs_sections.proofs.alignment.is_alignment.Goals as goal
+use Rattle.ffs_sections.proofs.alignment.is_file_alignment.Goals as goal
 
 found : (x : ℕ) (xs : List ℕ) → list_any (λ y. y == x) xs ≡ true → Contains xs x
 found x xs h =
