@@ -6,7 +6,7 @@ use Rattle.std.proofs.lemmas.List.Elements.{All-nil, All-cons, All-head, All-tai
 use Rattle.build_base.specs.World.{World, got, field}
 use Rattle.build_stages.specs.Asks.{same_ask}
 use Rattle.build_stages.specs.Bounds.{both_hold}
-use Rattle.build_stages.specs.Stages.{Halt, wants, fails, misfit, Stages, end, stage, IsLower, AreLower, Staged, advance, known_in, meaning_of, oracle, outcome_of, run, turned, value_by, wanted_in}
+use Rattle.build_stages.specs.Stages.{Halt, wants, fails, impossible_answer, Stages, end, stage, IsLower, AreLower, Staged, advance, known_in, meaning_of, oracle, outcome_of, run, turned, value_by, wanted_in}
 use Rattle.build_stages.specs.StagesLaws.{run_same}
 use Rattle.build_stages.specs.StagesTurns.{wants_lower}
 use Rattle.step_engine.specs.Caches.{Keeps}
@@ -107,7 +107,7 @@ module _ (edition : ℕ) (older : Key → EdkStages) (are : AreOlder edition old
 
   value_at : (n : ℕ) (w : World) (k : Key) → is_same edition k ≡ true → value_by (by_older older) n w k ≡ value_by edk n w k
   unfolding value_by
-  value_at zero w k h = ap (λ (s : EdkStages). outcome_of (run fits (oracle (λ part. Bad misfit) w) s)) (are k h)
+  value_at zero w k h = ap (λ (s : EdkStages). outcome_of (run fits (oracle (λ part. Bad impossible_answer) w) s)) (are k h)
   value_at (suc n) w k h =
       ap (λ (s : EdkStages). outcome_of (run fits (oracle (value_by (by_older older) n w) w) s)) (are k h)
       ∙ ap outcome_of (run_same fits rank_of 7 (oracle (value_by (by_older older) n w) w) (oracle (value_by edk n w) w)

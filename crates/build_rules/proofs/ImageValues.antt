@@ -30,7 +30,7 @@ use Rattle.step_pack.specs.declared.key.Key.{Key}
 use Rattle.step_pack.specs.declared.key.Key.TheVariants as key
 use Rattle.step_pack.specs.declared.out.Out.{Out}
 use Rattle.step_pack.specs.declared.out.Out.TheVariants as out
-use Rattle.image_steps.specs.Asks.{file_asks, sections_below, item_asks, region_asks, regions_below, are_few}
+use Rattle.image_steps.specs.Asks.{file_asks, sections_below, item_asks, region_asks, regions_below, fits_u16}
 use Rattle.image_steps.specs.Files.{file_given}
 use Rattle.image_steps.specs.Devices.{device_given}
 use Rattle.module_images.specs.Apriori.{apriori_given}
@@ -186,7 +186,7 @@ unfolding volume_value
 volume_run w moved v e =
     after_flash w e out.Volume _ (λ flash. and_then (volume_at flash v) (planned_value w moved v)) (λ flash.
     step_run w out.Volume (volume_at flash v) _ (planned_value w moved v) (λ plan.
-    when_run w out.Volume (are_few (length plan.items)) _ (by_answers w (item_asks v plan.items) (image_by moved plan.head))
+    when_run w out.Volume (fits_u16 (length plan.items)) _ (by_answers w (item_asks v plan.items) (image_by moved plan.head))
     (last_run w out.Volume (item_asks v plan.items) (image_by moved plan.head))))
 
 pub volume_is : (w : World) (v : ℕ) → IsWorld (meaning_of key_cmp edk) w → value_in w (key.Volume v) ≡ outcome_of (given_as out.Volume (volume_value w false v))
@@ -238,7 +238,7 @@ device_is w d e = value_is key_cmp edk edk_is_bounded w (key.Device d) ∙ ap ou
 files_run : (w : World) (vpd : Bool) (folder : List ℕ) (modules : List Module) (flash : FlashDoc) (wanted : Wanted) (report : Option (List ℕ))
     → gives w (files_stages vpd folder modules flash wanted report) ≡ given_as out.All (files_value w vpd folder modules flash wanted report)
 files_run w vpd folder modules flash wanted report =
-    when_run w out.All (are_few (length flash.volumes) && are_few (length flash.devices)) _
+    when_run w out.All (fits_u16 (length flash.volumes) && fits_u16 (length flash.devices)) _
     (by_answers w (build_asks vpd modules flash wanted report) (outputs_of vpd folder modules flash wanted report))
     (last_run w out.All (build_asks vpd modules flash wanted report) (outputs_of vpd folder modules flash wanted report))
 

@@ -40,7 +40,7 @@ use Rattle.module_steps.specs.Choices.{own_inf}
 use Rattle.module_steps.specs.Parts.{choice_at}
 use Rattle.module_steps.specs.Pcds.{pcds_given, values_given}
 use Rattle.module_steps.specs.Skus.{skus_end}
-use Rattle.image_steps.specs.Asks.{sections_below, regions_below, are_few}
+use Rattle.image_steps.specs.Asks.{sections_below, regions_below, fits_u16}
 use Rattle.image_steps.specs.Files.{file_given}
 use Rattle.image_steps.specs.Volumes.{volume_given}
 use Rattle.image_rules.specs.Based.{based_given}
@@ -139,10 +139,10 @@ of_kind (key.File v i) =
     λ given. attempt_kind 8 (flash_in given 0) _ (λ flash. attempt_kind 8 (volume_at flash v) _ (λ plan. attempt_kind 8 (item_at flash plan i) _ (λ it. item_kind v flash plan.head it)))
 of_kind (key.Volume v) =
     λ given. attempt_kind 9 (flash_in given 0) _ (λ flash. attempt_kind 9 (volume_at flash v) _ (λ plan.
-    when_kind 9 (are_few (length plan.items)) _ (λ files. given_kind 9 out.Volume (λ x. refl) (volume_given plan.head files))))
+    when_kind 9 (fits_u16 (length plan.items)) _ (λ files. given_kind 9 out.Volume (λ x. refl) (volume_given plan.head files))))
 of_kind (key.Based v) =
     λ given. attempt_kind 9 (flash_in given 0) _ (λ flash. attempt_kind 9 (volume_at flash v) _ (λ plan.
-    when_kind 9 (are_few (length plan.items)) _ (λ files. given_kind 9 out.Volume (λ x. refl) (based_given plan.head files))))
+    when_kind 9 (fits_u16 (length plan.items)) _ (λ files. given_kind 9 out.Volume (λ x. refl) (based_given plan.head files))))
 of_kind key.Vpd =
     λ given. attempt_kind 13 (platform_in given 0) _ (λ platform. attempt_kind 13 (values_at given 1) _ (λ values. attempt_kind 13 (arches_at platform given) _ (λ arches.
     given_kind 13 out.Vpd (λ x. refl) (placed_vpd platform values arches))))
@@ -156,7 +156,7 @@ of_kind key.Report =
 of_kind key.All =
     λ given. attempt_kind 12 (platform_in given 0) _ (λ platform. attempt_kind 12 (flash_in given 1) _ (λ flash. attempt_kind 12 (folder_in platform given) _ (λ folder.
     attempt_kind 12 (modules_in platform given) _ (λ modules. attempt_kind 12 (wanted_in flash given) _ (λ wanted. attempt_kind 12 (report_in given) _ (λ report.
-    when_kind 12 (are_few (length flash.volumes) && are_few (length flash.devices)) _ (λ files. given_kind 12 out.All (λ x. refl) (outputs_of (has_vpd platform) folder modules flash wanted report files))))))))
+    when_kind 12 (fits_u16 (length flash.volumes) && fits_u16 (length flash.devices)) _ (λ files. given_kind 12 out.All (λ x. refl) (outputs_of (has_vpd platform) folder modules flash wanted report files))))))))
 
 run_kind : (n : ℕ) (o : Ask Key → Answer Out) (s : EdkStages) → AreOfKind n s → IfOk (run fits o s) (λ given. kind_of given ≡ n)
 run_kind n o (end (Ok given)) h = h

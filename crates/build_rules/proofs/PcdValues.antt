@@ -26,7 +26,7 @@ use Rattle.module_steps.specs.declared.parts.Linked.{Linked}
 use Rattle.module_steps.specs.Asks.{choice_asks, inf_asks, dec_asks, linked_asks, package_asks}
 use Rattle.module_steps.specs.Parts.{choice_of_out, one, taken, linked, linked_module, linked_at, described_at, path_count, parts_at, package_count}
 use Rattle.module_steps.specs.Pcds.{pcds_given, values_given}
-use Rattle.module_steps.specs.Settings.{commands_of, setting_of}
+use Rattle.module_steps.specs.Settings.{command_line_pcds, setting_of}
 use Rattle.module_steps.specs.Skus.{skus_end}
 use Rattle.module_steps.proofs.TakenLemmas.{Tells, each, then_made}
 use Rattle.document_rules.specs.Fits.{fits}
@@ -131,7 +131,7 @@ by_four w m p v d c =
 by_four_is : (w : World) (m : Module) (p : Result PlatformDoc Fault) (r : Result FlashDoc Fault) (d : Result Values Fault) (c : Result Choice Fault)
     → by_four w m (outcome_of (given_as out.Platform p)) (outcome_of (given_as out.Flash r)) (outcome_of (given_as out.Values d)) (outcome_of (given_as out.Choice c))
     ≡ and_then p (λ platform. and_then r (λ flash. and_then d (λ dynamic. and_then c (λ choice.
-    comes w (attempt (commands_of platform.at (field w 6)) (λ commands. values_from m platform flash dynamic choice commands))))))
+    comes w (attempt (command_line_pcds platform.at (field w 6)) (λ commands. values_from m platform flash dynamic choice commands))))))
 by_four_is w m (Ok platform) (Ok flash) (Ok dynamic) (Ok choice) = refl
 by_four_is w m (Ok platform) (Ok flash) (Ok dynamic) (Err fault) = refl
 by_four_is w m (Ok platform) (Ok flash) (Err fault) c = refl
@@ -157,8 +157,8 @@ values_run w m e =
     ∙ ap (λ (d : Outcome Out). by_four w m (outcome_of (given_as out.Platform (platform_value w))) (outcome_of (given_as out.Flash (flash_value w))) d (value_in w (key.Choice m))) (pcds_is w e)
     ∙ ap (by_four w m (outcome_of (given_as out.Platform (platform_value w))) (outcome_of (given_as out.Flash (flash_value w))) (outcome_of (given_as out.Values (pcds_value w)))) (choice_is w m e)
     ∙ by_four_is w m (platform_value w) (flash_value w) (pcds_value w) (choice_value w m)
-    ∙ four_made (platform_value w) (flash_value w) (pcds_value w) (choice_value w m) _ (λ platform flash dynamic choice. and_then (commands_of platform.at (field w 6)) (λ commands. and_then (module_value w m choice) (values_given platform flash commands dynamic))) (λ platform flash dynamic choice.
-    step_run w out.Values (commands_of platform.at (field w 6)) _ (λ commands. and_then (module_value w m choice) (values_given platform flash commands dynamic)) (λ commands.
+    ∙ four_made (platform_value w) (flash_value w) (pcds_value w) (choice_value w m) _ (λ platform flash dynamic choice. and_then (command_line_pcds platform.at (field w 6)) (λ commands. and_then (module_value w m choice) (values_given platform flash commands dynamic))) (λ platform flash dynamic choice.
+    step_run w out.Values (command_line_pcds platform.at (field w 6)) _ (λ commands. and_then (module_value w m choice) (values_given platform flash commands dynamic)) (λ commands.
     made_run w out.Values (module_parts m choice) (module_value w m choice) (values_given platform flash commands dynamic) (module_run w m choice)))
 
 pub values_is : (w : World) (m : Module) → IsWorld (meaning_of key_cmp edk) w → value_in w (key.Values m) ≡ outcome_of (given_as out.Values (values_value w m))

@@ -26,7 +26,7 @@ use Rattle.doc_types.specs.declared.volume_head.VolumeHead.{VolumeHead}
 use Rattle.step_pack.specs.declared.key.Key.{Key}
 use Rattle.step_pack.specs.declared.key.Key.TheVariants as key
 use Rattle.std.proofs.Common.{Option, Some, None, slice_get, refl}
-use Rattle.image_steps.specs.Asks.{is_based, step_of, step_by, volume_step, source_file, source_volume, section_files, section_volumes, body_asks, source_below, sections_below, is_apriori, files_where, is_vpd, tree_asks, kind_asks, region_asks, kind_below, regions_below, are_few}
+use Rattle.image_steps.specs.Asks.{is_based, volume_key, step_by, volume_step, source_file, source_volume, section_files, section_volumes, body_asks, source_below, sections_below, is_apriori, files_where, is_vpd, tree_asks, kind_asks, region_asks, kind_below, regions_below, fits_u16}
 use Rattle.text_steps.specs.Report.{values_at}
 use Rattle.document_rules.specs.VpdLines.{has_vpd}
 use Rattle.text_steps.specs.Asks.{built_asks, build_module_asks}
@@ -54,7 +54,7 @@ moved_rank : (b : Bool) (n : ℕ) → rank_of (cond b (key.Based n) (key.Volume 
 moved_rank true n = refl
 moved_rank false n = refl
 
-step_rank : (n : ℕ) (plan : VolumePlan) → rank_of (step_of n plan) ≡ 9 + 2 * n
+step_rank : (n : ℕ) (plan : VolumePlan) → rank_of (volume_key n plan) ≡ 9 + 2 * n
 step_rank n plan = moved_rank (is_based plan.head) n
 
 by_rank : (n : ℕ) (plan : Option VolumePlan) → rank_of (step_by n plan) ≡ 9 + 2 * n
@@ -214,7 +214,7 @@ items_lower choose v n (i ∷ items) =
 plan_lower : (moved : Bool) (v : ℕ) (plan : VolumePlan)
     → AreLower rank_of (9 + 2 * v) (plan_stages moved v plan)
 plan_lower moved v plan =
-    when_lower rank_of (9 + 2 * v) (are_few (length plan.items)) _ (λ e. (
+    when_lower rank_of (9 + 2 * v) (fits_u16 (length plan.items)) _ (λ e. (
       All-append (IsLower rank_of (9 + 2 * v)) (files_where is_apriori v 0 plan.items)
           (files_where (λ i. not (is_apriori i)) v 0 plan.items)
           (items_lower is_apriori v 0 plan.items)
@@ -235,7 +235,7 @@ volume_within moved v = (
   omega arith,
   λ given fit. attempt_within fits 1 (flash_in given 0) _
       (λ flash. attempt_within fits 1 (volume_at flash v) _ (λ plan.
-      when_within fits 1 (are_few (length plan.items)) _ (omega arith, λ images fit_too. tt))),
+      when_within fits 1 (fits_u16 (length plan.items)) _ (omega arith, λ images fit_too. tt))),
 )
 
 tree_lower : (b : Bool) (path : List ℕ) → All (IsLower rank_of 0x400000000) (tree_asks b path)
@@ -312,14 +312,14 @@ where_asked true step h = all_one (IsLower rank_of 0x400000002) (ask.Part step) 
 where_asked false step h = All-nil (IsLower rank_of 0x400000002)
 
 volumes_asked : (marks : List Bool) (n : ℕ) (plans : List VolumePlan) → n + length plans < 65536
-    → All (IsLower rank_of 0x400000002) (steps_from step_of marks n plans)
+    → All (IsLower rank_of 0x400000002) (steps_from volume_key marks n plans)
 unfolding steps_from
 volumes_asked marks n [] h = All-nil (IsLower rank_of 0x400000002)
 volumes_asked marks n (plan ∷ plans) h =
-    All-append (IsLower rank_of 0x400000002) (step_where (is_marked marks n) (step_of n plan))
-    (steps_from step_of marks (n + 1) plans)
-    (where_asked (is_marked marks n) (step_of n plan)
-    (let rank : rank_of (step_of n plan) ≡ 9 + 2 * n =
+    All-append (IsLower rank_of 0x400000002) (step_where (is_marked marks n) (volume_key n plan))
+    (steps_from volume_key marks (n + 1) plans)
+    (where_asked (is_marked marks n) (volume_key n plan)
+    (let rank : rank_of (volume_key n plan) ≡ 9 + 2 * n =
     step_rank n plan in omega (arith, h, rank)))
     (volumes_asked marks (n + 1) plans (omega (arith, h)))
 
@@ -345,15 +345,15 @@ modules_asked (m ∷ modules) =
     (modules_asked modules)
 
 images_asked : (flash : FlashDoc) (wanted : Wanted)
-    → (are_few (length flash.volumes) && are_few (length flash.devices)) ≡ true
+    → (fits_u16 (length flash.volumes) && fits_u16 (length flash.devices)) ≡ true
     → All (IsLower rank_of 0x400000002) (image_asks flash wanted)
 images_asked flash wanted e =
-    All-append (IsLower rank_of 0x400000002) (steps_from step_of wanted.volumes 0 flash.volumes)
+    All-append (IsLower rank_of 0x400000002) (steps_from volume_key wanted.volumes 0 flash.volumes)
     (steps_from device_step wanted.devices 0 flash.devices)
     (volumes_asked wanted.volumes 0 flash.volumes
     (let few : length flash.volumes < 65536 =
     ltb-true (length flash.volumes) 65536
-    (both_hold (are_few (length flash.volumes)) (are_few (length flash.devices)) e).0
+    (both_hold (fits_u16 (length flash.volumes)) (fits_u16 (length flash.devices)) e).0
     in omega (arith, few)))
     (devices_asked wanted.devices 0 flash.devices)
 
@@ -366,7 +366,7 @@ build_lower : (vpd : Bool) (folder : List ℕ) (modules : List Module) (flash : 
     → AreLower rank_of 0x400000002 (files_stages vpd folder modules flash wanted report)
 build_lower vpd folder modules flash wanted report =
     when_lower rank_of 0x400000002
-    (are_few (length flash.volumes) && are_few (length flash.devices)) _ (λ e. (
+    (fits_u16 (length flash.volumes) && fits_u16 (length flash.devices)) _ (λ e. (
       All-cons (IsLower rank_of 0x400000002) (ask.Part key.PlatformPcds)
           (build_module_asks modules ++ image_asks flash wanted ++ step_where vpd key.Vpd
           ++ report_part report) (omega arith)
@@ -418,6 +418,6 @@ all_within = (
       (λ folder. attempt_within fits 1 (modules_in platform given) _ (λ modules.
       attempt_within fits 1 (wanted_in flash given) _
       (λ wanted. attempt_within fits 1 (report_in given) _ (λ report.
-      when_within fits 1 (are_few (length flash.volumes) && are_few (length flash.devices)) _
+      when_within fits 1 (fits_u16 (length flash.volumes) && fits_u16 (length flash.devices)) _
       (omega arith, λ files fit_too. tt))))))),
 )

@@ -22,7 +22,7 @@ use Rattle.module_steps.specs.declared.parts.Linked.{Linked}
 use Rattle.module_steps.specs.Choices.{alone, behind}
 use Rattle.module_steps.specs.Parts.{held_package, linked, linked_module, described, parts}
 use Rattle.module_steps.specs.Pcds.{pcds_given, values_given}
-use Rattle.module_steps.specs.Settings.{commands_of, setting_of}
+use Rattle.module_steps.specs.Settings.{command_line_pcds, setting_of}
 use Rattle.module_steps.specs.Skus.{skus_end}
 use Rattle.module_rules.specs.ModuleTrees.{most_rounds}
 use Rattle.build_rules.specs.Rules.{value_in}
@@ -94,7 +94,7 @@ values_value w m =
     and_then (flash_value w) (λ flash.
     and_then (pcds_value w) (λ dynamic.
     and_then (choice_value w m) (λ choice.
-    and_then (commands_of platform.at (field w 6)) (λ commands.
+    and_then (command_line_pcds platform.at (field w 6)) (λ commands.
     and_then (module_value w m choice) (values_given platform flash commands dynamic))))))
 
 -- the steps give these

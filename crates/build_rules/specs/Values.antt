@@ -31,12 +31,12 @@ use Rattle.doc_types.specs.declared.volume.VolumePlan.{VolumePlan}
 use Rattle.doc_types.specs.declared.volume_head.VolumeHead.{VolumeHead}
 use Rattle.document_rules.specs.VpdLines.{has_vpd}
 use Rattle.flash_document.specs.Flash.{flash_of}
-use Rattle.build_stages.specs.Stages.{outcome_of, meaning_of, misfit, fault_in}
+use Rattle.build_stages.specs.Stages.{outcome_of, meaning_of, impossible_answer, fault_in}
 use Rattle.step_pack.specs.Keys.{key_cmp}
 use Rattle.step_pack.specs.declared.key.Key.{Key}
 use Rattle.step_pack.specs.declared.out.Out.{Out}
 use Rattle.step_pack.specs.declared.out.Output.{Output}
-use Rattle.image_steps.specs.Asks.{file_asks, sections_below, item_asks, region_asks, regions_below, are_few}
+use Rattle.image_steps.specs.Asks.{file_asks, sections_below, item_asks, region_asks, regions_below, fits_u16}
 use Rattle.image_steps.specs.Files.{file_given}
 use Rattle.image_steps.specs.Devices.{device_given}
 use Rattle.module_images.specs.declared.plans.ModulePlan.{ModulePlan}
@@ -103,7 +103,7 @@ by_answers w asks f = or_fault (fault_asked w asks) (f (answers_in w asks))
 -- what has its shape; in a world it has
 abbrev pub if_shaped : {A : Type 0} → Bool → Result A Fault → Result A Fault
 if_shaped true r = r
-if_shaped false r = Err misfit
+if_shaped false r = Err impossible_answer
 
 -- the file of a module, by its plan
 abbrev pub sections_value : World → VolumeHead → ModulePlan → Result FileImage Fault
@@ -131,7 +131,7 @@ file_value w v i =
 
 abbrev pub planned_value : World → Bool → ℕ → VolumePlan → Result (List ℕ) Fault
 planned_value w moved v plan =
-    if_shaped (are_few (length plan.items))
+    if_shaped (fits_u16 (length plan.items))
     (by_answers w (item_asks v plan.items) (image_by moved plan.head))
 
 -- the image of volume v, as it stands or moved to its base
@@ -158,7 +158,7 @@ device_value w d = and_then (flash_value w)
 abbrev pub files_value : World → Bool → List ℕ → List Module → FlashDoc → Wanted → Option (List ℕ)
     → Result (List Output) Fault
 files_value w vpd folder modules flash wanted report =
-    if_shaped (are_few (length flash.volumes) && are_few (length flash.devices))
+    if_shaped (fits_u16 (length flash.volumes) && fits_u16 (length flash.devices))
     (by_answers w (build_asks vpd modules flash wanted report)
     (outputs_of vpd folder modules flash wanted report))
 

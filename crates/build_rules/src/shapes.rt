@@ -1,5 +1,5 @@
 //! The steps of a build, and which answers a world can give to them.
-use build_stages::Shapes;
+use build_stages::StepTypes;
 use document_rules::answers::EdkAnswers;
 use step_engine::{Answer, Ask};
 use step_pack::{Key, Out};
@@ -7,7 +7,7 @@ use step_pack::{Key, Out};
 /// The steps of an EDK II build.
 pub struct EdkRules;
 
-impl Shapes for EdkRules {
+impl StepTypes for EdkRules {
     ghost use Rattle.build_rules.specs.Rules.{edk};
 
     type Key = Key;
@@ -17,6 +17,6 @@ impl Shapes for EdkRules {
     ghost staged = { edk };
 
     fn fits(&self, ask: &Ask<Key>, answer: &Answer<Out>) -> bool {
-        Shapes::fits(&EdkAnswers, ask, answer)
+        StepTypes::fits(&EdkAnswers, ask, answer)
     }
 }

@@ -5,7 +5,7 @@ use Rattle.build_base.specs.declared.refusal.Refusal.{Refusal}
 use Rattle.build_base.specs.declared.refusal.Refusal.TheVariants as refusal
 use Rattle.step_engine.specs.declared.talk.Answer.{Answer}
 use Rattle.step_engine.specs.declared.talk.Ask.{Ask}
-use Rattle.build_stages.specs.Stages.{Fits, Halt, wants, fails, misfit, first_stop, judged}
+use Rattle.build_stages.specs.Stages.{Fits, Halt, wants, fails, impossible_answer, first_stop, judged}
 use Rattle.build_stages.specs.declared.stop.Stop.{Stop}
 use Rattle.build_stages.specs.declared.stop.Stop.TheVariants as stop
 
@@ -17,7 +17,7 @@ stop_by refusal.WantOfMemory = stop.WantOfMemory
 abbrev pub Stops : {A K : Type 0} → Stop K → Result A (Halt K) → Type 0
 Stops (stop.Wants asks permit) r = r ≡ Err (wants asks)
 Stops (stop.Fails fault) r = r ≡ Err (fails fault)
-Stops stop.Misfit r = r ≡ Err (fails misfit)
+Stops stop.ImpossibleAnswer r = r ≡ Err (fails impossible_answer)
 Stops stop.WantOfMemory r = Unit {0}
 
 -- what it answers stands for this, unless memory was wanting
@@ -29,7 +29,7 @@ Gives view (Err s) r = Stops s r
 abbrev pub StopsIn : {A K : Type 0} → Stop K → Result A Fault → Type 0
 StopsIn (stop.Wants asks permit) r = ⊥
 StopsIn (stop.Fails fault) r = r ≡ Err fault
-StopsIn stop.Misfit r = r ≡ Err misfit
+StopsIn stop.ImpossibleAnswer r = r ≡ Err impossible_answer
 StopsIn stop.WantOfMemory r = Unit {0}
 
 abbrev pub GivesIn : {A B K : Type 0} → (A → B) → Result A (Stop K) → Result B Fault → Type 0

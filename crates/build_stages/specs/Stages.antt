@@ -43,8 +43,8 @@ pub data Halt (K : Type 0) : Type 0 where
   fails : Fault → Halt K
 
 -- the fault of an answer that no world gives
-abbrev pub misfit : Fault
-misfit = record { code = 0; place = record { path = codes "talk"; line = 0 }; detail = [] }
+abbrev pub impossible_answer : Fault
+impossible_answer = record { code = 0; place = record { path = codes "talk"; line = 0 }; detail = [] }
 
 abbrev pub fault_in : {O : Type 0} → Answer O → Option Fault
 fault_in (answer.Part (Bad fault)) = Some fault
@@ -52,13 +52,13 @@ fault_in _ = None
 
 abbrev pub stop_of : {O : Type 0} → Bool → Answer O → Option Fault
 stop_of true x = fault_in x
-stop_of false x = Some misfit
+stop_of false x = Some impossible_answer
 
 -- the first fault of a part among answers, in the order of the asks; an answer that doesn't fit
 -- counts as one
 abbrev pub first_stop : {K O : Type 0} → Fits K O → List (Ask K) → List (Answer O) → Option Fault
 first_stop fits [] answers = None
-first_stop fits (a ∷ asks) [] = Some misfit
+first_stop fits (a ∷ asks) [] = Some impossible_answer
 first_stop fits (a ∷ asks) (x ∷ answers) =
     or_else (stop_of (fits a x) x) (first_stop fits asks answers)
 
@@ -190,7 +190,7 @@ outcome_of (Err fault) = Bad fault
 
 -- the value of a key, where ranks fall at most n times
 unfoldable pub value_by : {K O : Type 0} → Staged K O → ℕ → World → K → Outcome O
-value_by c zero w k = outcome_of (run c.fits (oracle (λ part. Bad misfit) w) (c.stages k))
+value_by c zero w k = outcome_of (run c.fits (oracle (λ part. Bad impossible_answer) w) (c.stages k))
 value_by c (suc n) w k = outcome_of (run c.fits (oracle (value_by c n w) w) (c.stages k))
 
 abbrev pub wanted_in : {K O : Type 0} → Result O (Halt K) → Option (List (Ask K))

@@ -13,7 +13,7 @@ use Rattle.step_engine.specs.declared.talk.Answer.{Answer}
 use Rattle.step_engine.specs.declared.talk.Answer.TheVariants as answer
 use Rattle.step_engine.specs.declared.talk.Outcome.{Outcome}
 use Rattle.step_engine.specs.declared.talk.Outcome.TheVariants.{Bad}
-use Rattle.build_stages.specs.Stages.{outcome_of, Stages, end, stage, Known, Fits, fails, misfit, first_stop, unless_stopped, run, cons_both, answered, missing, judged, gathered, advance, IsLower, AreLower, Staged, oracle, value_by, meaning_of, AreBounded}
+use Rattle.build_stages.specs.Stages.{outcome_of, Stages, end, stage, Known, Fits, fails, impossible_answer, first_stop, unless_stopped, run, cons_both, answered, missing, judged, gathered, advance, IsLower, AreLower, Staged, oracle, value_by, meaning_of, AreBounded}
 
 -- what a key gives by right answers depends on those to asks of lower rank alone
 maps_same : {K O : Type 0} (rank : K → ℕ) (bound : ℕ) (f g : Ask K → Answer O)
@@ -41,7 +41,7 @@ stable_at : {K O : Type 0} (c : Staged K O) → AreBounded c → (n m : ℕ) (w 
 unfolding value_by
 stable_at {K} {O} c s zero zero w k le me = refl
 stable_at {K} {O} c s zero (suc m) w k le me =
-    ap outcome_of (run_same c.fits c.rank (c.rank k) (oracle (λ part. Bad misfit) w)
+    ap outcome_of (run_same c.fits c.rank (c.rank k) (oracle (λ part. Bad impossible_answer) w)
     (oracle (value_by c m w) w)
     (elim [
       | ask.File p ↦ λ h. refl
@@ -52,7 +52,7 @@ stable_at {K} {O} c s zero (suc m) w k le me =
     (c.stages k) (s.lower k))
 stable_at {K} {O} c s (suc n) zero w k le me =
     ap outcome_of (run_same c.fits c.rank (c.rank k) (oracle (value_by c n w) w)
-    (oracle (λ part. Bad misfit) w)
+    (oracle (λ part. Bad impossible_answer) w)
     (elim [
       | ask.File p ↦ λ h. refl
       | ask.Field i ↦ λ h. refl
@@ -78,7 +78,7 @@ value_at : {K O : Type 0} (cmp : K → K → Ordering) (c : Staged K O) → AreB
     → value_by c n w k ≡ outcome_of (run c.fits (right (meaning_of cmp c) w) (c.stages k))
 unfolding value_by
 value_at {K} {O} cmp c s w k zero le =
-    ap outcome_of (run_same c.fits c.rank (c.rank k) (oracle (λ part. Bad misfit) w)
+    ap outcome_of (run_same c.fits c.rank (c.rank k) (oracle (λ part. Bad impossible_answer) w)
     (right (meaning_of cmp c) w)
     (elim [
       | ask.File p ↦ λ h. refl
@@ -185,7 +185,7 @@ unique_at : {K O : Type 0} (c : Staged K O) → AreBounded c → (v : K → Outc
     → c.rank k ≤ n → value_by c n w k ≡ v k
 unfolding value_by
 unique_at {K} {O} c s v w e zero k le =
-    ap outcome_of (run_same c.fits c.rank (c.rank k) (oracle (λ part. Bad misfit) w) (oracle v w)
+    ap outcome_of (run_same c.fits c.rank (c.rank k) (oracle (λ part. Bad impossible_answer) w) (oracle v w)
     (elim [
       | ask.File p ↦ λ h. refl
       | ask.Field i ↦ λ h. refl

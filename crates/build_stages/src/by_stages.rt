@@ -1,6 +1,6 @@
 //! The turns of rules that are written as stages.
 ghost use Rattle.std.specs.Prelude.{◌≡◌, IfOk};
-ghost use Rattle.build_stages.specs.Stages.{misfit, meaning_of};
+ghost use Rattle.build_stages.specs.Stages.{impossible_answer, meaning_of};
 ghost use Rattle.step_engine.specs.Turns.{IsTurn};
 ghost use Rattle.step_engine.specs.declared.talk.Outcome.TheVariants.{Good, Bad};
 
@@ -28,8 +28,8 @@ fn bad<O>(alloc: Global, fault: Fault) -> Result<Outcome<O>, WantOfMemory>
 
 // The outcome after an answer that no world gives: a fault of code 0, which no fault of a build
 // has.
-fn misfit<O>(alloc: Global) -> Result<Outcome<O>, WantOfMemory>
-    ensures { IfOk result (λ outcome. outcome ≡ Bad misfit) }
+fn impossible_answer<O>(alloc: Global) -> Result<Outcome<O>, WantOfMemory>
+    ensures { IfOk result (λ outcome. outcome ≡ Bad impossible_answer) }
 {
     match Path::new(alloc, b"talk") {
         Ok(path) => {
@@ -59,7 +59,7 @@ pub fn turn_by<S: StagedRules>(
         Ok(out) => Ok(Turn::Done(good(alloc, out)?)),
         Err(Stop::Wants(asks, permit)) => Ok(Turn::Ask(asks, permit)),
         Err(Stop::Fails(fault)) => Ok(Turn::Done(bad(alloc, fault)?)),
-        Err(Stop::Misfit) => Ok(Turn::Done(misfit(alloc)?)),
+        Err(Stop::ImpossibleAnswer) => Ok(Turn::Done(impossible_answer(alloc)?)),
         Err(Stop::WantOfMemory) => Err(WantOfMemory),
     }
 }

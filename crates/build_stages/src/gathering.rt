@@ -7,7 +7,7 @@ ghost use Rattle.build_stages.specs.Gives.{Gives, Judges};
 
 use crate::given::Given;
 use crate::known::Known;
-use crate::staged::Shapes;
+use crate::staged::StepTypes;
 use crate::stop::Stop;
 use build_base::{Fault, Permit, Same};
 use std::alloc::Global;
@@ -24,7 +24,7 @@ fn fault_in<O>(answer: &Answer<O>) -> Option<&Fault>
 }
 
 // Stops at the first answer that doesn't fit, or that is the fault of a part.
-fn judge<S: Shapes>(
+fn judge<S: StepTypes>(
     alloc: Global,
     rules: &S,
     asks: &[Ask<S::Key>],
@@ -36,7 +36,7 @@ fn judge<S: Shapes>(
     for (i, ask) in asks.iter().enumerate() {
         let answer = answers[i];
         if !rules.fits(ask, answer) {
-            return Err(Stop::Misfit);
+            return Err(Stop::ImpossibleAnswer);
         }
         let Some(fault) = fault_in(answer) else {
             continue;
@@ -49,7 +49,7 @@ fn judge<S: Shapes>(
 /// The answers to the asks of a stage, in their order, and the permit again. Those that aren't
 /// known are wanted, each once; of the known ones the first that no world gives, or that is the
 /// fault of a part, stops the step.
-pub fn gather<'a, S: Shapes>(
+pub fn gather<'a, S: StepTypes>(
     alloc: Global,
     rules: &S,
     known: &Known<'a, S::Key, S::Out>,

@@ -12,7 +12,7 @@ use step_engine::{Answer, Ask, StepKey};
 
 /// What the steps of a set ask and give, and which answers a world can give them. It stands apart
 /// from `StagedRules` so that a step's function may gather answers.
-pub trait Shapes: Sync {
+pub trait StepTypes: Sync {
     type Key: StepKey;
 
     type Out: Same + Drop + Send + Sync;
@@ -26,7 +26,7 @@ pub trait Shapes: Sync {
 }
 
 /// A set of steps, each of which asks stage by stage.
-pub trait StagedRules: Shapes {
+pub trait StagedRules: StepTypes {
     /// A number above those of all steps whose outcome the step asks for.
     fn rank(&self, key: &Self::Key) -> u64
         ensures { result ≡ Self.staged.rank key.now };

@@ -10,7 +10,7 @@ pub enum Stop<K> {
     /// The step's outcome is a fault.
     Fails(Fault),
     /// An answer is one that no world gives.
-    Misfit,
+    ImpossibleAnswer,
     WantOfMemory,
 }
 

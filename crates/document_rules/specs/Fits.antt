@@ -1,7 +1,7 @@
 -- Which answers a world can give to an ask of a build, as far as a step looks. The rule is this
 -- project's own.
 use Rattle.std.specs.Prelude.{ℕ, Bool, true, false, ◌==◌, Err}
-use Rattle.build_stages.specs.Stages.{Staged, end, misfit}
+use Rattle.build_stages.specs.Stages.{Staged, end, impossible_answer}
 use Rattle.step_engine.specs.declared.talk.Ask.{Ask}
 use Rattle.step_engine.specs.declared.talk.Ask.TheVariants as ask
 use Rattle.step_engine.specs.declared.talk.Answer.{Answer}
@@ -61,7 +61,7 @@ fits _ _ = false
 -- a set of steps of which nothing but the test of answers counts: each is at its end at once
 abbrev pub answers_alone : Staged Key Out
 answers_alone = record {
-  stages = λ k. end (Err misfit);
+  stages = λ k. end (Err impossible_answer);
   rank = λ k. 0;
   most = λ k. 0;
   fits = fits;

@@ -18,7 +18,7 @@ use Rattle.inf_docs.specs.Modules.{module_of}
 use Rattle.flash_document.specs.Flash.{flash_of}
 use Rattle.doc_types.specs.declared.flash.FlashDoc.{FlashDoc}
 use Rattle.doc_types.specs.declared.platform.PlatformDoc.{PlatformDoc}
-use Rattle.build_stages.specs.Stages.{Stages, end, stage, bind, misfit}
+use Rattle.build_stages.specs.Stages.{Stages, end, stage, bind, impossible_answer}
 use Rattle.document_stages.specs.Documents.{lines_of}
 use Rattle.build_stages.specs.Gives.{Gives}
 use Rattle.build_stages.specs.Known.{Table, advance_at}
@@ -57,7 +57,7 @@ inf_stages path = document_stages out.Inf module_of [] [] path
 -- the path that a field names; no world has a field that names none
 abbrev pub path_named : Option (List ℕ) → Result (List ℕ) Fault
 path_named (Some path) = Ok path
-path_named None = Err misfit
+path_named None = Err impossible_answer
 
 abbrev pub root_in : List (Answer Out) → Result (List ℕ) Fault
 root_in given = and_then (field_at given 0) (λ text. path_named (path_field text))
@@ -83,7 +83,7 @@ platform_stages = stage platform_asks platform_given
 
 abbrev pub platform_of_out : Out → Result PlatformDoc Fault
 platform_of_out (out.Platform document) = Ok document
-platform_of_out _ = Err misfit
+platform_of_out _ = Err impossible_answer
 
 -- the platform that stands at a place among answers
 abbrev pub platform_in : List (Answer Out) → ℕ → Result PlatformDoc Fault
@@ -91,7 +91,7 @@ platform_in given i = and_then (part_at given i) platform_of_out
 
 abbrev pub flash_of_out : Out → Result FlashDoc Fault
 flash_of_out (out.Flash document) = Ok document
-flash_of_out _ = Err misfit
+flash_of_out _ = Err impossible_answer
 
 -- the flash description that stands at a place among answers
 abbrev pub flash_in : List (Answer Out) → ℕ → Result FlashDoc Fault

@@ -6,7 +6,7 @@ ghost use Rattle.document_rules.specs.Fits.{kind_of, kind_at, fits};
 ghost use Rattle.step_pack.specs.Keys.{key_cmp};
 
 use build_base::{Permit, Rows};
-use build_stages::{Given, Known, Shapes, Stop, gather};
+use build_stages::{Given, Known, StepTypes, Stop, gather};
 use std::alloc::Global;
 use step_engine::{Answer, Ask, Outcome};
 use step_pack::{Key, Out};
@@ -59,7 +59,7 @@ fn kind_at(key: &Key) -> u8
     }
 }
 
-impl Shapes for EdkAnswers {
+impl StepTypes for EdkAnswers {
     ghost use Rattle.document_rules.specs.Fits.{answers_alone};
 
     type Key = Key;

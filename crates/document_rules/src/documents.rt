@@ -93,7 +93,7 @@ fn root(alloc: Global, given: &Given<'_, Out>) -> Result<Path, Stop<Key>>
     let text = given.field(0)?;
     match path_field(alloc, text.bytes())? {
         Some(path) => Ok(path),
-        None => Err(Stop::Misfit),
+        None => Err(Stop::ImpossibleAnswer),
     }
 }
 
@@ -156,7 +156,7 @@ fn platform_of_out(out: &Out) -> Result<&Shared<PlatformDoc>, Stop<Key>>
 {
     match out {
         Out::Platform(document) => Ok(document),
-        _ => Err(Stop::Misfit),
+        _ => Err(Stop::ImpossibleAnswer),
     }
 }
 
@@ -182,7 +182,7 @@ fn flash_of_out(out: &Out) -> Result<&Shared<FlashDoc>, Stop<Key>>
 {
     match out {
         Out::Flash(document) => Ok(document),
-        _ => Err(Stop::Misfit),
+        _ => Err(Stop::ImpossibleAnswer),
     }
 }
 
@@ -226,7 +226,7 @@ pub fn flash_named(
     }
     match path_field(alloc, text)? {
         Some(path) => Ok(Some(path)),
-        None => Err(Stop::Misfit),
+        None => Err(Stop::ImpossibleAnswer),
     }
 }
 

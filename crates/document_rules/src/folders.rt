@@ -24,9 +24,9 @@ pub fn path_below(alloc: Global, folder: &Path, rest: &[u8]) -> Result<Path, Sto
             if folder.bytes().len() + 1 + rest.bytes().len() <= LONGEST {
                 return Ok(folder.join(alloc, &rest)?);
             }
-            Err(Stop::Misfit)
+            Err(Stop::ImpossibleAnswer)
         }
-        None => Err(Stop::Misfit),
+        None => Err(Stop::ImpossibleAnswer),
     }
 }
 

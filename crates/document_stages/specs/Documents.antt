@@ -15,19 +15,19 @@ use Rattle.step_engine.specs.declared.talk.Ask.{Ask}
 use Rattle.step_engine.specs.declared.talk.Ask.TheVariants as ask
 use Rattle.step_engine.specs.declared.talk.Answer.{Answer}
 use Rattle.step_engine.specs.declared.talk.Answer.TheVariants as answers
-use Rattle.build_stages.specs.Stages.{Stages, end, stage, misfit, Fits, Halt, gather, ended, Known as Answers}
+use Rattle.build_stages.specs.Stages.{Stages, end, stage, impossible_answer, Fits, Halt, gather, ended, Known as Answers}
 use Rattle.build_stages.specs.Writing.{attempt, file_at}
 
 abbrev pub if_small : Bool → List ℕ → Result Got Fault
 if_small true bytes = Ok (File bytes)
-if_small false bytes = Err misfit
+if_small false bytes = Err impossible_answer
 
 -- what was got of a file; no world gives more bytes than are read
 abbrev pub got_in : {O : Type 0} → Answer O → Result Got Fault
 got_in (answers.Bytes bytes) = if_small (nat_le (length bytes) file_limit) bytes
 got_in answers.Absent = Ok Absent
 got_in answers.TooLong = Ok TooLong
-got_in _ = Err misfit
+got_in _ = Err impossible_answer
 
 -- one file is asked for
 abbrev pub ask_file : {K O A : Type 0} → List ℕ → (Got → Stages K O A) → Stages K O A
@@ -45,7 +45,7 @@ by_stop (Err (need path)) more = more path
 unfoldable pub lines_after : {K O : Type 0} → ℕ → List ℕ → List Macro → List Macro → List Known
     → Stages K O Lines
 lines_after zero root macros fixed files =
-    by_stop (expansion (answer files) root macros fixed) (λ path. end (Err misfit))
+    by_stop (expansion (answer files) root macros fixed) (λ path. end (Err impossible_answer))
 lines_after (suc n) root macros fixed files =
     by_stop (expansion (answer files) root macros fixed)
     (λ path. ask_file path

@@ -11,13 +11,13 @@ use Rattle.step_engine.specs.Meaning.{answer_of}
 use Rattle.step_engine.specs.declared.talk.Ask.{Ask}
 use Rattle.step_engine.specs.declared.talk.Ask.TheVariants as ask
 use Rattle.step_engine.specs.declared.talk.Answer.{Answer}
-use Rattle.build_stages.specs.Stages.{Fits, misfit}
+use Rattle.build_stages.specs.Stages.{Fits, impossible_answer}
 
 -- a world wants no path
 abbrev pub world_lines : Result Lines Stop → Result Lines Fault
 world_lines (Ok lines) = Ok lines
 world_lines (Err (bad fault)) = Err fault
-world_lines (Err (need path)) = Err misfit
+world_lines (Err (need path)) = Err impossible_answer
 
 -- what a world's files are for a set of rules
 pub record TellsFiles {K O : Type 0} (fits : Fits K O) (o : Ask K → Answer O) (world : List ℕ → Got)

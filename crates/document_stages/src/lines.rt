@@ -5,7 +5,7 @@ ghost use Rattle.document_stages.specs.Documents.{got_in};
 ghost use Rattle.document_stages.specs.Learning.{gets, AreTold, Learns, GivesLines};
 
 use build_base::{FILE_LIMIT, Got, Lines, Macro, Path, Permit, Rows, Same, Text, WantOfMemory};
-use build_stages::{Known as KnownAnswers, Shapes, Stop, gather};
+use build_stages::{Known as KnownAnswers, StepTypes, Stop, gather};
 use macro_conditions::{Known, Turned, expand};
 use std::alloc::Global;
 use step_engine::{Answer, Ask};
@@ -18,18 +18,18 @@ fn got<K, O>(alloc: Global, answer: &Answer<O>) -> Result<Got, Stop<K>>
         Answer::Bytes(bytes) => {
             let text = bytes.value();
             if text.bytes().len() as u64 > FILE_LIMIT {
-                return Err(Stop::Misfit);
+                return Err(Stop::ImpossibleAnswer);
             }
             Ok(Got::File(text.copy(alloc)?))
         }
         Answer::Absent => Ok(Got::Absent),
         Answer::TooLong => Ok(Got::TooLong),
-        _ => Err(Stop::Misfit),
+        _ => Err(Stop::ImpossibleAnswer),
     }
 }
 
 // What the talk tells of a path, where that can be got.
-fn told<S: Shapes>(
+fn told<S: StepTypes>(
     alloc: Global,
     rules: &S,
     known: &KnownAnswers<'_, S::Key, S::Out>,
@@ -66,7 +66,7 @@ fn shared_path(alloc: Global, path: &Path) -> Result<Path, WantOfMemory>
 
 // All files that the talk tells. With them a turn expands the document once, however many files it
 // has learnt in the turns before.
-fn all_told<S: Shapes>(
+fn all_told<S: StepTypes>(
     alloc: Global,
     rules: &S,
     known: &KnownAnswers<'_, S::Key, S::Out>,
@@ -85,7 +85,7 @@ fn all_told<S: Shapes>(
 }
 
 // Learns what was got of one path more.
-fn learn<S: Shapes>(
+fn learn<S: StepTypes>(
     alloc: Global,
     rules: &S,
     known: &KnownAnswers<'_, S::Key, S::Out>,
@@ -105,7 +105,7 @@ fn learn<S: Shapes>(
 }
 
 // The lines of a document, and the permit again.
-fn lines_from<S: Shapes>(
+fn lines_from<S: StepTypes>(
     alloc: Global,
     rules: &S,
     known: &KnownAnswers<'_, S::Key, S::Out>,
@@ -135,7 +135,7 @@ fn lines_from<S: Shapes>(
 /// The lines of a document, and the permit again. Each path that an include line comes to is asked
 /// for, one after another, the document's own first. A turn begins with all files that it was told.
 /// The places of a file's lines share its path.
-pub fn lines_of<S: Shapes>(
+pub fn lines_of<S: StepTypes>(
     alloc: Global,
     rules: &S,
     known: &KnownAnswers<'_, S::Key, S::Out>,

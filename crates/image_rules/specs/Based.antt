@@ -4,7 +4,7 @@ use Rattle.std.specs.Prelude.{◌&&◌, List, Result, Err, if◌then◌else◌}
 use Rattle.std.specs.List.{list_all}
 use Rattle.build_base.specs.First.{and_then}
 use Rattle.build_base.specs.declared.fault.Fault.{Fault}
-use Rattle.build_stages.specs.Stages.{misfit}
+use Rattle.build_stages.specs.Stages.{impossible_answer}
 use Rattle.doc_types.specs.declared.image.FileImage.{FileImage}
 use Rattle.doc_types.specs.declared.volume_head.VolumeHead.{VolumeHead}
 use Rattle.image_rebase.specs.Rebase.{rebased}
@@ -17,7 +17,7 @@ use Rattle.std.specs.Prelude.{ℕ}
 -- what can be made of files of their shape alone
 unfoldable pub rebased_image : VolumeHead → List FileImage → Result (List ℕ) Fault
 rebased_image head files = if head_fits head && list_all is_stated files then rebased head files
-    else Err misfit
+    else Err impossible_answer
 
 -- the volume of a head, whose files the answers are, moved to its base where it is to be
 unfoldable pub based_given : VolumeHead → List (Answer Out) → Result (List ℕ) Fault

@@ -23,7 +23,7 @@ use Rattle.step_pack.specs.declared.key.Key.{Key}
 use Rattle.step_pack.specs.declared.key.Key.TheVariants as key
 use Rattle.step_pack.specs.declared.out.Out.{Out}
 use Rattle.step_pack.specs.declared.out.Out.TheVariants as out
-use Rattle.image_steps.specs.Asks.{file_asks, sections_below, item_asks, region_asks, regions_below, are_few}
+use Rattle.image_steps.specs.Asks.{file_asks, sections_below, item_asks, region_asks, regions_below, fits_u16}
 use Rattle.image_steps.specs.Files.{file_given}
 use Rattle.image_steps.specs.Volumes.{volume_given}
 use Rattle.image_rules.specs.Based.{based_given}
@@ -96,7 +96,7 @@ image_by false head given = volume_given head given
 -- the files of a volume, and then the volume
 abbrev pub plan_stages : Bool → ℕ → VolumePlan → EdkStages
 plan_stages moved v plan =
-    when (are_few (length plan.items))
+    when (fits_u16 (length plan.items))
     (stage (item_asks v plan.items)
     (λ given. end (given_as out.Volume (image_by moved plan.head given))))
 

@@ -48,7 +48,7 @@ fn rebased_image(
     if head_fits(head) && are_stated(files.items()) {
         return Ok(image(alloc, permit, head, files)?);
     }
-    Err(Stop::Misfit)
+    Err(Stop::ImpossibleAnswer)
 }
 
 /// The volume of a head, whose files the answers are, moved to its base where it is to be.

@@ -20,7 +20,7 @@ pub use document_rules::documents::{flash_in, shared_flash};
 use document_rules::folders::{output_folder, path_below};
 use document_rules::vpd_lines::has_vpd;
 use image_steps::{
-    are_few, device_given, file_asks, file_given, item_asks, region_asks, regions_below,
+    device_given, file_asks, file_given, fits_u16, item_asks, region_asks, regions_below,
     sections_below, volume_given,
 };
 use module_images::{
@@ -88,7 +88,7 @@ fn statement(
     ensures { Comes known.now (item_stages volume flash.now head.now (Item.File plan.now)) result }
 {
     if !sections_below(volume, plan.sections.items()) {
-        return Err(Stop::Misfit);
+        return Err(Stop::ImpossibleAnswer);
     }
     let asks = file_asks(alloc, flash.volumes.items(), plan)?;
     let (given, permit) = answers_to(alloc, known, asks, permit)?;
@@ -240,8 +240,8 @@ fn volume_of_plan(
     ensures { Comes known.now (plan_stages moved number plan.now) result }
 {
     let items = plan.items.items();
-    if !are_few(items.len()) {
-        return Err(Stop::Misfit);
+    if !fits_u16(items.len()) {
+        return Err(Stop::ImpossibleAnswer);
     }
     let asks = item_asks(alloc, number, items)?;
     let (given, permit) = answers_to(alloc, known, asks, permit)?;
@@ -343,7 +343,7 @@ fn with_regions(
 {
     let regions = plan.regions.items();
     if !regions_below(regions) {
-        return Err(Stop::Misfit);
+        return Err(Stop::ImpossibleAnswer);
     }
     let asks = region_asks(alloc, volumes, vpd, regions)?;
     let (given, permit) = answers_to(alloc, known, asks, permit)?;

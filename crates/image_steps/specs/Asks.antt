@@ -24,13 +24,13 @@ abbrev pub is_based : VolumeHead → Bool
 is_based head = is_some head.base && head.force
 
 -- the step of a volume of a number
-abbrev pub step_of : ℕ → VolumePlan → Key
-step_of n plan = if is_based plan.head then key.Based n else key.Volume n
+abbrev pub volume_key : ℕ → VolumePlan → Key
+volume_key n plan = if is_based plan.head then key.Based n else key.Volume n
 
 -- there may be none of the number
 abbrev pub step_by : ℕ → Option VolumePlan → Key
 step_by n None = key.Volume n
-step_by n (Some plan) = step_of n plan
+step_by n (Some plan) = volume_key n plan
 
 abbrev pub volume_step : List VolumePlan → ℕ → Key
 volume_step volumes n = step_by n (slice_get volumes n)
@@ -101,8 +101,8 @@ item_asks volume items =
 abbrev pub most_items : ℕ
 most_items = 65535
 
-abbrev pub are_few : ℕ → Bool
-are_few count = nat_lt count 65536
+abbrev pub fits_u16 : ℕ → Bool
+fits_u16 count = nat_lt count 65536
 
 -- a path is that of the image of vital product data, where there is one
 abbrev pub is_vpd : Option (List ℕ) → List ℕ → Bool
@@ -128,7 +128,7 @@ abbrev pub kind_below : RegionKind → Bool
 kind_below kind.Empty = true
 kind_below (kind.Bytes bytes) = true
 kind_below (kind.Tree path) = true
-kind_below (kind.Volume n) = are_few n
+kind_below (kind.Volume n) = fits_u16 n
 
 abbrev pub regions_below : List Region → Bool
 regions_below regions = list_all (λ region. kind_below region.kind) regions

@@ -10,7 +10,7 @@ use Rattle.build_base.specs.First.{and_then}
 use Rattle.doc_types.specs.Standard.{EFI_SECTION_VERSION}
 use Rattle.step_engine.specs.declared.talk.Answer.{Answer}
 use Rattle.step_engine.specs.declared.talk.Answer.TheVariants as answer
-use Rattle.build_stages.specs.Stages.{misfit}
+use Rattle.build_stages.specs.Stages.{impossible_answer}
 use Rattle.build_stages.specs.Writing.{file_at, part_at}
 use Rattle.step_pack.specs.declared.out.Out.{Out}
 use Rattle.step_pack.specs.declared.out.Out.TheVariants as out
@@ -31,8 +31,8 @@ abbrev pub required : Fault → List ℕ → Answer Out → Result (List ℕ) Fa
 required absent path (answer.Bytes bytes) = Ok bytes
 required absent path answer.Absent = Err absent
 required absent path answer.TooLong = Err (fault_of FILE_TOO_LONG (whole_file path) path)
-required absent path (answer.Field text) = Err misfit
-required absent path (answer.Part outcome) = Err misfit
+required absent path (answer.Field text) = Err impossible_answer
+required absent path (answer.Part outcome) = Err impossible_answer
 
 -- of the file that was asked for at a place
 abbrev pub file_content : List (Answer Out) → ℕ → Fault → List ℕ → Result (List ℕ) Fault
@@ -41,7 +41,7 @@ file_content given i absent path = and_then (file_at given i) (required absent p
 -- the image that the step of a volume gives
 abbrev pub volume_given : Out → Result (List ℕ) Fault
 volume_given (out.Volume image) = Ok image
-volume_given _ = Err misfit
+volume_given _ = Err impossible_answer
 
 abbrev pub volume_content : List (Answer Out) → ℕ → Result (List ℕ) Fault
 volume_content given i = and_then (part_at given i) volume_given
@@ -49,7 +49,7 @@ volume_content given i = and_then (part_at given i) volume_given
 -- the image of vital product data that its step gives
 abbrev pub vpd_given : Out → Result (List ℕ) Fault
 vpd_given (out.Vpd vpd) = Ok vpd.image
-vpd_given _ = Err misfit
+vpd_given _ = Err impossible_answer
 
 abbrev pub vpd_content : List (Answer Out) → ℕ → Result (List ℕ) Fault
 vpd_content given i = and_then (part_at given i) vpd_given

@@ -5,7 +5,7 @@ use Rattle.std.specs.Prelude.{ℕ, List, Option, Some, None, Result, Ok, Err}
 use Rattle.build_base.specs.declared.fault.Fault.{Fault}
 use Rattle.build_base.specs.declared.guid.Guid.{Guid}
 use Rattle.build_base.specs.First.{and_then}
-use Rattle.build_stages.specs.Stages.{misfit}
+use Rattle.build_stages.specs.Stages.{impossible_answer}
 use Rattle.step_engine.specs.declared.talk.Answer.{Answer}
 use Rattle.doc_types.specs.declared.flash.FlashDoc.{FlashDoc}
 use Rattle.doc_types.specs.declared.image.Body.{Body}
@@ -41,7 +41,7 @@ body_given flash plan None given =
 -- the name of a file; in a world a statement has one
 abbrev pub file_name : Option Guid → Result Guid Fault
 file_name (Some guid) = Ok guid
-file_name None = Err misfit
+file_name None = Err impossible_answer
 
 abbrev pub image_plan : VolumeHead → FilePlan → Guid → Body → ImagePlan
 image_plan head plan name content = record {

@@ -20,7 +20,7 @@ use Rattle.te_images.specs.declared.te.TeHead.{TeHead}
 use Rattle.te_images.specs.Pe.{section_alignment_of, file_alignment_of}
 use Rattle.te_images.specs.Te.{te_of, te_bytes}
 use Rattle.step_engine.specs.declared.talk.Answer.{Answer}
-use Rattle.build_stages.specs.Stages.{misfit}
+use Rattle.build_stages.specs.Stages.{impossible_answer}
 use Rattle.step_pack.specs.declared.out.Out.{Out}
 use Rattle.image_steps.specs.Contents.{whole_file, section_absent, file_content, volume_content, words_bytes}
 use Rattle.image_steps.specs.declared.parts.Shaped.{Shaped}
@@ -72,12 +72,12 @@ abbrev pub content_at : List (Answer Out) → ℕ → ℕ → SectionPlan → Se
 content_at given f v section (source.Tree path) =
     and_then (file_content given f (section_absent section.at path) path)
     (file_shaped section.kind path)
-content_at given f v section (source.Template text) = Err misfit
+content_at given f v section (source.Template text) = Err impossible_answer
 content_at given f v section (source.Volume n) =
     and_then (volume_content given v) (λ bytes. Ok (as_is bytes))
 content_at given f v section (source.Words text) =
     Ok (as_is (words_bytes section.kind section.number text))
-content_at given f v section (source.Refused text) = Err misfit
+content_at given f v section (source.Refused text) = Err impossible_answer
 
 -- how many files and how many volumes it asks for
 abbrev pub files_of : SectionSource → ℕ
@@ -114,10 +114,10 @@ section_align flash from (align.Bytes n) = n
 
 abbrev pub some_guid : Option Guid → Result (Option Guid) Fault
 some_guid (Some guid) = Ok (Some guid)
-some_guid None = Err misfit
+some_guid None = Err impossible_answer
 
 abbrev pub without_guid : Option Guid → Result (Option Guid) Fault
-without_guid (Some guid) = Err misfit
+without_guid (Some guid) = Err impossible_answer
 without_guid None = Ok None
 
 -- the GUID of a section's header, which a SUBTYPE_GUID section has, and no other; in a world it is

@@ -9,7 +9,7 @@ use Rattle.doc_types.specs.declared.image.FileImage.{FileImage}
 use Rattle.doc_types.specs.declared.volume_head.VolumeHead.{VolumeHead}
 use Rattle.ffs_sections.specs.Alignment.{alignments}
 use Rattle.fv_compose.specs.Volume.{volume_of}
-use Rattle.build_stages.specs.Stages.{misfit}
+use Rattle.build_stages.specs.Stages.{impossible_answer}
 use Rattle.build_stages.specs.Writing.{part_of, part_at}
 use Rattle.step_pack.specs.declared.out.Out.{Out}
 use Rattle.step_pack.specs.declared.out.Out.TheVariants as out
@@ -29,7 +29,7 @@ is_stated file = list_any (λ stated. stated == file.align) alignments
 -- the file that the step of an item gives
 abbrev pub file_in : Out → Result FileImage Fault
 file_in (out.File file) = Ok file
-file_in _ = Err misfit
+file_in _ = Err impossible_answer
 
 abbrev pub image_at : List (Answer Out) → ℕ → Result FileImage Fault
 image_at given i = and_then (part_at given i) file_in
@@ -44,7 +44,7 @@ images_from given i = all_ok (map image_given (drop i given))
 -- what can be made of files of their shape alone
 unfoldable pub composed : VolumeHead → List FileImage → Result (List ℕ) Fault
 composed head files =
-    if head_fits head && list_all is_stated files then volume_of head files else Err misfit
+    if head_fits head && list_all is_stated files then volume_of head files else Err impossible_answer
 
 -- the volume of a head, whose files the answers are
 unfoldable pub volume_given : VolumeHead → List (Answer Out) → Result (List ℕ) Fault

@@ -1,8 +1,8 @@
 //! What the steps of files, volumes and devices ask, once the flash description is known.
 ghost use Rattle.std.specs.Prelude.{◌≡◌, ◌++◌, ◌∷◌, [], ◌<◌, not, length, slice_get, IfOk, OnOk};
 ghost use Rattle.std.specs.Option.{option_copied};
-ghost use Rattle.image_steps.specs.Asks.{is_based, step_of, step_by, volume_step, source_file, source_volume, section_files, section_volumes, body_asks, file_asks, source_below, sections_below};
-ghost use Rattle.image_steps.specs.Asks.{is_apriori, files_where, item_asks, are_few, is_vpd, kind_asks, region_asks, kind_below, regions_below};
+ghost use Rattle.image_steps.specs.Asks.{is_based, volume_key, step_by, volume_step, source_file, source_volume, section_files, section_volumes, body_asks, file_asks, source_below, sections_below};
+ghost use Rattle.image_steps.specs.Asks.{is_apriori, files_where, item_asks, fits_u16, is_vpd, kind_asks, region_asks, kind_below, regions_below};
 
 use build_base::{Path, Rows, Same, WantOfMemory};
 use doc_types::flash::{Region, RegionKind};
@@ -20,8 +20,8 @@ pub fn is_based(head: &VolumeHead) -> bool
 }
 
 /// The step of a volume: one that is moved to its base has a step of its own.
-pub fn step_of(number: u32, plan: &VolumePlan) -> Key
-    ensures { result ≡ step_of number plan.now }
+pub fn volume_key(number: u32, plan: &VolumePlan) -> Key
+    ensures { result ≡ volume_key number plan.now }
 {
     if is_based(&plan.head) {
         return Key::Based(number);
@@ -33,7 +33,7 @@ fn step_by(number: u32, plan: Option<&VolumePlan>) -> Key
     ensures { result ≡ step_by number (option_copied plan.entry) }
 {
     match plan {
-        Some(plan) => step_of(number, plan),
+        Some(plan) => volume_key(number, plan),
         None => Key::Volume(number),
     }
 }
@@ -168,8 +168,8 @@ fn is_apriori(item: &Item) -> bool
 
 /// Whether there are at most 65,535, as many as a volume has items and a flash description volumes
 /// or devices.
-pub fn are_few(count: usize) -> bool
-    ensures { result ≡ are_few count }
+pub fn fits_u16(count: usize) -> bool
+    ensures { result ≡ fits_u16 count }
 {
     count < 0x1_0000
 }
@@ -280,7 +280,7 @@ fn kind_below(kind: &RegionKind) -> bool
 {
     match kind {
         RegionKind::Empty | RegionKind::Bytes(_) | RegionKind::Tree(_) => true,
-        RegionKind::Volume(number) => are_few(*number as usize),
+        RegionKind::Volume(number) => fits_u16(*number as usize),
     }
 }
 

@@ -48,7 +48,7 @@ pub(crate) fn whole_content<'a>(
         Answer::Bytes(bytes) => Ok(bytes.value()),
         Answer::Absent => Err(Stop::from(refuse_file(alloc, FILE_ABSENT, path, path.bytes()))),
         Answer::TooLong => Err(Stop::from(refuse_file(alloc, FILE_TOO_LONG, path, path.bytes()))),
-        Answer::Field(_) | Answer::Part(_) => Err(Stop::Misfit),
+        Answer::Field(_) | Answer::Part(_) => Err(Stop::ImpossibleAnswer),
     }
 }
 
@@ -67,7 +67,7 @@ pub(crate) fn section_content<'a>(
         Answer::Bytes(bytes) => Ok(bytes.value()),
         Answer::Absent => Err(Stop::from(refuse(alloc, SECTION_ABSENT, at, path.bytes()))),
         Answer::TooLong => Err(Stop::from(refuse_file(alloc, FILE_TOO_LONG, path, path.bytes()))),
-        Answer::Field(_) | Answer::Part(_) => Err(Stop::Misfit),
+        Answer::Field(_) | Answer::Part(_) => Err(Stop::ImpossibleAnswer),
     }
 }
 
@@ -76,7 +76,7 @@ fn volume_of(out: &Out) -> Result<&Image, Stop<Key>>
 {
     match out {
         Out::Volume(image) => Ok(image),
-        _ => Err(Stop::Misfit),
+        _ => Err(Stop::ImpossibleAnswer),
     }
 }
 
@@ -95,7 +95,7 @@ fn vpd_of(out: &Out) -> Result<&Text, Stop<Key>>
 {
     match out {
         Out::Vpd(vpd) => Ok(&vpd.image),
-        _ => Err(Stop::Misfit),
+        _ => Err(Stop::ImpossibleAnswer),
     }
 }
 

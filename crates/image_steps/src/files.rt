@@ -58,7 +58,7 @@ fn file_name(guid: Option<Guid>) -> Result<Guid, Stop<Key>>
 {
     match guid {
         Some(guid) => Ok(guid),
-        None => Err(Stop::Misfit),
+        None => Err(Stop::ImpossibleAnswer),
     }
 }
 

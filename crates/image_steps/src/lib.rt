@@ -10,8 +10,8 @@ pub mod parts;
 pub mod volumes;
 
 pub use asks::{
-    are_few, file_asks, is_based, item_asks, region_asks, regions_below, sections_below, step_of,
-    volume_step,
+    file_asks, fits_u16, is_based, item_asks, region_asks, regions_below, sections_below,
+    volume_key, volume_step,
 };
 pub use devices::device_given;
 pub use files::file_given;

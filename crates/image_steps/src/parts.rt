@@ -189,7 +189,7 @@ fn content_at<'a>(
             Ok(LentShaped::of_image(image)?)
         }
         SectionSource::Words(text) => Ok(words_content(alloc, section, text)?),
-        SectionSource::Template(_) | SectionSource::Refused(_) => Err(Stop::Misfit),
+        SectionSource::Template(_) | SectionSource::Refused(_) => Err(Stop::ImpossibleAnswer),
     }
 }
 
@@ -263,7 +263,7 @@ fn some_guid(guid: Option<Guid>) -> Result<Option<Guid>, Stop<Key>>
 {
     match guid {
         Some(guid) => Ok(Some(guid)),
-        None => Err(Stop::Misfit),
+        None => Err(Stop::ImpossibleAnswer),
     }
 }
 
@@ -272,7 +272,7 @@ fn without_guid(guid: Option<Guid>) -> Result<Option<Guid>, Stop<Key>>
     ensures shape { IfOk result (λ guid. is_some guid ≡ false) }
 {
     match guid {
-        Some(_) => Err(Stop::Misfit),
+        Some(_) => Err(Stop::ImpossibleAnswer),
         None => Ok(None),
     }
 }

@@ -59,7 +59,7 @@ fn file_in(out: &Out) -> Result<&FileImage, Stop<Key>>
 {
     match out {
         Out::File(file) => Ok(file),
-        _ => Err(Stop::Misfit),
+        _ => Err(Stop::ImpossibleAnswer),
     }
 }
 
@@ -110,7 +110,7 @@ fn composed(
     if head_fits(head) && are_stated(files.items()) {
         return Ok(image(alloc, permit, head, files)?);
     }
-    Err(Stop::Misfit)
+    Err(Stop::ImpossibleAnswer)
 }
 
 /// The volume of a head, whose files the answers are, in their order.

@@ -2,7 +2,7 @@
 use Rattle.std.specs.Prelude.{ℕ, ◌+◌, List, Result, Ok, Err}
 use Rattle.build_base.specs.declared.fault.Fault.{Fault}
 use Rattle.build_base.specs.First.{and_then}
-use Rattle.build_stages.specs.Stages.{misfit}
+use Rattle.build_stages.specs.Stages.{impossible_answer}
 use Rattle.build_stages.specs.Writing.{field_at, part_at}
 use Rattle.step_engine.specs.declared.talk.Answer.{Answer}
 use Rattle.step_pack.specs.declared.out.Out.{Out}
@@ -20,7 +20,7 @@ use Rattle.module_images.specs.Plans.{module_plan}
 
 abbrev pub platform_of_out : Out → Result PlatformDoc Fault
 platform_of_out (out.Platform document) = Ok document
-platform_of_out _ = Err misfit
+platform_of_out _ = Err impossible_answer
 
 -- the platform that stands at a place among answers
 abbrev pub platform_at : List (Answer Out) → ℕ → Result PlatformDoc Fault

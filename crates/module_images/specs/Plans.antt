@@ -7,7 +7,7 @@ use Rattle.build_base.specs.declared.lines.Macro.{Macro}
 use Rattle.build_base.specs.FaultText.{fault_of}
 use Rattle.build_base.specs.First.{and_then, or_fault, all_ok}
 use Rattle.build_base.specs.Path.{path_field}
-use Rattle.build_stages.specs.Stages.{misfit}
+use Rattle.build_stages.specs.Stages.{impossible_answer}
 use Rattle.meta_lexer.specs.Faults.{first_fault}
 use Rattle.doc_types.specs.Standard.{EFI_SECTION_VERSION, EFI_SECTION_USER_INTERFACE}
 use Rattle.doc_types.specs.declared.arch.Arch.{Arch}
@@ -30,7 +30,7 @@ use Rattle.build_base.specs.FaultCodes.{BAD_PATH, RULE_LINE_REFUSED}
 
 abbrev pub rule_found : Option RuleDoc → Result RuleDoc Fault
 rule_found (Some rule) = Ok rule
-rule_found None = Err misfit
+rule_found None = Err impossible_answer
 
 -- the rule for the module of a statement, or the fault that there is none
 unfoldable pub rule_for : FlashDoc → InfLine → Arch → ModuleType → Result RuleDoc Fault
@@ -67,13 +67,13 @@ template_filled at text = path_filled at text (path_field text)
 -- what a section of the rule holds for a module; other forms aren't a rule's, or are refused before
 abbrev pub source_filled : InfLine → List Macro → SectionPlan → SectionSource
     → Result SectionSource Fault
-source_filled line names section (source.Tree path) = Err misfit
+source_filled line names section (source.Tree path) = Err impossible_answer
 source_filled line names section (source.Template text) =
     template_filled section.at (fill_names names text)
-source_filled line names section (source.Volume n) = Err misfit
+source_filled line names section (source.Volume n) = Err impossible_answer
 source_filled line names section (source.Words text) =
     Ok (source.Words (fill_names names (stated_text line section.kind text)))
-source_filled line names section (source.Refused text) = Err misfit
+source_filled line names section (source.Refused text) = Err impossible_answer
 
 abbrev pub with_source : SectionPlan → SectionSource → Result SectionPlan Fault
 with_source section filled_source = Ok (record section { source = filled_source })

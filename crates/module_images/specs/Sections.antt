@@ -5,7 +5,7 @@ use Rattle.build_base.specs.declared.fault.Fault.{Fault}
 use Rattle.build_base.specs.declared.guid.Guid.{Guid}
 use Rattle.build_base.specs.FaultText.{fault_of}
 use Rattle.build_base.specs.First.{and_then, unless, with_front}
-use Rattle.build_stages.specs.Stages.{misfit}
+use Rattle.build_stages.specs.Stages.{impossible_answer}
 use Rattle.build_stages.specs.Writing.{file_at, part_at}
 use Rattle.step_engine.specs.declared.talk.Answer.{Answer}
 use Rattle.step_engine.specs.declared.talk.Answer.TheVariants as answer
@@ -45,8 +45,8 @@ abbrev pub got_checked : List SectionPlan → List ℕ → Answer Out → Result
 got_checked sections path (answer.Bytes bytes) = Ok tt
 got_checked sections path answer.Absent = unless (absent_fault sections path) tt
 got_checked sections path answer.TooLong = Err (too_long path)
-got_checked sections path (answer.Field text) = Err misfit
-got_checked sections path (answer.Part outcome) = Err misfit
+got_checked sections path (answer.Field text) = Err impossible_answer
+got_checked sections path (answer.Part outcome) = Err impossible_answer
 
 -- the file of a section among these, where the answer of the next file stands at this place
 abbrev pub source_checked : List ℕ → List (Answer Out) → ℕ → List SectionPlan → SectionSource
@@ -69,7 +69,7 @@ files_checked depex given all f (section ∷ sections) =
 
 abbrev pub depex_of_out : Out → Result (List ℕ) Fault
 depex_of_out (out.Depex bytes) = Ok bytes
-depex_of_out _ = Err misfit
+depex_of_out _ = Err impossible_answer
 
 -- the module's own expression, which is asked for behind the files where a section holds it
 unfoldable pub own_expression : List ℕ → List SectionPlan → List (Answer Out)
@@ -141,8 +141,8 @@ abbrev pub got_part : SectionPlan → List ℕ → Answer Out → Result (Option
 got_part section path (answer.Bytes bytes) = some_part (file_part section path bytes)
 got_part section path answer.Absent = absent_part section path
 got_part section path answer.TooLong = Err (too_long path)
-got_part section path (answer.Field text) = Err misfit
-got_part section path (answer.Part outcome) = Err misfit
+got_part section path (answer.Field text) = Err impossible_answer
+got_part section path (answer.Part outcome) = Err impossible_answer
 
 abbrev pub expression_part : SectionPlan → List ℕ → List ℕ → Result (Option Part) Fault
 expression_part section path bytes =
@@ -160,10 +160,10 @@ abbrev pub source_part : List ℕ → List ℕ → List (Answer Out) → ℕ →
 source_part depex expression given f section (source.Tree path) =
     if is_path_of depex path then expression_part section path expression
     else and_then (file_at given f) (got_part section path)
-source_part depex expression given f section (source.Template text) = Err misfit
-source_part depex expression given f section (source.Volume n) = Err misfit
+source_part depex expression given f section (source.Template text) = Err impossible_answer
+source_part depex expression given f section (source.Volume n) = Err impossible_answer
 source_part depex expression given f section (source.Words text) = words_part section text
-source_part depex expression given f section (source.Refused text) = Err misfit
+source_part depex expression given f section (source.Refused text) = Err impossible_answer
 
 abbrev pub part_before : Option Part → Result (List Part) Fault → Result (List Part) Fault
 part_before None parts = parts

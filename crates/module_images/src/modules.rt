@@ -22,7 +22,7 @@ fn platform_of_out(out: &Out) -> Result<&PlatformDoc, Stop<Key>>
 {
     match out {
         Out::Platform(document) => Ok(document.value()),
-        _ => Err(Stop::Misfit),
+        _ => Err(Stop::ImpossibleAnswer),
     }
 }
 

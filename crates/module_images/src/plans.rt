@@ -40,7 +40,7 @@ fn rule_found(rule: Option<&RuleDoc>) -> Result<&RuleDoc, Stop<Key>>
 {
     match rule {
         Some(rule) => Ok(rule),
-        None => Err(Stop::Misfit),
+        None => Err(Stop::ImpossibleAnswer),
     }
 }
 
@@ -130,7 +130,7 @@ fn source_filled(
             Ok(SectionSource::Words(fill_names(alloc, names, text.bytes())?))
         }
         SectionSource::Tree(_) | SectionSource::Volume(_) | SectionSource::Refused(_) => {
-            Err(Stop::Misfit)
+            Err(Stop::ImpossibleAnswer)
         }
     }
 }

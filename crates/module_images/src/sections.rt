@@ -60,7 +60,7 @@ fn got_checked(
             Ok(())
         }
         Answer::TooLong => Err(Stop::from(refuse_file(alloc, FILE_TOO_LONG, path, path.bytes()))),
-        Answer::Field(_) | Answer::Part(_) => Err(Stop::Misfit),
+        Answer::Field(_) | Answer::Part(_) => Err(Stop::ImpossibleAnswer),
     }
 }
 
@@ -121,7 +121,7 @@ fn depex_of_out(out: &Out) -> Result<&[u8], Stop<Key>>
 {
     match out {
         Out::Depex(bytes) => Ok(bytes.bytes()),
-        _ => Err(Stop::Misfit),
+        _ => Err(Stop::ImpossibleAnswer),
     }
 }
 
@@ -258,7 +258,7 @@ fn got_part(
         }
         Answer::Absent => Ok(absent_part(alloc, section, path)?),
         Answer::TooLong => Err(Stop::from(refuse_file(alloc, FILE_TOO_LONG, path, path.bytes()))),
-        Answer::Field(_) | Answer::Part(_) => Err(Stop::Misfit),
+        Answer::Field(_) | Answer::Part(_) => Err(Stop::ImpossibleAnswer),
     }
 }
 
@@ -313,7 +313,7 @@ fn source_part(
         }
         SectionSource::Words(text) => words_part(alloc, section, text.bytes()),
         SectionSource::Template(_) | SectionSource::Volume(_) | SectionSource::Refused(_) => {
-            Err(Stop::Misfit)
+            Err(Stop::ImpossibleAnswer)
         }
     }
 }

@@ -6,7 +6,7 @@ use Rattle.build_stages.specs.Asks.{same_ask}
 use Rattle.build_stages.specs.Bounds.{advance_bind}
 use Rattle.build_stages.specs.Gives.{Stops, GivesIn}
 use Rattle.build_stages.specs.Known.{Table, known_at, advance_at}
-use Rattle.build_stages.specs.Stages.{Halt, end, ended, misfit}
+use Rattle.build_stages.specs.Stages.{Halt, end, ended, impossible_answer}
 use Rattle.build_stages.specs.declared.stop.Stop.{Stop}
 use Rattle.build_stages.specs.declared.stop.Stop.TheVariants as stop
 use Rattle.doc_types.specs.declared.choice.Module.{Module}
@@ -41,7 +41,7 @@ choice_step t m platform infs w (suc n) h e l =
 stopped : {A B : Type 0} (s : Stop Key) (r : Result A (Halt Key)) (f : A → Result B (Halt Key)) → Stops s r → Stops s (and_then r f)
 stopped (stop.Wants asks permit) r f h = ap (λ z. and_then z f) h
 stopped (stop.Fails fault) r f h = ap (λ z. and_then z f) h
-stopped stop.Misfit r f h = ap (λ z. and_then z f) h
+stopped stop.ImpossibleAnswer r f h = ap (λ z. and_then z f) h
 stopped stop.WantOfMemory r f h = tt
 
 -- a round that stops
@@ -71,7 +71,7 @@ at_end : (t : Table Key Out) (g : Result Out Fault) (r : Result Out (Stop Key)) 
 at_end t g (Ok x) h = ap ended h
 at_end t g (Err (stop.Wants asks permit)) h = absurd h
 at_end t g (Err (stop.Fails fault)) h = ap ended h
-at_end t g (Err stop.Misfit) h = ap ended h
+at_end t g (Err stop.ImpossibleAnswer) h = ap ended h
 at_end t g (Err stop.WantOfMemory) h = tt
 
 -- nothing is wanted
@@ -81,7 +81,7 @@ pub choice_ends : (t : Table Key Out) (m : Module) (platform : PlatformDoc) (inf
 choice_ends t m platform infs n r h e g =
     subst (λ z. Comes t z r) (sym (choice_last m platform infs n h e)) (at_end t (given_as out.Choice (choice m platform infs)) r g)
 
-pub choice_none : (m : Module) (platform : PlatformDoc) (infs : List InfDoc) (n : ℕ) → (0 < n → ⊥) → choice_after n m platform infs ≡ end (Err misfit)
+pub choice_none : (m : Module) (platform : PlatformDoc) (infs : List InfDoc) (n : ℕ) → (0 < n → ⊥) → choice_after n m platform infs ≡ end (Err impossible_answer)
 unfolding choice_after
 choice_none m platform infs zero h = refl
 choice_none m platform infs (suc n) h = absurd (h (omega arith))

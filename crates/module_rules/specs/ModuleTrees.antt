@@ -17,7 +17,7 @@ use Rattle.doc_types.specs.declared.platform.PlatformDoc.{PlatformDoc}
 use Rattle.doc_types.specs.declared.values.Values.{Values}
 use Rattle.library_choice.specs.Choices.{choice}
 use Rattle.library_choice.specs.Closure.{wanted}
-use Rattle.build_stages.specs.Stages.{Stages, end, stage, bind, misfit}
+use Rattle.build_stages.specs.Stages.{Stages, end, stage, bind, impossible_answer}
 use Rattle.build_stages.specs.Writing.{attempt, when, field_at}
 use Rattle.step_pack.specs.declared.key.Key.{Key}
 use Rattle.step_pack.specs.declared.key.Key.TheVariants as key
@@ -30,7 +30,7 @@ use Rattle.module_steps.specs.Asks.{choice_asks, inf_asks, dec_asks, linked_asks
 use Rattle.module_steps.specs.Choices.{own_inf, with_more}
 use Rattle.module_steps.specs.Parts.{choice_at, linked_module, linked_from, described_at, described_from, parts_at, parts_from}
 use Rattle.module_steps.specs.Pcds.{pcds_given, values_given}
-use Rattle.module_steps.specs.Settings.{commands_of, setting_of}
+use Rattle.module_steps.specs.Settings.{command_line_pcds, setting_of}
 use Rattle.module_steps.specs.Skus.{skus_end}
 use Rattle.text_steps.specs.Report.{values_at}
 use Rattle.document_rules.specs.Trees.{EdkStages, given_as, platform_in, flash_in}
@@ -49,7 +49,7 @@ choice_round m platform infs (path ∷ paths) next = bind (round_stages infs (pa
 
 -- the libraries of a module of which these descriptions are known, by so many rounds at most
 unfoldable pub choice_after : ℕ → Module → PlatformDoc → List InfDoc → EdkStages
-choice_after zero m platform infs = end (Err misfit)
+choice_after zero m platform infs = end (Err impossible_answer)
 choice_after (suc n) m platform infs =
     choice_round m platform infs (wanted m platform infs) (choice_after n m platform)
 
@@ -144,7 +144,7 @@ values_from m platform flash dynamic choice commands =
     end (given_as out.Values (values_given platform flash commands dynamic parts)))
 
 abbrev pub commands_in : PlatformDoc → List (Answer Out) → ℕ → Result (List PcdSet) Fault
-commands_in platform given i = and_then (field_at given i) (commands_of platform.at)
+commands_in platform given i = and_then (field_at given i) (command_line_pcds platform.at)
 
 abbrev pub values_first : Module → List (Answer Out) → EdkStages
 values_first m given =

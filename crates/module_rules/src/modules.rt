@@ -30,9 +30,9 @@ use document_rules::documents::{platform_in, shared_flash, shared_platform};
 use library_choice::InstanceSearch;
 use module_steps::parts::{choice_at, infs_from};
 use module_steps::{
-    Described, Linked, Setting, choice_asks, commands_of, dec_asks, described_at, described_from,
-    inf_asks, linked_asks, linked_from, linked_module, own_inf, package_asks, parts_at, parts_from,
-    pcds_given, setting_of, skus_end, values_given,
+    Described, Linked, Setting, choice_asks, command_line_pcds, dec_asks, described_at,
+    described_from, inf_asks, linked_asks, linked_from, linked_module, own_inf, package_asks,
+    parts_at, parts_from, pcds_given, setting_of, skus_end, values_given,
 };
 use shared_value::Shared;
 use std::alloc::Global;
@@ -136,7 +136,7 @@ fn rounds(
         }
         left -= 1;
     }
-    Err(Stop::Misfit)
+    Err(Stop::ImpossibleAnswer)
 }
 
 // The libraries of a module, by the platform and the module's own description.
@@ -282,7 +282,7 @@ fn pcds_first(
 {
     let platform = shared_platform(given, 0)?;
     if !skus_end(alloc, platform.value().skus.items()) {
-        return Err(Stop::Misfit);
+        return Err(Stop::ImpossibleAnswer);
     }
     let flash = shared_flash(given, 1)?;
     let setting = setting_in(alloc, platform.value(), given)?;
@@ -313,7 +313,7 @@ fn commands_in(
     ensures { GivesIn (λ sets. sets) result (commands_in platform.now given.now place) }
 {
     let text = given.field(place)?;
-    commands_of(alloc, &platform.at, text.bytes())
+    command_line_pcds(alloc, &platform.at, text.bytes())
 }
 
 fn one_described(

@@ -9,7 +9,7 @@ use Rattle.build_base.specs.Path.{path_field}
 use Rattle.build_stages.specs.Gives.{StopsIn}
 use Rattle.build_stages.specs.declared.stop.Stop.{Stop}
 use Rattle.step_pack.specs.declared.key.Key.{Key}
-use Rattle.build_stages.specs.Stages.{misfit}
+use Rattle.build_stages.specs.Stages.{impossible_answer}
 use Rattle.build_stages.specs.Writing.{part_at}
 use Rattle.step_engine.specs.declared.talk.Answer.{Answer}
 use Rattle.doc_types.specs.declared.arch.Arch.{Arch}
@@ -27,25 +27,25 @@ use Rattle.module_steps.specs.declared.parts.Described.{Described}
 
 abbrev pub choice_of_out : Out → Result Choice Fault
 choice_of_out (out.Choice choice) = Ok choice
-choice_of_out _ = Err misfit
+choice_of_out _ = Err impossible_answer
 
 abbrev pub choice_at : List (Answer Out) → ℕ → Result Choice Fault
 choice_at given i = and_then (part_at given i) choice_of_out
 
 -- the description of a module has its path
 abbrev pub inf_of_path : List ℕ → InfDoc → Result InfDoc Fault
-inf_of_path path inf = if pointwise nat_eq inf.at.path path then Ok inf else Err misfit
+inf_of_path path inf = if pointwise nat_eq inf.at.path path then Ok inf else Err impossible_answer
 
 abbrev pub inf_of_out : List ℕ → Out → Result InfDoc Fault
 inf_of_out path (out.Inf inf) = inf_of_path path inf
-inf_of_out path _ = Err misfit
+inf_of_out path _ = Err impossible_answer
 
 abbrev pub inf_at : List (Answer Out) → ℕ → List ℕ → Result InfDoc Fault
 inf_at given i path = and_then (part_at given i) (inf_of_out path)
 
 abbrev pub dec_of_out : Out → Result DecDoc Fault
 dec_of_out (out.Dec dec) = Ok dec
-dec_of_out _ = Err misfit
+dec_of_out _ = Err impossible_answer
 
 abbrev pub held_package : List ℕ → DecDoc → Result Package Fault
 held_package path dec = Ok (record { path = path; doc = dec })

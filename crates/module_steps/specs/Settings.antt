@@ -16,7 +16,7 @@ use Rattle.doc_types.specs.declared.platform.Component.{Component}
 use Rattle.doc_types.specs.declared.platform.PlatformDoc.{PlatformDoc}
 use Rattle.pcd_resolve.specs.Names.{serves, is_common}
 use Rattle.pcd_resolve.specs.Platform.{is_all, sku_unknown}
-use Rattle.build_stages.specs.Stages.{misfit}
+use Rattle.build_stages.specs.Stages.{impossible_answer}
 use Rattle.module_steps.specs.declared.settings.Setting.{Setting}
 use Rattle.build_base.specs.FaultCodes.{ARCH_UNSUPPORTED}
 
@@ -26,8 +26,8 @@ listed text = if length text == 0 then [] else slice_split (λ byte. byte == 10)
 
 -- an architecture that can be built, or the fault of an answer that no world gives
 abbrev pub one_arch : Option Arch → Result Arch Fault
-one_arch None = Err misfit
-one_arch (Some arch) = if is_common arch then Err misfit else Ok arch
+one_arch None = Err impossible_answer
+one_arch (Some arch) = if is_common arch then Err impossible_answer else Ok arch
 
 abbrev pub arch_in : List ℕ → Result Arch Fault
 arch_in text = one_arch (arch_named text)
@@ -88,7 +88,7 @@ named_skus text = if length text == 0 then [] else text ∷ []
 
 -- the value that the words give a PCD, `Space.Name=Value`; it stands at the platform
 abbrev pub set_named : Place → List ℕ → List ℕ → Option ℕ → Result PcdSet Fault
-set_named at pcd value None = Err misfit
+set_named at pcd value None = Err impossible_answer
 set_named at pcd value (Some dot) =
     Ok
     (record {
@@ -100,15 +100,15 @@ set_named at pcd value (Some dot) =
     })
 
 abbrev pub set_by : Place → List ℕ → Option ℕ → Result PcdSet Fault
-set_by at text None = Err misfit
+set_by at text None = Err impossible_answer
 set_by at text (Some i) =
     set_named at (take i text) (drop (i + 1) text) (position (λ byte. byte == 46) (take i text))
 
 unfoldable pub set_of : Place → List ℕ → Result PcdSet Fault
 set_of at text = set_by at text (position (λ byte. byte == 61) text)
 
-unfoldable pub commands_of : Place → List ℕ → Result (List PcdSet) Fault
-commands_of at text = all_ok (map (set_of at) (listed text))
+unfoldable pub command_line_pcds : Place → List ℕ → Result (List PcdSet) Fault
+command_line_pcds at text = all_ok (map (set_of at) (listed text))
 
 -- the architectures that are built, by those of the words
 unfoldable pub arches_built : PlatformDoc → List ℕ → Result (List Arch) Fault
@@ -137,6 +137,6 @@ setting_by platform skus commands arches = record {
 unfoldable pub setting_of : PlatformDoc → List ℕ → List ℕ → List ℕ → Result Setting Fault
 setting_of platform arches sku pcds =
     and_then (arches_in (listed arches)) (λ named.
-    and_then (commands_of platform.at pcds) (λ commands.
+    and_then (command_line_pcds platform.at pcds) (λ commands.
     or_fault (words_checked platform (named_skus sku) (listed arches))
     (Ok (setting_by platform (named_skus sku) commands (built_arches named platform.arches)))))

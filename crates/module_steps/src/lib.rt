@@ -16,5 +16,5 @@ pub use parts::{
     parts_at, parts_from,
 };
 pub use pcds::{pcds_given, values_given};
-pub use settings::{Setting, arches_built, built_modules, commands_of, setting_of};
+pub use settings::{Setting, arches_built, built_modules, command_line_pcds, setting_of};
 pub use skus::skus_end;

@@ -48,7 +48,7 @@ pub fn out_at<'a>(given: &Given<'a, Out>, place: usize) -> Result<(&'a Out, usiz
     ensures next { IfOk result (λ x. x.1 ≡ place + 1) }
 {
     if place >= given.count() {
-        return Err(Stop::Misfit);
+        return Err(Stop::ImpossibleAnswer);
     }
     Ok((given.part(place)?, place + 1))
 }
@@ -58,7 +58,7 @@ fn choice_of_out(out: &Out) -> Result<&Choice, Stop<Key>>
 {
     match out {
         Out::Choice(choice) => Ok(choice),
-        _ => Err(Stop::Misfit),
+        _ => Err(Stop::ImpossibleAnswer),
     }
 }
 
@@ -80,9 +80,9 @@ fn inf_of_out<'a>(path: &Path, out: &'a Out) -> Result<&'a Shared<InfDoc>, Stop<
             if inf.value().at.path == *path {
                 return Ok(inf);
             }
-            Err(Stop::Misfit)
+            Err(Stop::ImpossibleAnswer)
         }
-        _ => Err(Stop::Misfit),
+        _ => Err(Stop::ImpossibleAnswer),
     }
 }
 
@@ -107,7 +107,7 @@ fn dec_of_out(out: &Out) -> Result<&Shared<DecDoc>, Stop<Key>>
 {
     match out {
         Out::Dec(dec) => Ok(dec),
-        _ => Err(Stop::Misfit),
+        _ => Err(Stop::ImpossibleAnswer),
     }
 }
 

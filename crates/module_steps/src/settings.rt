@@ -7,7 +7,7 @@ ghost use Rattle.build_base.specs.First.{all_ok, or_fault};
 ghost use Rattle.meta_lexer.specs.Faults.{first_fault};
 ghost use Rattle.build_stages.specs.Gives.{GivesIn};
 ghost use Rattle.build_stages.specs.Known.{shown};
-ghost use Rattle.module_steps.specs.Settings.{listed, one_arch, arch_in, arches_in, same_arch, has_arch, put_arch, each_once, built_arches, module_of, module_where, modules_for, modules_of, is_supported, arch_unsupported, skus_fault, named_skus, set_named, set_by, set_of, commands_of, arches_built, built_modules, words_checked, setting_by, setting_of};
+ghost use Rattle.module_steps.specs.Settings.{listed, one_arch, arch_in, arches_in, same_arch, has_arch, put_arch, each_once, built_arches, module_of, module_where, modules_for, modules_of, is_supported, arch_unsupported, skus_fault, named_skus, set_named, set_by, set_of, command_line_pcds, arches_built, built_modules, words_checked, setting_by, setting_of};
 
 use crate::parts::each_text;
 use build_base::fault_codes::ARCH_UNSUPPORTED;
@@ -56,11 +56,11 @@ fn arch_in(text: &[u8]) -> Result<Arch, Stop<Key>>
     match arch_named(text) {
         Some(arch) => {
             if is_common(arch) {
-                return Err(Stop::Misfit);
+                return Err(Stop::ImpossibleAnswer);
             }
             Ok(arch)
         }
-        None => Err(Stop::Misfit),
+        None => Err(Stop::ImpossibleAnswer),
     }
 }
 
@@ -270,7 +270,7 @@ fn set_named(alloc: Global, at: &Place, pcd: &[u8], value: &[u8]) -> Result<PcdS
         (set_named at.now pcd.now value.now (position (λ byte. byte == 46) pcd.now)) }
 {
     let Some(dot) = byte_at(pcd, b'.') else {
-        return Err(Stop::Misfit);
+        return Err(Stop::ImpossibleAnswer);
     };
     let pcd = name_at(alloc, pcd, dot)?;
     Ok(set_to(alloc, at, pcd, value)?)
@@ -283,7 +283,7 @@ fn set_of(alloc: Global, at: &Place, text: &[u8]) -> Result<PcdSet, Stop<Key>>
 {
     match byte_at(text, b'=') {
         Some(i) => set_named(alloc, at, &text[..i], &text[i + 1..]),
-        None => Err(Stop::Misfit),
+        None => Err(Stop::ImpossibleAnswer),
     }
 }
 
@@ -298,9 +298,9 @@ fn sets_of(alloc: Global, at: &Place, texts: &[Text]) -> Result<Rows<PcdSet>, St
 }
 
 /// The values that the words give PCDs.
-#[tactic(auto, unfolding(crate::specs::Settings::commands_of))]
-pub fn commands_of(alloc: Global, at: &Place, text: &[u8]) -> Result<Rows<PcdSet>, Stop<Key>>
-    ensures { GivesIn (λ sets. sets) result (commands_of at.now text.now) }
+#[tactic(auto, unfolding(crate::specs::Settings::command_line_pcds))]
+pub fn command_line_pcds(alloc: Global, at: &Place, text: &[u8]) -> Result<Rows<PcdSet>, Stop<Key>>
+    ensures { GivesIn (λ sets. sets) result (command_line_pcds at.now text.now) }
 {
     let texts = listed(alloc, text)?;
     sets_of(alloc, at, texts.items())
@@ -399,6 +399,6 @@ pub fn setting_of(
 {
     let texts = listed(alloc, arches)?;
     let named = arches_in(alloc, texts.items())?;
-    let commands = commands_of(alloc, &platform.at, pcds)?;
+    let commands = command_line_pcds(alloc, &platform.at, pcds)?;
     setting_checked(alloc, platform, texts.items(), named.items(), sku, commands)
 }

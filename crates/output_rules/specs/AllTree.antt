@@ -17,7 +17,7 @@ use Rattle.step_pack.specs.declared.key.Key.TheVariants as key
 use Rattle.step_pack.specs.declared.out.Out.{Out}
 use Rattle.step_pack.specs.declared.out.Out.TheVariants as out
 use Rattle.doc_types.specs.declared.volume.VolumePlan.{VolumePlan}
-use Rattle.image_steps.specs.Asks.{are_few, step_of}
+use Rattle.image_steps.specs.Asks.{fits_u16, volume_key}
 use Rattle.module_steps.specs.Settings.{built_modules}
 use Rattle.text_steps.specs.Asks.{build_module_asks}
 use Rattle.document_rules.specs.VpdLines.{has_vpd}
@@ -50,7 +50,7 @@ device_step n plan = key.Device n
 -- the volumes that are wanted, by their numbers, and then the devices
 abbrev pub image_asks : FlashDoc → Wanted → List (Ask Key)
 image_asks flash wanted =
-    steps_from step_of wanted.volumes 0 flash.volumes
+    steps_from volume_key wanted.volumes 0 flash.volumes
     ++ steps_from device_step wanted.devices 0 flash.devices
 
 abbrev pub folder_in : PlatformDoc → List (Answer Out) → Result (List ℕ) Fault
@@ -88,7 +88,7 @@ build_asks vpd modules flash wanted report =
 abbrev pub files_stages : Bool → List ℕ → List Module → FlashDoc → Wanted → Option (List ℕ)
     → EdkStages
 files_stages vpd folder modules flash wanted report =
-    when (are_few (length flash.volumes) && are_few (length flash.devices))
+    when (fits_u16 (length flash.volumes) && fits_u16 (length flash.devices))
     (stage (build_asks vpd modules flash wanted report)
     (λ given. end (given_as out.All (outputs_of vpd folder modules flash wanted report given))))
 

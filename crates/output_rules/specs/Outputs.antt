@@ -12,14 +12,14 @@ use Rattle.doc_types.specs.declared.choice.Module.{Module}
 use Rattle.doc_types.specs.declared.flash.DevicePlan.{DevicePlan}
 use Rattle.doc_types.specs.declared.flash.FlashDoc.{FlashDoc}
 use Rattle.doc_types.specs.declared.volume.VolumePlan.{VolumePlan}
-use Rattle.build_stages.specs.Stages.{misfit}
+use Rattle.build_stages.specs.Stages.{impossible_answer}
 use Rattle.step_pack.specs.declared.key.Key.{Key}
 use Rattle.step_pack.specs.declared.key.Key.TheVariants as key
 use Rattle.step_pack.specs.declared.out.Out.{Out}
 use Rattle.step_pack.specs.declared.out.Out.TheVariants as out
 use Rattle.step_pack.specs.declared.out.Output.{Output}
 use Rattle.step_engine.specs.declared.talk.Answer.{Answer}
-use Rattle.image_steps.specs.Asks.{step_of}
+use Rattle.image_steps.specs.Asks.{volume_key}
 use Rattle.text_steps.specs.Stems.{stem_of}
 use Rattle.document_rules.specs.Folders.{path_below}
 use Rattle.output_rules.specs.Wanted.{is_marked}
@@ -41,7 +41,7 @@ unfoldable pub volume_outputs : List ℕ → List Bool → ℕ → List VolumePl
     → Result (List Output) Fault
 volume_outputs folder marks n [] = Ok []
 volume_outputs folder marks n (plan ∷ plans) =
-    and_then (image_where (is_marked marks n) folder plan.head.name (codes ".Fv") (step_of n plan))
+    and_then (image_where (is_marked marks n) folder plan.head.name (codes ".Fv") (volume_key n plan))
     (λ outputs. with_front outputs (volume_outputs folder marks (n + 1) plans))
 
 unfoldable pub device_outputs : List ℕ → List Bool → ℕ → List DevicePlan
@@ -90,21 +90,21 @@ module_outputs folder m name texts depex =
 
 abbrev pub base_of_out : Out → Result (List ℕ) Fault
 base_of_out (out.Inf inf) = Ok inf.base_name
-base_of_out _ = Err misfit
+base_of_out _ = Err impossible_answer
 
 abbrev pub base_at : List (Answer Out) → ℕ → Result (List ℕ) Fault
 base_at given i = and_then (part_at given i) base_of_out
 
 abbrev pub has_texts : Out → Result Bool Fault
 has_texts (out.Code texts) = Ok (is_some texts)
-has_texts _ = Err misfit
+has_texts _ = Err impossible_answer
 
 abbrev pub texts_at : List (Answer Out) → ℕ → Result Bool Fault
 texts_at given i = and_then (part_at given i) has_texts
 
 abbrev pub has_bytes : Out → Result Bool Fault
 has_bytes (out.Depex bytes) = Ok (not (length bytes == 0))
-has_bytes _ = Err misfit
+has_bytes _ = Err impossible_answer
 
 abbrev pub bytes_at : List (Answer Out) → ℕ → Result Bool Fault
 bytes_at given i = and_then (part_at given i) has_bytes

@@ -3,7 +3,7 @@ ghost use Rattle.std.specs.Prelude.{◌≡◌, ◌++◌, ◌∷◌, [], ◌<◌,
 ghost use Rattle.build_stages.specs.Gives.{GivesIn};
 ghost use Rattle.build_stages.specs.Writing.{attempt};
 ghost use Rattle.document_rules.specs.Trees.{Comes};
-ghost use Rattle.image_steps.specs.Asks.{step_of};
+ghost use Rattle.image_steps.specs.Asks.{volume_key};
 ghost use Rattle.text_steps.specs.Asks.{build_module_asks};
 ghost use Rattle.output_rules.specs.AllTree.{image_asks, step_where, steps_from, device_step, report_part, build_asks, folder_in, modules_in, wanted_in, report_in, files_stages, all_given, all_stages};
 
@@ -19,7 +19,7 @@ use document_rules::answers::{EdkAnswers, answers_to};
 use document_rules::documents::{flash_in, flash_named, platform_in};
 use document_rules::folders::output_folder;
 use document_rules::vpd_lines::has_vpd;
-use image_steps::{are_few, step_of};
+use image_steps::{fits_u16, volume_key};
 use module_steps::built_modules;
 use std::alloc::Global;
 use step_engine::Ask;
@@ -32,10 +32,10 @@ fn push_volume(
     number: u32,
     plan: &VolumePlan,
 ) -> Result<(), WantOfMemory>
-    ensures { OnOk result (asks.new ≡ asks.old ++ step_where is_wanted (step_of number plan.now)) }
+    ensures { OnOk result (asks.new ≡ asks.old ++ step_where is_wanted (volume_key number plan.now)) }
 {
     if is_wanted {
-        asks.push(Ask::Part(step_of(number, plan)))?;
+        asks.push(Ask::Part(volume_key(number, plan)))?;
     }
     Ok(())
 }
@@ -57,7 +57,7 @@ fn push_volumes(
     plans: &[VolumePlan],
 ) -> Result<(), WantOfMemory>
     requires { length plans.now < 65536 }
-    ensures { OnOk result (asks.new ≡ asks.old ++ steps_from step_of marks.now 0 plans.now) }
+    ensures { OnOk result (asks.new ≡ asks.old ++ steps_from volume_key marks.now 0 plans.now) }
 {
     let mut number: u32 = 0;
     let mut left = plans;
@@ -217,8 +217,8 @@ fn files(
     ensures { Comes known.now
         (files_stages vpd folder.now modules.now flash.now wanted.now report.now) result }
 {
-    if !are_few(flash.volumes.items().len()) || !are_few(flash.devices.items().len()) {
-        return Err(Stop::Misfit);
+    if !fits_u16(flash.volumes.items().len()) || !fits_u16(flash.devices.items().len()) {
+        return Err(Stop::ImpossibleAnswer);
     }
     let asks = build_asks(alloc, vpd, modules, flash, wanted, report)?;
     let (given, _permit) = answers_to(alloc, known, asks, permit)?;

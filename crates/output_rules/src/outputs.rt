@@ -6,7 +6,7 @@ ghost use Rattle.build_base.specs.First.{with_front};
 ghost use Rattle.step_pack.specs.declared.key.Key.TheVariants as key;
 ghost use Rattle.document_rules.specs.Folders.{path_below};
 ghost use Rattle.output_rules.specs.Outputs.{image_output, image_where, volume_outputs, device_outputs, module_folder, file_output, c_output, h_output, code_outputs, depex_outputs, module_outputs, base_of_out, base_at, has_texts, texts_at, has_bytes, bytes_at, named_at, outputs_at, modules_outputs, vpd_outputs, report_output, outputs_of};
-ghost use Rattle.image_steps.specs.Asks.{step_of};
+ghost use Rattle.image_steps.specs.Asks.{volume_key};
 
 use crate::wanted::{Wanted, is_marked};
 use build_base::{Path, Rows, Same, WantOfMemory};
@@ -16,7 +16,7 @@ use doc_types::choice::Module;
 use doc_types::flash::{DevicePlan, FlashDoc};
 use doc_types::volume::VolumePlan;
 pub use document_rules::folders::{output_folder, path_below};
-use image_steps::step_of;
+use image_steps::volume_key;
 use module_steps::parts::out_at;
 use std::alloc::Global;
 use step_pack::{Key, Out, Output};
@@ -81,12 +81,12 @@ fn volume_where(
 ) -> Result<Rows<Output>, Stop<Key>>
     ensures { GivesIn (λ outputs. outputs) result
         (image_where is_wanted folder.now plan.now.head.name (codes ".Fv")
-        (step_of number plan.now)) }
+        (volume_key number plan.now)) }
 {
     let mut outputs = Rows::new(alloc);
     if is_wanted {
         let name = plan.head.name.bytes();
-        let step = step_of(number, plan);
+        let step = volume_key(number, plan);
         let output = image_output(alloc, folder, name, b".Fv".as_slice(), step)?;
         outputs.push(output)?;
     }
@@ -309,7 +309,7 @@ fn base_of_out(out: &Out) -> Result<&[u8], Stop<Key>>
 {
     match out {
         Out::Inf(inf) => Ok(inf.value().base_name.bytes()),
-        _ => Err(Stop::Misfit),
+        _ => Err(Stop::ImpossibleAnswer),
     }
 }
 
@@ -318,7 +318,7 @@ fn has_texts(out: &Out) -> Result<bool, Stop<Key>>
 {
     match out {
         Out::Code(texts) => Ok(texts.is_some()),
-        _ => Err(Stop::Misfit),
+        _ => Err(Stop::ImpossibleAnswer),
     }
 }
 
@@ -327,7 +327,7 @@ fn has_bytes(out: &Out) -> Result<bool, Stop<Key>>
 {
     match out {
         Out::Depex(bytes) => Ok(!bytes.bytes().is_empty()),
-        _ => Err(Stop::Misfit),
+        _ => Err(Stop::ImpossibleAnswer),
     }
 }
 

@@ -5,7 +5,7 @@ use Rattle.std.specs.Str.{bytes_eq}
 use Rattle.build_base.specs.First.{and_then}
 use Rattle.build_base.specs.declared.fault.Fault.{Fault}
 use Rattle.build_base.specs.declared.guid.Guid.{Guid}
-use Rattle.build_stages.specs.Stages.{misfit}
+use Rattle.build_stages.specs.Stages.{impossible_answer}
 use Rattle.build_texts.specs.declared.asks.CodeAsk.{CodeAsk}
 use Rattle.build_texts.specs.Code.{code_texts}
 use Rattle.doc_types.specs.declared.choice.Choice.{Choice}
@@ -33,7 +33,7 @@ stated_guid platform m = guid_in (find (is_component m) platform.components)
 
 -- the first description is the module's own
 abbrev pub own_guid : List InfDoc → Result Guid Fault
-own_guid [] = Err misfit
+own_guid [] = Err impossible_answer
 own_guid (inf ∷ infs) = Ok inf.file_guid
 
 abbrev pub guid_or_own : Option Guid → List InfDoc → Result Guid Fault

@@ -5,7 +5,7 @@ use Rattle.std.specs.List.{flat_map}
 use Rattle.std.specs.Str.{bytes_eq}
 use Rattle.build_base.specs.First.{and_then}
 use Rattle.build_base.specs.declared.fault.Fault.{Fault}
-use Rattle.build_stages.specs.Stages.{misfit}
+use Rattle.build_stages.specs.Stages.{impossible_answer}
 use Rattle.depex_code.specs.Compiled.{compiled, joined_code}
 use Rattle.doc_types.specs.declared.arch.Arch.{Arch}
 use Rattle.doc_types.specs.declared.choice.Choice.{Choice}
@@ -61,7 +61,7 @@ groups_of kind parts = map (group_of parts.«module».arch kind parts.decs) part
 
 -- the first description is the module's own
 abbrev pub own_type : List InfDoc → Result ModuleType Fault
-own_type [] = Err misfit
+own_type [] = Err impossible_answer
 own_type (inf ∷ infs) = Ok inf.module_type
 
 -- the bytes of a module's expression; a library has none

@@ -3,7 +3,7 @@
 use Rattle.std.specs.Prelude.{ℕ, ◌+◌, List, [], filter, Result, Ok, Err}
 use Rattle.build_base.specs.First.{and_then}
 use Rattle.build_base.specs.declared.fault.Fault.{Fault}
-use Rattle.build_stages.specs.Stages.{misfit}
+use Rattle.build_stages.specs.Stages.{impossible_answer}
 use Rattle.build_stages.specs.Writing.{part_at}
 use Rattle.build_texts.specs.declared.asks.ModuleReport.{ModuleReport}
 use Rattle.build_texts.specs.declared.asks.ReportAsk.{ReportAsk}
@@ -42,7 +42,7 @@ heading_of platform target tag sku =
 
 abbrev pub values_of_out : Out → Result Values Fault
 values_of_out (out.Values values) = Ok values
-values_of_out _ = Err misfit
+values_of_out _ = Err impossible_answer
 
 -- the values that stand at a place among answers
 abbrev pub values_at : List (Answer Out) → ℕ → Result Values Fault

@@ -53,7 +53,7 @@ fn own_guid(infs: &[Shared<InfDoc>]) -> Result<Guid, Stop<Key>>
     ensures { GivesIn (λ guid. guid) result (own_guid infs.now) }
 {
     match infs {
-        [] => Err(Stop::Misfit),
+        [] => Err(Stop::ImpossibleAnswer),
         [inf, ..] => Ok(inf.value().file_guid),
     }
 }

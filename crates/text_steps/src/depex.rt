@@ -226,7 +226,7 @@ fn own_type(infs: &[Shared<InfDoc>]) -> Result<ModuleType, Stop<Key>>
     ensures { GivesIn (λ kind. kind) result (own_type infs.now) }
 {
     match infs {
-        [] => Err(Stop::Misfit),
+        [] => Err(Stop::ImpossibleAnswer),
         [inf, ..] => Ok(inf.value().module_type),
     }
 }

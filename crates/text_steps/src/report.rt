@@ -102,7 +102,7 @@ fn values_of_out(out: &Out) -> Result<&Shared<Values>, Stop<Key>>
 {
     match out {
         Out::Values(values) => Ok(values),
-        _ => Err(Stop::Misfit),
+        _ => Err(Stop::ImpossibleAnswer),
     }
 }
 

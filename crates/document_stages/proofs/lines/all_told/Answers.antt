@@ -10,7 +10,7 @@ use Rattle.document_stages.proofs.lines.all_told.Goals.{in-Some+in_ok-path+in_ok
 pub loop-path-preserved : goal.loop-path-preserved
 loop-path-preserved g c = elim c.match-branch-3.branch [
   | in-Some+in_ok-path+in_ok-push w ↦ rw (w.files-is, w.in_ok-push.ensures.ok)
-      (All-push (IsTold (got_step (same_ask g.S.Key.Ord.cmp) g.S.Shapes.staged.fits (known_at g.S.Key.Ord.cmp c.args.known.now))) c.loop-path.files _ c.loop-path.invariant
+      (All-push (IsTold (got_step (same_ask g.S.Key.Ord.cmp) g.S.StepTypes.staged.fits (known_at g.S.Key.Ord.cmp c.args.known.now))) c.loop-path.files _ c.loop-path.invariant
       (rw w.in_ok-path.ensures (rw w.in-Some.is at c.in_ok-got.ensures)))
   | in_default w ↦ rw w.files-is c.loop-path.invariant
 ]

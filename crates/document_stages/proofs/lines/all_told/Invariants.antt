@@ -6,4 +6,4 @@ use Rattle.document_stages.specs.Learning.{AreTold}
 use Rattle.document_stages.proofs.lines.all_told.Given as goal
 
 abbrev pub invariant-loop-path : goal.invariant-loop-path
-invariant-loop-path g l = AreTold (got_step (same_ask g.S.Key.Ord.cmp) g.S.Shapes.staged.fits (known_at g.S.Key.Ord.cmp l.known)) l.files
+invariant-loop-path g l = AreTold (got_step (same_ask g.S.Key.Ord.cmp) g.S.StepTypes.staged.fits (known_at g.S.Key.Ord.cmp l.known)) l.files
