@@ -13,7 +13,7 @@ use crate::learned::Learned;
 use crate::places::Places;
 use crate::refusal::EngineRefusal;
 use crate::rules::{Rules, StepKey};
-use crate::settle::settle;
+use crate::running::run_to_end;
 use crate::talk::{Entry, Outcome};
 use build_base::book::Book;
 use build_base::outside::{Gate, Tree};
@@ -217,7 +217,7 @@ pub fn bring_over<H: Threads + Sync, R: Rules, T: Tree, G: Gate>(
     let mut places = Places::new(alloc);
     let mut learned = Learned::new(alloc);
     let first = book.ran().len();
-    let result = settle(
+    let result = run_to_end(
         rt,
         alloc,
         rules,

@@ -9,8 +9,8 @@ use Rattle.step_engine.proofs.Ending.{counts_wanting, begun, ready_none, kept_no
 use Rattle.step_engine.proofs.AgreeLemmas.{made_agree}
 use Rattle.step_engine.proofs.brought.bring_over.Goals as goal
 
-pub settle-requires-clause-ready : goal.settle-requires-clause-ready
-settle-requires-clause-ready g c =
+pub run_to_end-requires-clause-ready : goal.run_to_end-requires-clause-ready
+run_to_end-requires-clause-ready g c =
     let s = setting g.R.Rules.means (over c.args.edits.now (g.T.Tree.held c.args.tree.now)) c.args.job.now c.args.cache in
     let x = state c.new-fresh.result.items (knowledge g.R.Key.Ord.cmp c.new-learned.result) c.args.book.now (g.T.Tree.reads c.args.tree.now) in
     λ κs q. ready_none s x g.R.Key.Ord.cmp c.new-places.result (kept_none s g.R.Key.Ord.cmp _ _ _ _ c.new-fresh.ensures.items c.new-learned.ensures.files c.new-learned.ensures.compared) c.new-places.ensures
@@ -20,8 +20,8 @@ in_order-requires-after_bounds g c =
     let s = setting g.R.Rules.means (over c.args.edits.now (g.T.Tree.held c.args.tree.now)) c.args.job.now c.args.cache in
     let x = state c.new-fresh.result.items (knowledge g.R.Key.Ord.cmp c.new-learned.result) c.args.book.now (g.T.Tree.reads c.args.tree.now) in
     let start = begun s c.args.top x g.R.Key.Ord.cmp c.new-places.result c.new-fresh.ensures.items c.new-places.ensures in
-    let z = state c.settle.new.fresh.items (knowledge g.R.Key.Ord.cmp c.settle.new.learned) c.settle.new.book (g.T.Tree.reads c.settle.new.tree) in
-    let u = place_at g.R.Key.Ord.cmp c.settle.new.places in
+    let z = state c.run_to_end.new.fresh.items (knowledge g.R.Key.Ord.cmp c.run_to_end.new.learned) c.run_to_end.new.book (g.T.Tree.reads c.run_to_end.new.tree) in
+    let u = place_at g.R.Key.Ord.cmp c.run_to_end.new.places in
     let b = c.in_ok-result.ensures.ok in
     let on = b.going x start in
     λ κs q is. made_agree z.fresh b.ready.kept.closed (one_each u on.added z.fresh on.table)
@@ -31,79 +31,79 @@ returns-in_err-result-clause-ran g c =
     let s = setting g.R.Rules.means (over c.args.edits.now (g.T.Tree.held c.args.tree.now)) c.args.job.now c.args.cache in
     let x = state c.new-fresh.result.items (knowledge g.R.Key.Ord.cmp c.new-learned.result) c.args.book.now (g.T.Tree.reads c.args.tree.now) in
     let start = begun s c.args.top x g.R.Key.Ord.cmp c.new-places.result c.new-fresh.ensures.items c.new-places.ensures in
-    let n = c.settle.ensures.notes x start in n.ran
+    let n = c.run_to_end.ensures.notes x start in n.ran
 
 pub returns-in_err-result-clause-read : goal.returns-in_err-result-clause-read
 returns-in_err-result-clause-read g c =
     let s = setting g.R.Rules.means (over c.args.edits.now (g.T.Tree.held c.args.tree.now)) c.args.job.now c.args.cache in
     let x = state c.new-fresh.result.items (knowledge g.R.Key.Ord.cmp c.new-learned.result) c.args.book.now (g.T.Tree.reads c.args.tree.now) in
     let start = begun s c.args.top x g.R.Key.Ord.cmp c.new-places.result c.new-fresh.ensures.items c.new-places.ensures in
-    let n = c.settle.ensures.notes x start in n.read
+    let n = c.run_to_end.ensures.notes x start in n.read
 
 pub returns-in_err-made-clause-ran : goal.returns-in_err-made-clause-ran
 returns-in_err-made-clause-ran g c =
     let s = setting g.R.Rules.means (over c.args.edits.now (g.T.Tree.held c.args.tree.now)) c.args.job.now c.args.cache in
     let x = state c.new-fresh.result.items (knowledge g.R.Key.Ord.cmp c.new-learned.result) c.args.book.now (g.T.Tree.reads c.args.tree.now) in
     let start = begun s c.args.top x g.R.Key.Ord.cmp c.new-places.result c.new-fresh.ensures.items c.new-places.ensures in
-    let n = c.settle.ensures.notes x start in n.ran
+    let n = c.run_to_end.ensures.notes x start in n.ran
 
 pub returns-in_err-made-clause-read : goal.returns-in_err-made-clause-read
 returns-in_err-made-clause-read g c =
     let s = setting g.R.Rules.means (over c.args.edits.now (g.T.Tree.held c.args.tree.now)) c.args.job.now c.args.cache in
     let x = state c.new-fresh.result.items (knowledge g.R.Key.Ord.cmp c.new-learned.result) c.args.book.now (g.T.Tree.reads c.args.tree.now) in
     let start = begun s c.args.top x g.R.Key.Ord.cmp c.new-places.result c.new-fresh.ensures.items c.new-places.ensures in
-    let n = c.settle.ensures.notes x start in n.read
+    let n = c.run_to_end.ensures.notes x start in n.read
 
 pub returns-in_err-left-clause-ran : goal.returns-in_err-left-clause-ran
 returns-in_err-left-clause-ran g c =
     let s = setting g.R.Rules.means (over c.args.edits.now (g.T.Tree.held c.args.tree.now)) c.args.job.now c.args.cache in
     let x = state c.new-fresh.result.items (knowledge g.R.Key.Ord.cmp c.new-learned.result) c.args.book.now (g.T.Tree.reads c.args.tree.now) in
     let start = begun s c.args.top x g.R.Key.Ord.cmp c.new-places.result c.new-fresh.ensures.items c.new-places.ensures in
-    let n = c.settle.ensures.notes x start in n.ran
+    let n = c.run_to_end.ensures.notes x start in n.ran
 
 pub returns-in_err-left-clause-read : goal.returns-in_err-left-clause-read
 returns-in_err-left-clause-read g c =
     let s = setting g.R.Rules.means (over c.args.edits.now (g.T.Tree.held c.args.tree.now)) c.args.job.now c.args.cache in
     let x = state c.new-fresh.result.items (knowledge g.R.Key.Ord.cmp c.new-learned.result) c.args.book.now (g.T.Tree.reads c.args.tree.now) in
     let start = begun s c.args.top x g.R.Key.Ord.cmp c.new-places.result c.new-fresh.ensures.items c.new-places.ensures in
-    let n = c.settle.ensures.notes x start in n.read
+    let n = c.run_to_end.ensures.notes x start in n.read
 
 pub returns-then-is_bad-clause-ran : goal.returns-then-is_bad-clause-ran
 returns-then-is_bad-clause-ran g c =
     let s = setting g.R.Rules.means (over c.args.edits.now (g.T.Tree.held c.args.tree.now)) c.args.job.now c.args.cache in
     let x = state c.new-fresh.result.items (knowledge g.R.Key.Ord.cmp c.new-learned.result) c.args.book.now (g.T.Tree.reads c.args.tree.now) in
     let start = begun s c.args.top x g.R.Key.Ord.cmp c.new-places.result c.new-fresh.ensures.items c.new-places.ensures in
-    let n = c.settle.ensures.notes x start in n.ran
+    let n = c.run_to_end.ensures.notes x start in n.ran
 
 pub returns-then-is_bad-clause-read : goal.returns-then-is_bad-clause-read
 returns-then-is_bad-clause-read g c =
     let s = setting g.R.Rules.means (over c.args.edits.now (g.T.Tree.held c.args.tree.now)) c.args.job.now c.args.cache in
     let x = state c.new-fresh.result.items (knowledge g.R.Key.Ord.cmp c.new-learned.result) c.args.book.now (g.T.Tree.reads c.args.tree.now) in
     let start = begun s c.args.top x g.R.Key.Ord.cmp c.new-places.result c.new-fresh.ensures.items c.new-places.ensures in
-    let n = c.settle.ensures.notes x start in n.read
+    let n = c.run_to_end.ensures.notes x start in n.read
 
 pub returns-clause-ran : goal.returns-clause-ran
 returns-clause-ran g c =
     let s = setting g.R.Rules.means (over c.args.edits.now (g.T.Tree.held c.args.tree.now)) c.args.job.now c.args.cache in
     let x = state c.new-fresh.result.items (knowledge g.R.Key.Ord.cmp c.new-learned.result) c.args.book.now (g.T.Tree.reads c.args.tree.now) in
     let start = begun s c.args.top x g.R.Key.Ord.cmp c.new-places.result c.new-fresh.ensures.items c.new-places.ensures in
-    let n = c.settle.ensures.notes x start in n.ran
+    let n = c.run_to_end.ensures.notes x start in n.ran
 
 pub returns-clause-read : goal.returns-clause-read
 returns-clause-read g c =
     let s = setting g.R.Rules.means (over c.args.edits.now (g.T.Tree.held c.args.tree.now)) c.args.job.now c.args.cache in
     let x = state c.new-fresh.result.items (knowledge g.R.Key.Ord.cmp c.new-learned.result) c.args.book.now (g.T.Tree.reads c.args.tree.now) in
     let start = begun s c.args.top x g.R.Key.Ord.cmp c.new-places.result c.new-fresh.ensures.items c.new-places.ensures in
-    let n = c.settle.ensures.notes x start in n.read
+    let n = c.run_to_end.ensures.notes x start in n.read
 
 pub returns-then-is_bad-clause-all : goal.returns-then-is_bad-clause-all
 returns-then-is_bad-clause-all g c =
     let s = setting g.R.Rules.means (over c.args.edits.now (g.T.Tree.held c.args.tree.now)) c.args.job.now c.args.cache in
     let x = state c.new-fresh.result.items (knowledge g.R.Key.Ord.cmp c.new-learned.result) c.args.book.now (g.T.Tree.reads c.args.tree.now) in
     let start = begun s c.args.top x g.R.Key.Ord.cmp c.new-places.result c.new-fresh.ensures.items c.new-places.ensures in
-    let z = state c.settle.new.fresh.items (knowledge g.R.Key.Ord.cmp c.settle.new.learned) c.settle.new.book (g.T.Tree.reads c.settle.new.tree) in
+    let z = state c.run_to_end.new.fresh.items (knowledge g.R.Key.Ord.cmp c.run_to_end.new.learned) c.run_to_end.new.book (g.T.Tree.reads c.run_to_end.new.tree) in
     let t = place_at g.R.Key.Ord.cmp c.new-places.result in
-    let u = place_at g.R.Key.Ord.cmp c.settle.new.places in
+    let u = place_at g.R.Key.Ord.cmp c.run_to_end.new.places in
     let b = c.in_ok-result.ensures.ok in
     let on = b.going x start in
     let same = c.in_ok-made.ensures.same (one_each u on.added z.fresh on.table) in
@@ -116,9 +116,9 @@ returns-clause-all g c =
     let s = setting g.R.Rules.means (over c.args.edits.now (g.T.Tree.held c.args.tree.now)) c.args.job.now c.args.cache in
     let x = state c.new-fresh.result.items (knowledge g.R.Key.Ord.cmp c.new-learned.result) c.args.book.now (g.T.Tree.reads c.args.tree.now) in
     let start = begun s c.args.top x g.R.Key.Ord.cmp c.new-places.result c.new-fresh.ensures.items c.new-places.ensures in
-    let z = state c.settle.new.fresh.items (knowledge g.R.Key.Ord.cmp c.settle.new.learned) c.settle.new.book (g.T.Tree.reads c.settle.new.tree) in
+    let z = state c.run_to_end.new.fresh.items (knowledge g.R.Key.Ord.cmp c.run_to_end.new.learned) c.run_to_end.new.book (g.T.Tree.reads c.run_to_end.new.tree) in
     let t = place_at g.R.Key.Ord.cmp c.new-places.result in
-    let u = place_at g.R.Key.Ord.cmp c.settle.new.places in
+    let u = place_at g.R.Key.Ord.cmp c.run_to_end.new.places in
     let b = c.in_ok-result.ensures.ok in
     let on = b.going x start in
     let same = c.in_ok-made.ensures.same (one_each u on.added z.fresh on.table) in
@@ -131,9 +131,9 @@ returns-clause-built g c =
     let s = setting g.R.Rules.means (over c.args.edits.now (g.T.Tree.held c.args.tree.now)) c.args.job.now c.args.cache in
     let x = state c.new-fresh.result.items (knowledge g.R.Key.Ord.cmp c.new-learned.result) c.args.book.now (g.T.Tree.reads c.args.tree.now) in
     let start = begun s c.args.top x g.R.Key.Ord.cmp c.new-places.result c.new-fresh.ensures.items c.new-places.ensures in
-    let z = state c.settle.new.fresh.items (knowledge g.R.Key.Ord.cmp c.settle.new.learned) c.settle.new.book (g.T.Tree.reads c.settle.new.tree) in
+    let z = state c.run_to_end.new.fresh.items (knowledge g.R.Key.Ord.cmp c.run_to_end.new.learned) c.run_to_end.new.book (g.T.Tree.reads c.run_to_end.new.tree) in
     let t = place_at g.R.Key.Ord.cmp c.new-places.result in
-    let u = place_at g.R.Key.Ord.cmp c.settle.new.places in
+    let u = place_at g.R.Key.Ord.cmp c.run_to_end.new.places in
     let b = c.in_ok-result.ensures.ok in
     let on = b.going x start in
     let same = c.in_ok-made.ensures.same (one_each u on.added z.fresh on.table) in
@@ -147,9 +147,9 @@ returns-then-is_bad-clause-built g c =
     let s = setting g.R.Rules.means (over c.args.edits.now (g.T.Tree.held c.args.tree.now)) c.args.job.now c.args.cache in
     let x = state c.new-fresh.result.items (knowledge g.R.Key.Ord.cmp c.new-learned.result) c.args.book.now (g.T.Tree.reads c.args.tree.now) in
     let start = begun s c.args.top x g.R.Key.Ord.cmp c.new-places.result c.new-fresh.ensures.items c.new-places.ensures in
-    let z = state c.settle.new.fresh.items (knowledge g.R.Key.Ord.cmp c.settle.new.learned) c.settle.new.book (g.T.Tree.reads c.settle.new.tree) in
+    let z = state c.run_to_end.new.fresh.items (knowledge g.R.Key.Ord.cmp c.run_to_end.new.learned) c.run_to_end.new.book (g.T.Tree.reads c.run_to_end.new.tree) in
     let t = place_at g.R.Key.Ord.cmp c.new-places.result in
-    let u = place_at g.R.Key.Ord.cmp c.settle.new.places in
+    let u = place_at g.R.Key.Ord.cmp c.run_to_end.new.places in
     let b = c.in_ok-result.ensures.ok in
     let on = b.going x start in
     let same = c.in_ok-made.ensures.same (one_each u on.added z.fresh on.table) in
@@ -163,9 +163,9 @@ returns-clause-own g c =
     let s = setting g.R.Rules.means (over c.args.edits.now (g.T.Tree.held c.args.tree.now)) c.args.job.now c.args.cache in
     let x = state c.new-fresh.result.items (knowledge g.R.Key.Ord.cmp c.new-learned.result) c.args.book.now (g.T.Tree.reads c.args.tree.now) in
     let start = begun s c.args.top x g.R.Key.Ord.cmp c.new-places.result c.new-fresh.ensures.items c.new-places.ensures in
-    let z = state c.settle.new.fresh.items (knowledge g.R.Key.Ord.cmp c.settle.new.learned) c.settle.new.book (g.T.Tree.reads c.settle.new.tree) in
+    let z = state c.run_to_end.new.fresh.items (knowledge g.R.Key.Ord.cmp c.run_to_end.new.learned) c.run_to_end.new.book (g.T.Tree.reads c.run_to_end.new.tree) in
     let t = place_at g.R.Key.Ord.cmp c.new-places.result in
-    let u = place_at g.R.Key.Ord.cmp c.settle.new.places in
+    let u = place_at g.R.Key.Ord.cmp c.run_to_end.new.places in
     let b = c.in_ok-result.ensures.ok in
     let on = b.going x start in
     let same = c.in_ok-made.ensures.same (one_each u on.added z.fresh on.table) in
@@ -178,9 +178,9 @@ returns-then-is_bad-clause-own g c =
     let s = setting g.R.Rules.means (over c.args.edits.now (g.T.Tree.held c.args.tree.now)) c.args.job.now c.args.cache in
     let x = state c.new-fresh.result.items (knowledge g.R.Key.Ord.cmp c.new-learned.result) c.args.book.now (g.T.Tree.reads c.args.tree.now) in
     let start = begun s c.args.top x g.R.Key.Ord.cmp c.new-places.result c.new-fresh.ensures.items c.new-places.ensures in
-    let z = state c.settle.new.fresh.items (knowledge g.R.Key.Ord.cmp c.settle.new.learned) c.settle.new.book (g.T.Tree.reads c.settle.new.tree) in
+    let z = state c.run_to_end.new.fresh.items (knowledge g.R.Key.Ord.cmp c.run_to_end.new.learned) c.run_to_end.new.book (g.T.Tree.reads c.run_to_end.new.tree) in
     let t = place_at g.R.Key.Ord.cmp c.new-places.result in
-    let u = place_at g.R.Key.Ord.cmp c.settle.new.places in
+    let u = place_at g.R.Key.Ord.cmp c.run_to_end.new.places in
     let b = c.in_ok-result.ensures.ok in
     let on = b.going x start in
     let same = c.in_ok-made.ensures.same (one_each u on.added z.fresh on.table) in
@@ -193,9 +193,9 @@ returns-clause-sound g c =
     let s = setting g.R.Rules.means (over c.args.edits.now (g.T.Tree.held c.args.tree.now)) c.args.job.now c.args.cache in
     let x = state c.new-fresh.result.items (knowledge g.R.Key.Ord.cmp c.new-learned.result) c.args.book.now (g.T.Tree.reads c.args.tree.now) in
     let start = begun s c.args.top x g.R.Key.Ord.cmp c.new-places.result c.new-fresh.ensures.items c.new-places.ensures in
-    let z = state c.settle.new.fresh.items (knowledge g.R.Key.Ord.cmp c.settle.new.learned) c.settle.new.book (g.T.Tree.reads c.settle.new.tree) in
+    let z = state c.run_to_end.new.fresh.items (knowledge g.R.Key.Ord.cmp c.run_to_end.new.learned) c.run_to_end.new.book (g.T.Tree.reads c.run_to_end.new.tree) in
     let t = place_at g.R.Key.Ord.cmp c.new-places.result in
-    let u = place_at g.R.Key.Ord.cmp c.settle.new.places in
+    let u = place_at g.R.Key.Ord.cmp c.run_to_end.new.places in
     let b = c.in_ok-result.ensures.ok in
     let on = b.going x start in
     let same = c.in_ok-made.ensures.same (one_each u on.added z.fresh on.table) in
@@ -208,9 +208,9 @@ returns-then-is_bad-clause-sound g c =
     let s = setting g.R.Rules.means (over c.args.edits.now (g.T.Tree.held c.args.tree.now)) c.args.job.now c.args.cache in
     let x = state c.new-fresh.result.items (knowledge g.R.Key.Ord.cmp c.new-learned.result) c.args.book.now (g.T.Tree.reads c.args.tree.now) in
     let start = begun s c.args.top x g.R.Key.Ord.cmp c.new-places.result c.new-fresh.ensures.items c.new-places.ensures in
-    let z = state c.settle.new.fresh.items (knowledge g.R.Key.Ord.cmp c.settle.new.learned) c.settle.new.book (g.T.Tree.reads c.settle.new.tree) in
+    let z = state c.run_to_end.new.fresh.items (knowledge g.R.Key.Ord.cmp c.run_to_end.new.learned) c.run_to_end.new.book (g.T.Tree.reads c.run_to_end.new.tree) in
     let t = place_at g.R.Key.Ord.cmp c.new-places.result in
-    let u = place_at g.R.Key.Ord.cmp c.settle.new.places in
+    let u = place_at g.R.Key.Ord.cmp c.run_to_end.new.places in
     let b = c.in_ok-result.ensures.ok in
     let on = b.going x start in
     let same = c.in_ok-made.ensures.same (one_each u on.added z.fresh on.table) in
@@ -223,8 +223,8 @@ returns-clause-unchanged g c =
     let s = setting g.R.Rules.means (over c.args.edits.now (g.T.Tree.held c.args.tree.now)) c.args.job.now c.args.cache in
     let x = state c.new-fresh.result.items (knowledge g.R.Key.Ord.cmp c.new-learned.result) c.args.book.now (g.T.Tree.reads c.args.tree.now) in
     let start = begun s c.args.top x g.R.Key.Ord.cmp c.new-places.result c.new-fresh.ensures.items c.new-places.ensures in
-    let z = state c.settle.new.fresh.items (knowledge g.R.Key.Ord.cmp c.settle.new.learned) c.settle.new.book (g.T.Tree.reads c.settle.new.tree) in
-    let u = place_at g.R.Key.Ord.cmp c.settle.new.places in
+    let z = state c.run_to_end.new.fresh.items (knowledge g.R.Key.Ord.cmp c.run_to_end.new.learned) c.run_to_end.new.book (g.T.Tree.reads c.run_to_end.new.tree) in
+    let u = place_at g.R.Key.Ord.cmp c.run_to_end.new.places in
     let b = c.in_ok-result.ensures.ok in
     let on = b.going x start in
     let same = c.in_ok-made.ensures.same (one_each u on.added z.fresh on.table) in
@@ -236,8 +236,8 @@ returns-then-is_bad-clause-unchanged g c =
     let s = setting g.R.Rules.means (over c.args.edits.now (g.T.Tree.held c.args.tree.now)) c.args.job.now c.args.cache in
     let x = state c.new-fresh.result.items (knowledge g.R.Key.Ord.cmp c.new-learned.result) c.args.book.now (g.T.Tree.reads c.args.tree.now) in
     let start = begun s c.args.top x g.R.Key.Ord.cmp c.new-places.result c.new-fresh.ensures.items c.new-places.ensures in
-    let z = state c.settle.new.fresh.items (knowledge g.R.Key.Ord.cmp c.settle.new.learned) c.settle.new.book (g.T.Tree.reads c.settle.new.tree) in
-    let u = place_at g.R.Key.Ord.cmp c.settle.new.places in
+    let z = state c.run_to_end.new.fresh.items (knowledge g.R.Key.Ord.cmp c.run_to_end.new.learned) c.run_to_end.new.book (g.T.Tree.reads c.run_to_end.new.tree) in
+    let u = place_at g.R.Key.Ord.cmp c.run_to_end.new.places in
     let b = c.in_ok-result.ensures.ok in
     let on = b.going x start in
     let same = c.in_ok-made.ensures.same (one_each u on.added z.fresh on.table) in

@@ -1,7 +1,7 @@
 -- One key is opened.
 use Rattle.std.proofs.Common.{◌≡◌, refl, [], ◌∷◌}
 use Rattle.step_engine.proofs.ScanLemmas.{begins, opens_still, opens_same}
-use Rattle.step_engine.proofs.settle.begin.Goals as goal
+use Rattle.step_engine.proofs.running.begin.Goals as goal
 
 pub returns-in_err-key-clause-noted : goal.returns-in_err-key-clause-noted
 returns-in_err-key-clause-noted g c = opens_still (c.args.top.now ∷ []) _ _ _

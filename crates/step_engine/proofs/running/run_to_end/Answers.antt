@@ -6,7 +6,7 @@ use Rattle.step_engine.specs.Engine.{state}
 use Rattle.step_engine.specs.Reading.{knowledge}
 use Rattle.step_engine.proofs.Listing.{ready_held}
 use Rattle.step_engine.proofs.ScanLemmas.{begins_noted, settling_more, settling_noted, settling_refused, brought_to, under_held, visited_held, visit_notes_held}
-use Rattle.step_engine.proofs.settle.settle.Goals as goal
+use Rattle.step_engine.proofs.running.run_to_end.Goals as goal
 
 pub returns-in_err-pool-clause-notes : goal.returns-in_err-pool-clause-notes
 returns-in_err-pool-clause-notes g c =
@@ -20,33 +20,33 @@ loop-acts-init g c =
     let y = state c.args.fresh.now.items (knowledge g.R.Key.Ord.cmp c.args.learned.now) c.args.book.now (g.T.Tree.reads c.args.tree.now) in
     record { held = refl; count = refl; here = c.in_ok-pool.ensures.ok s y refl refl c.requires.ready }
 
-pub visit-requires-clause-ready : goal.visit-requires-clause-ready
-visit-requires-clause-ready g c =
+pub run_ready_keys-requires-clause-ready : goal.run_ready_keys-requires-clause-ready
+run_ready_keys-requires-clause-ready g c =
     let s = setting g.R.Rules.means (over c.args.edits.now (g.T.Tree.held c.args.tree.now)) c.args.job.now c.args.old.now in
     let y = state c.args.fresh.now.items (knowledge g.R.Key.Ord.cmp c.args.learned.now) c.args.book.now (g.T.Tree.reads c.args.tree.now) in
     let i = c.loop-acts.invariant in
     λ κs q. ready_held s _ _ _ (ap (over c.args.edits.now) i.held) i.here.ready
 
-pub visit-requires-clause-items : goal.visit-requires-clause-items
-visit-requires-clause-items g c =
+pub run_ready_keys-requires-clause-items : goal.run_ready_keys-requires-clause-items
+run_ready_keys-requires-clause-items g c =
     let s = setting g.R.Rules.means (over c.args.edits.now (g.T.Tree.held c.args.tree.now)) c.args.job.now c.args.old.now in
     let y = state c.args.fresh.now.items (knowledge g.R.Key.Ord.cmp c.args.learned.now) c.args.book.now (g.T.Tree.reads c.args.tree.now) in
     let i = c.loop-acts.invariant in
     λ κs q. under_held g.R.Key.Ord.cmp s _ _ c.loop-acts.pool (ap (over c.args.edits.now) i.held) i.here.items
 
-pub returns-in_err-visit-clause-notes : goal.returns-in_err-visit-clause-notes
-returns-in_err-visit-clause-notes g c =
+pub returns-in_err-run_ready_keys-clause-notes : goal.returns-in_err-run_ready_keys-clause-notes
+returns-in_err-run_ready_keys-clause-notes g c =
     let s = setting g.R.Rules.means (over c.args.edits.now (g.T.Tree.held c.args.tree.now)) c.args.job.now c.args.old.now in
     let y = state c.args.fresh.now.items (knowledge g.R.Key.Ord.cmp c.args.learned.now) c.args.book.now (g.T.Tree.reads c.args.tree.now) in
     let i = c.loop-acts.invariant in
-    settling_refused g.R.Key.Ord.cmp s _ y _ _ _ _ c.loop-acts.pool i.here (visit_notes_held g.R.Key.Ord.cmp s _ _ _ _ c.loop-acts.pool (ap (over c.args.edits.now) i.held) c.visit.ensures.notes)
+    settling_refused g.R.Key.Ord.cmp s _ y _ _ _ _ c.loop-acts.pool i.here (visit_notes_held g.R.Key.Ord.cmp s _ _ _ _ c.loop-acts.pool (ap (over c.args.edits.now) i.held) c.run_ready_keys.ensures.notes)
 
 pub loop-acts-preserved : goal.loop-acts-preserved
 loop-acts-preserved g c =
     let s = setting g.R.Rules.means (over c.args.edits.now (g.T.Tree.held c.args.tree.now)) c.args.job.now c.args.old.now in
     let y = state c.args.fresh.now.items (knowledge g.R.Key.Ord.cmp c.args.learned.now) c.args.book.now (g.T.Tree.reads c.args.tree.now) in
     let i = c.loop-acts.invariant in
-    record { held = c.visit.ensures.held ∙ i.held; count = c.in_ok-visit.ensures.count ∙ i.count; here = settling_more g.R.Key.Ord.cmp s _ y _ _ _ _ _ c.loop-acts.pool c.visit.new.pool i.here (visited_held g.R.Key.Ord.cmp s _ _ _ _ _ c.loop-acts.pool c.visit.new.pool (ap (over c.args.edits.now) i.held) c.in_ok-visit.ensures.ok) }
+    record { held = c.run_ready_keys.ensures.held ∙ i.held; count = c.in_ok-run_ready_keys.ensures.count ∙ i.count; here = settling_more g.R.Key.Ord.cmp s _ y _ _ _ _ _ c.loop-acts.pool c.run_ready_keys.new.pool i.here (visited_held g.R.Key.Ord.cmp s _ _ _ _ _ c.loop-acts.pool c.run_ready_keys.new.pool (ap (over c.args.edits.now) i.held) c.in_ok-run_ready_keys.ensures.ok) }
 
 pub returns-in-Some-clause-ok : goal.returns-in-Some-clause-ok
 returns-in-Some-clause-ok g c =
@@ -81,5 +81,5 @@ returns-then-acts-before-clause-notes g c =
     let s = setting g.R.Rules.means (over c.args.edits.now (g.T.Tree.held c.args.tree.now)) c.args.job.now c.args.old.now in
     let y = state c.args.fresh.now.items (knowledge g.R.Key.Ord.cmp c.args.learned.now) c.args.book.now (g.T.Tree.reads c.args.tree.now) in
     let i = c.loop-acts.invariant in
-    let j = settling_more g.R.Key.Ord.cmp s _ y _ _ _ _ _ c.loop-acts.pool c.visit.new.pool i.here (visited_held g.R.Key.Ord.cmp s _ _ _ _ _ c.loop-acts.pool c.visit.new.pool (ap (over c.args.edits.now) i.held) c.in_ok-visit.ensures.ok) in
-    settling_noted g.R.Key.Ord.cmp s _ y _ _ _ c.visit.new.pool j
+    let j = settling_more g.R.Key.Ord.cmp s _ y _ _ _ _ _ c.loop-acts.pool c.run_ready_keys.new.pool i.here (visited_held g.R.Key.Ord.cmp s _ _ _ _ _ c.loop-acts.pool c.run_ready_keys.new.pool (ap (over c.args.edits.now) i.held) c.in_ok-run_ready_keys.ensures.ok) in
+    settling_noted g.R.Key.Ord.cmp s _ y _ _ _ c.run_ready_keys.new.pool j

@@ -34,7 +34,7 @@ use std::alloc::Global;
 use std::thread::Threads;
 
 // All keys that are able to go on do, those that are to make a turn in one wave.
-fn visit<H: Threads + Sync, R: Rules, T: Tree, G: Gate>(
+fn run_ready_keys<H: Threads + Sync, R: Rules, T: Tree, G: Gate>(
     rt: &H,
     alloc: Global,
     rules: &R,
@@ -120,7 +120,7 @@ fn begin<K: StepKey, O: Same + Drop>(
 /// of it, or makes its entry. What is done is counted, up to the greatest number of 64 bits, and a
 /// visit that did nothing is the last one. A key waits only for parts of lower rank, so one of
 /// those under way is always able to go on, and the top key is done before that.
-pub fn settle<H: Threads + Sync, R: Rules, T: Tree, G: Gate>(
+pub fn run_to_end<H: Threads + Sync, R: Rules, T: Tree, G: Gate>(
     rt: &H,
     alloc: Global,
     rules: &R,
@@ -163,7 +163,7 @@ pub fn settle<H: Threads + Sync, R: Rules, T: Tree, G: Gate>(
             return Ok(outcome.copy(alloc)?);
         }
         let before = acts;
-        visit(
+        run_ready_keys(
             rt, alloc, rules, job, old, fresh, places, tree, edits, book, learned, workers, gate,
             &mut waves, &mut acts, &mut pool,
         )?;

@@ -6,7 +6,7 @@ use Rattle.step_engine.specs.Engine.{state}
 use Rattle.step_engine.specs.Reading.{knowledge}
 use Rattle.step_engine.specs.Table.{place_at}
 use Rattle.step_engine.specs.Settling.{IsSettling}
-use Rattle.step_engine.proofs.settle.settle.Given as goal
+use Rattle.step_engine.proofs.running.run_to_end.Given as goal
 
 abbrev pub invariant-loop-acts : goal.invariant-loop-acts
 invariant-loop-acts g l =

@@ -6,7 +6,7 @@ use Rattle.step_engine.specs.Engine.{state}
 use Rattle.step_engine.specs.Reading.{knowledge}
 use Rattle.step_engine.specs.Table.{place_at}
 use Rattle.step_engine.proofs.ScanLemmas.{able_ready, able_items, visit_noted, visited}
-use Rattle.step_engine.proofs.settle.visit.Goals as goal
+use Rattle.step_engine.proofs.running.run_ready_keys.Goals as goal
 
 pub returns-in_err-able-clause-notes : goal.returns-in_err-able-clause-notes
 returns-in_err-able-clause-notes g c =
