@@ -44,7 +44,8 @@ pub data Halt (K : Type 0) : Type 0 where
 
 -- the fault of an answer that no world gives
 abbrev pub impossible_answer : Fault
-impossible_answer = record { code = 0; place = record { path = codes "talk"; line = 0 }; detail = [] }
+impossible_answer =
+    record { code = 0; place = record { path = codes "talk"; line = 0 }; detail = [] }
 
 abbrev pub fault_in : {O : Type 0} → Answer O → Option Fault
 fault_in (answer.Part (Bad fault)) = Some fault
@@ -190,7 +191,8 @@ outcome_of (Err fault) = Bad fault
 
 -- the value of a key, where ranks fall at most n times
 unfoldable pub value_by : {K O : Type 0} → Staged K O → ℕ → World → K → Outcome O
-value_by c zero w k = outcome_of (run c.fits (oracle (λ part. Bad impossible_answer) w) (c.stages k))
+value_by c zero w k =
+    outcome_of (run c.fits (oracle (λ part. Bad impossible_answer) w) (c.stages k))
 value_by c (suc n) w k = outcome_of (run c.fits (oracle (value_by c n w) w) (c.stages k))
 
 abbrev pub wanted_in : {K O : Type 0} → Result O (Halt K) → Option (List (Ask K))

@@ -185,7 +185,8 @@ unique_at : {K O : Type 0} (c : Staged K O) → AreBounded c → (v : K → Outc
     → c.rank k ≤ n → value_by c n w k ≡ v k
 unfolding value_by
 unique_at {K} {O} c s v w e zero k le =
-    ap outcome_of (run_same c.fits c.rank (c.rank k) (oracle (λ part. Bad impossible_answer) w) (oracle v w)
+    ap outcome_of
+    (run_same c.fits c.rank (c.rank k) (oracle (λ part. Bad impossible_answer) w) (oracle v w)
     (elim [
       | ask.File p ↦ λ h. refl
       | ask.Field i ↦ λ h. refl

@@ -6,7 +6,7 @@ use Rattle.std.proofs.lemmas.List.Elements.{All-nil, All-cons, All-weaker}
 use Rattle.doc_types.specs.declared.module.InfDoc.{InfDoc}
 use Rattle.doc_types.specs.declared.module.Named.{Named}
 use Rattle.pcd_resolve.specs.NameFilter.{is_kept}
-use Rattle.pcd_resolve.proofs.MarkLemmas.{each_kept, stays, unmapped}
+use Rattle.pcd_resolve.proofs.NameFilterLemmas.{each_kept, stays, unmapped}
 use Rattle.build_texts.specs.Named.{with_guids}
 
 all_stay : (marks : List Bool) (infs : List InfDoc) (name : List ℕ) → is_kept marks name ≡ true → is_kept (fold with_guids marks infs) name ≡ true

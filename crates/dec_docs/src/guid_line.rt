@@ -68,7 +68,8 @@ fn guid_field(
     arch: Arch,
     field: &[u8],
 ) -> Result<Option<DecRow>, Refusal>
-    ensures { Answers result (unless_faulty (field_faults line.now field.now (split_once 61 field.now))
+    ensures { Answers result
+        (unless_faulty (field_faults line.now field.now (split_once 61 field.now))
         (field_row line.now arch (split_once 61 field.now))) }
 {
     match split_once(b'=', field) {
@@ -91,7 +92,8 @@ fn guid_field(
 /// The name that a line `Name = { .. }` declares, where further fields are read past.
 #[tactic(auto, unfolding(crate::specs::GuidLines::guid_line_faults, crate::specs::GuidLines::guid_line_row))]
 pub fn guid_line(alloc: Global, line: &Taken, arch: Arch) -> Result<Option<DecRow>, Refusal>
-    ensures { Answers result (unless_faulty (guid_line_faults line.now) (guid_line_row line.now arch)) }
+    ensures { Answers result
+        (unless_faulty (guid_line_faults line.now) (guid_line_row line.now arch)) }
 {
     open_quote(alloc, &line.at, line.text.bytes())?;
     let fields = field_texts(alloc, line.text.bytes())?;

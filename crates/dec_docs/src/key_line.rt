@@ -41,7 +41,8 @@ fn key_said(
     key: Option<DecKey>,
     value: &[u8],
 ) -> Result<Option<DecRow>, Refusal>
-    ensures { Answers result (unless_faulty (key_faults line.now key value.now) (key_row key value.now)) }
+    ensures { Answers result
+        (unless_faulty (key_faults line.now key value.now) (key_row key value.now)) }
 {
     match key {
         Some(DecKey::Name) => {

@@ -164,7 +164,8 @@ fn pcd_fields(
     fields: &[Text],
 ) -> Result<Option<DecRow>, Refusal>
     ensures { Answers result
-        (unless_faulty (fields_faults line.now fields.now) (fields_row line.now arch kind fields.now)) }
+        (unless_faulty (fields_faults line.now fields.now)
+        (fields_row line.now arch kind fields.now)) }
 {
     match fields {
         [name, default, datum, token] => four_fields(
@@ -189,7 +190,8 @@ pub fn pcd_line(
     arch: Arch,
     kind: Kind,
 ) -> Result<Option<DecRow>, Refusal>
-    ensures { Answers result (unless_faulty (pcd_line_faults line.now) (pcd_line_row line.now arch kind)) }
+    ensures { Answers result
+        (unless_faulty (pcd_line_faults line.now) (pcd_line_row line.now arch kind)) }
 {
     open_quote(alloc, &line.at, line.text.bytes())?;
     let fields = field_texts(alloc, line.text.bytes())?;

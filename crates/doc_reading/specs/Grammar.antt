@@ -45,7 +45,8 @@ entry_of g line head = unless_faulty (g.head_faults line head) (g.scope_of head)
 -- the least of a line's faults below a head, or its row
 abbrev pub outcome_of : {S R : Type 0} → Grammar S R → List (Read S R) → Taken → S
     → Result (Option R) Fault
-outcome_of g above line scope = unless_faulty (g.faults above line scope) (g.row_of above line scope)
+outcome_of g above line scope =
+    unless_faulty (g.faults above line scope) (g.row_of above line scope)
 
 abbrev pub scopes_in : {S R : Type 0} → Read S R → List (List S)
 scopes_in (entered at scopes) = scopes ∷ []

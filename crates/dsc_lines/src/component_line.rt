@@ -149,7 +149,8 @@ fn begun_part(
     arch: Arch,
     braced: bool,
 ) -> Result<Option<Part>, Refusal>
-    ensures { Answers result (unless_faulty (begun_faults line.now) (begun_part line.now arch braced)) }
+    ensures { Answers result
+        (unless_faulty (begun_faults line.now) (begun_part line.now arch braced)) }
 {
     let text = inf_text(line.text.bytes());
     if text.is_empty() {
@@ -190,7 +191,8 @@ fn define_part(alloc: Global, line: &Taken, arch: Arch) -> Result<Option<Part>, 
 
 // A line below a tag.
 fn tagged_part(alloc: Global, line: &Taken, arch: Arch, tag: Tag) -> Result<Option<Part>, Refusal>
-    ensures { Answers result (unless_faulty (tagged_faults line.now tag) (tagged_part line.now arch tag)) }
+    ensures { Answers result
+        (unless_faulty (tagged_faults line.now tag) (tagged_part line.now arch tag)) }
 {
     match tag {
         Tag::Libraries => {
@@ -219,7 +221,8 @@ fn found_tag(alloc: Global, line: &Taken) -> Result<Option<Part>, Refusal>
 }
 
 fn shut_part(alloc: Global, line: &Taken, arch: Arch, form: Form) -> Result<Option<Part>, Refusal>
-    ensures { Answers result (unless_faulty (shut_faults line.now form) (shut_part line.now arch form)) }
+    ensures { Answers result
+        (unless_faulty (shut_faults line.now form) (shut_part line.now arch form)) }
 {
     match form {
         Form::Plain => begun_part(alloc, line, arch, false),
@@ -301,7 +304,8 @@ pub fn component_line(
     standing: Open,
 ) -> Result<Option<Part>, Refusal>
     ensures { Answers result
-        (unless_faulty (component_faults line.now standing) (component_part line.now arch standing)) }
+        (unless_faulty (component_faults line.now standing)
+        (component_part line.now arch standing)) }
 {
     standing_part(alloc, line, arch, standing, form_of(line.text.bytes()))
 }

@@ -58,7 +58,8 @@ fn guid_said(alloc: Global, line: &Taken, value: &[u8]) -> Result<Option<DscRow>
 }
 
 fn output_said(alloc: Global, line: &Taken, value: &[u8]) -> Result<Option<DscRow>, Refusal>
-    ensures { Answers result (unless_faulty (output_faults line.now value.now) (output_row value.now)) }
+    ensures { Answers result
+        (unless_faulty (output_faults line.now value.now) (output_row value.now)) }
 {
     let folder = output_folder(alloc, without_workspace(value))?;
     least_of_one(require(alloc, &folder, BAD_PATH, &line.at, value))?;

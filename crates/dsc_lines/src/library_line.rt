@@ -97,7 +97,8 @@ pub fn library_line(
     arch: Arch,
     kind: Option<ModuleType>,
 ) -> Result<Option<LibraryLine>, Refusal>
-    ensures { Answers result (unless_faulty (library_faults line.now) (library_of line.now arch kind)) }
+    ensures { Answers result
+        (unless_faulty (library_faults line.now) (library_of line.now arch kind)) }
 {
     open_quote(alloc, &line.at, line.text.bytes())?;
     let fields = field_texts(alloc, line.text.bytes())?;

@@ -62,7 +62,8 @@ fn scope_line(
     scope: &Scope,
 ) -> Result<Option<Row>, Refusal>
     ensures { Answers result
-        (unless_faulty (scope_faults line.now marks full scope.now) (scope_row line.now marks scope.now)) }
+        (unless_faulty (scope_faults line.now marks full scope.now)
+        (scope_row line.now marks scope.now)) }
 {
     match scope {
         Scope::Settings => Ok(Some(Row::Passed)),
@@ -90,7 +91,8 @@ fn line_row(
     scope: &Scope,
 ) -> Result<Option<Row>, Refusal>
     ensures { Answers result
-        (unless_faulty (line_faults line.now marks full scope.now) (line_row line.now marks scope.now)) }
+        (unless_faulty (line_faults line.now marks full scope.now)
+        (line_row line.now marks scope.now)) }
 {
     if is_set(line.text.bytes()) {
         open_quote(alloc, &line.at, line.text.bytes())?;

@@ -329,7 +329,8 @@ fn plain_line(
     text: &[u8],
 ) -> Result<Option<Row>, Refusal>
     ensures { Answers result
-        (unless_faulty (plain_faults line.now first.now text.now) (plain_row line.now kind text.now)) }
+        (unless_faulty (plain_faults line.now first.now text.now)
+        (plain_row line.now kind text.now)) }
 {
     let (word, rest) = first_word(text);
     path_line(alloc, line, kind, same_word(word, first), rest)
@@ -343,7 +344,8 @@ fn worded_line(
     text: &[u8],
 ) -> Result<Option<Row>, Refusal>
     ensures { Answers result
-        (unless_faulty (worded_faults line.now first.now text.now) (worded_row line.now kind text.now)) }
+        (unless_faulty (worded_faults line.now first.now text.now)
+        (worded_row line.now kind text.now)) }
 {
     let (word, rest) = first_word(text);
     if same_word(word, b"STRING".as_slice()) {

@@ -295,7 +295,8 @@ fn value_section(
     value: &[u8],
 ) -> Result<Option<Row>, Refusal>
     ensures { Answers result
-        (unless_faulty (value_faults line.now word value.now) (value_row line.now align word value.now)) }
+        (unless_faulty (value_faults line.now word value.now)
+        (value_row line.now align word value.now)) }
 {
     match word {
         SectionWord::Plain(kind) => path_section(alloc, line, kind, align, value),

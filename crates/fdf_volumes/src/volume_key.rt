@@ -182,7 +182,8 @@ fn system_row(ffs3: Option<bool>) -> Option<Row>
 
 fn system_line(alloc: Global, line: &Taken, value: &[u8]) -> Result<Option<Row>, Refusal>
     ensures { Answers result
-        (unless_faulty (system_faults line.now value.now) (system_row (file_system (guid_of value.now)))) }
+        (unless_faulty (system_faults line.now value.now)
+        (system_row (file_system (guid_of value.now)))) }
 {
     let guid = Guid::of_text(value);
     least_of_two(
@@ -193,7 +194,8 @@ fn system_line(alloc: Global, line: &Taken, value: &[u8]) -> Result<Option<Row>,
 }
 
 fn truth_line(alloc: Global, line: &Taken, value: &[u8]) -> Result<Option<bool>, Refusal>
-    ensures { Answers result (unless_faulty (truth_faults line.now value.now) (truth_named value.now)) }
+    ensures { Answers result
+        (unless_faulty (truth_faults line.now value.now) (truth_named value.now)) }
 {
     let on = truth_named(value);
     least_of_two(

@@ -165,7 +165,8 @@ fn apriori_line_in(
 }
 
 fn section_in(alloc: Global, line: &Taken, body: Body) -> Result<Option<Row>, Refusal>
-    ensures { Answers result (unless_faulty (section_faults_in line.now body) (section_row line.now)) }
+    ensures { Answers result
+        (unless_faulty (section_faults_in line.now body) (section_row line.now)) }
 {
     match body {
         Body::Nothing => section_line(alloc, line),
@@ -175,7 +176,8 @@ fn section_in(alloc: Global, line: &Taken, body: Body) -> Result<Option<Row>, Re
 }
 
 fn whole_in(alloc: Global, line: &Taken, body: Body) -> Result<Option<Row>, Refusal>
-    ensures { Answers result (unless_faulty (whole_faults_in line.now body) (whole_row_in line.now)) }
+    ensures { Answers result
+        (unless_faulty (whole_faults_in line.now body) (whole_row_in line.now)) }
 {
     match body {
         Body::Nothing => whole_line(alloc, line),

@@ -318,7 +318,8 @@ fn fields_line(
     fields: &[Text],
 ) -> Result<Option<Row>, Refusal>
     ensures { Answers result
-        (unless_faulty (fields_faults line.now waiting fields.now) (fields_row line.now fields.now)) }
+        (unless_faulty (fields_faults line.now waiting fields.now)
+        (fields_row line.now fields.now)) }
 {
     match fields {
         [field] => one_field(alloc, line, waiting, field.bytes()),

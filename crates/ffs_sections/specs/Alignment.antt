@@ -4,7 +4,8 @@ use Rattle.std.specs.List.{range_with_len, find, list_any}
 
 -- whether an alignment is a power of two of at most 16M
 unfoldable pub is_section_alignment : ℕ → Bool
-is_section_alignment align = list_any (λ power. power == align) (map (λ k. 2 ^ k) (range_with_len 0 25))
+is_section_alignment align =
+    list_any (λ power. power == align) (map (λ k. 2 ^ k) (range_with_len 0 25))
 
 -- a pad of this size makes the alignment of what stands at a place, less a shift, hold
 abbrev pub is_pad : ℕ → ℕ → ℕ → ℕ → Bool

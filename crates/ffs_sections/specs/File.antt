@@ -110,7 +110,8 @@ file_sized plan body =
     else Ok (image_of plan body)
 
 unfoldable pub file_of : ImagePlan → Result FileImage Fault
-file_of plan = if is_section_alignment plan.align then and_then (body_of plan plan.body) (file_sized plan)
+file_of plan =
+    if is_section_alignment plan.align then and_then (body_of plan plan.body) (file_sized plan)
     else Err (sized ALIGNMENT_REFUSED plan.at plan.align)
 
 -- the length of the header that a file begins with: where byte 19 has the attribute of large files

@@ -35,7 +35,8 @@ size_checked plan count = unless (size_fault plan count) (file_size plan.ffs3 co
 -- the size of the file, or its fault
 unfoldable pub file_length : ImagePlan → Result ℕ Fault
 file_length plan =
-    if is_section_alignment plan.align then and_then (body_length plan plan.body) (size_checked plan)
+    if is_section_alignment plan.align
+    then and_then (body_length plan plan.body) (size_checked plan)
     else Err (sized ALIGNMENT_REFUSED plan.at plan.align)
 
 -- that of the file's own bytes

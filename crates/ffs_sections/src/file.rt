@@ -9,7 +9,7 @@ ghost use Rattle.ffs_sections.specs.LentPlans.{lent_body};
 ghost use Rattle.ffs_sections.specs.Sizes.{file_length};
 ghost use Rattle.ffs_sections.specs.Sums.{zero_byte};
 
-use crate::alignment::{step_align, step_bits, alignment_index};
+use crate::alignment::{alignment_index, step_align, step_bits};
 use crate::header::{Head, append_head, state_of};
 use crate::lent::LentPart;
 use crate::lent_plan::{LentBody, LentPlan, lent_plan};

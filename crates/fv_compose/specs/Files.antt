@@ -75,7 +75,10 @@ top_pieces erase at (Some file) size = placed_pieces erase at (top_start file si
 unfoldable pub pad_fault : Bool → ℕ → ℕ → FileImage → Option Fault
 pad_fault ffs3 at start file =
     first_holding
-    ((not ffs3 && nat_lt FILE_LIMIT (start - align_up 8 at), sized PAD_TOO_LONG file.at (start - align_up 8 at))
+    ((
+      not ffs3 && nat_lt FILE_LIMIT (start - align_up 8 at),
+      sized PAD_TOO_LONG file.at (start - align_up 8 at),
+    )
     ∷ [])
 
 -- the first such pad between files one after another

@@ -21,7 +21,8 @@ pub record IsStart (at align head start : ℕ) : Type 0 where
 -- the least of them
 unfoldable pub start_of : ℕ → ℕ → ℕ → ℕ
 start_of at align head =
-    if (align_up 8 at + head) % align == 0 then align_up 8 at else align_up align (align_up 8 at + 24 + head) - head
+    if (align_up 8 at + head) % align == 0 then align_up 8 at
+    else align_up align (align_up 8 at + 24 + head) - head
 
 -- a header has 24 bytes, that of a large file 32
 abbrev pub IsHead : ℕ → Type 0

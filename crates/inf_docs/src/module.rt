@@ -52,7 +52,8 @@ impl ModuleFormat {
 // What a line says below a head.
 #[tactic(auto, unfolding(crate::specs::Rows::line_faults, crate::specs::Rows::line_row))]
 fn line_row(alloc: Global, line: &Taken, scope: Scope) -> Result<Option<Row>, Refusal>
-    ensures { Answers result (unless_faulty (line_faults line.now scope) (line_row line.now scope)) }
+    ensures { Answers result
+        (unless_faulty (line_faults line.now scope) (line_row line.now scope)) }
 {
     match scope.kind {
         SectionKind::Defines => key_line(alloc, line),

@@ -84,7 +84,8 @@ fn asked_pcd(
     fields: &[Text],
 ) -> Result<Option<UsedPcd>, Refusal>
     ensures { Answers result
-        (unless_faulty (asked_faults line.now fields.now) (asked_pcd line.now arch asked fields.now)) }
+        (unless_faulty (asked_faults line.now fields.now)
+        (asked_pcd line.now arch asked fields.now)) }
 {
     let pcd = pcd_name_of(alloc, first_text(fields))?;
     least_of_two(

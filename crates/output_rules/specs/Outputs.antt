@@ -41,7 +41,8 @@ unfoldable pub volume_outputs : List ℕ → List Bool → ℕ → List VolumePl
     → Result (List Output) Fault
 volume_outputs folder marks n [] = Ok []
 volume_outputs folder marks n (plan ∷ plans) =
-    and_then (image_where (is_marked marks n) folder plan.head.name (codes ".Fv") (volume_key n plan))
+    and_then
+    (image_where (is_marked marks n) folder plan.head.name (codes ".Fv") (volume_key n plan))
     (λ outputs. with_front outputs (volume_outputs folder marks (n + 1) plans))
 
 unfoldable pub device_outputs : List ℕ → List Bool → ℕ → List DevicePlan

@@ -32,7 +32,8 @@ fn push_volume(
     number: u32,
     plan: &VolumePlan,
 ) -> Result<(), WantOfMemory>
-    ensures { OnOk result (asks.new ≡ asks.old ++ step_where is_wanted (volume_key number plan.now)) }
+    ensures { OnOk result
+        (asks.new ≡ asks.old ++ step_where is_wanted (volume_key number plan.now)) }
 {
     if is_wanted {
         asks.push(Ask::Part(volume_key(number, plan)))?;
