@@ -1,6 +1,6 @@
 -- What a keeper's calls do.
 use Rattle.std.specs.Prelude.{◌≡◌, ◌⊎◌, ◌++◌, ℕ, List, Option, Some, None, Result, Ok, Err}
-use Rattle.build_base.specs.Outside.{Rose}
+use Rattle.build_base.specs.Outside.{HasFailed}
 use Rattle.build_base.specs.declared.outside.KeeperFailed.{KeeperFailed}
 use Rattle.build_base.specs.declared.outside.KeeperFailed.TheVariants.{Failed, WantOfMemory}
 
@@ -13,7 +13,7 @@ pub record KeeperState : Type 0 where
 -- what a call of a keeper does to its count
 abbrev pub KeeperCause : {T : Type 0} → ℕ → ℕ → Result T KeeperFailed → Type 0
 KeeperCause before now (Ok x) = now ≡ before
-KeeperCause before now (Err Failed) = Rose before now
+KeeperCause before now (Err Failed) = HasFailed before now
 KeeperCause before now (Err WantOfMemory) = now ≡ before
 
 -- after a store that failed: the old bytes, nothing, or a prefix of the new

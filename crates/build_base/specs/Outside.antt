@@ -26,20 +26,20 @@ abbrev pub next_call : ℕ → ℕ
 next_call calls = min (calls + 1) (2 ^ 64 - 1)
 
 -- A count of faults rose, or stands at the last value of its type.
-pub record Rose (before now : ℕ) : Type 0 where
+pub record HasFailed (before now : ℕ) : Type 0 where
   pub later : before ≤ now
   pub rose : min (before + 1) (2 ^ 64 - 1) ≤ now
 
 -- what a call of a tree does to its count
 abbrev pub TreeCause : {T : Type 0} → ℕ → ℕ → Result T TreeFailed → Type 0
 TreeCause before now (Ok x) = now ≡ before
-TreeCause before now (Err Failed) = Rose before now
+TreeCause before now (Err Failed) = HasFailed before now
 TreeCause before now (Err WantOfMemory) = now ≡ before
 
 -- what a call whose one refusal is a fault does to a count
 abbrev pub Cause : {T E : Type 0} → ℕ → ℕ → Result T E → Type 0
 Cause before now (Ok x) = now ≡ before
-Cause before now (Err e) = Rose before now
+Cause before now (Err e) = HasFailed before now
 
 -- one emission: where, and which bytes
 abbrev pub Emission : Type 0

@@ -1,7 +1,7 @@
 //! The names of fault codes.
 ghost use Rattle.std.specs.Prelude.{◌≡◌, map};
 ghost use Rattle.std.specs.Option.{option_map};
-ghost use Rattle.build_base.specs.FaultNames.{named, fault_name};
+ghost use Rattle.build_base.specs.FaultNames.{name_in_table, fault_name};
 
 use crate::fault_codes as codes;
 
@@ -119,9 +119,9 @@ const NAMES: [(u16, &str); 111] = [
     (codes::VOLUME_BAD_FILE, "BadFile"),
 ];
 
-#[tactic(auto, unfolding(crate::specs::FaultNames::named))]
-fn named(mut table: &[(u16, &'static str)], code: u16) -> Option<&'static str>
-    ensures { option_map (λ n. n.now) result ≡ named
+#[tactic(auto, unfolding(crate::specs::FaultNames::name_in_table))]
+fn name_in_table(mut table: &[(u16, &'static str)], code: u16) -> Option<&'static str>
+    ensures { option_map (λ n. n.now) result ≡ name_in_table
         (map (λ e. (e.0, e.1.now)) table.entry.now) code }
 {
     while let [entry, rest @ ..] = table {
@@ -138,5 +138,5 @@ fn named(mut table: &[(u16, &'static str)], code: u16) -> Option<&'static str>
 pub fn fault_name(code: u16) -> Option<&'static str>
     ensures { option_map (λ name. name.now) result ≡ fault_name code }
 {
-    named(&NAMES, code)
+    name_in_table(&NAMES, code)
 }

@@ -3,7 +3,7 @@ use Rattle.std.specs.Prelude.{ℕ, List, [], ◌∷◌, Option, Some, None, code
 use Rattle.meta_lexer.specs.declared.head.Head.{Head}
 use Rattle.meta_lexer.specs.Lookup.{lookup}
 use Rattle.doc_reading.specs.declared.meaning.Meaning.{Meaning}
-use Rattle.doc_reading.specs.declared.meaning.Meaning.TheVariants.{Enters, Passed, Misqualified, Unknown}
+use Rattle.doc_reading.specs.declared.meaning.Meaning.TheVariants.{Enters, Passed, BadQualifier, Unknown}
 use Rattle.doc_types.specs.Arches.{arch_named}
 use Rattle.doc_types.specs.declared.arch.Arch.{Arch}
 use Rattle.doc_types.specs.declared.arch.Arch.TheVariants.{Common}
@@ -35,15 +35,15 @@ for_all section = Enters (record { section = section; arch = Common })
 -- a qualifier is an architecture
 abbrev pub with_arch : DecSection → Option Arch → Meaning Entry
 with_arch section (Some arch) = Enters (record { section = section; arch = arch })
-with_arch section None = Misqualified
+with_arch section None = BadQualifier
 
 -- at most one qualifier, and in [Defines] none
 abbrev pub qualified_section : DecSection → List (List ℕ) → Meaning Entry
 qualified_section section [] = for_all section
-qualified_section Defines (word ∷ words) = Misqualified
+qualified_section Defines (word ∷ words) = BadQualifier
 qualified_section Guids (word ∷ []) = with_arch Guids (arch_named word)
 qualified_section (Pcds kind) (word ∷ []) = with_arch (Pcds kind) (arch_named word)
-qualified_section section (word ∷ other ∷ words) = Misqualified
+qualified_section section (word ∷ other ∷ words) = BadQualifier
 
 -- a section that is read past takes any
 abbrev pub meaning_of : Option (Option DecSection) → List (List ℕ) → Meaning Entry

@@ -73,7 +73,7 @@ fn with_arch(section: DecSection, arch: Option<Arch>) -> Meaning<Entry>
 {
     match arch {
         Some(arch) => Meaning::Enters(Entry { section, arch }),
-        None => Meaning::Misqualified,
+        None => Meaning::BadQualifier,
     }
 }
 
@@ -82,9 +82,9 @@ fn qualified_section(section: DecSection, qualifiers: &[Text]) -> Meaning<Entry>
 {
     match (section, qualifiers) {
         (_, []) => for_all(section),
-        (DecSection::Defines, _) => Meaning::Misqualified,
+        (DecSection::Defines, _) => Meaning::BadQualifier,
         (_, [word]) => with_arch(section, arch_named(word.bytes())),
-        _ => Meaning::Misqualified,
+        _ => Meaning::BadQualifier,
     }
 }
 

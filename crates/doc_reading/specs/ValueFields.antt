@@ -8,7 +8,7 @@ use Rattle.build_base.specs.FaultText.{fault_of}
 use Rattle.build_base.specs.Guid.{guid_of}
 use Rattle.build_base.specs.Path.{path_field}
 use Rattle.meta_lexer.specs.Fields.{ends_quoted}
-use Rattle.meta_lexer.specs.Words.{holds_macro}
+use Rattle.meta_lexer.specs.Words.{has_macro_use}
 use Rattle.macro_conditions.specs.declared.expression.Value.{Value}
 use Rattle.macro_conditions.specs.declared.expression.Value.TheVariants.{Number, Word}
 use Rattle.macro_conditions.specs.Expressions.{evaluation}
@@ -17,7 +17,8 @@ use Rattle.build_base.specs.FaultCodes.{BAD_EXPRESSION, BAD_PATH, OPEN_QUOTE, UN
 
 -- `$(` that is left in a text: its macro isn't defined
 abbrev pub undefined_macro : Place → List ℕ → Option Fault
-undefined_macro at text = if holds_macro text then Some (fault_of UNDEFINED_MACRO at text) else None
+undefined_macro at text =
+    if has_macro_use text then Some (fault_of UNDEFINED_MACRO at text) else None
 
 -- a double quote that isn't closed
 abbrev pub open_quote : Place → List ℕ → Option Fault
@@ -39,7 +40,7 @@ text_value at text = unless (undefined_macro at text) text
 
 -- a text is no number, and a number needs every macro of its field
 abbrev pub number_found : Place → List ℕ → Result Value Fault → Result ℕ Fault
-number_found at text (Ok (Number n)) = if holds_macro text
+number_found at text (Ok (Number n)) = if has_macro_use text
     then Err (fault_of UNDEFINED_MACRO at text) else Ok n
 number_found at text (Ok (Word word)) = Err (fault_of BAD_EXPRESSION at text)
 number_found at text (Err fault) = Err fault

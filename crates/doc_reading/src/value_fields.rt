@@ -12,14 +12,14 @@ use build_base::{Guid, Path, Place, Refusal, Rows, Text, refuse};
 use macro_conditions::known::without_workspace;
 use macro_conditions::{Value, evaluate};
 use meta_lexer::field::ends_quoted;
-use meta_lexer::words::holds_macro;
+use meta_lexer::words::has_macro_use;
 use std::alloc::Global;
 
 /// Refuses a field in which a macro is left that isn't defined.
 pub fn undefined_macro(alloc: Global, at: &Place, text: &[u8]) -> Result<(), Refusal>
     ensures { Checks result (undefined_macro at.now text.now) }
 {
-    if holds_macro(text) {
+    if has_macro_use(text) {
         return Err(refuse(alloc, UNDEFINED_MACRO, at, text));
     }
     Ok(())
@@ -75,7 +75,7 @@ pub fn number_value(alloc: Global, at: &Place, text: &[u8]) -> Result<u64, Refus
     let none = Rows::new(alloc);
     match evaluate(alloc, at, &written, &none) {
         Ok(Value::Number(n)) => {
-            if holds_macro(text) {
+            if has_macro_use(text) {
                 return Err(refuse(alloc, UNDEFINED_MACRO, at, text));
             }
             Ok(n)

@@ -7,7 +7,7 @@ use Rattle.build_base.specs.declared.fault.Fault.{Fault}
 use Rattle.build_base.specs.declared.lines.Taken.{Taken}
 use Rattle.meta_lexer.specs.Fields.{ends_quoted}
 use Rattle.meta_lexer.specs.Parts.{field_texts}
-use Rattle.meta_lexer.specs.Words.{split_once, holds_macro, same_word}
+use Rattle.meta_lexer.specs.Words.{split_once, has_macro_use, same_word}
 use Rattle.doc_reading.specs.Gathering.{unless_faulty}
 use Rattle.doc_reading.specs.Least.{least_of}
 use Rattle.doc_reading.specs.ValueFields.{number_value}
@@ -46,7 +46,7 @@ set_line : (line : Taken) → same_word (word_of line.text) (codes "SET") ≡ tr
 unfolding is_set
 set_line line e f = ap₂ (λ a b. a && not b) e f
 
-set_parts : (line : Taken) (rank : ℕ) (name value : List ℕ) (pcd : PcdName) → split_once 61 (after_word line.text) ≡ Some (name, value) → pcd_name_of name ≡ Some pcd → (length value == 0) ≡ false → holds_macro name ≡ false → holds_macro value ≡ false
+set_parts : (line : Taken) (rank : ℕ) (name value : List ℕ) (pcd : PcdName) → split_once 61 (after_word line.text) ≡ Some (name, value) → pcd_name_of name ≡ Some pcd → (length value == 0) ≡ false → has_macro_use name ≡ false → has_macro_use value ≡ false
     → unless_faulty (sets.set_faults line) (sets.set_row line rank) ≡ Ok (Some (row.Set (record { at = line.at; rank = rank; pcd = pcd; value = value })))
 unfolding sets.set_faults sets.set_row
 set_parts line rank name value pcd h p l m n = rw (h, p, l, m, n) refl

@@ -10,7 +10,7 @@ use Rattle.build_base.specs.declared.lines.Taken.{Taken as Line}
 use Rattle.meta_lexer.specs.Fields.{ends_quoted}
 use Rattle.meta_lexer.specs.Lookup.{lookup}
 use Rattle.meta_lexer.specs.Parts.{field_texts}
-use Rattle.meta_lexer.specs.Words.{holds_macro, is_identifier, same_word}
+use Rattle.meta_lexer.specs.Words.{has_macro_use, is_identifier, same_word}
 use Rattle.macro_conditions.specs.Macros.{same_text}
 use Rattle.macro_conditions.specs.Sources.{without_workspace}
 use Rattle.doc_reading.specs.Gathering.{unless_faulty}
@@ -69,7 +69,7 @@ Says line marks full scope row =
 
 -- no `$(` is left in a text
 abbrev pub IsFilled : List ℕ → Type 0
-IsFilled text = holds_macro text ≡ false
+IsFilled text = has_macro_use text ≡ false
 
 -- none is left before a field at the line's end
 abbrev pub IsFilledBefore : Line → List ℕ → Type 0

@@ -16,7 +16,7 @@ fn equals_at(text: &[u8]) -> Option<usize>
 
 /// The name and the value of a text `NAME=VALUE` or `NAME`.
 #[tactic(auto, unfolding(crate::specs::Defines::macro_of))]
-pub fn halves(text: &[u8]) -> (&[u8], &[u8])
+pub fn split_define(text: &[u8]) -> (&[u8], &[u8])
     ensures name { result.0.now ≡ (macro_of text.now).name }
     ensures value { result.1.now ≡ (macro_of text.now).value }
 {
@@ -38,7 +38,7 @@ fn new_macro(alloc: Global, name: &[u8], value: &[u8]) -> Result<Macro, WantOfMe
 fn macro_of(alloc: Global, text: &[u8]) -> Result<Macro, WantOfMemory>
     ensures { IfOk result (λ m. m ≡ macro_of text.now) }
 {
-    let (name, value) = halves(text);
+    let (name, value) = split_define(text);
     new_macro(alloc, name, value)
 }
 

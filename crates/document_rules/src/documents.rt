@@ -203,7 +203,7 @@ pub fn flash_in<'a>(given: &Given<'a, Out>, place: usize) -> Result<&'a FlashDoc
     Ok(shared_flash(given, place)?.value())
 }
 
-fn stated(alloc: Global, path: &Option<Path>) -> Result<Option<Path>, WantOfMemory>
+fn copy_stated(alloc: Global, path: &Option<Path>) -> Result<Option<Path>, WantOfMemory>
     ensures { IfOk result (λ copy. copy ≡ path.now) }
 {
     match path {
@@ -222,7 +222,7 @@ pub fn flash_named(
     ensures { GivesIn (λ root. root) result (flash_named path.now text.now) }
 {
     if text.is_empty() {
-        return Ok(stated(alloc, path)?);
+        return Ok(copy_stated(alloc, path)?);
     }
     match path_field(alloc, text)? {
         Some(path) => Ok(Some(path)),

@@ -29,7 +29,7 @@ fn got<K, O>(alloc: Global, answer: &Answer<O>) -> Result<Got, Stop<K>>
 }
 
 // What the talk tells of a path, where that can be got.
-fn told<S: StepTypes>(
+fn told_file<S: StepTypes>(
     alloc: Global,
     rules: &S,
     known: &KnownAnswers<'_, S::Key, S::Out>,
@@ -76,7 +76,7 @@ fn all_told<S: StepTypes>(
     let mut files = Rows::new(alloc);
     let paths = known.file_paths(alloc)?;
     for path in paths.items() {
-        if let Some(got) = told(alloc, rules, known, path)? {
+        if let Some(got) = told_file(alloc, rules, known, path)? {
             let path = shared_path(alloc, path)?;
             files.push(Known { path, got })?;
         }

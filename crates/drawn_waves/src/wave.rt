@@ -122,12 +122,12 @@ fn both<I: Drop, R: Drop>(
     let seat = join_seats(table, first.seat, second.seat);
     Taken {
         seat,
-        results: appended(first.results, second.results),
+        results: append_results(first.results, second.results),
     }
 }
 
 // The results of both, where both have any.
-fn appended<T: Drop>(
+fn append_results<T: Drop>(
     first: Result<Vec<T>, WantOfMemory>,
     second: Result<Vec<T>, WantOfMemory>,
 ) -> Result<Vec<T>, WantOfMemory>

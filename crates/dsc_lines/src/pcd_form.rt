@@ -9,7 +9,7 @@ use crate::section::StoreKind;
 use build_base::Text;
 use doc_types::pcd::datum_named;
 use meta_lexer::numbers::number;
-use meta_lexer::token::quoted;
+use meta_lexer::token::quoted_span;
 use meta_lexer::words::is_identifier;
 
 fn small_in(number: Option<u64>) -> Option<u32>
@@ -59,7 +59,7 @@ fn is_written(text: &Text) -> bool
 fn is_quoted(text: &[u8]) -> bool
     ensures { result ≡ is_there (quoted_of text.now) }
 {
-    match quoted(text) {
+    match quoted_span(text) {
         Some(_) => true,
         None => false,
     }

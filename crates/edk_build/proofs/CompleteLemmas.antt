@@ -2,7 +2,7 @@
 use Rattle.std.proofs.Common.{◌≡◌, ◌⊎◌, inl, inr, refl, ℕ, ◌++◌, List, [], ◌∷◌, Option, Some, None, Contains, subst, sym, arith}
 use Rattle.std.proofs.lemmas.List.Elements.{Contains-append_right}
 use Rattle.std.specs.Option.{IfSome, IsSomeAnd}
-use Rattle.build_base.specs.Outside.{Files, Emission, Rose}
+use Rattle.build_base.specs.Outside.{Files, Emission, HasFailed}
 use Rattle.build_base.specs.declared.outside.Got.{Got}
 use Rattle.build_base.specs.declared.outside.Got.TheVariants.{File, Absent, TooLong}
 use Rattle.build_base.specs.Spelling.{Output}
@@ -67,20 +67,20 @@ comes_misspelt files at Absent a b old new T F x = tt
 comes_misspelt files at TooLong a b old new T F x = tt
 
 told_complete : (files : Files) (at : List ℕ) (st : Status) (a b : List Key) (old new : Option (List Emission)) (tree tree' sink sink' : ℕ)
-    → IsReplayed (Some files) at st a b old new → Causes st tree tree' sink sink' → IsReplayComplete files at (Rose tree tree') (Rose sink sink') st
-told_complete files at answer.Done a b old new tree tree' sink sink' r c = always _ (AreWell files at (Rose tree tree') (Rose sink sink') answer.Done) (λ lines n t f. inl refl)
-told_complete files at answer.WantOfMemory a b old new tree tree' sink sink' r c = always _ (AreWell files at (Rose tree tree') (Rose sink sink') answer.WantOfMemory) (λ lines n t f. inr refl)
-told_complete files at answer.ReadFault a b old new tree tree' sink sink' r c = always _ (AreWell files at (Rose tree tree') (Rose sink sink') answer.ReadFault) (λ lines n t f. absurd (t c.read_fault))
-told_complete files at answer.WriteFault a b old new tree tree' sink sink' r c = always _ (AreWell files at (Rose tree tree') (Rose sink sink') answer.WriteFault) (λ lines n t f. absurd (f c.write_fault))
+    → IsReplayed (Some files) at st a b old new → Causes st tree tree' sink sink' → IsReplayComplete files at (HasFailed tree tree') (HasFailed sink sink') st
+told_complete files at answer.Done a b old new tree tree' sink sink' r c = always _ (AreWell files at (HasFailed tree tree') (HasFailed sink sink') answer.Done) (λ lines n t f. inl refl)
+told_complete files at answer.WantOfMemory a b old new tree tree' sink sink' r c = always _ (AreWell files at (HasFailed tree tree') (HasFailed sink sink') answer.WantOfMemory) (λ lines n t f. inr refl)
+told_complete files at answer.ReadFault a b old new tree tree' sink sink' r c = always _ (AreWell files at (HasFailed tree tree') (HasFailed sink sink') answer.ReadFault) (λ lines n t f. absurd (t c.read_fault))
+told_complete files at answer.WriteFault a b old new tree tree' sink sink' r c = always _ (AreWell files at (HasFailed tree tree') (HasFailed sink sink') answer.WriteFault) (λ lines n t f. absurd (f c.write_fault))
 told_complete files at answer.FileFault a b old new tree tree' sink sink' (inl u) c = absurd u.0
 told_complete files at answer.FileFault a b old new tree tree' sink sink' (inr r) c =
-    subst (λ g. IfSome (script_in g) (AreWell files at (Rose tree tree') (Rose sink sink') answer.FileFault)) r.1 (comes_faulty files at r.0 a b old new (Rose tree tree') (Rose sink sink') r.2)
+    subst (λ g. IfSome (script_in g) (AreWell files at (HasFailed tree tree') (HasFailed sink sink') answer.FileFault)) r.1 (comes_faulty files at r.0 a b old new (HasFailed tree tree') (HasFailed sink sink') r.2)
 told_complete files at answer.Usage a b old new tree tree' sink sink' (inl u) c = absurd u.0
 told_complete files at answer.Usage a b old new tree tree' sink sink' (inr r) c =
-    subst (λ g. IfSome (script_in g) (AreWell files at (Rose tree tree') (Rose sink sink') answer.Usage)) r.1 (comes_misspelt files at r.0 a b old new (Rose tree tree') (Rose sink sink') r.2)
+    subst (λ g. IfSome (script_in g) (AreWell files at (HasFailed tree tree') (HasFailed sink sink') answer.Usage)) r.1 (comes_misspelt files at r.0 a b old new (HasFailed tree tree') (HasFailed sink sink') r.2)
 
 pub replay_complete : (held : Option Files) (at : List ℕ) (st : Status) (a b : List Key) (old new : Option (List Emission)) (tree tree' sink sink' : ℕ)
-    → IsReplayed held at st a b old new → Causes st tree tree' sink sink' → IfSome held (λ files. IsReplayComplete files at (Rose tree tree') (Rose sink sink') st)
+    → IsReplayed held at st a b old new → Causes st tree tree' sink sink' → IfSome held (λ files. IsReplayComplete files at (HasFailed tree tree') (HasFailed sink sink') st)
 replay_complete None at st a b old new tree tree' sink sink' r c = tt
 replay_complete (Some files) at st a b old new tree tree' sink sink' r c = told_complete files at st a b old new tree tree' sink sink' r c
 

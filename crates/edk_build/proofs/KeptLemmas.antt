@@ -6,7 +6,7 @@ use Rattle.std.specs.Option.{IfSome}
 use Rattle.build_base.proofs.OptionLemmas.{some_then}
 use Rattle.build_base.proofs.SpellingLemmas.{SpellsCut-append, SpellsCut-more}
 use Rattle.build_base.specs.Keeping.{Stores}
-use Rattle.build_base.specs.Outside.{Emission, Files, Rose}
+use Rattle.build_base.specs.Outside.{Emission, Files, HasFailed}
 use Rattle.build_base.specs.Spelling.{Output, text, Spells, SpellsCut, Spelled, SpelledCut}
 use Rattle.build_base.specs.World.{World}
 use Rattle.build_base.specs.declared.fault.Fault.{Fault}
@@ -201,7 +201,7 @@ end_reads status left P own = own_ends status left (λ z. OnReadFault z P) own t
 stop_built : (stop : Stop) (held : Option Files) (job : Job) (cache : List (Entry Key Out)) (old new : Told)
     → IfSome old.kept (λ there. StandsFor there cache) → IfWriteFault {A = Status} (Err stop) (HasStopped held job cache old new)
     → IfUnwritten {A = Status} (Err stop) (new.kept ≡ old.kept) → IfUnwritten {A = Status} (Err stop) (new.written ≡ old.written)
-    → IfWriteFault {A = Status} (Err stop) (Rose old.sink new.sink ⊎ Rose old.keeper new.keeper) → HasBuilt held job (stop_status stop) old new
+    → IfWriteFault {A = Status} (Err stop) (HasFailed old.sink new.sink ⊎ HasFailed old.keeper new.keeper) → HasBuilt held job (stop_status stop) old new
 stop_built stop.ReadFault held job cache old new stands h kept written rose = record { ended = tt; stopped = tt; kept = kept; unwritten = written; no_usage = tt; sink_count = tt; keeper_count = tt; write_fault = tt }
 stop_built stop.WantOfMemory held job cache old new stands h kept written rose = record { ended = tt; stopped = tt; kept = kept; unwritten = written; no_usage = tt; sink_count = tt; keeper_count = tt; write_fault = tt }
 stop_built stop.WriteFault held job cache old new stands h kept written rose =
@@ -210,7 +210,7 @@ stop_built stop.WriteFault held job cache old new stands h kept written rose =
 pub built_stopped : (status : Status) (stop : Stop) (held : Option Files) (job : Job) (cache : List (Entry Key Out)) (old new : Told) → status ≡ stop_status stop
     → IfSome old.kept (λ there. StandsFor there cache) → IfWriteFault {A = Status} (Err stop) (HasStopped held job cache old new)
     → IfUnwritten {A = Status} (Err stop) (new.kept ≡ old.kept) → IfUnwritten {A = Status} (Err stop) (new.written ≡ old.written)
-    → IfWriteFault {A = Status} (Err stop) (Rose old.sink new.sink ⊎ Rose old.keeper new.keeper) → HasBuilt held job status old new
+    → IfWriteFault {A = Status} (Err stop) (HasFailed old.sink new.sink ⊎ HasFailed old.keeper new.keeper) → HasBuilt held job status old new
 built_stopped status stop held job cache old new e stands h kept written rose =
     subst (λ s. HasBuilt held job s old new) (sym e) (stop_built stop held job cache old new stands h kept written rose)
 
@@ -241,10 +241,10 @@ completes_at WriteFault (Some files) job (Some there) old new T K S ends read (i
 completes_at WantOfMemory (Some files) job (Some there) old new T K S ends read write usage = λ s o t f. inr refl
 
 -- where no object failed, and what is kept is sound
-pub completes : (status : Status) (held : Option Files) (job : Job) (old new : Told) (T : Type 0) → HasBuilt held job status old new → OnReadFault status (T ⊎ Rose old.keeper new.keeper)
-    → IfSome held (λ files. IfSome old.kept (λ there. IsSoundKept there → IsComplete (world_of files job) (T ⊎ Rose old.keeper new.keeper) (Rose old.sink new.sink) status))
+pub completes : (status : Status) (held : Option Files) (job : Job) (old new : Told) (T : Type 0) → HasBuilt held job status old new → OnReadFault status (T ⊎ HasFailed old.keeper new.keeper)
+    → IfSome held (λ files. IfSome old.kept (λ there. IsSoundKept there → IsComplete (world_of files job) (T ⊎ HasFailed old.keeper new.keeper) (HasFailed old.sink new.sink) status))
 completes status held job old new T b read =
-    completes_at status held job old.kept old new T (Rose old.keeper new.keeper) (Rose old.sink new.sink) b.ended read b.write_fault b.no_usage
+    completes_at status held job old.kept old new T (HasFailed old.keeper new.keeper) (HasFailed old.sink new.sink) b.ended read b.write_fault b.no_usage
 
 pub empty_sound : AreSound means []
 empty_sound k x h = absurd (omega arith)

@@ -1,7 +1,7 @@
 -- From what builds have done to what a selftest has done.
 use Rattle.std.proofs.Common.{◌≡◌, inl, inr, refl, sym, ◌∙◌, ℕ, ◌-◌, ◌++◌, List, [], ◌∷◌, Option, Some, None, true, arith, subst, Err}
 use Rattle.std.proofs.Common.{append-nil}
-use Rattle.build_base.specs.Outside.{Files, Emission, Rose}
+use Rattle.build_base.specs.Outside.{Files, Emission, HasFailed}
 use Rattle.build_base.specs.Path.{is_path, is_segment, is_dots, is_path_byte}
 use Rattle.build_base.specs.Spelling.{Output, Spelled, SpelledCut}
 use Rattle.build_base.specs.World.{World}
@@ -86,7 +86,7 @@ was_done t held es f old label st next a b before now h n e l sound x =
 pub record Halted (h : Option Files) (f : List (List ℕ)) (old : List (Entry Key Out)) (label : Label) (e : Stop) (a b : List Key) (before now : Option (List Emission)) : Type 0 where
   pub cut : IfWriteFault {A = Built} (Err e) ((w : World) → IsHere (setting means h f old) w → IsCutShort w old label before now)
   pub unwritten : IfUnwritten {A = Built} (Err e) (now ≡ before)
-  pub read_fault : IfReadFault {A = Built} (Err e) (Rose 0 0)
+  pub read_fault : IfReadFault {A = Built} (Err e) (HasFailed 0 0)
   pub ran : Ran (setting means h f old) key.All a b
 
 turn_stopped : (t : Turn) (f : List (List ℕ)) (old : List (Entry Key Out)) (label : Label) (e : Stop) (a b : List Key) (before now : Option (List Emission))
@@ -178,7 +178,7 @@ status_read_fault status.ReadFault x = x
 status_read_fault status.WriteFault x = tt
 status_read_fault status.WantOfMemory x = tt
 
-pub status_complete : (st : Status) (before now : ℕ) → IsSelftestStatus st → OnWriteFault st (Rose before now) → IsSelftestComplete (Rose before now) st
+pub status_complete : (st : Status) (before now : ℕ) → IsSelftestStatus st → OnWriteFault st (HasFailed before now) → IsSelftestComplete (HasFailed before now) st
 status_complete status.Done before now x f = λ no. inl refl
 status_complete status.FileFault before now x f = λ no. absurd x
 status_complete status.Usage before now x f = λ no. absurd x

@@ -3,7 +3,7 @@
 use Rattle.std.specs.Prelude.{◌≡◌, ◌⊎◌, ◌-◌, ◌++◌, ◌∷◌, [], ℕ, List, Option, Some, Ok, Err}
 use Rattle.std.specs.Option.{IfSome}
 use Rattle.build_base.specs.Keeping.{Stores}
-use Rattle.build_base.specs.Outside.{Files, Emission, Grew, Rose}
+use Rattle.build_base.specs.Outside.{Files, Emission, Grew, HasFailed}
 use Rattle.build_base.specs.Spelling.{Output, text, Spells, Spelled, SpelledCut}
 use Rattle.build_base.specs.World.{World}
 use Rattle.build_base.specs.declared.outside.KeeperFailed.TheVariants.{Failed}
@@ -48,7 +48,7 @@ pub record WroteAll (outputs : List Output) (line stored : List ℕ) (old new : 
 pub record FailedBefore (outputs : List Output) (old new : Told) : Type 0 where
   pub written : SpelledCut old.written new.written outputs
   pub kept : new.kept ≡ old.kept
-  pub sink : Rose old.sink new.sink
+  pub sink : HasFailed old.sink new.sink
   pub keeper : new.keeper ≡ old.keeper
 
 -- the store failed: all outputs were written, and what was kept, nothing or a prefix of the text is
@@ -57,7 +57,7 @@ pub record FailedAtStore (outputs : List Output) (stored : List ℕ) (old new : 
   pub written : Spelled old.written new.written outputs
   pub kept : Stores old.kept new.kept stored (Err Failed)
   pub sink : new.sink ≡ old.sink
-  pub keeper : Rose old.keeper new.keeper
+  pub keeper : HasFailed old.keeper new.keeper
 
 -- what is told grew by these outputs and by a prefix of a text
 abbrev pub SpelledThenCut : Option (List Emission) → Option (List Emission) → List Output → Target
@@ -73,7 +73,7 @@ pub record FailedBehind (outputs : List Output) (line stored : List ℕ) (old ne
     : Type 0 where
   pub written : SpelledThenCut old.written new.written outputs ToOut line
   pub kept : Stores old.kept new.kept stored (Ok tt)
-  pub sink : Rose old.sink new.sink
+  pub sink : HasFailed old.sink new.sink
   pub keeper : new.keeper ≡ old.keeper
 
 -- the first call that failed was the last
@@ -148,7 +148,8 @@ pub record HasBuilt (held : Option Files) (job : Job) (status : Status) (old new
   pub no_usage : OnUsage status ⊥
   pub sink_count : OnEnd status (new.sink ≡ old.sink)
   pub keeper_count : OnEnd status (new.keeper ≡ old.keeper)
-  pub write_fault : OnWriteFault status (Rose old.sink new.sink ⊎ Rose old.keeper new.keeper)
+  pub write_fault : OnWriteFault status
+      (HasFailed old.sink new.sink ⊎ HasFailed old.keeper new.keeper)
 
 -- Such a build ran each step at most once, and only where it was wanted, and all of these where it
 -- came to its end; it read each path at most once, and only where a needed step asks for it.

@@ -1,7 +1,7 @@
 -- Facts for some of the answers of a run.
 use Rattle.std.specs.Prelude.{◌≡◌, ◌⊎◌, ℕ, List, [], ◌∷◌, Option, codes}
 use Rattle.build_base.specs.declared.outside.Target.TheVariants.{Err as ToErr}
-use Rattle.build_base.specs.Outside.{Emission, Grew, GrewCut, Rose}
+use Rattle.build_base.specs.Outside.{Emission, Grew, GrewCut, HasFailed}
 use Rattle.edk_build.specs.declared.status.Status.{Status}
 use Rattle.edk_build.specs.declared.status.Status.TheVariants.{Done, FileFault, Usage, ReadFault, WriteFault, WantOfMemory}
 
@@ -50,8 +50,8 @@ OnBuild _ P = P
 -- what a status says of the counts of faults of the tree and of the sink
 pub record Causes (status : Status) (tree tree' sink sink' : ℕ) : Type 0 where
   pub ended : OnEnd status ((tree' ≡ tree) × (sink' ≡ sink))
-  pub read_fault : OnReadFault status (Rose tree tree')
-  pub write_fault : OnWriteFault status (Rose sink sink')
+  pub read_fault : OnReadFault status (HasFailed tree tree')
+  pub write_fault : OnWriteFault status (HasFailed sink sink')
 
 abbrev pub usage : List ℕ
 usage = codes "usage\n"
@@ -60,4 +60,4 @@ usage = codes "usage\n"
 abbrev pub IsUsageTold : ℕ → ℕ → Option (List Emission) → Option (List Emission) → Type 0
 IsUsageTold before now old new =
     ((now ≡ before) × Grew old new ((ToErr, usage) ∷ []))
-    ⊎ (Rose before now × GrewCut old new ToErr usage)
+    ⊎ (HasFailed before now × GrewCut old new ToErr usage)

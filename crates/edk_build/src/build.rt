@@ -1,6 +1,6 @@
 //! One build, from the cache that the last one left.
 ghost use Rattle.std.specs.Prelude.{◌≡◌, ◌≤◌, ◌-◌, true, length, IfOk, OnOk, OnErr};
-ghost use Rattle.build_base.specs.Outside.{Rose};
+ghost use Rattle.build_base.specs.Outside.{HasFailed};
 ghost use Rattle.build_base.specs.Spelling.{Spelled, SpelledCut};
 ghost use Rattle.build_base.specs.World.{World};
 ghost use Rattle.step_engine.specs.Build.{setting, IsEntryOf, IsHere, Ran, RanAll, HasRead};
@@ -54,7 +54,7 @@ fn emit<S: Sink>(
     ensures own { IfOk result (λ s. s ≡ result_status given.now) }
     ensures count { OnOk result (S.faults sink.new ≡ S.faults sink.old) }
     ensures read_fault { IfReadFault result ⊥ }
-    ensures write_fault { IfWriteFault result (Rose (S.faults sink.old) (S.faults sink.new)) }
+    ensures write_fault { IfWriteFault result (HasFailed (S.faults sink.old) (S.faults sink.new)) }
     ensures unwritten { IfUnwritten result (S.written sink.new ≡ S.written sink.old) }
 {
     let Ok(ready) = make_ready(alloc, label, given, cache, steps, reused) else {
@@ -105,7 +105,7 @@ pub(crate) fn bring_all<H: Threads + Sync, T: Tree, G: Gate>(
     ensures unchanged { IfOk result (λ b. b.unchanged ≡ true → b.cache ≡ cache) }
     ensures held { T.held tree.new ≡ T.held tree.old }
     ensures tree_count { OnOk result (T.faults tree.new ≡ T.faults tree.old) }
-    ensures read_fault { IfReadFault result (Rose (T.faults tree.old) (T.faults tree.new)) }
+    ensures read_fault { IfReadFault result (HasFailed (T.faults tree.old) (T.faults tree.new)) }
     ensures no_write { IfWriteFault result ⊥ }
 
     // Each step once, and only where wanted.
@@ -185,8 +185,8 @@ pub fn build<H: Threads + Sync, T: Tree, S: Sink, G: Gate>(
     ensures held { T.held tree.new ≡ T.held tree.old }
     ensures tree_count { OnOk result (T.faults tree.new ≡ T.faults tree.old) }
     ensures sink_count { OnOk result (S.faults sink.new ≡ S.faults sink.old) }
-    ensures read_fault { IfReadFault result (Rose (T.faults tree.old) (T.faults tree.new)) }
-    ensures write_fault { IfWriteFault result (Rose (S.faults sink.old) (S.faults sink.new)) }
+    ensures read_fault { IfReadFault result (HasFailed (T.faults tree.old) (T.faults tree.new)) }
+    ensures write_fault { IfWriteFault result (HasFailed (S.faults sink.old) (S.faults sink.new)) }
     ensures unwritten { IfUnwritten result (S.written sink.new ≡ S.written sink.old) }
 
     // Each step once, and only where wanted.

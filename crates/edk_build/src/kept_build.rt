@@ -1,6 +1,6 @@
 //! One build from the cache that is kept, and what is kept after it.
 ghost use Rattle.std.specs.Prelude.{◌≡◌, ◌⊎◌, ℕ, List, true, Some, IfOk, OnOk, IfSome};
-ghost use Rattle.build_base.specs.Outside.{Rose};
+ghost use Rattle.build_base.specs.Outside.{HasFailed};
 ghost use Rattle.build_rules.specs.Rules.{is_job};
 ghost use Rattle.build_words.specs.Fields.{job_fields};
 ghost use Rattle.build_rules.specs.Adopting.{adopted};
@@ -74,7 +74,8 @@ fn load_cache<K: Keeper>(alloc: Global, keeper: &mut K) -> Result<Loaded, Stop>
     ensures text { IfOk result (λ l. l.is_text ≡ true → HasText (K.kept keeper.old) l.cache) }
     ensures kept { K.kept keeper.new ≡ K.kept keeper.old }
     ensures count { OnOk result (K.faults keeper.new ≡ K.faults keeper.old) }
-    ensures read_fault { IfReadFault result (Rose (K.faults keeper.old) (K.faults keeper.new)) }
+    ensures read_fault { IfReadFault result
+        (HasFailed (K.faults keeper.old) (K.faults keeper.new)) }
     ensures no_write { IfWriteFault result ⊥ }
 {
     match keeper.load() {
@@ -108,8 +109,8 @@ fn write_kept<S: Sink, K: Keeper>(
     ensures sink_count { OnOk result (S.faults sink.new ≡ S.faults sink.old) }
     ensures keeper_count { OnOk result (K.faults keeper.new ≡ K.faults keeper.old) }
     ensures write_fault { IfWriteFault result
-        (Rose (S.faults sink.old) (S.faults sink.new)
-        ⊎ Rose (K.faults keeper.old) (K.faults keeper.new)) }
+        (HasFailed (S.faults sink.old) (S.faults sink.new)
+        ⊎ HasFailed (K.faults keeper.old) (K.faults keeper.new)) }
     ensures no_other { IfUnwritten result ⊥ }
 {
     if ready.write_outputs(sink).is_err() {
@@ -139,7 +140,7 @@ fn write_again<S: Sink, K: Keeper>(
         (told (S.written to.old) (K.kept keeper.now) (S.faults to.old) (K.faults keeper.now))
         (told (S.written to.new) (K.kept keeper.now) (S.faults to.new) (K.faults keeper.now))) }
     ensures sink_count { OnOk result (S.faults to.new ≡ S.faults to.old) }
-    ensures write_fault { IfWriteFault result (Rose (S.faults to.old) (S.faults to.new)) }
+    ensures write_fault { IfWriteFault result (HasFailed (S.faults to.old) (S.faults to.new)) }
     ensures no_other { IfUnwritten result ⊥ }
 {
     if ready.write_outputs(to).is_err() {
@@ -175,8 +176,8 @@ fn emit_stored<S: Sink, K: Keeper>(
     ensures sink_count { OnOk result (S.faults sink.new ≡ S.faults sink.old) }
     ensures keeper_count { OnOk result (K.faults keeper.new ≡ K.faults keeper.old) }
     ensures write_fault { IfWriteFault result
-        (Rose (S.faults sink.old) (S.faults sink.new)
-        ⊎ Rose (K.faults keeper.old) (K.faults keeper.new)) }
+        (HasFailed (S.faults sink.old) (S.faults sink.new)
+        ⊎ HasFailed (K.faults keeper.old) (K.faults keeper.new)) }
     ensures no_read { IfReadFault result ⊥ }
     ensures unwritten { IfUnwritten result (S.written sink.new ≡ S.written sink.old) }
     ensures kept { IfUnwritten result (K.kept keeper.new ≡ K.kept keeper.old) }
@@ -227,7 +228,7 @@ fn emit_again<S: Sink, K: Keeper>(
         (K.faults keeper.now)))) }
     ensures status { IfOk result (λ s. s ≡ result_status brought.now.given) }
     ensures sink_count { OnOk result (S.faults sink.new ≡ S.faults sink.old) }
-    ensures write_fault { IfWriteFault result (Rose (S.faults sink.old) (S.faults sink.new)) }
+    ensures write_fault { IfWriteFault result (HasFailed (S.faults sink.old) (S.faults sink.new)) }
     ensures no_read { IfReadFault result ⊥ }
     ensures unwritten { IfUnwritten result (S.written sink.new ≡ S.written sink.old) }
 {
@@ -277,8 +278,8 @@ fn emit_kept<S: Sink, K: Keeper>(
     ensures sink_count { OnOk result (S.faults sink.new ≡ S.faults sink.old) }
     ensures keeper_count { OnOk result (K.faults keeper.new ≡ K.faults keeper.old) }
     ensures write_fault { IfWriteFault result
-        (Rose (S.faults sink.old) (S.faults sink.new)
-        ⊎ Rose (K.faults keeper.old) (K.faults keeper.new)) }
+        (HasFailed (S.faults sink.old) (S.faults sink.new)
+        ⊎ HasFailed (K.faults keeper.old) (K.faults keeper.new)) }
     ensures no_read { IfReadFault result ⊥ }
     ensures unwritten { IfUnwritten result (S.written sink.new ≡ S.written sink.old) }
     ensures kept { IfUnwritten result (K.kept keeper.new ≡ K.kept keeper.old) }
@@ -330,10 +331,10 @@ fn build_from<H: Threads + Sync, T: Tree, S: Sink, K: Keeper, G: Gate>(
     ensures tree_count { OnOk result (T.faults tree.new ≡ T.faults tree.old) }
     ensures sink_count { OnOk result (S.faults sink.new ≡ S.faults sink.old) }
     ensures keeper_count { OnOk result (K.faults keeper.new ≡ K.faults keeper.old) }
-    ensures read_fault { IfReadFault result (Rose (T.faults tree.old) (T.faults tree.new)) }
+    ensures read_fault { IfReadFault result (HasFailed (T.faults tree.old) (T.faults tree.new)) }
     ensures write_fault { IfWriteFault result
-        (Rose (S.faults sink.old) (S.faults sink.new)
-        ⊎ Rose (K.faults keeper.old) (K.faults keeper.new)) }
+        (HasFailed (S.faults sink.old) (S.faults sink.new)
+        ⊎ HasFailed (K.faults keeper.old) (K.faults keeper.new)) }
     ensures ran { Ran (setting means (T.held tree.old) (job_fields job.now) loaded.cache) All
         book.old book.new }
     ensures all { OnOk result
@@ -382,16 +383,16 @@ pub(crate) fn build_kept<H: Threads + Sync, T: Tree, S: Sink, K: Keeper, G: Gate
     ensures held { T.held tree.new ≡ T.held tree.old }
     ensures tree_count { OnEnd result (T.faults tree.new ≡ T.faults tree.old) }
     ensures read_fault { OnReadFault result
-        (Rose (T.faults tree.old) (T.faults tree.new)
-        ⊎ Rose (K.faults keeper.old) (K.faults keeper.new)) }
+        (HasFailed (T.faults tree.old) (T.faults tree.new)
+        ⊎ HasFailed (K.faults keeper.old) (K.faults keeper.new)) }
 
     // Where what is kept is sound.
     ensures complete { IfSome (T.held tree.old)
         (λ files. IfSome (K.kept keeper.old) (λ kept. IsSoundKept kept →
         IsComplete (world_of files job.now)
-        (Rose (T.faults tree.old) (T.faults tree.new)
-        ⊎ Rose (K.faults keeper.old) (K.faults keeper.new))
-        (Rose (S.faults sink.old) (S.faults sink.new)) result)) }
+        (HasFailed (T.faults tree.old) (T.faults tree.new)
+        ⊎ HasFailed (K.faults keeper.old) (K.faults keeper.new))
+        (HasFailed (S.faults sink.old) (S.faults sink.new)) result)) }
     ensures stays_sound { StaysSound (K.kept keeper.old) (K.kept keeper.new) }
 {
     let loaded = match load_cache(alloc, keeper) {

@@ -1,6 +1,6 @@
 //! A replay: the edits and builds of a script, one after the other.
 ghost use Rattle.std.specs.Prelude.{◌≡◌, ◌⊎◌, None, Some, true, ℕ, List, IfOk, IfErr, OnOk};
-ghost use Rattle.build_base.specs.Outside.{Rose};
+ghost use Rattle.build_base.specs.Outside.{HasFailed};
 ghost use Rattle.build_base.specs.FaultText.{fault_of, fault_text};
 ghost use Rattle.step_engine.specs.Entries.{AreSound};
 ghost use Rattle.build_rules.specs.Rules.{is_job};
@@ -65,7 +65,7 @@ fn tell_fault<S: Sink>(
     ensures told { IsTold (fault_of code (record { path = path.now; line = line }) detail.now)
         result (S.written sink.old) (S.written sink.new) }
     ensures count { OnEnd result (S.faults sink.new ≡ S.faults sink.old) }
-    ensures write_fault { OnWriteFault result (Rose (S.faults sink.old) (S.faults sink.new)) }
+    ensures write_fault { OnWriteFault result (HasFailed (S.faults sink.old) (S.faults sink.new)) }
 {
     let Ok(message) = message_of(alloc, code, path, line, detail) else {
         return Status::WantOfMemory;

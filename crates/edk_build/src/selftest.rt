@@ -1,6 +1,6 @@
 //! A selftest: three builds of a workspace in memory, the third after an edit.
 ghost use Rattle.std.specs.Prelude.{◌≡◌, ◌∷◌, [], ℕ, Some, true, IfOk, IfErr, OnOk};
-ghost use Rattle.build_base.specs.Outside.{Files, Rose};
+ghost use Rattle.build_base.specs.Outside.{Files, HasFailed};
 ghost use Rattle.step_engine.specs.Entries.{AreSound};
 ghost use Rattle.build_words.specs.Fields.{job_fields};
 ghost use Rattle.selftest_tree.specs.Tree.{workspace, edited_workspace};
@@ -198,7 +198,8 @@ pub fn selftest<H: Threads + Sync, S: Sink, G: Gate>(
 ) -> Status
     ensures built { IsSelftest n result book.old book.new (S.written sink.old)
         (S.written sink.new) }
-    ensures complete { IsSelftestComplete (Rose (S.faults sink.old) (S.faults sink.new)) result }
+    ensures complete { IsSelftestComplete
+        (HasFailed (S.faults sink.old) (S.faults sink.new)) result }
     ensures status { IsSelftestStatus result }
     ensures no_usage { OnUsage result ⊥ }
     ensures no_read_fault { OnReadFault result ⊥ }

@@ -1,6 +1,6 @@
 //! The top call.
 ghost use Rattle.std.specs.Prelude.{◌≡◌, ◌⊎◌, None, map, string_bytes, IfSome, IsSome};
-ghost use Rattle.build_base.specs.Outside.{Rose};
+ghost use Rattle.build_base.specs.Outside.{HasFailed};
 ghost use Rattle.step_engine.specs.Build.{setting, Ran, RanAll, HasRead};
 ghost use Rattle.step_pack.specs.declared.key.Key.TheVariants.{All};
 ghost use Rattle.edk_build.specs.Building.{means};
@@ -58,9 +58,9 @@ pub fn run<H: Threads + Sync, T: Tree, S: Sink, K: Keeper, G: Gate>(
     ensures complete { IfBuild (command_of (map string_bytes words.now))
         (λ job. IfSome (T.held tree.old)
         (λ files. IfSome (K.kept keeper.old) (λ kept. IsSoundKept kept →
-        IsComplete (world_of files job) (Rose (T.faults tree.old) (T.faults tree.new)
-        ⊎ Rose (K.faults keeper.old) (K.faults keeper.new))
-        (Rose (S.faults sink.old) (S.faults sink.new)) result))) }
+        IsComplete (world_of files job) (HasFailed (T.faults tree.old) (T.faults tree.new)
+        ⊎ HasFailed (K.faults keeper.old) (K.faults keeper.new))
+        (HasFailed (S.faults sink.old) (S.faults sink.new)) result))) }
     ensures ran { IfBuild (command_of (map string_bytes words.now)) (λ job. (book.new ≡ book.old)
         ⊎ OfKept (K.kept keeper.old)
         (λ cache. Ran (setting means (T.held tree.old) (job_fields job) cache) All book.old
@@ -89,14 +89,14 @@ pub fn run<H: Threads + Sync, T: Tree, S: Sink, K: Keeper, G: Gate>(
         (S.written sink.new)) }
     ensures replay_complete { IfReplay (command_of (map string_bytes words.now))
         (λ at. IfSome (T.held tree.old) (λ files.
-        IsReplayComplete files at (Rose (T.faults tree.old) (T.faults tree.new))
-        (Rose (S.faults sink.old) (S.faults sink.new)) result)) }
+        IsReplayComplete files at (HasFailed (T.faults tree.old) (T.faults tree.new))
+        (HasFailed (S.faults sink.old) (S.faults sink.new)) result)) }
 
     // A selftest, for which the tree isn't asked.
     ensures selftest { IfSelftest (command_of (map string_bytes words.now)) (λ n.
         IsSelftest n result book.old book.new (S.written sink.old) (S.written sink.new)) }
     ensures selftest_complete { IfSelftest (command_of (map string_bytes words.now)) (λ n.
-        IsSelftestComplete (Rose (S.faults sink.old) (S.faults sink.new)) result) }
+        IsSelftestComplete (HasFailed (S.faults sink.old) (S.faults sink.new)) result) }
     ensures selftest_status { IfSelftest (command_of (map string_bytes words.now))
         (λ n. IsSelftestStatus result) }
     ensures selftest_tree { IfSelftest (command_of (map string_bytes words.now))
@@ -123,12 +123,12 @@ pub fn run<H: Threads + Sync, T: Tree, S: Sink, K: Keeper, G: Gate>(
     ensures tree_count { OnEnd result (T.faults tree.new ≡ T.faults tree.old) }
     ensures sink_count { OnEnd result (S.faults sink.new ≡ S.faults sink.old) }
     ensures keeper_count { OnEnd result (K.faults keeper.new ≡ K.faults keeper.old) }
-    ensures read_fault { OnReadFault result (Rose (T.faults tree.old) (T.faults tree.new)
+    ensures read_fault { OnReadFault result (HasFailed (T.faults tree.old) (T.faults tree.new)
         ⊎ OfBuild (command_of (map string_bytes words.now))
-        (Rose (K.faults keeper.old) (K.faults keeper.new))) }
-    ensures write_fault { OnWriteFault result (Rose (S.faults sink.old) (S.faults sink.new)
+        (HasFailed (K.faults keeper.old) (K.faults keeper.new))) }
+    ensures write_fault { OnWriteFault result (HasFailed (S.faults sink.old) (S.faults sink.new)
         ⊎ OfBuild (command_of (map string_bytes words.now))
-        (Rose (K.faults keeper.old) (K.faults keeper.new))) }
+        (HasFailed (K.faults keeper.old) (K.faults keeper.new))) }
     ensures held { T.held tree.new ≡ T.held tree.old }
 {
     match command_of(alloc, words) {

@@ -2,7 +2,7 @@
 ghost use Rattle.std.specs.Prelude.{◌≡◌, Some};
 ghost use Rattle.build_base.specs.Answer.{Answers, Finds};
 ghost use Rattle.build_base.specs.FaultText.{fault_of};
-ghost use Rattle.build_base.specs.Outside.{Rose};
+ghost use Rattle.build_base.specs.Outside.{HasFailed};
 ghost use Rattle.volume_reader.specs.Listing.{whole_file};
 ghost use Rattle.edk_build.specs.History.{IsTold};
 ghost use Rattle.edk_build.specs.Statuses.{OnEnd, OnUsage, OnUnwritten, OnWriteFault, Causes};
@@ -45,7 +45,7 @@ fn listing_got(alloc: Global, path: &Path, got: &Got) -> Result<Text, Refusal>
 fn tell_listing<S: Sink>(listing: &Text, sink: &mut S) -> Status
     ensures listed { IsListed listing.now result (S.written sink.old) (S.written sink.new) }
     ensures count { OnEnd result (S.faults sink.new ≡ S.faults sink.old) }
-    ensures write_fault { OnWriteFault result (Rose (S.faults sink.old) (S.faults sink.new)) }
+    ensures write_fault { OnWriteFault result (HasFailed (S.faults sink.old) (S.faults sink.new)) }
 {
     match write_text(sink, &Target::Out, listing) {
         Ok(()) => Status::Done,
@@ -57,7 +57,7 @@ fn tell_listing<S: Sink>(listing: &Text, sink: &mut S) -> Status
 fn tell_refused<S: Sink>(alloc: Global, fault: &Fault, sink: &mut S) -> Status
     ensures told { IsTold fault.now result (S.written sink.old) (S.written sink.new) }
     ensures count { OnEnd result (S.faults sink.new ≡ S.faults sink.old) }
-    ensures write_fault { OnWriteFault result (Rose (S.faults sink.old) (S.faults sink.new)) }
+    ensures write_fault { OnWriteFault result (HasFailed (S.faults sink.old) (S.faults sink.new)) }
 {
     let Ok(message) = fault_text(alloc, fault) else {
         return Status::WantOfMemory;

@@ -28,7 +28,7 @@ use Rattle.fdf_words.specs.declared.rows.Scope.{Scope}
 use Rattle.fdf_words.specs.declared.rows.Scope.TheVariants as scope
 use Rattle.fdf_lines.specs.declared.section.FlashSection.{FlashSection}
 use Rattle.fdf_lines.specs.declared.section.FlashSection.TheVariants.{Defines, Device, Volume, Rule}
-use Rattle.fdf_lines.specs.declared.section.HeadMeaning.TheVariants.{Enters, Misqualified}
+use Rattle.fdf_lines.specs.declared.section.HeadMeaning.TheVariants.{Enters, BadQualifier}
 use Rattle.fdf_lines.specs.Counts.{count_of, one_if, same_section, one_scope, scopes_in, heads_above, is_named, one_head, heads_here, is_statement, begins_statement, statements_in, lines_here, statements_here}
 use Rattle.fdf_lines.specs.Grammar.{line_faults, line_row, is_full, many_fault, open_fault, unfiled_fault, flash_grammar}
 use Rattle.fdf_lines.specs.Holding.{Holds}
@@ -52,7 +52,7 @@ no_more n = omega arith
 same_count : (n : ℕ) → n ≤ n
 same_count n = omega arith
 
-if_enters : (section : FlashSection) (t : Bool) (s : Scope) → scopes_of section (meaning_scope (if t then Enters s else Misqualified)) ≤ one_scope section s
+if_enters : (section : FlashSection) (t : Bool) (s : Scope) → scopes_of section (meaning_scope (if t then Enters s else BadQualifier)) ≤ one_scope section s
 if_enters section true s = same_count (one_scope section s)
 if_enters section false s = no_more (one_scope section s)
 

@@ -17,7 +17,7 @@ use Rattle.fdf_words.specs.declared.rows.Scope.TheVariants as scope
 use Rattle.fdf_lines.specs.declared.section.FlashSection.{FlashSection}
 use Rattle.fdf_lines.specs.declared.section.FlashSection.TheVariants.{Defines, Device, Volume, Rule}
 use Rattle.fdf_lines.specs.declared.section.HeadMeaning.{HeadMeaning}
-use Rattle.fdf_lines.specs.declared.section.HeadMeaning.TheVariants.{Enters, Passed, Misqualified, BadRule, Unknown}
+use Rattle.fdf_lines.specs.declared.section.HeadMeaning.TheVariants.{Enters, Passed, BadQualifier, BadRule, Unknown}
 use Rattle.build_base.specs.FaultCodes.{BAD_KEY, BAD_RULE, BAD_SECTION}
 
 -- the sections that there are, without regard to case; those with None are read past
@@ -43,16 +43,16 @@ is_image_name text = nat_lt 0 (length text) && nat_le (length text) 64 && list_a
 
 abbrev pub plain_meaning : List (List ℕ) → HeadMeaning
 plain_meaning [] = Enters scope.Settings
-plain_meaning (qualifier ∷ qualifiers) = Misqualified
+plain_meaning (qualifier ∷ qualifiers) = BadQualifier
 
 -- one qualifier, which is a name
 abbrev pub device_meaning : List (List ℕ) → HeadMeaning
-device_meaning (name ∷ []) = if is_image_name name then Enters (scope.Device name) else Misqualified
-device_meaning qualifiers = Misqualified
+device_meaning (name ∷ []) = if is_image_name name then Enters (scope.Device name) else BadQualifier
+device_meaning qualifiers = BadQualifier
 
 abbrev pub volume_meaning : List (List ℕ) → HeadMeaning
-volume_meaning (name ∷ []) = if is_image_name name then Enters (scope.Volume name) else Misqualified
-volume_meaning qualifiers = Misqualified
+volume_meaning (name ∷ []) = if is_image_name name then Enters (scope.Volume name) else BadQualifier
+volume_meaning qualifiers = BadQualifier
 
 abbrev pub rule_scope : Option Arch → Option ModuleType → Bool → List ℕ → List ℕ → HeadMeaning
 rule_scope (Some arch) (Some kind) named template name =
@@ -89,7 +89,7 @@ unfoldable pub head_meaning : Head → HeadMeaning
 head_meaning head = parts_meaning head.parts
 
 abbrev pub meaning_faults : Taken → Head → HeadMeaning → List (Option Fault)
-meaning_faults line head Misqualified = Some (fault_of BAD_SECTION line.at line.text) ∷ []
+meaning_faults line head BadQualifier = Some (fault_of BAD_SECTION line.at line.text) ∷ []
 meaning_faults line head BadRule = Some (fault_of BAD_RULE line.at line.text) ∷ []
 meaning_faults line head Unknown = Some (fault_of BAD_KEY line.at (first_text head.parts)) ∷ []
 meaning_faults line head (Enters scope) = []
@@ -98,6 +98,6 @@ meaning_faults line head Passed = []
 abbrev pub meaning_scope : HeadMeaning → Option Scope
 meaning_scope (Enters scope) = Some scope
 meaning_scope Passed = None
-meaning_scope Misqualified = None
+meaning_scope BadQualifier = None
 meaning_scope BadRule = None
 meaning_scope Unknown = None

@@ -31,7 +31,7 @@ pub enum FlashSection {
 pub enum HeadMeaning {
     Enters(Scope),
     Passed,
-    Misqualified,
+    BadQualifier,
     BadRule,
     Unknown,
 }
@@ -82,7 +82,7 @@ fn plain_meaning(qualifiers: &[Text]) -> HeadMeaning
 {
     match qualifiers {
         [] => HeadMeaning::Enters(Scope::Settings),
-        _ => HeadMeaning::Misqualified,
+        _ => HeadMeaning::BadQualifier,
     }
 }
 
@@ -94,9 +94,9 @@ fn device_meaning(alloc: Global, qualifiers: &[Text]) -> Result<HeadMeaning, Wan
             if is_image_name(name.bytes()) {
                 return Ok(HeadMeaning::Enters(Scope::Device(Text::of(alloc, name.bytes())?)));
             }
-            Ok(HeadMeaning::Misqualified)
+            Ok(HeadMeaning::BadQualifier)
         }
-        _ => Ok(HeadMeaning::Misqualified),
+        _ => Ok(HeadMeaning::BadQualifier),
     }
 }
 
@@ -108,9 +108,9 @@ fn volume_meaning(alloc: Global, qualifiers: &[Text]) -> Result<HeadMeaning, Wan
             if is_image_name(name.bytes()) {
                 return Ok(HeadMeaning::Enters(Scope::Volume(Text::of(alloc, name.bytes())?)));
             }
-            Ok(HeadMeaning::Misqualified)
+            Ok(HeadMeaning::BadQualifier)
         }
-        _ => Ok(HeadMeaning::Misqualified),
+        _ => Ok(HeadMeaning::BadQualifier),
     }
 }
 
@@ -235,7 +235,7 @@ fn enter_as(
     match meaning {
         HeadMeaning::Enters(scope) => Ok(Some(scope)),
         HeadMeaning::Passed => Ok(None),
-        HeadMeaning::Misqualified => Err(refuse(alloc, BAD_SECTION, &line.at, line.text.bytes())),
+        HeadMeaning::BadQualifier => Err(refuse(alloc, BAD_SECTION, &line.at, line.text.bytes())),
         HeadMeaning::BadRule => Err(refuse(alloc, BAD_RULE, &line.at, line.text.bytes())),
         HeadMeaning::Unknown => Err(refuse(
             alloc,

@@ -9,7 +9,7 @@ use Rattle.build_base.specs.declared.fault.Fault.{Fault}
 use Rattle.build_base.specs.declared.guid.Guid.{Guid}
 use Rattle.build_base.specs.declared.lines.Taken.{Taken}
 use Rattle.meta_lexer.specs.Lookup.{lookup}
-use Rattle.meta_lexer.specs.Words.{holds_macro}
+use Rattle.meta_lexer.specs.Words.{has_macro_use}
 use Rattle.doc_reading.specs.ValueFields.{undefined_macro}
 use Rattle.doc_reading.specs.Values.{require}
 use Rattle.doc_types.specs.Standard.{EFI_FV_FILETYPE_APPLICATION, EFI_FV_FILETYPE_DRIVER, EFI_FV_FILETYPE_DXE_CORE, EFI_FV_FILETYPE_FIRMWARE_VOLUME_IMAGE, EFI_FV_FILETYPE_FREEFORM, EFI_FV_FILETYPE_MM, EFI_FV_FILETYPE_MM_CORE, EFI_FV_FILETYPE_PEIM, EFI_FV_FILETYPE_PEI_CORE, EFI_FV_FILETYPE_RAW, EFI_FV_FILETYPE_SECURITY_CORE}
@@ -28,7 +28,7 @@ no_form_faults code line = undefined_macro line.at line.text ∷ Some (bad_line 
 
 -- a macro that is left before a field at the line's end
 abbrev pub macro_before : Taken → List ℕ → Option Fault
-macro_before line field = if holds_macro (take (length line.text - length field) line.text)
+macro_before line field = if has_macro_use (take (length line.text - length field) line.text)
     then Some (bad_line UNDEFINED_MACRO line) else None
 
 -- a volume has at most 65,535 statements

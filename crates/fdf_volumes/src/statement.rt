@@ -28,7 +28,7 @@ use fdf_words::number::{bad_line, no_form};
 use fdf_words::rows::{AprioriHead, FileHead, Row};
 use fdf_words::words::{Options, after_equals, before_brace, first_word, options_of};
 use meta_lexer::lookup;
-use meta_lexer::words::holds_macro;
+use meta_lexer::words::has_macro_use;
 use std::alloc::Global;
 
 const FILE_TYPES: [(&[u8], u8); 11] = [
@@ -53,7 +53,7 @@ pub fn macro_before(alloc: Global, line: &Taken, field: &[u8]) -> Result<(), Ref
 {
     let text = line.text.bytes();
     let end = text.len().saturating_sub(field.len());
-    if holds_macro(&text[..end]) {
+    if has_macro_use(&text[..end]) {
         return Err(bad_line(alloc, UNDEFINED_MACRO, line));
     }
     Ok(())

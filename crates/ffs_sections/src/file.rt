@@ -105,7 +105,7 @@ fn bytes(
 }
 
 // The same, with a header of the length that it states.
-fn shaped(
+fn file_bytes(
     alloc: Global,
     plan: &LentPlan<'_>,
     name: &[u8; 16],
@@ -135,7 +135,7 @@ fn image(alloc: Global, plan: &LentPlan<'_>, body: &[u8]) -> Result<FileImage, W
         at: plan.at.copy(alloc)?,
         guid: plan.guid,
         align: step_align(step),
-        bytes: shaped(alloc, plan, &plan.guid.0, body, step)?,
+        bytes: file_bytes(alloc, plan, &plan.guid.0, body, step)?,
     })
 }
 
@@ -187,7 +187,7 @@ fn whole_image(alloc: Global, plan: &LentPlan<'_>, body: &[u8]) -> Result<FileIm
 }
 
 // The file of a plan that is known to fit.
-fn made(alloc: Global, plan: &LentPlan<'_>) -> Result<FileImage, Refusal>
+fn make_file(alloc: Global, plan: &LentPlan<'_>) -> Result<FileImage, Refusal>
     requires { is_ok (file_length plan.now) ≡ true }
     ensures value { Answers result (file_of plan.now) }
     ensures shape { IfOk result IsFileImage }
@@ -214,7 +214,7 @@ pub fn file_of_lent(
 {
     let _spent = permit;
     match file_length(alloc, plan) {
-        Ok(_) => made(alloc, plan),
+        Ok(_) => make_file(alloc, plan),
         Err(refusal) => Err(refusal),
     }
 }

@@ -63,7 +63,7 @@ impl<'a> LentContent<'a> {
     }
 
     /// A text and the bytes behind it, which are a part of a file.
-    pub fn joined(front: Text, back: &'a [u8]) -> Result<LentContent<'a>, WantOfMemory>
+    pub fn of_parts(front: Text, back: &'a [u8]) -> Result<LentContent<'a>, WantOfMemory>
         ensures { IfOk result (λ content. content ≡ front ++ back.now) }
     {
         if front.bytes().len() as u64 + back.len() as u64 >= 0x8000_0000_0000_0000 {

@@ -448,9 +448,9 @@ line_row_fits line marks s =
     ]
 
 -- heads
-named_scope : (text : List ℕ) (s : Scope) → (is_image_name text ≡ true → ScopeFits s) → IfSome (meaning_scope (if is_image_name text then meaning.Enters s else meaning.Misqualified)) ScopeFits
+named_scope : (text : List ℕ) (s : Scope) → (is_image_name text ≡ true → ScopeFits s) → IfSome (meaning_scope (if is_image_name text then meaning.Enters s else meaning.BadQualifier)) ScopeFits
 named_scope text s h =
-    elim (is_image_name text) as (λ b. (b ≡ true → ScopeFits s) → IfSome (meaning_scope (if b then meaning.Enters s else meaning.Misqualified)) ScopeFits) [
+    elim (is_image_name text) as (λ b. (b ≡ true → ScopeFits s) → IfSome (meaning_scope (if b then meaning.Enters s else meaning.BadQualifier)) ScopeFits) [
       | true ↦ λ f. f refl
       | false ↦ λ f. tt
     ] h

@@ -64,13 +64,13 @@ full_fault plan top taken =
     }
 
 -- a fault with the volume's name
-abbrev pub named : ℕ → Place → VolumeHead → Fault
-named code place plan = record { code = code; place = place; detail = plan.name }
+abbrev pub volume_fault : ℕ → Place → VolumeHead → Fault
+volume_fault code place plan = record { code = code; place = place; detail = plan.name }
 
 -- a top file after another
 abbrev pub later_fault : VolumeHead → List FileImage → Option Fault
 later_fault plan [] = None
-later_fault plan (file ∷ files) = Some (named TOP_FILE_TWICE file.at plan)
+later_fault plan (file ∷ files) = Some (volume_fault TOP_FILE_TWICE file.at plan)
 
 abbrev pub twice_fault : VolumeHead → List FileImage → Option Fault
 twice_fault plan files = later_fault plan (drop 1 (top_files files))
@@ -81,7 +81,7 @@ start_fault plan start file =
     first_holding
     ((
       not (start % 8 == 0 && (start + header_len file.bytes) % file.align == 0),
-      named TOP_FILE_UNALIGNED file.at plan,
+      volume_fault TOP_FILE_UNALIGNED file.at plan,
     ) ∷ [])
 
 abbrev pub top_fault : VolumeHead → Option FileImage → ℕ → Option Fault

@@ -6,7 +6,7 @@ ghost use Rattle.ffs_sections.specs.Alignment.{IsAlignment};
 ghost use Rattle.fv_compose.specs.Header.{header_end};
 ghost use Rattle.fv_compose.specs.Files.{plain_files, top_of, AreAligned, AreRunsOf};
 ghost use Rattle.fv_compose.specs.Turns.{pointed, own_starts, IsLaid};
-ghost use Rattle.fv_compose.specs.Volume.{last_end, taken_by, holds, named, twice_fault, start_fault, top_fault, place_fault, volume_image, with_length, length_of, volume_of, HasShape, IsLength};
+ghost use Rattle.fv_compose.specs.Volume.{last_end, taken_by, holds, volume_fault, twice_fault, start_fault, top_fault, place_fault, volume_image, with_length, length_of, volume_of, HasShape, IsLength};
 
 use crate::files::{check_pads, check_top_pad, is_top, put_files, put_top, taken_by, top_of};
 use crate::header::{header_end, start_bytes};
@@ -61,8 +61,13 @@ fn all_aligned(files: &[FileImage]) -> bool
 }
 
 // The fault of this code, with the volume's name.
-fn named(alloc: Global, code: u16, place: &Place, plan: &VolumeHead) -> Result<Fault, WantOfMemory>
-    ensures { IfOk result (λ f. f ≡ named code place.now plan.now) }
+fn volume_fault(
+    alloc: Global,
+    code: u16,
+    place: &Place,
+    plan: &VolumeHead,
+) -> Result<Fault, WantOfMemory>
+    ensures { IfOk result (λ f. f ≡ volume_fault code place.now plan.now) }
 {
     Ok(Fault {
         code,
@@ -83,7 +88,7 @@ pub(crate) fn check_tops(
     for file in files {
         let top = is_top(file);
         if found && top {
-            return Err(Refusal::Bad(named(alloc, TOP_FILE_TWICE, &file.at, plan)?));
+            return Err(Refusal::Bad(volume_fault(alloc, TOP_FILE_TWICE, &file.at, plan)?));
         }
         found = found || top;
     }
@@ -104,7 +109,7 @@ fn check_start(
     if start % 8 == 0 && (start + header_len(file.bytes.bytes()) as u64) % file.align as u64 == 0 {
         return Ok(());
     }
-    Err(Refusal::Bad(named(alloc, TOP_FILE_UNALIGNED, &file.at, plan)?))
+    Err(Refusal::Bad(volume_fault(alloc, TOP_FILE_UNALIGNED, &file.at, plan)?))
 }
 
 // A top file that can't end at the volume's last byte.
@@ -176,7 +181,7 @@ fn image(
     Ok(out.finish())
 }
 
-fn composed(
+fn runs_of_layout(
     alloc: Global,
     plan: &VolumeHead,
     files: &[FileImage],
@@ -213,7 +218,7 @@ fn volume(alloc: Global, plan: &VolumeHead, files: &[FileImage]) -> Result<Rows<
     let layout = lay_out(alloc, header_end(&plan.name_guid) as u128, files)?;
     let taken = taken_by(layout.end, top);
     match length_for(plan.block_size, plan.size, top.is_some(), taken) {
-        Some(size) => composed(alloc, plan, files, top, &layout, size),
+        Some(size) => runs_of_layout(alloc, plan, files, top, &layout, size),
         None => Err(Refusal::Bad(full(alloc, plan, top.is_some(), taken)?)),
     }
 }

@@ -59,12 +59,12 @@ pub(crate) fn length_for(block: u64, size: Option<u64>, top: bool, taken: u128) 
     ensures length { IfSome result (IsLength block top taken) }
 {
     match size {
-        Some(size) => stated(size, top, taken),
+        Some(size) => checked_length(size, top, taken),
         None => blocks_for(block, top, taken),
     }
 }
 
-fn stated(size: u64, top: bool, taken: u128) -> Option<u64>
+fn checked_length(size: u64, top: bool, taken: u128) -> Option<u64>
     requires near { taken ≤ 2 ^ 126 + 2 ^ 64 }
     ensures { result ≡ (if holds top taken size then Some size else None) }
 {

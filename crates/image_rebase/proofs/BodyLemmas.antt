@@ -15,7 +15,7 @@ use Rattle.volume_reader.specs.declared.listed.ListedSection.{ListedSection}
 use Rattle.volume_reader.specs.Sections.{section_kind, section_size, content_at as content_start, is_extended, extended_size, short_size, has_size_form, is_section, listed_section, follows, sections_from, sections_of}
 use Rattle.volume_reader.proofs.SectionLemmas.{size_within}
 use Rattle.image_rebase.specs.Moves.{moved_content}
-use Rattle.image_rebase.specs.Files.{has_module, content_length, content_in, moved_from, has_checksum, resummed, with_body, file_head, file_body, with_sections, with_found, moved_sections, has_sections, moved_bytes}
+use Rattle.image_rebase.specs.Files.{has_module, content_length, content_in, moved_from, has_checksum, resummed_head, with_body, file_head, file_body, with_sections, with_found, moved_sections, has_sections, moved_bytes}
 use Rattle.image_rebase.specs.Changes.{is_in, content_changes, section_changes, sections_change, file_changes}
 use Rattle.image_rebase.proofs.SameLemmas.{SameAt, same_self, same_then, either, through, same_content}
 
@@ -226,8 +226,8 @@ same_from place base address body at (section ∷ sections) moved k o e =
 not_place : (k n : ℕ) → (k == n) ≡ false → (k ≡ n → ⊥)
 not_place k n h e = grind (arith, nat_tests, h, e)
 
-same_sum : (head body : List ℕ) (k : ℕ) → SameAt (has_checksum head && k == 0x11) k head (resummed head body)
-unfolding resummed
+same_sum : (head body : List ℕ) (k : ℕ) → SameAt (has_checksum head && k == 0x11) k head (resummed_head head body)
+unfolding resummed_head
 same_sum head body k =
     elim (has_checksum head) as (λ b. SameAt (b && k == 0x11) k head (if b then slice_set head 0x11 (zero_byte body) else head)) [
       | true ↦ record { size = length-set head 0x11 (zero_byte body); byte = λ h d. get_or-set_other head 0x11 k (zero_byte body) d (not_place k 0x11 h) }
@@ -291,7 +291,7 @@ same_found place base address bytes (Some sections) moved k o e =
     let t : TailAt outer 0 (k - head) (file_body bytes) body = same_from place base (address + head) (file_body bytes) 0 sections body (k - head) (o sections refl) a in
     let l : length body + 0 ≡ length (file_body bytes) = t.size in
     let z : k - head ≡ k - head - 0 = omega arith in
-    same_parts head bytes body moved (resummed (file_head bytes) body) k (has_checksum (file_head bytes) && k == 0x11) outer (same_sum (file_head bytes) body k) (omega arith)
+    same_parts head bytes body moved (resummed_head (file_head bytes) body) k (has_checksum (file_head bytes) && k == 0x11) outer (same_sum (file_head bytes) body k) (omega arith)
     (λ h d. ap (λ n. get_or body n d) z ∙ t.byte h (omega arith) d) s)
 
 pub same_file : (ffs3 : Bool) (place : Place) (base address : ℕ) (bytes moved : List ℕ) (k : ℕ) → moved_bytes ffs3 place base address bytes ≡ Ok moved

@@ -43,11 +43,11 @@ unfoldable pub has_checksum : List ℕ → Bool
 has_checksum head = file_attributes head / FFS_ATTRIB_CHECKSUM % 2 == 1
 
 -- the header with the file checksum of this body where it has that attribute
-unfoldable pub resummed : List ℕ → List ℕ → List ℕ
-resummed head body = if has_checksum head then slice_set head 0x11 (zero_byte body) else head
+unfoldable pub resummed_head : List ℕ → List ℕ → List ℕ
+resummed_head head body = if has_checksum head then slice_set head 0x11 (zero_byte body) else head
 
 abbrev pub with_body : List ℕ → List ℕ → List ℕ
-with_body head body = resummed head body ++ body
+with_body head body = resummed_head head body ++ body
 
 -- a file's header and body
 abbrev pub file_head : List ℕ → List ℕ

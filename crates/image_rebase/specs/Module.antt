@@ -12,8 +12,8 @@ use Rattle.image_rebase.specs.Standard.{EFI_TE_IMAGE_HEADER_SIGNATURE, EFI_TE_IM
 use Rattle.image_rebase.specs.declared.module.Module.{Module}
 
 -- a module stays whose relocation directory has no bytes
-abbrev pub relocated : Module → Option Module
-relocated m = if m.size == 0 then None else Some m
+abbrev pub with_relocations : Module → Option Module
+with_relocations m = if m.size == 0 then None else Some m
 
 -- where ImageBase stands in the optional header
 abbrev pub base_offset : Bool → ℕ
@@ -36,7 +36,7 @@ pe_fields content head = record {
 -- a PE32 image stays that no TE image can be made of
 abbrev pub pe_with : List ℕ → Result TeHead PeFault → Option Module
 pe_with content (Err fault) = None
-pe_with content (Ok head) = relocated (pe_fields content head)
+pe_with content (Ok head) = with_relocations (pe_fields content head)
 
 unfoldable pub pe_module : List ℕ → Option Module
 pe_module content = pe_with content (te_of content)
@@ -69,7 +69,7 @@ te_fields content = record {
 }
 
 unfoldable pub te_module : List ℕ → Option Module
-te_module content = if is_no_te content then None else relocated (te_fields content)
+te_module content = if is_no_te content then None else with_relocations (te_fields content)
 
 -- the module that is moved in the content of a section of this kind; None where the content stays
 unfoldable pub module_in : ℕ → List ℕ → Option Module

@@ -1,9 +1,9 @@
 //! A file whose modules are moved.
 ghost use Rattle.std.specs.Prelude.{◌≡◌, ◌≤◌, ◌<◌, ◌+◌, ◌^◌, IfOk, IsTrue, length};
 ghost use Rattle.build_base.specs.Answer.{Answers};
-ghost use Rattle.image_rebase.specs.Files.{has_checksum, resummed, with_body, file_head, file_body, with_sections, moved_sections, has_sections, moved_bytes, with_file_bytes, moved_file};
+ghost use Rattle.image_rebase.specs.Files.{has_checksum, resummed_head, with_body, file_head, file_body, with_sections, moved_sections, has_sections, moved_bytes, with_file_bytes, moved_file};
 
-use crate::bytes::{append, byte_at, copied, front, rest};
+use crate::bytes::{append, byte_at, copy_bytes, front, rest};
 use crate::sections::move_from;
 use build_base::{Place, Refusal, Same, Text, WantOfMemory};
 use doc_types::image::FileImage;
@@ -39,11 +39,11 @@ fn has_checksum(head: &[u8]) -> bool
 }
 
 // A header with the file checksum of this body where it has that attribute.
-#[tactic(auto, unfolding(crate::specs::Files::resummed))]
-fn resummed(alloc: Global, head: &[u8], body: &[u8]) -> Result<Vec<u8>, WantOfMemory>
-    ensures { IfOk result (λ out. out.items ≡ resummed head.now body.now) }
+#[tactic(auto, unfolding(crate::specs::Files::resummed_head))]
+fn resummed_head(alloc: Global, head: &[u8], body: &[u8]) -> Result<Vec<u8>, WantOfMemory>
+    ensures { IfOk result (λ out. out.items ≡ resummed_head head.now body.now) }
 {
-    let mut out = copied(alloc, head)?;
+    let mut out = copy_bytes(alloc, head)?;
     if has_checksum(head) {
         out[0x11] = body_sum(body);
     }
@@ -53,7 +53,7 @@ fn resummed(alloc: Global, head: &[u8], body: &[u8]) -> Result<Vec<u8>, WantOfMe
 fn with_body(alloc: Global, head: &[u8], body: &[u8]) -> Result<Text, WantOfMemory>
     ensures { IfOk result (λ bytes. bytes ≡ with_body head.now body.now) }
 {
-    let mut out = resummed(alloc, head, body)?;
+    let mut out = resummed_head(alloc, head, body)?;
     append(&mut out, body)?;
     Ok(Text::from_vec(out))
 }

@@ -1,7 +1,7 @@
 //! The module that a section holds, and what of its headers a move goes by.
 ghost use Rattle.std.specs.Prelude.{◌≡◌, ◌≤◌, ◌<◌, ◌^◌};
 ghost use Rattle.te_images.specs.Pe.{optional_header, is_pe32_plus};
-ghost use Rattle.image_rebase.specs.Module.{relocated, base_offset, pe_fields, pe_module, stripped_size, is_no_te, te_fields, te_module, module_in};
+ghost use Rattle.image_rebase.specs.Module.{with_relocations, base_offset, pe_fields, pe_module, stripped_size, is_no_te, te_fields, te_module, module_in};
 
 use crate::bytes::{byte_at, u16_at, u32_at, u64_at};
 use crate::standard::{
@@ -28,8 +28,8 @@ pub struct Module {
     pub size: u32,
 }
 
-fn relocated(found: Module) -> Option<Module>
-    ensures { result ≡ relocated found }
+fn with_relocations(found: Module) -> Option<Module>
+    ensures { result ≡ with_relocations found }
 {
     if found.size == 0 { None } else { Some(found) }
 }
@@ -80,7 +80,7 @@ fn pe_module(content: &[u8]) -> Option<Module>
     ensures { result ≡ pe_module content.now }
 {
     match te_header(content) {
-        Ok(head) => relocated(pe_fields(content, &head)),
+        Ok(head) => with_relocations(pe_fields(content, &head)),
         Err(_) => None,
     }
 }
@@ -132,7 +132,7 @@ fn te_module(content: &[u8]) -> Option<Module>
     if is_no_te(content) {
         return None;
     }
-    relocated(te_fields(content))
+    with_relocations(te_fields(content))
 }
 
 /// The module in the content of a section of this kind, unless the content stays as it is.

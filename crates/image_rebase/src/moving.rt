@@ -5,7 +5,7 @@ ghost use Rattle.build_base.specs.Answer.{Answers, Checks};
 ghost use Rattle.image_rebase.specs.Moves.{is_misplaced, misplaced, new_base, base_limit, out_of_range, range_fault, difference, with_base, moved_words, moved_by_blocks, moved_to, moved_in_range, moved_module, moved_content};
 
 use crate::blocks::{Block, directory_in, module_blocks};
-use crate::bytes::{copied, put, u32_at};
+use crate::bytes::{copy_bytes, put, u32_at};
 use crate::entries::{check_blocks, move_blocks};
 use crate::module::{Module, module_in};
 use crate::standard::IMAGE_SIZEOF_SECTION_HEADER;
@@ -119,7 +119,7 @@ fn move_words(
     ensures { Answers result
         (moved_words place.now image.now new content.now directory.now blocks.now) }
 {
-    let mut moved = copied(alloc, content)?;
+    let mut moved = copy_bytes(alloc, content)?;
     let by = difference(new, image.base);
     if let Err(refusal) = move_blocks(alloc, place, image.skip, by, directory, blocks, &mut moved) {
         return Err(refusal);

@@ -5,7 +5,7 @@ ghost use Rattle.build_base.specs.Runs.{runs_bytes};
 ghost use Rattle.fv_compose.specs.Files.{AreAligned, AreRunsOf};
 ghost use Rattle.fv_compose.specs.Volume.{HasShape, volume_of};
 ghost use Rattle.image_rebase.specs.Changes.{StaysBut};
-ghost use Rattle.image_rebase.specs.Rebase.{IsBased, base_of, moved_volume, rebased};
+ghost use Rattle.image_rebase.specs.Rebase.{IsBased, base_of, moved_volume, rebased_image};
 
 use crate::files::move_files;
 use build_base::{Permit, Refusal, Rows, Run};
@@ -51,8 +51,8 @@ fn move_volume(
 }
 
 // The volume of files each of which is moved at its place.
-#[tactic(auto, unfolding(crate::specs::Rebase::rebased))]
-fn rebased(
+#[tactic(auto, unfolding(crate::specs::Rebase::rebased_image))]
+fn rebased_runs(
     alloc: Global,
     permit: Permit,
     head: &VolumeHead,
@@ -60,7 +60,7 @@ fn rebased(
 ) -> Result<Rows<Run>, Refusal>
     requires shape { HasShape head.now }
     requires aligned { AreAligned files.now }
-    ensures value { AnswersAs runs_bytes result (rebased head.now files.now) }
+    ensures value { AnswersAs runs_bytes result (rebased_image head.now files.now) }
     ensures runs { IfOk result (AreRunsOf files.now) }
 {
     match file_places(alloc, head, files) {
@@ -84,12 +84,12 @@ pub fn rebase_volume(
     requires shape { HasShape head.now }
     requires based { IsBased head.now }
     requires aligned { AreAligned files.now }
-    ensures value { AnswersAs runs_bytes result (rebased head.now files.now) }
+    ensures value { AnswersAs runs_bytes result (rebased_image head.now files.now) }
     ensures runs { IfOk result (AreRunsOf files.now) }
     ensures stays { IfOk result
         (λ runs. StaysBut head.now files.now (runs_bytes runs) (volume_of head.now files.now)) }
 {
-    match rebased(alloc, permit, head, files) {
+    match rebased_runs(alloc, permit, head, files) {
         Ok(runs) => Ok(runs),
         Err(refusal) => Err(refusal),
     }

@@ -52,12 +52,12 @@ abbrev pub as_is : List ℕ → Shaped
 as_is bytes = record { shift = 0; bytes = bytes }
 
 -- the TE image of a PE file: its places count from where they were in the file
-abbrev pub stripped : List ℕ → TeHead → Shaped
-stripped file head =
+abbrev pub te_content : List ℕ → TeHead → Shaped
+te_content file head =
     record { shift = head.stripped - 40; bytes = te_bytes head ++ drop head.stripped file }
 
 abbrev pub te_shaped : List ℕ → List ℕ → Result TeHead PeFault → Result Shaped Fault
-te_shaped path file (Ok head) = Ok (stripped file head)
+te_shaped path file (Ok head) = Ok (te_content file head)
 te_shaped path file (Err fault) = Err (pe_fault path file fault)
 
 -- a TE section is made of a PE file, each other one is the file as it is

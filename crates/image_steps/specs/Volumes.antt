@@ -42,11 +42,11 @@ unfoldable pub images_from : List (Answer Out) → ℕ → Result (List FileImag
 images_from given i = all_ok (map image_given (drop i given))
 
 -- what can be made of files of their shape alone
-unfoldable pub composed : VolumeHead → List FileImage → Result (List ℕ) Fault
-composed head files =
+unfoldable pub composed_volume : VolumeHead → List FileImage → Result (List ℕ) Fault
+composed_volume head files =
     if head_fits head && list_all is_stated files then volume_of head files
     else Err impossible_answer
 
 -- the volume of a head, whose files the answers are
 unfoldable pub volume_given : VolumeHead → List (Answer Out) → Result (List ℕ) Fault
-volume_given head given = and_then (images_from given 0) (composed head)
+volume_given head given = and_then (images_from given 0) (composed_volume head)

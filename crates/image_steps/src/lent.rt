@@ -2,7 +2,7 @@
 ghost use Rattle.std.specs.Prelude.{◌≡◌, ◌≤◌, length, IfOk};
 ghost use Rattle.build_base.specs.Answer.{Answers};
 ghost use Rattle.te_images.specs.Te.{te_of};
-ghost use Rattle.image_steps.specs.Parts.{as_is, stripped, te_shaped, file_shaped};
+ghost use Rattle.image_steps.specs.Parts.{as_is, te_content, te_shaped, file_shaped};
 
 use crate::parts::pe_fault;
 use build_base::{Image, Path, Refusal, Text, WantOfMemory};
@@ -57,19 +57,19 @@ impl<'a> LentShaped<'a> {
         })
     }
 
-    fn stripped(
+    fn te_content(
         alloc: Global,
         file: &'a [u8],
         head: &TeHead,
     ) -> Result<LentShaped<'a>, WantOfMemory>
         requires inside { head.now.stripped ≤ length file.now }
         requires least { 120 ≤ head.now.stripped }
-        ensures { IfOk result (λ s. s ≡ stripped file.now head.now) }
+        ensures { IfOk result (λ s. s ≡ te_content file.now head.now) }
     {
         let front = Text::of(alloc, head.bytes().as_slice())?;
         Ok(LentShaped {
             shift: head.stripped as u32 - 40,
-            content: LentContent::joined(front, strip_at(file, head))?,
+            content: LentContent::of_parts(front, strip_at(file, head))?,
         })
     }
 
@@ -77,7 +77,7 @@ impl<'a> LentShaped<'a> {
         ensures { Answers result (te_shaped path.now file.now (te_of file.now)) }
     {
         match te_header(file) {
-            Ok(head) => Ok(LentShaped::stripped(alloc, file, &head)?),
+            Ok(head) => Ok(LentShaped::te_content(alloc, file, &head)?),
             Err(fault) => Err(pe_fault(alloc, path, file, fault)),
         }
     }

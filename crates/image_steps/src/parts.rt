@@ -7,7 +7,7 @@ ghost use Rattle.doc_types.specs.Standard.{EFI_SECTION_FREEFORM_SUBTYPE_GUID};
 ghost use Rattle.build_stages.specs.Gives.{GivesIn};
 ghost use Rattle.te_images.specs.Pe.{file_alignment_of, section_alignment_of};
 ghost use Rattle.te_images.specs.Te.{te_of};
-ghost use Rattle.image_steps.specs.Parts.{alignments_text, pe_code, pe_detail, pe_fault, as_is, stripped, te_shaped, file_shaped, content_at, files_of, volumes_of, volume_align, unset_align, section_align, some_guid, without_guid, header_guid, part_with, part_at, parts_from, source_checked, files_checked, file_count};
+ghost use Rattle.image_steps.specs.Parts.{alignments_text, pe_code, pe_detail, pe_fault, as_is, te_content, te_shaped, file_shaped, content_at, files_of, volumes_of, volume_align, unset_align, section_align, some_guid, without_guid, header_guid, part_with, part_at, parts_from, source_checked, files_checked, file_count};
 
 use crate::contents::{refuse_file, section_content, volume_content, words_bytes};
 use crate::lent::LentShaped;
@@ -40,7 +40,7 @@ fn push_number(out: &mut Vec<u8>, number: u64) -> Result<(), WantOfMemory>
     Ok(())
 }
 
-fn compared(alloc: Global, file: u32, section: u32) -> Result<Vec<u8>, WantOfMemory>
+fn alignments_detail(alloc: Global, file: u32, section: u32) -> Result<Vec<u8>, WantOfMemory>
     ensures { IfOk result (λ text. text.items ≡ decimal file ++ codes " != " ++ decimal section) }
 {
     let mut text = Vec::new(alloc);
@@ -55,7 +55,7 @@ fn alignments_text(alloc: Global, file: &[u8]) -> Result<Vec<u8>, WantOfMemory>
         ≡ alignments_text (file_alignment_of file.now) (section_alignment_of file.now)) }
 {
     match (file_alignment(file), section_alignment(file)) {
-        (Ok(of_file), Ok(of_section)) => compared(alloc, of_file, of_section),
+        (Ok(of_file), Ok(of_section)) => alignments_detail(alloc, of_file, of_section),
         _ => Ok(Vec::new(alloc)),
     }
 }
@@ -114,10 +114,10 @@ fn as_is(alloc: Global, bytes: &Text) -> Result<Shaped, WantOfMemory>
     })
 }
 
-fn stripped(alloc: Global, file: &[u8], head: &TeHead) -> Result<Shaped, WantOfMemory>
+fn te_content(alloc: Global, file: &[u8], head: &TeHead) -> Result<Shaped, WantOfMemory>
     requires inside { head.now.stripped ≤ length file.now }
     requires least { 120 ≤ head.now.stripped }
-    ensures { IfOk result (λ s. s ≡ stripped file.now head.now) }
+    ensures { IfOk result (λ s. s ≡ te_content file.now head.now) }
 {
     let mut bytes = Vec::from_slice(alloc, head.bytes().as_slice())?;
     bytes.extend_from_slice(strip_at(file, head))?;
@@ -131,7 +131,7 @@ fn te_shaped(alloc: Global, path: &Path, file: &[u8]) -> Result<Shaped, Refusal>
     ensures { Answers result (te_shaped path.now file.now (te_of file.now)) }
 {
     match te_header(file) {
-        Ok(head) => Ok(stripped(alloc, file, &head)?),
+        Ok(head) => Ok(te_content(alloc, file, &head)?),
         Err(fault) => Err(pe_fault(alloc, path, file, fault)),
     }
 }

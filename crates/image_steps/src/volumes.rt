@@ -5,7 +5,7 @@ ghost use Rattle.build_base.specs.Answer.{AnswersAs};
 ghost use Rattle.build_stages.specs.Gives.{GivesIn};
 ghost use Rattle.fv_compose.specs.Files.{AreAligned};
 ghost use Rattle.fv_compose.specs.Volume.{HasShape, volume_of};
-ghost use Rattle.image_steps.specs.Volumes.{head_fits, is_stated, file_in, image_at, images_from, composed, volume_given};
+ghost use Rattle.image_steps.specs.Volumes.{head_fits, is_stated, file_in, image_at, images_from, composed_volume, volume_given};
 
 use build_base::{Image, Permit, Refusal, Rows, Same};
 use build_stages::{Given, Stop};
@@ -98,14 +98,14 @@ fn image(
     }
 }
 
-#[tactic(auto, unfolding(crate::specs::Volumes::composed), using(crate::proofs::VolumeLemmas::head_shape, crate::proofs::VolumeLemmas::files_shape))]
-fn composed(
+#[tactic(auto, unfolding(crate::specs::Volumes::composed_volume), using(crate::proofs::VolumeLemmas::head_shape, crate::proofs::VolumeLemmas::files_shape))]
+fn composed_volume(
     alloc: Global,
     permit: Permit,
     head: &VolumeHead,
     files: &Rows<FileImage>,
 ) -> Result<Image, Stop<Key>>
-    ensures { GivesIn (λ image. image) result (composed head.now files.now) }
+    ensures { GivesIn (λ image. image) result (composed_volume head.now files.now) }
 {
     if head_fits(head) && are_stated(files.items()) {
         return Ok(image(alloc, permit, head, files)?);
@@ -124,5 +124,5 @@ pub fn volume_given(
     ensures { GivesIn (λ image. image) result (volume_given head.now given.now) }
 {
     let files = images(alloc, given)?;
-    composed(alloc, permit, head, &files)
+    composed_volume(alloc, permit, head, &files)
 }

@@ -2,7 +2,7 @@
 -- heads).
 use Rattle.std.specs.Prelude.{ℕ, List, [], ◌∷◌, Option, Some, None, codes}
 use Rattle.doc_reading.specs.declared.meaning.Meaning.{Meaning}
-use Rattle.doc_reading.specs.declared.meaning.Meaning.TheVariants.{Enters, Passed, Misqualified, Unknown}
+use Rattle.doc_reading.specs.declared.meaning.Meaning.TheVariants.{Enters, Passed, BadQualifier, Unknown}
 use Rattle.doc_types.specs.Arches.{arch_named}
 use Rattle.doc_types.specs.ModuleTypes.{module_type_named}
 use Rattle.doc_types.specs.declared.arch.Arch.{Arch}
@@ -41,25 +41,25 @@ for_all kind = scope_for kind Common None
 -- a qualifier is an architecture
 abbrev pub with_arch : SectionKind → Option Arch → Meaning Scope
 with_arch kind (Some arch) = scope_for kind arch None
-with_arch kind None = Misqualified
+with_arch kind None = BadQualifier
 
 -- and behind it in [Depex] a type of modules
 abbrev pub with_type : Option Arch → Option ModuleType → Meaning Scope
 with_type (Some arch) (Some found) = scope_for Depex arch (Some found)
-with_type (Some arch) None = Misqualified
-with_type None found = Misqualified
+with_type (Some arch) None = BadQualifier
+with_type None found = BadQualifier
 
 -- no qualifier in [Defines], at most one elsewhere, two in [Depex]
 abbrev pub qualified_section : SectionKind → List (List ℕ) → Meaning Scope
 qualified_section kind [] = for_all kind
-qualified_section Defines (word ∷ words) = Misqualified
+qualified_section Defines (word ∷ words) = BadQualifier
 qualified_section Packages (word ∷ []) = with_arch Packages (arch_named word)
 qualified_section Classes (word ∷ []) = with_arch Classes (arch_named word)
 qualified_section GuidNames (word ∷ []) = with_arch GuidNames (arch_named word)
 qualified_section (Pcds asked) (word ∷ []) = with_arch (Pcds asked) (arch_named word)
 qualified_section Depex (word ∷ []) = with_arch Depex (arch_named word)
 qualified_section Depex (word ∷ next ∷ []) = with_type (arch_named word) (module_type_named next)
-qualified_section kind (word ∷ next ∷ words) = Misqualified
+qualified_section kind (word ∷ next ∷ words) = BadQualifier
 
 -- a section that is read past takes any
 abbrev pub meaning_of : Option (Option SectionKind) → List (List ℕ) → Meaning Scope

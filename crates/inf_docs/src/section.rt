@@ -76,7 +76,7 @@ fn with_arch(kind: SectionKind, arch: Option<Arch>) -> Meaning<Scope>
 {
     match arch {
         Some(arch) => scope_for(kind, arch, None),
-        None => Meaning::Misqualified,
+        None => Meaning::BadQualifier,
     }
 }
 
@@ -85,7 +85,7 @@ fn with_type(arch: Option<Arch>, found: Option<ModuleType>) -> Meaning<Scope>
 {
     match (arch, found) {
         (Some(arch), Some(found)) => scope_for(SectionKind::Depex, arch, Some(found)),
-        _ => Meaning::Misqualified,
+        _ => Meaning::BadQualifier,
     }
 }
 
@@ -94,12 +94,12 @@ fn qualified_section(kind: SectionKind, qualifiers: &[Text]) -> Meaning<Scope>
 {
     match (kind, qualifiers) {
         (_, []) => scope_for(kind, Arch::Common, None),
-        (SectionKind::Defines, _) => Meaning::Misqualified,
+        (SectionKind::Defines, _) => Meaning::BadQualifier,
         (_, [word]) => with_arch(kind, arch_named(word.bytes())),
         (SectionKind::Depex, [word, next]) => {
             with_type(arch_named(word.bytes()), module_type_named(next.bytes()))
         }
-        _ => Meaning::Misqualified,
+        _ => Meaning::BadQualifier,
     }
 }
 

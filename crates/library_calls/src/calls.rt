@@ -77,7 +77,7 @@ fn destructors(
     Ok(calls)
 }
 
-fn reversed(
+fn reversed_destructors(
     alloc: Global,
     callers: &[WithCalls],
     order: &[usize],
@@ -100,7 +100,7 @@ fn choice_in(
     ensures { IfOk result (λ c. c ≡ choice_in found callers.now order.now) }
 {
     let constructors = constructors(alloc, callers, order)?;
-    let destructors = reversed(alloc, callers, order)?;
+    let destructors = reversed_destructors(alloc, callers, order)?;
     Ok(Choice {
         library: false,
         instances: found,

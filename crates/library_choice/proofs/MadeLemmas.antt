@@ -15,7 +15,7 @@ use Rattle.build_base.specs.declared.fault.Fault.{Fault}
 use Rattle.doc_types.specs.declared.choice.Choice.{Choice}
 use Rattle.doc_types.specs.declared.choice.Module.{Module}
 use Rattle.doc_types.specs.declared.module.InfDoc.{InfDoc}
-use Rattle.library_choice.specs.Choices.{classes_fault, choice_of, made}
+use Rattle.library_choice.specs.Choices.{classes_fault, choice_of, choice_of_found}
 use Rattle.library_choice.specs.Closure.{same_path, known, is_known, instance_of, next, nulls, instances, are_few, is_unknown, wanted_by}
 use Rattle.library_choice.specs.Found.{is_in, add}
 use Rattle.library_choice.specs.Fronts.{IsFrontOf, LeadsClasses, LeadsNulls, FindsFor, Ends, BothEnd, is_apart}
@@ -177,14 +177,14 @@ found_both s inf first second ends few = both-few same_path path_same (next s) (
 pub found_many : (s : Setting) (inf : InfDoc) (first second : List (List ℕ)) → BothEnd s inf first second true → 1025 ≤ length (add same_path first second) → FindsFor s inf None
 found_many s inf first second ends many = both-many same_path path_same (next s) (filter_map (instance_of s) inf.classes) (nulls s) first second ends.0 ends.1 many
 
-pub made_some : (user : Module) (s : Setting) (inf : InfDoc) (found : List (List ℕ)) → FindsFor s inf (Some found) → made user s inf ≡ or_fault (classes_fault s inf found) (choice_of s found)
-unfolding made
+pub made_some : (user : Module) (s : Setting) (inf : InfDoc) (found : List (List ℕ)) → FindsFor s inf (Some found) → choice_of_found user s inf ≡ or_fault (classes_fault s inf found) (choice_of s found)
+unfolding choice_of_found
 made_some user s inf found f =
     ap (λ (b : Bool). cond {A = Result Choice Fault} b (or_fault (classes_fault s inf (instances s inf)) (choice_of s (instances s inf))) (Err (fault_of TOO_MANY_INSTANCES (record { path = user.inf; line = 0 }) (codes "1025")))) (few-is s inf found f)
     ∙ ap (λ (l : List (List ℕ)). or_fault (classes_fault s inf l) (choice_of s l)) (sym (found-is s inf found f))
 
-pub made_none : (user : Module) (s : Setting) (inf : InfDoc) → FindsFor s inf None → made user s inf ≡ Err (fault_of TOO_MANY_INSTANCES (record { path = user.inf; line = 0 }) (codes "1025"))
-unfolding made
+pub made_none : (user : Module) (s : Setting) (inf : InfDoc) → FindsFor s inf None → choice_of_found user s inf ≡ Err (fault_of TOO_MANY_INSTANCES (record { path = user.inf; line = 0 }) (codes "1025"))
+unfolding choice_of_found
 made_none user s inf f =
     ap (λ (b : Bool). cond {A = Result Choice Fault} b (or_fault (classes_fault s inf (instances s inf)) (choice_of s (instances s inf))) (Err (fault_of TOO_MANY_INSTANCES (record { path = user.inf; line = 0 }) (codes "1025")))) (many-is s inf f)
 

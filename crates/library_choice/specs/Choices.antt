@@ -111,8 +111,8 @@ unfoldable pub choice_of : Setting → List (List ℕ) → Result Choice Fault
 choice_of s found = choice_by found (callers s.infs found) (reach s (callers s.infs found))
 
 -- more than 1,024 instances come first, then the classes, then calls that need each other
-unfoldable pub made : Module → Setting → InfDoc → Result Choice Fault
-made user s inf =
+unfoldable pub choice_of_found : Module → Setting → InfDoc → Result Choice Fault
+choice_of_found user s inf =
     if are_few s inf then or_fault (classes_fault s inf (instances s inf))
     (choice_of s (instances s inf))
     else Err (fault_of TOO_MANY_INSTANCES (record { path = user.inf; line = 0 }) (codes "1025"))
@@ -123,7 +123,8 @@ empty_choice = record { library = true; instances = []; constructors = []; destr
 abbrev pub choice_for : Module → PlatformDoc → List InfDoc → Option InfDoc → Result Choice Fault
 choice_for user platform infs None = Ok empty_choice
 choice_for user platform infs (Some inf) =
-    if is_library inf then Ok empty_choice else made user (setting_of user platform infs inf) inf
+    if is_library inf then Ok empty_choice
+    else choice_of_found user (setting_of user platform infs inf) inf
 
 unfoldable pub choice : Module → PlatformDoc → List InfDoc → Result Choice Fault
 choice user platform infs = choice_for user platform infs (known infs user.inf)

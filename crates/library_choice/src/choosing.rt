@@ -4,7 +4,7 @@ ghost use Rattle.std.specs.List.{filter_map};
 ghost use Rattle.build_base.specs.Answer.{Answers, Finds as Faulty};
 ghost use Rattle.build_base.specs.FaultText.{fault_of};
 ghost use Rattle.build_base.specs.First.{or_fault};
-ghost use Rattle.library_choice.specs.Choices.{choice_of, classes_fault, made, empty_choice, choice};
+ghost use Rattle.library_choice.specs.Choices.{choice_of, classes_fault, choice_of_found, empty_choice, choice};
 ghost use Rattle.library_choice.specs.Closure.{same_path, is_known, instance_of, next, nulls, wanted};
 ghost use Rattle.library_choice.specs.Fronts.{AreFronts};
 ghost use Rattle.library_choice.specs.Laws.{IsLawful, AreLawful};
@@ -85,7 +85,7 @@ fn too_many(alloc: Global, inf: &Path) -> Refusal
 }
 
 /// The choice for a module, of whose instances so much is found.
-pub fn made(
+pub fn choice_of_found(
     alloc: Global,
     user: &Module,
     tables: &Tables<'_>,
@@ -93,7 +93,7 @@ pub fn made(
     fronts: Fronts,
 ) -> Result<Choice, Refusal>
     requires { AreFronts tables.now inf.now fronts }
-    ensures value { Answers result (made user.now tables.now inf.now) }
+    ensures value { Answers result (choice_of_found user.now tables.now inf.now) }
     ensures laws { OnOk result (IsLawful tables.now inf.now) }
 {
     match instances_behind(alloc, tables, fronts)? {

@@ -6,7 +6,7 @@ ghost use Rattle.doc_types.specs.declared.module.InfDoc.{InfDoc as InfModel};
 ghost use Rattle.library_choice.specs.Closure.{known, is_known, is_library, setting_of, wanted};
 ghost use Rattle.library_choice.specs.Laws.{AreLawful};
 
-use crate::choosing::{empty_choice, made};
+use crate::choosing::{choice_of_found, empty_choice};
 use crate::front::{Fronts, begin, wanted_behind};
 use crate::known_infs::KnownInfs;
 use crate::tables::Tables;
@@ -190,6 +190,6 @@ impl<'a> InstanceSearch<'a> {
             tables,
             fronts,
         } = self;
-        made(alloc, user, &tables, inf.value(), fronts)
+        choice_of_found(alloc, user, &tables, inf.value(), fronts)
     }
 }

@@ -11,7 +11,7 @@ use build_base::{Path, Rows, Same, Text, WantOfMemory};
 use doc_types::module::{InfDoc, Named};
 use doc_types::platform::LibraryLine;
 use indexmap::IndexMap;
-use line_ranks::{Consumer, applies, covers, line_places, picked};
+use line_ranks::{Consumer, applies, covers, line_places, picked_line};
 use shared_value::Shared;
 use std::alloc::Global;
 use std::marker::Model;
@@ -200,9 +200,9 @@ impl<'a> Tables<'a> {
     pub(crate) fn chosen_line(&self, class: &Text) -> Option<&'a LibraryLine>
         ensures { option_copied result ≡ chosen_line self.now class.now }
     {
-        match picked(self.own, &self.own_places, class) {
+        match picked_line(self.own, &self.own_places, class) {
             Some(line) => Some(line),
-            None => picked(self.sections, &self.section_places, class),
+            None => picked_line(self.sections, &self.section_places, class),
         }
     }
 

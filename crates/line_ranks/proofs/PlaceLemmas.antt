@@ -10,7 +10,7 @@ use Rattle.build_base.proofs.BestLemmas.{best-append, over-none, best-counts}
 use Rattle.doc_types.specs.declared.platform.LibraryLine.{LibraryLine}
 use Rattle.line_ranks.specs.declared.user.Consumer.{Consumer}
 use Rattle.line_ranks.specs.Lines.{rank, weight}
-use Rattle.line_ranks.specs.Places.{same_key, picked, Lines, outweighs}
+use Rattle.line_ranks.specs.Places.{same_key, picked_line, Lines, outweighs}
 
 best-one : {X : Type 0} (w : X → ℕ) (x : X) → best w (x ∷ []) ≡ counted w x
 unfolding best
@@ -77,12 +77,12 @@ taken user own class line (Some x) e p counts o =
     more (weight user own class) x line (omega (arith, wx, wl, ltb-false (rank user own line) (rank user own x) o)) (omega (arith, wl, p))
 
 -- what is held under equal keys
-held_same : {S X : Type 0} (xs : List X) (table : HashMap (List ℕ) ℕ S) (k q : List ℕ) → k ≡ q → picked xs (get same_key table k) ≡ picked xs (get same_key table q)
-held_same xs table k q e = ap (λ (t : List ℕ). picked xs (get {K = List ℕ} (λ a b. pointwise nat_eq t b) table k)) e
+held_same : {S X : Type 0} (xs : List X) (table : HashMap (List ℕ) ℕ S) (k q : List ℕ) → k ≡ q → picked_line xs (get same_key table k) ≡ picked_line xs (get same_key table q)
+held_same xs table k q e = ap (λ (t : List ℕ). picked_line xs (get {K = List ℕ} (λ a b. pointwise nat_eq t b) table k)) e
 
 -- a line that one above goes before
 pub lines_beaten : {S : Type 0} (user : Consumer) (own : Bool) (lines : List LibraryLine) (i : ℕ) (line : LibraryLine) (table : HashMap (List ℕ) ℕ S) (k : List ℕ)
-    → i < length lines → line ≡ get_or lines i line → k ≡ line.class → outweighs user own (rank user own line) (picked lines (get same_key table k)) ≡ true → Lines user own lines (take i lines) table → Lines user own lines (take (i + 1) lines) table
+    → i < length lines → line ≡ get_or lines i line → k ≡ line.class → outweighs user own (rank user own line) (picked_line lines (get same_key table k)) ≡ true → Lines user own lines (take i lines) table → Lines user own lines (take (i + 1) lines) table
 lines_beaten user own lines i line table k h e is o held = λ key.
     held key ∙ sym (best_next (weight user own key) lines i line h e ∙ kept key (pointwise nat_eq line.class key) refl)
   where
@@ -90,22 +90,22 @@ lines_beaten user own lines i line table k h e is o held = λ key.
     kept key false f = skipped (weight user own key) (best (weight user own key) (take i lines)) line (ap (λ v. cond v (rank user own line) 0) f)
     kept key true f =
         let same : k ≡ key = is ∙ same_text line.class key (sym f) in
-        let there : picked lines (get same_key table k) ≡ best (weight user own key) (take i lines) = held_same lines table k key same ∙ held key in
+        let there : picked_line lines (get same_key table k) ≡ best (weight user own key) (take i lines) = held_same lines table k key same ∙ held key in
         beaten user own key line (best (weight user own key) (take i lines)) true f (best-counts (weight user own key) (take i lines)) (subst (λ p. outweighs user own (rank user own line) p ≡ true) there o)
 
 -- a line that holds from now on
 pub lines_added : {S : Type 0} (user : Consumer) (own : Bool) (lines : List LibraryLine) (i : ℕ) (line : LibraryLine) (table new : HashMap (List ℕ) ℕ S) (k : List ℕ)
-    → i < length lines → line ≡ get_or lines i line → k ≡ line.class → 0 < rank user own line → outweighs user own (rank user own line) (picked lines (get same_key table k)) ≡ false
+    → i < length lines → line ≡ get_or lines i line → k ≡ line.class → 0 < rank user own line → outweighs user own (rank user own line) (picked_line lines (get same_key table k)) ≡ false
     → ((q : List ℕ) → get same_key new q ≡ cond (same_key k q) (Some i) (get same_key table q)) → Lines user own lines (take i lines) table → Lines user own lines (take (i + 1) lines) new
 lines_added user own lines i line table new k h e is p o update held = λ key.
-    ap (picked lines) (update key) ∙ ap (λ (t : List ℕ). picked lines (cond (pointwise nat_eq t key) (Some i) (get same_key table key))) is
+    ap (picked_line lines) (update key) ∙ ap (λ (t : List ℕ). picked_line lines (cond (pointwise nat_eq t key) (Some i) (get same_key table key))) is
     ∙ put key (pointwise nat_eq line.class key) refl ∙ sym (best_next (weight user own key) lines i line h e)
   where
-    put : (key : List ℕ) (b : Bool) → pointwise nat_eq line.class key ≡ b → picked lines (cond b (Some i) (get same_key table key)) ≡ over (weight user own key) (best (weight user own key) (take i lines)) (counted (weight user own key) line)
+    put : (key : List ℕ) (b : Bool) → pointwise nat_eq line.class key ≡ b → picked_line lines (cond b (Some i) (get same_key table key)) ≡ over (weight user own key) (best (weight user own key) (take i lines)) (counted (weight user own key) line)
     put key false f = held key ∙ sym (skipped (weight user own key) (best (weight user own key) (take i lines)) line (ap (λ v. cond v (rank user own line) 0) f))
     put key true f =
         let same : k ≡ key = is ∙ same_text line.class key (sym f) in
-        let there : picked lines (get same_key table k) ≡ best (weight user own key) (take i lines) = held_same lines table k key same ∙ held key in
+        let there : picked_line lines (get same_key table k) ≡ best (weight user own key) (take i lines) = held_same lines table k key same ∙ held key in
         slice_get-get_or lines i line h ∙ ap (λ (l : LibraryLine). Some l) (sym e)
         ∙ sym (taken user own key line (best (weight user own key) (take i lines)) f p (best-counts (weight user own key) (take i lines)) (subst (λ r. outweighs user own (rank user own line) r ≡ false) there o))
 

@@ -10,15 +10,15 @@ use Rattle.line_ranks.specs.Lines.{rank, weight}
 abbrev pub same_key : List ℕ → List ℕ → Bool
 same_key = pointwise nat_eq
 
-abbrev pub picked : {X : Type 0} → List X → Option ℕ → Option X
-picked xs None = None
-picked xs (Some place) = slice_get xs place
+abbrev pub picked_line : {X : Type 0} → List X → Option ℕ → Option X
+picked_line xs None = None
+picked_line xs (Some place) = slice_get xs place
 
 -- a table gives for each class the place of its line among those above
 abbrev pub Lines : {S : Type 0} → Consumer → Bool → List LibraryLine → List LibraryLine
     → HashMap (List ℕ) ℕ S → Type 0
 Lines user own lines above table =
-    (key : List ℕ) → picked lines (get same_key table key) ≡ best (weight user own key) above
+    (key : List ℕ) → picked_line lines (get same_key table key) ≡ best (weight user own key) above
 
 abbrev pub outweighs : Consumer → Bool → ℕ → Option LibraryLine → Bool
 outweighs user own weight None = false

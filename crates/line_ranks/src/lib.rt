@@ -7,5 +7,5 @@ mod places;
 mod user;
 
 pub use lines::{applies, covers, rank, same_type, type_covers};
-pub use places::{line_places, picked};
+pub use places::{line_places, picked_line};
 pub use user::Consumer;

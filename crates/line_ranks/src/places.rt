@@ -2,7 +2,7 @@
 ghost use Rattle.std.specs.Prelude.{◌≡◌, ◌<◌, ◌+◌, take, length, IfOk, OnOk};
 ghost use Rattle.std.specs.HashMap.{get};
 ghost use Rattle.std.specs.Option.{option_copied};
-ghost use Rattle.line_ranks.specs.Places.{Lines, outweighs, picked};
+ghost use Rattle.line_ranks.specs.Places.{Lines, outweighs, picked_line};
 
 use crate::lines::rank;
 use crate::user::Consumer;
@@ -13,12 +13,12 @@ use std::alloc::Global;
 use std::hash::Hash;
 
 /// The item at the place that a table has for a key.
-pub fn picked<'a, K: Hash + Eq, T>(
+pub fn picked_line<'a, K: Hash + Eq, T>(
     items: &'a [T],
     places: &IndexMap<K, usize>,
     key: &K,
 ) -> Option<&'a T>
-    ensures { option_copied result ≡ picked items.now (get K.eq places.now key.now) }
+    ensures { option_copied result ≡ picked_line items.now (get K.eq places.now key.now) }
 {
     match places.get(key) {
         Some(place) => items.get(*place),
@@ -53,7 +53,7 @@ fn add_line(
     if weight == 0 {
         return Ok(());
     }
-    if outweighs(user, own, weight, picked(lines, places, &line.class)) {
+    if outweighs(user, own, weight, picked_line(lines, places, &line.class)) {
         return Ok(());
     }
     let class = line.class.copy(alloc)?;

@@ -12,7 +12,7 @@ use Rattle.meta_lexer.specs.declared.token.TokenKind.TheVariants as kinds
 use Rattle.meta_lexer.specs.Faults.{Spot}
 use Rattle.meta_lexer.specs.Numbers.{number_of}
 use Rattle.meta_lexer.specs.Lookup.{lookup}
-use Rattle.meta_lexer.specs.Heads.{unquoted}
+use Rattle.meta_lexer.specs.Heads.{without_quotes}
 use Rattle.meta_lexer.specs.Fields.{ends_quoted, bytes_at}
 use Rattle.meta_lexer.specs.Tokens.{tokens_after, tokens_of, token_span}
 use Rattle.macro_conditions.specs.declared.operator.BinaryOperator.TheVariants as operators
@@ -101,7 +101,7 @@ mark_symbol m =
 unfoldable pub symbol_of : TokenKind → List ℕ → Symbol
 symbol_of kinds.Word bytes = word_symbol bytes
 symbol_of kinds.Number bytes = value (numeral (number_of bytes))
-symbol_of kinds.Quoted bytes = value (word (unquoted bytes))
+symbol_of kinds.Quoted bytes = value (word (without_quotes bytes))
 symbol_of kinds.Mark bytes = mark_symbol bytes
 
 abbrev pub symbol_at : List ℕ → Token → Symbol

@@ -118,4 +118,4 @@ abbrev pub view : Operand → Outcome
 view (operand.Word w) = word w.now
 view (operand.Number n) = number n
 view (operand.Faulty c) = faulty c
-view operand.Ill = ill
+view operand.TypeError = ill

@@ -21,7 +21,7 @@ use crate::operator::{BinaryOperator, Keyword, PrefixOperator};
 use crate::table::{ListedMacros, MacroTable};
 use build_base::fault_codes::{BAD_EXPRESSION, OPEN_QUOTE, VALUE_RANGE};
 use build_base::{Macro, Place, Refusal, Rows, Text, WantOfMemory, refuse};
-use meta_lexer::head::{bytes_at, unquoted};
+use meta_lexer::head::{bytes_at, without_quotes};
 use meta_lexer::{LexRefusal, Span, Token, TokenKind, lookup, number, tokens};
 use std::alloc::Global;
 
@@ -151,7 +151,7 @@ fn term_of(kind: TokenKind, bytes: &[u8]) -> Term<'_>
     match kind {
         TokenKind::Word => word_term(bytes),
         TokenKind::Number => Term::Value(numeral(number(bytes))),
-        TokenKind::Quoted => Term::Value(Operand::Word(unquoted(bytes))),
+        TokenKind::Quoted => Term::Value(Operand::Word(without_quotes(bytes))),
         TokenKind::Mark => mark_term(bytes),
     }
 }
@@ -185,7 +185,7 @@ fn answer(alloc: Global, found: Option<Operand<'_>>) -> Result<Result<Value, u16
     ensures { IfOk result (λ r. r ≡ answered (option_map view found.entry)) }
 {
     match found {
-        None | Some(Operand::Ill) => Ok(Err(BAD_EXPRESSION)),
+        None | Some(Operand::TypeError) => Ok(Err(BAD_EXPRESSION)),
         Some(Operand::Faulty(code)) => Ok(Err(code)),
         Some(Operand::Number(n)) => Ok(Ok(Value::Number(n))),
         Some(Operand::Word(word)) => Ok(Ok(Value::Word(Text::of(alloc, word)?))),

@@ -14,7 +14,7 @@ pub enum Operand<'a> {
     Word(&'a [u8]),
     Number(u64),
     Faulty(u16),
-    Ill,
+    TypeError,
 }
 
 /// A term of an expression. An unknown mark belongs to none.
@@ -106,7 +106,7 @@ pub fn apply<'a>(op: BinaryOperator, left: Operand<'a>, right: Operand<'a>) -> O
     ensures { view result ≡ apply op (view left.entry) (view right.entry) }
 {
     if !kinds_fit(op, left, right) {
-        return Operand::Ill;
+        return Operand::TypeError;
     }
     match (left, right) {
         (Operand::Faulty(c), _) => Operand::Faulty(c),
@@ -123,7 +123,7 @@ fn on_texts<'a>(op: BinaryOperator, same: bool) -> Operand<'a>
     match op {
         BinaryOperator::Eq => truth(same),
         BinaryOperator::Ne => truth(!same),
-        _ => Operand::Ill,
+        _ => Operand::TypeError,
     }
 }
 
@@ -136,7 +136,7 @@ fn is_number(operand: Operand<'_>) -> bool
 fn is_ill(operand: Operand<'_>) -> bool
     ensures { result ≡ Rattle.macro_conditions.specs.Values.is_ill (view operand.entry) }
 {
-    matches!(operand, Operand::Ill)
+    matches!(operand, Operand::TypeError)
 }
 
 fn kinds_fit(op: BinaryOperator, left: Operand<'_>, right: Operand<'_>) -> bool
@@ -158,6 +158,6 @@ pub fn apply_prefix<'a>(op: PrefixOperator, operand: Operand<'a>) -> Operand<'a>
         (PrefixOperator::Not, Operand::Number(n)) => truth(n == 0),
         (PrefixOperator::Flip, Operand::Number(n)) => Operand::Number(!n),
         (_, Operand::Faulty(c)) => Operand::Faulty(c),
-        _ => Operand::Ill,
+        _ => Operand::TypeError,
     }
 }

@@ -21,11 +21,11 @@ abbrev pub is_quoted : List ℕ → Bool
 is_quoted text = stands_between 34 34 text && list_all (λ b. not (b == 34)) (inner text)
 
 -- one quoted text loses its quotes, and any other part stays as written
-unfoldable pub unquoted : List ℕ → List ℕ
-unquoted part = if is_quoted part then inner part else part
+unfoldable pub without_quotes : List ℕ → List ℕ
+without_quotes part = if is_quoted part then inner part else part
 
 abbrev pub part_at : List ℕ → Span → List ℕ
-part_at text span = unquoted (without_blanks (bytes_at text span))
+part_at text span = without_quotes (without_blanks (bytes_at text span))
 
 -- a name and its qualifiers, between dots outside quotes
 unfoldable pub head_of : List ℕ → Head

@@ -26,6 +26,6 @@ split_once mark xs =
     else None
 
 -- whether `$(` stands in a text
-unfoldable pub holds_macro : List ℕ → Bool
-holds_macro [] = false
-holds_macro (x ∷ xs) = ((x == 36) && (slice_index xs 0 == 40)) || holds_macro xs
+unfoldable pub has_macro_use : List ℕ → Bool
+has_macro_use [] = false
+has_macro_use (x ∷ xs) = ((x == 36) && (slice_index xs 0 == 40)) || has_macro_use xs

@@ -4,7 +4,7 @@ ghost use Rattle.std.specs.Option.{option_map};
 ghost use Rattle.std.specs.List.{list_all};
 ghost use Rattle.meta_lexer.specs.Faults.{Gives};
 ghost use Rattle.meta_lexer.specs.Fields.{bytes_at, IsWithin};
-ghost use Rattle.meta_lexer.specs.Heads.{inner, stands_between, is_quoted, unquoted, part_at, head_of, heads_of, is_head, are_heads, begins_section, section_of};
+ghost use Rattle.meta_lexer.specs.Heads.{inner, stands_between, is_quoted, without_quotes, part_at, head_of, heads_of, is_head, are_heads, begins_section, section_of};
 
 use crate::field::{Span, ends_quoted, split_unquoted};
 use crate::line::trim;
@@ -56,9 +56,9 @@ fn within_quotes(text: &[u8]) -> Option<&[u8]>
 }
 
 /// One quoted text without its quotes; any other part as it is.
-#[tactic(auto, unfolding(crate::specs::Heads::unquoted))]
-pub fn unquoted(part: &[u8]) -> &[u8]
-    ensures { result.now ≡ unquoted part.now }
+#[tactic(auto, unfolding(crate::specs::Heads::without_quotes))]
+pub fn without_quotes(part: &[u8]) -> &[u8]
+    ensures { result.now ≡ without_quotes part.now }
 {
     match within_quotes(part) {
         Some(text) => text,
@@ -81,7 +81,7 @@ fn make_head(alloc: Global, text: &[u8]) -> Result<Head, WantOfMemory>
     let spans = split_unquoted(alloc, false, b'.', text)?;
     let mut parts = Rows::new(alloc);
     for span in &spans {
-        let part = unquoted(trim(bytes_at(text, span)));
+        let part = without_quotes(trim(bytes_at(text, span)));
         parts.push(Text::of(alloc, part)?)?;
     }
     Ok(Head { parts })

@@ -18,5 +18,5 @@ pub use head::{Head, section_head};
 pub use line::{Line, lines};
 pub use numbers::number;
 pub use refusal::LexRefusal;
-pub use token::{Token, TokenKind, quoted, tokens};
+pub use token::{Token, TokenKind, quoted_span, tokens};
 pub use word_table::lookup;

@@ -110,7 +110,7 @@ fn blanks(text: &[u8]) -> usize
 }
 
 /// How long the text is without the blanks at its end.
-fn used(text: &[u8]) -> usize
+fn used_length(text: &[u8]) -> usize
     ensures { result + suffix_len Rattle.meta_lexer.specs.Lines.is_blank text.now
         ≡ length text.now }
 {
@@ -126,7 +126,7 @@ pub fn trim(text: &[u8]) -> &[u8]
     ensures { result.now ≡ without_blanks text.now }
 {
     let text = &text[blanks(text)..];
-    &text[..used(text)]
+    &text[..used_length(text)]
 }
 
 /// Where the first byte stands that may not, or the length.

@@ -213,7 +213,7 @@ pub fn tokens(alloc: Global, text: &[u8]) -> Result<Vec<Token>, LexRefusal>
 
 /// What stands within the quotes of a text that is one quoted text.
 #[tactic(auto, unfolding(crate::specs::Tokens::quoted_of))]
-pub fn quoted(text: &[u8]) -> Option<Span>
+pub fn quoted_span(text: &[u8]) -> Option<Span>
     ensures { result ≡ quoted_of text.now }
 {
     if let Some(inner) = strip_delimiters(b'"', b'"', text) {

@@ -3,7 +3,7 @@ ghost use Rattle.std.specs.Prelude.{◌≡◌, ◌≤◌, ◌<◌, ◌==◌, len
 ghost use Rattle.std.specs.Option.{option_map};
 ghost use Rattle.std.specs.List.{list_all, position_or_len};
 ghost use Rattle.meta_lexer.specs.Tokens.{is_word_byte};
-ghost use Rattle.meta_lexer.specs.Words.{same_word, begins_with_digit, is_identifier, split_once, holds_macro};
+ghost use Rattle.meta_lexer.specs.Words.{same_word, begins_with_digit, is_identifier, split_once, has_macro_use};
 
 use crate::line::trim;
 use crate::token::is_word_byte;
@@ -65,9 +65,9 @@ pub fn split_once(mark: u8, text: &[u8]) -> Option<(&[u8], &[u8])>
 }
 
 /// Whether `$(` stands in a text.
-#[tactic(auto, unfolding(crate::specs::Words::holds_macro))]
-pub fn holds_macro(text: &[u8]) -> bool
-    ensures { result ≡ holds_macro text.now }
+#[tactic(auto, unfolding(crate::specs::Words::has_macro_use))]
+pub fn has_macro_use(text: &[u8]) -> bool
+    ensures { result ≡ has_macro_use text.now }
 {
     for (i, b) in text.iter().enumerate() {
         if *b == b'$' && i + 1 < text.len() && text[i + 1] == b'(' {

@@ -21,8 +21,8 @@ use Rattle.module_steps.specs.declared.settings.Setting.{Setting}
 use Rattle.build_base.specs.FaultCodes.{ARCH_UNSUPPORTED}
 
 -- the texts that line feeds join
-unfoldable pub listed : List ℕ → List (List ℕ)
-listed text = if length text == 0 then [] else slice_split (λ byte. byte == 10) text
+unfoldable pub text_lines : List ℕ → List (List ℕ)
+text_lines text = if length text == 0 then [] else slice_split (λ byte. byte == 10) text
 
 -- an architecture that can be built, or the fault of an answer that no world gives
 abbrev pub one_arch : Option Arch → Result Arch Fault
@@ -108,12 +108,12 @@ unfoldable pub set_of : Place → List ℕ → Result PcdSet Fault
 set_of at text = set_by at text (position (λ byte. byte == 61) text)
 
 unfoldable pub command_line_pcds : Place → List ℕ → Result (List PcdSet) Fault
-command_line_pcds at text = all_ok (map (set_of at) (listed text))
+command_line_pcds at text = all_ok (map (set_of at) (text_lines text))
 
 -- the architectures that are built, by those of the words
 unfoldable pub arches_built : PlatformDoc → List ℕ → Result (List Arch) Fault
 arches_built platform arches =
-    and_then (arches_in (listed arches)) (λ named. Ok (built_arches named platform.arches))
+    and_then (arches_in (text_lines arches)) (λ named. Ok (built_arches named platform.arches))
 
 -- the modules of a build, by the words' architectures
 unfoldable pub built_modules : PlatformDoc → List ℕ → Result (List Module) Fault
@@ -136,7 +136,7 @@ setting_by platform skus commands arches = record {
 -- what the words settle, by their architectures, their SKU and the values that they give PCDs
 unfoldable pub setting_of : PlatformDoc → List ℕ → List ℕ → List ℕ → Result Setting Fault
 setting_of platform arches sku pcds =
-    and_then (arches_in (listed arches)) (λ named.
+    and_then (arches_in (text_lines arches)) (λ named.
     and_then (command_line_pcds platform.at pcds) (λ commands.
-    or_fault (words_checked platform (named_skus sku) (listed arches))
+    or_fault (words_checked platform (named_skus sku) (text_lines arches))
     (Ok (setting_by platform (named_skus sku) commands (built_arches named platform.arches)))))

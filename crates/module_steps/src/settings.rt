@@ -7,7 +7,7 @@ ghost use Rattle.build_base.specs.First.{all_ok, or_fault};
 ghost use Rattle.meta_lexer.specs.Faults.{first_fault};
 ghost use Rattle.build_stages.specs.Gives.{GivesIn};
 ghost use Rattle.build_stages.specs.Known.{shown};
-ghost use Rattle.module_steps.specs.Settings.{listed, one_arch, arch_in, arches_in, same_arch, has_arch, put_arch, each_once, built_arches, module_of, module_where, modules_for, modules_of, is_supported, arch_unsupported, skus_fault, named_skus, set_named, set_by, set_of, command_line_pcds, arches_built, built_modules, words_checked, setting_by, setting_of};
+ghost use Rattle.module_steps.specs.Settings.{text_lines, one_arch, arch_in, arches_in, same_arch, has_arch, put_arch, each_once, built_arches, module_of, module_where, modules_for, modules_of, is_supported, arch_unsupported, skus_fault, named_skus, set_named, set_by, set_of, command_line_pcds, arches_built, built_modules, words_checked, setting_by, setting_of};
 
 use crate::parts::each_text;
 use build_base::fault_codes::ARCH_UNSUPPORTED;
@@ -39,9 +39,9 @@ fn cut_at_feeds(alloc: Global, texts: &[u8]) -> Result<Vec<&[u8]>, AllocError>
 }
 
 // The texts that line feeds join.
-#[tactic(auto, unfolding(crate::specs::Settings::listed))]
-fn listed(alloc: Global, texts: &[u8]) -> Result<Rows<Text>, WantOfMemory>
-    ensures { IfOk result (λ rows. rows ≡ listed texts.now) }
+#[tactic(auto, unfolding(crate::specs::Settings::text_lines))]
+fn text_lines(alloc: Global, texts: &[u8]) -> Result<Rows<Text>, WantOfMemory>
+    ensures { IfOk result (λ rows. rows ≡ text_lines texts.now) }
 {
     if texts.is_empty() {
         return Ok(Rows::new(alloc));
@@ -302,7 +302,7 @@ fn sets_of(alloc: Global, at: &Place, texts: &[Text]) -> Result<Rows<PcdSet>, St
 pub fn command_line_pcds(alloc: Global, at: &Place, text: &[u8]) -> Result<Rows<PcdSet>, Stop<Key>>
     ensures { GivesIn (λ sets. sets) result (command_line_pcds at.now text.now) }
 {
-    let texts = listed(alloc, text)?;
+    let texts = text_lines(alloc, text)?;
     sets_of(alloc, at, texts.items())
 }
 
@@ -315,7 +315,7 @@ pub fn arches_built(
 ) -> Result<Rows<Arch>, Stop<Key>>
     ensures { GivesIn (λ arches. arches) result (arches_built platform.now arches.now) }
 {
-    let texts = listed(alloc, arches)?;
+    let texts = text_lines(alloc, arches)?;
     let named = arches_in(alloc, texts.items())?;
     Ok(built_arches(alloc, named.items(), platform.arches.items())?)
 }
@@ -397,7 +397,7 @@ pub fn setting_of(
 ) -> Result<Setting, Stop<Key>>
     ensures { GivesIn (λ s. s) result (setting_of platform.now arches.now sku.now pcds.now) }
 {
-    let texts = listed(alloc, arches)?;
+    let texts = text_lines(alloc, arches)?;
     let named = arches_in(alloc, texts.items())?;
     let commands = command_line_pcds(alloc, &platform.at, pcds)?;
     setting_checked(alloc, platform, texts.items(), named.items(), sku, commands)

@@ -13,7 +13,7 @@ use Rattle.step_engine.specs.declared.talk.Pair.{Pair}
 use Rattle.step_pack.specs.declared.key.Key.{Key}
 use Rattle.step_pack.specs.declared.out.Out.{Out}
 use Rattle.step_cache.specs.CacheText.{pair_text, pair_texts, batch_texts, entry_texts, cache_texts, numbered_pair, numbered_batch, numbered, pooled, pair_is_value, batch_is_value, entry_is_value}
-use Rattle.step_cache.specs.Checking.{used, then_uses, ask_uses, asks_use, batches_use, entry_uses, entries_use, each_new, is_all, are_used, ascend, IsCacheOf}
+use Rattle.step_cache.specs.Checking.{use_number, then_uses, ask_uses, asks_use, batches_use, entry_uses, entries_use, each_new, is_all, are_used, ascend, IsCacheOf}
 use Rattle.step_cache.specs.Decoding.{AreDecoded, HasTexts, value_at, all_some, pair_of, pair_at, batch_of, batch_at, entry_with, entry_at}
 use Rattle.step_cache.specs.Pools.{with_texts, number_in, pool_of}
 use Rattle.step_cache.specs.declared.numbered.Asked.{Asked}
@@ -44,7 +44,7 @@ module _ (whole : List (List ℕ)) where
       let joins : with_texts pool (entry_texts entry) ≡ with_texts first (last ∷ []) = with_texts-append pool talk (last ∷ []) in
       let rest : Within (with_texts first (last ∷ [])) whole = subst (λ (p : List (List ℕ)). Within p whole) joins w in
       let here : Within first whole = within-then first (with_texts first (last ∷ [])) whole (within_all first (last ∷ [])) rest in
-      ap (λ (seen : Option ℕ). then_uses seen (λ now. used (length whole) now (number_in whole last))) (count_batches entry.talk.batches pool here)
+      ap (λ (seen : Option ℕ). then_uses seen (λ now. use_number (length whole) now (number_in whole last))) (count_batches entry.talk.batches pool here)
       ∙ use_put whole first last rest
       ∙ ap (λ (p : List (List ℕ)). Some (length p)) (sym joins)
 
@@ -112,7 +112,7 @@ module _ (pool : List (List ℕ)) (answers : List (Option (Answer Out))) (result
       where
         step : (a : Option (List (Batch Key Out))) (b : Option (Outcome Out)) (c : Option ℕ) → all_some (batch_at answers) number.batches ≡ a
             → value_at results number.result ≡ b → batches_use (length pool) number.batches s ≡ c → entry_with number.key a b ≡ Some entry
-            → then_uses c (λ now. used (length pool) now number.result) ≡ Some t → IsFound pool (numbered pool) entry_is_value entry_texts number entry s t
+            → then_uses c (λ now. use_number (length pool) now number.result) ≡ Some t → IsFound pool (numbered pool) entry_is_value entry_texts number entry s t
         step None b c fa fb fc e u = cc
         step (Some batches) None c fa fb fc e u = cc
         step (Some batches) (Some given) None fa fb fc e u = cc

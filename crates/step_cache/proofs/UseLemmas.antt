@@ -4,7 +4,7 @@ use Rattle.std.specs.Prelude.{slice_get, take, drop, nat_lt, nat_eq}
 use Rattle.std.specs.List.{list_all, flat_map}
 use Rattle.std.proofs.lemmas.Bool.{and_from, ltb-true, eqb-true, lt-ltb, le-ltb, eq-eqb}
 use Rattle.std.proofs.lemmas.List.{take-append-drop, length-take-le}
-use Rattle.step_cache.specs.Checking.{used, then_uses, uses_all}
+use Rattle.step_cache.specs.Checking.{use_number, then_uses, uses_all}
 use Rattle.step_cache.specs.Decoding.{consed, all_some}
 use Rattle.step_cache.specs.Pools.{has_text, with_text, with_texts, number_in}
 use Rattle.step_cache.proofs.PoolLemmas.{Extends, extends-all, extends-then, has_push, number_more, number_last, with_texts-append}
@@ -35,8 +35,8 @@ within-then a b c f g = record { extends = extends-then a b c f.extends g.extend
 
 -- a text that is put has the next number, or that of a used one
 pub use_put : (whole pool : List (List ℕ)) (text : List ℕ) → Within (with_text pool text) whole
-    → used (length whole) (length pool) (number_in whole text) ≡ Some (length (with_text pool text))
-unfolding with_text used
+    → use_number (length whole) (length pool) (number_in whole text) ≡ Some (length (with_text pool text))
+unfolding with_text use_number
 use_put whole pool text w = step (has_text pool text) refl w
   where
     step : (b : Bool) → has_text pool text ≡ b → Within (cond b pool (pool ++ text ∷ [])) whole
@@ -86,8 +86,8 @@ take_next (p ∷ pool) (suc s) text e = ap (λ (ts : List (List ℕ)). p ∷ ts)
 
 -- a text of a used number, or of the next
 pub use_found : (pool : List (List ℕ)) (s n t : ℕ) (text : List ℕ) → EachOnce pool → s ≤ length pool → slice_get pool n ≡ Some text
-    → used (length pool) s n ≡ Some t → (t ≤ length pool) × (with_text (take s pool) text ≡ take t pool)
-unfolding used with_text
+    → use_number (length pool) s n ≡ Some t → (t ≤ length pool) × (with_text (take s pool) text ≡ take t pool)
+unfolding use_number with_text
 use_found pool s n t text once le at e = step (nat_lt n s) (nat_eq n s) (nat_lt s (length pool)) refl refl refl e
   where
     step : (a b c : Bool) → nat_lt n s ≡ a → nat_eq n s ≡ b → nat_lt s (length pool) ≡ c

@@ -27,8 +27,8 @@ Adds old text new false = has_text old text ≡ true
 
 -- how many texts of so many are used after one more number, where it is that of a used one or of
 -- the next
-unfoldable pub used : ℕ → ℕ → ℕ → Option ℕ
-used count seen number =
+unfoldable pub use_number : ℕ → ℕ → ℕ → Option ℕ
+use_number count seen number =
     if nat_lt number seen then Some seen
     else if nat_eq number seen then (if nat_lt seen count then Some (seen + 1) else None)
     else None
@@ -42,7 +42,7 @@ uses_all f [] seen = Some seen
 uses_all f (y ∷ ys) seen = then_uses (f y seen) (uses_all f ys)
 
 abbrev pub ask_uses : ℕ → Asked → ℕ → Option ℕ
-ask_uses count asked seen = used count seen asked.number
+ask_uses count asked seen = use_number count seen asked.number
 
 abbrev pub asks_use : ℕ → List Asked → ℕ → Option ℕ
 asks_use count asked seen = uses_all (ask_uses count) asked seen
@@ -52,7 +52,7 @@ batches_use count batches seen = uses_all (asks_use count) batches seen
 
 abbrev pub entry_uses : ℕ → Numbered → ℕ → Option ℕ
 entry_uses count number seen =
-    then_uses (batches_use count number.batches seen) (λ now. used count now number.result)
+    then_uses (batches_use count number.batches seen) (λ now. use_number count now number.result)
 
 abbrev pub entries_use : ℕ → List Numbered → ℕ → Option ℕ
 entries_use count numbers seen = uses_all (entry_uses count) numbers seen

@@ -14,17 +14,17 @@ use Rattle.step_cache.specs.Pools.{text_is, has_text, with_text, number_in}
 use Rattle.step_cache.specs.declared.places.Span.{Span}
 
 -- so many samples of a text written to a hash: 64 bytes behind every 1,024th
-unfoldable pub sampled : {H : Type 0} → (H → List ℕ → H) → H → List ℕ → ℕ → H
-sampled write state text zero = state
-sampled write state text (suc n) =
-    write (sampled write state text n) (take 64 (drop (n * 1024) text))
+unfoldable pub hash_samples : {H : Type 0} → (H → List ℕ → H) → H → List ℕ → ℕ → H
+hash_samples write state text zero = state
+hash_samples write state text (suc n) =
+    write (hash_samples write state text n) (take 64 (drop (n * 1024) text))
 
 -- a number of a text; others may have it too. A long text has that of its first and last 1,024
 -- bytes and of samples
 unfoldable pub digest : List ℕ → ℕ
 digest text =
     if nat_le (length text) 16384 then whole_digest text
-    else finish (sampled write (write (write initial (take 1024 text))
+    else finish (hash_samples write (write (write initial (take 1024 text))
     (take 1024 (drop (length text - 1024) text))) text (length text / 1024))
 
 -- what a text writes to a hash: its digest alone

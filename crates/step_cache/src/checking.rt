@@ -1,6 +1,6 @@
 //! What is asked of the parts of a text.
 ghost use Rattle.std.specs.Prelude.{◌≡◌, [], IfOk};
-ghost use Rattle.step_cache.specs.Checking.{each_new, used, asks_use, batches_use, entry_uses, entries_use, are_used, is_below, ascend};
+ghost use Rattle.step_cache.specs.Checking.{each_new, use_number, asks_use, batches_use, entry_uses, entries_use, are_used, is_below, ascend};
 
 use crate::numbered::{Asked, Numbered, Pooled};
 use crate::seen::Seen;
@@ -26,9 +26,9 @@ fn each_new(alloc: Global, pool: &[Text]) -> Result<bool, WantOfMemory>
 }
 
 // How many texts are used after one more number.
-#[tactic(auto, unfolding(crate::specs::Checking::used))]
-fn used(count: u64, seen: u64, number: u64) -> Option<u64>
-    ensures { result ≡ used count seen number }
+#[tactic(auto, unfolding(crate::specs::Checking::use_number))]
+fn use_number(count: u64, seen: u64, number: u64) -> Option<u64>
+    ensures { result ≡ use_number count seen number }
 {
     if number < seen {
         return Some(seen);
@@ -47,7 +47,7 @@ fn asks_use(count: u64, asked: &[Asked], before: u64) -> Option<u64>
     let mut seen = before;
     let mut left = asked;
     while let [ask, rest @ ..] = left {
-        seen = match used(count, seen, ask.number) {
+        seen = match use_number(count, seen, ask.number) {
             None => return None,
             Some(now) => now,
         };
@@ -76,7 +76,7 @@ fn entry_uses(count: u64, number: &Numbered, seen: u64) -> Option<u64>
 {
     match batches_use(count, number.batches.items(), seen) {
         None => None,
-        Some(now) => used(count, now, number.result),
+        Some(now) => use_number(count, now, number.result),
     }
 }
 

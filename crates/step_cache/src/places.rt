@@ -3,7 +3,7 @@ ghost use Rattle.std.specs.Prelude.{◌≡◌, ◌++◌, ◌∷◌, [], List, �
 ghost use Rattle.std.specs.HashMap.{get};
 ghost use Rattle.std.specs.Prelude.{◌<◌, ◌-◌, ◌/◌, take, drop};
 ghost use Rattle.std.specs.Hash.FoldHasher.{initial, write, finish};
-ghost use Rattle.step_cache.specs.Places.{digest, sampled, texts_at, is_some_text, first_at, found_in, numbers_at, IsPlaced};
+ghost use Rattle.step_cache.specs.Places.{digest, hash_samples, texts_at, is_some_text, first_at, found_in, numbers_at, IsPlaced};
 ghost use Rattle.step_cache.specs.Pools.{has_text};
 
 use build_base::bytes::{digest as whole_digest, part_of};
@@ -21,8 +21,8 @@ pub struct Span {
 
 // A state to which samples of a text are written. An image may be as long as its device, so that
 // to read each of its bytes once more takes as long as all else that is done for it.
-fn sampled(state: FoldHasher, text: &[u8]) -> FoldHasher
-    ensures { result ≡ sampled write state text.now (length text.now / 1024) }
+fn hash_samples(state: FoldHasher, text: &[u8]) -> FoldHasher
+    ensures { result ≡ hash_samples write state text.now (length text.now / 1024) }
 {
     let mut state = state;
     for i in 0..text.len() / 1024 {
@@ -34,13 +34,13 @@ fn sampled(state: FoldHasher, text: &[u8]) -> FoldHasher
 // The number of a long text.
 fn sampled_digest(text: &[u8]) -> u64
     requires { 16384 < length text.now }
-    ensures { result ≡ finish (sampled write (write (write initial (take 1024 text.now))
+    ensures { result ≡ finish (hash_samples write (write (write initial (take 1024 text.now))
         (take 1024 (drop (length text.now - 1024) text.now))) text.now (length text.now / 1024)) }
 {
     let mut state = FoldHasher::default();
     state.write(part_of(text, 0, 1024));
     state.write(part_of(text, text.len() - 1024, 1024));
-    sampled(state, text).finish()
+    hash_samples(state, text).finish()
 }
 
 /// A number of a text, by which it is looked up. Of a long text not all bytes are read for it.

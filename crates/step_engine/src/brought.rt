@@ -79,7 +79,7 @@ fn other_entries<K: StepKey, O: Same + Drop>(
 }
 
 // The entries made, with those of other keys.
-fn joined<K: StepKey, O: Same + Drop>(
+fn join_entries<K: StepKey, O: Same + Drop>(
     alloc: Global,
     old: &Cache<K, O>,
     made: Cache<K, O>,
@@ -236,7 +236,7 @@ pub fn bring_over<H: Threads + Sync, R: Rules, T: Tree, G: Gate>(
     let made = in_order(alloc, fresh, true)?;
     let needed = made.entries().len() as u64;
     if is_bad(&result) {
-        let left = joined(alloc, &cache, made)?;
+        let left = join_entries(alloc, &cache, made)?;
         let unchanged = is_idle(&cache, &left, first, book);
         return Ok(Brought {
             result,

@@ -13,7 +13,9 @@ use std::alloc::Global;
 use std::cmp::Ordering;
 
 // The entries in ascending order of their keys.
-fn sorted<K: StepKey, O: Drop>(entries: Vec<Entry<K, O>>) -> Result<Vec<Entry<K, O>>, WantOfMemory>
+fn sort_entries<K: StepKey, O: Drop>(
+    entries: Vec<Entry<K, O>>,
+) -> Result<Vec<Entry<K, O>>, WantOfMemory>
     ensures { IfOk result (λ v. IsPermutation entries.items v.items) }
 {
     let mut entries = entries;
@@ -67,7 +69,7 @@ pub fn in_order<K: StepKey, O: Same + Drop>(
     ensures same { IsOneEach entries.items → IfOk result (λ cache. AreSame entries.items cache) }
     ensures sorted { IfOk result (AreInOrder K.cmp) }
 {
-    let entries = sorted(entries)?;
+    let entries = sort_entries(entries)?;
     let cache = put_all(alloc, entries)?;
     Ok(cache.agreeing(agree))
 }

@@ -19,7 +19,7 @@ pub struct Pool<K: StepKey, O: Drop> {
 }
 
 /// Takes out the keys that wait for a part.
-pub fn taken<K: StepKey, O: Drop>(
+pub fn take_parked<K: StepKey, O: Drop>(
     alloc: Global,
     part: &K,
     parked: &mut KeyTable<K, Queue<K, O>>,
@@ -43,7 +43,7 @@ pub fn park<K: StepKey, O: Drop>(
     ensures { OnOk result ((a : Item K O) → Parks K.cmp parked.new a → (waiting.item ≡ a)
         ⊎ Parks K.cmp parked.old a) }
 {
-    let mut list = taken(alloc, &part, parked);
+    let mut list = take_parked(alloc, &part, parked);
     if list.push(waiting).is_err() {
         return Err(WantOfMemory);
     }
@@ -61,7 +61,7 @@ pub fn wake<K: StepKey, O: Drop>(
     ensures { OnOk result ((a : Item K O) → Parks K.cmp parked.new a
         ⊎ Holds woken.new.items a → Parks K.cmp parked.old a ⊎ Holds woken.old.items a) }
 {
-    let mut list = taken(alloc, part, parked);
+    let mut list = take_parked(alloc, part, parked);
     if woken.append(&mut list).is_err() {
         return Err(WantOfMemory);
     }

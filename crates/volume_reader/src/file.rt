@@ -193,7 +193,12 @@ fn file_sections(
     if !is_listed(file_type(bytes)) {
         return Ok(Rows::new(alloc));
     }
-    body_sections(alloc, ffs3, place + header_len(bytes) as u64, body_in(bytes))
+    body_sections(
+        alloc,
+        ffs3,
+        place + header_len(bytes) as u64,
+        body_in(bytes),
+    )
 }
 
 /// The file at the front of some bytes, which stand at a place of the volume.

@@ -9,7 +9,7 @@ use Rattle.build_base.specs.FaultText.{fault_of}
 use Rattle.build_base.specs.declared.fault.Place.{Place}
 use Rattle.build_base.specs.declared.fault.Fault.{Fault}
 use Rattle.meta_lexer.specs.Faults.{first_fault}
-use Rattle.meta_lexer.specs.Words.{holds_macro}
+use Rattle.meta_lexer.specs.Words.{has_macro_use}
 use Rattle.macro_conditions.specs.declared.expression.Value.{Value}
 use Rattle.macro_conditions.specs.declared.expression.Value.TheVariants.{Number, Word}
 use Rattle.macro_conditions.specs.Expressions.{value_of_text}
@@ -74,7 +74,7 @@ not_first false fault r x e = e
 value_wide : (at : Place) (text : List ℕ) (datum : Datum) (bytes : List ℕ) → number_value at text datum ≡ Ok bytes → length bytes ≡ width datum
 unfolding number_value
 value_wide at text datum bytes e =
-    number_wide at text datum (value_of_text text) bytes (not_first (holds_macro text) _ (number_bytes at text datum (value_of_text text)) bytes e)
+    number_wide at text datum (value_of_text text) bytes (not_first (has_macro_use text) _ (number_bytes at text datum (value_of_text text)) bytes e)
 
 -- A VOID* has at most its maximum, and a value of another type is as wide as that.
 

@@ -85,11 +85,11 @@ fn halves<
             (λ results. AreAnswers F.post work.entry.now high.items results.items) }
     { halves(rt, alloc, high, theirs, gate, wave, next, pieces, work) };
     let (a, b) = join(rt, front, back);
-    appended(a, b)
+    append_results(a, b)
 }
 
 // The results of both, where both have any.
-fn appended<T: Drop>(
+fn append_results<T: Drop>(
     first: Result<Vec<T>, WantOfMemory>,
     second: Result<Vec<T>, WantOfMemory>,
 ) -> Result<Vec<T>, WantOfMemory>

@@ -1,7 +1,7 @@
 -- The queue of the part, if any.
 use Rattle.std.proofs.Common.{sym, ◌∙◌}
 use Rattle.step_engine.proofs.PoolLemmas.{holds_none, taken_less}
-use Rattle.step_engine.proofs.pool.taken.Goals as goal
+use Rattle.step_engine.proofs.pool.take_parked.Goals as goal
 
 pub returns-in-Some-clause-out : goal.returns-in-Some-clause-out
 returns-in-Some-clause-out g c = λ a h. (c.args.part.now, c.in-Some.queue, sym c.remove.ensures.value ∙ c.in-Some.is, h)

@@ -1,7 +1,7 @@
 use Rattle.std.proofs.Common.{◌≡◌, ◌+◌, ◌≤◌, length, take}
 use Rattle.std.specs.List.{suffix_len}
 use Rattle.meta_lexer.specs.Lines.{is_blank}
-use Rattle.meta_lexer.proofs.line.used.Given as goal
+use Rattle.meta_lexer.proofs.line.used_length.Given as goal
 
 abbrev pub invariant-loop-n : goal.invariant-loop-n
 invariant-loop-n l = (l.n ≤ length l.text) × (l.n + suffix_len is_blank l.text ≡ length l.text + suffix_len is_blank (take l.n l.text))

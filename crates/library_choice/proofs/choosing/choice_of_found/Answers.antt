@@ -6,7 +6,7 @@ use Rattle.doc_types.specs.declared.choice.Choice.{Choice}
 use Rattle.library_choice.specs.Choices.{classes_fault, choice_of}
 use Rattle.library_choice.specs.Fronts.{FindsFor}
 use Rattle.library_choice.proofs.MadeLemmas.{made_some, made_none, refused_is}
-use Rattle.library_choice.proofs.choosing.made.Goals as goal
+use Rattle.library_choice.proofs.choosing.choice_of_found.Goals as goal
 
 pub lawful_choice-requires : goal.lawful_choice-requires
 lawful_choice-requires c =
