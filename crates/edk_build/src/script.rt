@@ -8,7 +8,7 @@ use build_base::path::path_field;
 use build_base::{Path, Rows, Text, WantOfMemory};
 use build_words::checks::has_plain_bytes_alone;
 use build_words::{Job, words_job};
-use meta_lexer::line::{cut, is_end, without_line_end};
+use meta_lexer::line::{is_end, split_line, without_line_end};
 use meta_lexer::parts::words;
 use std::alloc::Global;
 
@@ -168,7 +168,7 @@ pub(crate) fn read_script(
     let mut number = 1;
     let mut rest = bytes;
     while !is_end(rest) {
-        let (piece, after) = cut(rest);
+        let (piece, after) = split_line(rest);
         let Some(content) = line_content(alloc, number, piece)? else {
             return Ok(None);
         };

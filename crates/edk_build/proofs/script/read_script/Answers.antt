@@ -8,17 +8,17 @@ use Rattle.edk_build.proofs.script.read_script.Goals as goal
 pub returns-in_default : goal.returns-in_default
 returns-in_default c =
     let at = c.loop-rest.invariant.0 in
-    lines_none c.loop-rest.lines (pieces_from c.loop-rest.number at c.loop-rest.rest.now) (piece_of c.loop-rest.number at c.cut.result.0.now)
-    (pieces_from (c.loop-rest.number + 1) (at + (length c.loop-rest.rest.now - length c.cut.result.1.now)) c.cut.result.1.now) (script_of c.args.bytes.now)
-    c.loop-rest.invariant.1 (c.cut.ensures.pieces c.loop-rest.number at) (sym c.in_default.is ∙ c.in_ok-content.ensures.content at)
+    lines_none c.loop-rest.lines (pieces_from c.loop-rest.number at c.loop-rest.rest.now) (piece_of c.loop-rest.number at c.split_line.result.0.now)
+    (pieces_from (c.loop-rest.number + 1) (at + (length c.loop-rest.rest.now - length c.split_line.result.1.now)) c.split_line.result.1.now) (script_of c.args.bytes.now)
+    c.loop-rest.invariant.1 (c.split_line.ensures.pieces c.loop-rest.number at) (sym c.in_default.is ∙ c.in_ok-content.ensures.content at)
 
 pub loop-rest-preserved : goal.loop-rest-preserved
 loop-rest-preserved c =
     let at = c.loop-rest.invariant.0 in (
-      at + (length c.loop-rest.rest.now - length c.cut.result.1.now),
-      lines_more c.loop-rest.lines c.push_content.new.lines (pieces_from c.loop-rest.number at c.loop-rest.rest.now) (piece_of c.loop-rest.number at c.cut.result.0.now)
-          (pieces_from (c.loop-rest.number + 1) (at + (length c.loop-rest.rest.now - length c.cut.result.1.now)) c.cut.result.1.now) c.in-Some.content (script_of c.args.bytes.now)
-          c.loop-rest.invariant.1 (c.cut.ensures.pieces c.loop-rest.number at) (sym c.in-Some.is ∙ c.in_ok-content.ensures.content at) c.in_ok-push_content.ensures,
+      at + (length c.loop-rest.rest.now - length c.split_line.result.1.now),
+      lines_more c.loop-rest.lines c.push_content.new.lines (pieces_from c.loop-rest.number at c.loop-rest.rest.now) (piece_of c.loop-rest.number at c.split_line.result.0.now)
+          (pieces_from (c.loop-rest.number + 1) (at + (length c.loop-rest.rest.now - length c.split_line.result.1.now)) c.split_line.result.1.now) c.in-Some.content (script_of c.args.bytes.now)
+          c.loop-rest.invariant.1 (c.split_line.ensures.pieces c.loop-rest.number at) (sym c.in-Some.is ∙ c.in_ok-content.ensures.content at) c.in_ok-push_content.ensures,
     )
 
 pub returns : goal.returns
