@@ -47,11 +47,54 @@ fn folder_of(path: &[u8]) -> &[u8] {
     }
 }
 
+// Makes a folder. One that is there stays as it is.
+fn make_folder<R: Runtime + AllocGlobal>(rt: &R, folder: &str) -> io::Result<()> {
+    match fs::create_dir(rt, folder) {
+        Err(error) if error.kind() == ErrorKind::AlreadyExists => Ok(()),
+        made => made,
+    }
+}
+
+// The folder that ends in front of `end`, where a slash stands there.
+fn folder_above(folder: &str, end: usize) -> Option<&str> {
+    match folder.split_at_checked(end) {
+        Some((above, rest)) if rest.starts_with('/') => Some(above),
+        _ => None,
+    }
+}
+
+// Where the lowest folder above ends that is there or can be made, or 0.
+fn lowest_made<R: Runtime + AllocGlobal>(rt: &R, folder: &str) -> usize {
+    for end in (1..folder.len()).rev() {
+        if let Some(above) = folder_above(folder, end) {
+            if make_folder(rt, above).is_ok() {
+                return end;
+            }
+        }
+    }
+    0
+}
+
+// Makes a folder, and those above it that are missing. It looks from the lowest one up, so a
+// folder deep in a tree costs only the folders that it adds.
+fn make_folders<R: Runtime + AllocGlobal>(rt: &R, folder: &str) -> io::Result<()> {
+    if make_folder(rt, folder).is_ok() {
+        return Ok(());
+    }
+    let made = lowest_made(rt, folder);
+    for end in made.saturating_add(1)..folder.len() {
+        if let Some(above) = folder_above(folder, end) {
+            make_folder(rt, above)?;
+        }
+    }
+    make_folder(rt, folder)
+}
+
 // An empty file of a name, in the folder, which is made where it is missing.
 fn create_in<R: Runtime + AllocGlobal>(rt: &R, folder: &str, name: &str) -> io::Result<R::File> {
     match fs::create(rt, name) {
         Err(error) if error.kind() == ErrorKind::NotFound && !folder.is_empty() => {
-            fs::create_dir_all(rt, folder)?;
+            make_folders(rt, folder)?;
             fs::create(rt, name)
         }
         made => made,
