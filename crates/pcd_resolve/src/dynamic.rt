@@ -7,25 +7,24 @@ ghost use Rattle.meta_lexer.specs.Faults.{first_fault};
 ghost use Rattle.meta_lexer.specs.Numbers.{number_of};
 ghost use Rattle.std.specs.List.{All};
 ghost use Rattle.pcd_values.specs.Skus.{WalkEnds, value_within};
-ghost use Rattle.pcd_resolve.specs.Groups.{Grouped};
+ghost use Rattle.pcd_resolve.specs.PcdLines.{own_values, sku_row, AreSources, HasTables};
 ghost use Rattle.pcd_resolve.specs.Rows.{all_rows};
-ghost use Rattle.pcd_resolve.specs.SkuTables.{stated_sku, AreKnown, AreTables};
+ghost use Rattle.pcd_resolve.specs.SkuTables.{AreTables};
 ghost use Rattle.pcd_ranks.specs.Assignments.{by_line};
-ghost use Rattle.pcd_resolve.specs.Platform.{too_great, bad_rest, rest_fault, vpd_fault, default_for, sku_assignments, named_if, valued, source, row_by_source, dynamic_rows};
+ghost use Rattle.pcd_resolve.specs.Platform.{too_great, bad_rest, rest_fault, vpd_fault, default_for, sku_assignments, named_if, valued, row_by_source, dynamic_rows};
 ghost use Rattle.pcd_ranks.specs.Assignments.{value_from};
 ghost use Rattle.pcd_ranks.specs.Views.{stated_view, given_view};
 
 use crate::resolve::append;
 use crate::rows::row_of;
 use crate::sku_tables::SkuTables;
-use crate::sku_values::{known_source, lines_by_sku, row_from, sources_of};
+use crate::sku_values::{PcdLines, known_source, lines_by_sku, row_from, sources_of};
 use build_base::fault_codes::BAD_VALUE;
 use build_base::{Place, Refusal, Rows, Same, Text, WantOfMemory, refuse};
 use doc_types::package::DecPcd;
 use doc_types::pcd::{Datum, Kind, PcdSet};
 use doc_types::platform::{Sku, Store};
 use doc_types::values::{PcdRow, SkuRow};
-use indexmap::IndexMap;
 use meta_lexer::numbers::number;
 use pcd_ranks::assign::{LentAssignment, by_declaration, by_line, put, put_sets, value_from};
 use pcd_ranks::listing::StatedLine;
@@ -228,25 +227,23 @@ pub fn valued<'a>(
     Ok(rows)
 }
 
-/// The row of a SKU, by the SKU whose value it takes.
-pub(crate) fn row_by_source<'a>(
+// The row of a SKU, by the SKU whose value it takes.
+fn row_by_source(
     alloc: Global,
     kind: Kind,
-    line: &'a DecPcd,
-    lines: &[StatedLine<'a>],
-    sets: &[&'a PcdSet],
+    pcd: &PcdLines<'_, '_>,
     sku: &[u8],
     from: Option<&Text>,
 ) -> Result<Rows<PcdRow>, Refusal>
     ensures { Answers result
-        (row_by_source kind line.now (map stated_view lines.now) (map (λ s. s.now) sets.now) sku.now
-        (option_copied from.entry)) }
+        (row_by_source kind pcd.now.line.now (map stated_view pcd.now.lines.now)
+        (map (λ s. s.now) pcd.now.sets.now) sku.now (option_copied from.entry)) }
 {
     let Some(from) = from else {
         return Ok(Rows::new(alloc));
     };
-    let all = sku_assignments(alloc, line, lines, sets, from.bytes())?;
-    row_of(alloc, kind, line, sku, all.as_slice())
+    let all = sku_assignments(alloc, pcd.line, pcd.lines, pcd.sets, from.bytes())?;
+    row_of(alloc, kind, pcd.line, sku, all.as_slice())
 }
 
 fn source<'s>(rows: &'s Rows<SkuRow>, skus: &Rows<Sku>, sku: &Text) -> Option<&'s Text>
@@ -257,148 +254,89 @@ fn source<'s>(rows: &'s Rows<SkuRow>, skus: &Rows<Sku>, sku: &Text) -> Option<&'
 }
 
 #[tactic(auto, unfolding(crate::specs::Platform::source))]
-fn row_for<'a>(
+fn row_for(
     alloc: Global,
     kind: Kind,
-    line: &'a DecPcd,
-    lines: &[StatedLine<'a>],
-    sets: &[&'a PcdSet],
+    pcd: &PcdLines<'_, '_>,
     values: &Rows<SkuRow>,
-    skus: &Rows<Sku>,
     sku: &Sku,
 ) -> Result<Rows<PcdRow>, Refusal>
-    requires walk { WalkEnds skus.now sku.now.name }
-    requires values { values.now ≡ valued line.now (map stated_view lines.now)
-        (map (λ s. s.now) sets.now) skus.now }
-    ensures { Answers result
-        (row_by_source kind line.now (map stated_view lines.now) (map (λ s. s.now) sets.now)
-        sku.now.name (source line.now (map stated_view lines.now) (map (λ s. s.now) sets.now)
-        skus.now sku.now.name)) }
+    requires walk { WalkEnds pcd.now.skus.now sku.now.name }
+    requires values { values.now ≡ own_values pcd.now }
+    ensures { Answers result (sku_row kind pcd.now sku.now.name) }
 {
-    let from = source(values, skus, &sku.name);
-    row_by_source(alloc, kind, line, lines, sets, sku.name.bytes(), from)
+    let from = source(values, pcd.skus, &sku.name);
+    row_by_source(alloc, kind, pcd, sku.name.bytes(), from)
 }
 
 // The same, where no source is known: by a walk.
-fn walked_row<'a>(
+fn walked_row(
     alloc: Global,
     kind: Kind,
-    line: &'a DecPcd,
-    lines: &[StatedLine<'a>],
-    sets: &[&'a PcdSet],
-    skus: &Rows<Sku>,
+    pcd: &PcdLines<'_, '_>,
     sku: &Sku,
 ) -> Result<Rows<PcdRow>, Refusal>
-    requires { WalkEnds skus.now sku.now.name }
-    ensures { Answers result
-        (row_by_source kind line.now (map stated_view lines.now) (map (λ s. s.now) sets.now)
-        sku.now.name (source line.now (map stated_view lines.now) (map (λ s. s.now) sets.now)
-        skus.now sku.now.name)) }
+    requires { WalkEnds pcd.now.skus.now sku.now.name }
+    ensures { Answers result (sku_row kind pcd.now sku.now.name) }
 {
-    let values = valued(alloc, line, lines, sets, skus.items())?;
-    row_for(alloc, kind, line, lines, sets, &values, skus, sku)
+    let values = valued(alloc, pcd.line, pcd.lines, pcd.sets, pcd.skus.items())?;
+    row_for(alloc, kind, pcd, &values, sku)
 }
 
 // The row of a SKU by what is known of sources.
-fn row_at<'a>(
+fn row_at(
     alloc: Global,
     kind: Kind,
-    line: &'a DecPcd,
-    lines: &[StatedLine<'a>],
-    own: &IndexMap<Vec<u8>, Vec<StatedLine<'a>>>,
-    sets: &[&'a PcdSet],
-    skus: &Rows<Sku>,
-    tables: &SkuTables,
+    pcd: &PcdLines<'_, '_>,
     known: &[Option<usize>],
     sku: &Sku,
 ) -> Result<Rows<PcdRow>, Refusal>
-    requires walk { WalkEnds skus.now sku.now.name }
-    requires own { Grouped stated_view stated_sku (map stated_view lines.now) own.now }
-    requires tables { AreTables skus.now tables.now }
-    requires known { AreKnown
-        (valued line.now (map stated_view lines.now) (map (λ s. s.now) sets.now) skus.now) skus.now
-        (length tables.now.order.items) known.now }
-    ensures { Answers result
-        (row_by_source kind line.now (map stated_view lines.now) (map (λ s. s.now) sets.now)
-        sku.now.name (source line.now (map stated_view lines.now) (map (λ s. s.now) sets.now)
-        skus.now sku.now.name)) }
+    requires walk { WalkEnds pcd.now.skus.now sku.now.name }
+    requires tables { HasTables pcd.now }
+    requires known { AreSources pcd.now known.now }
+    ensures { Answers result (sku_row kind pcd.now sku.now.name) }
 {
-    match known_source(skus, tables, known, &sku.name) {
-        Some(from) => row_from(alloc, kind, line, own, sets, &sku.name, &from.name),
-        None => walked_row(alloc, kind, line, lines, sets, skus, sku),
+    match known_source(pcd.skus, pcd.tables, known, &sku.name) {
+        Some(from) => row_from(alloc, kind, pcd, &sku.name, &from.name),
+        None => walked_row(alloc, kind, pcd, sku),
     }
 }
 
-fn rows_for<'a>(
+fn rows_for(
     alloc: Global,
     kind: Kind,
-    line: &'a DecPcd,
-    lines: &[StatedLine<'a>],
-    own: &IndexMap<Vec<u8>, Vec<StatedLine<'a>>>,
-    sets: &[&'a PcdSet],
-    skus: &Rows<Sku>,
-    tables: &SkuTables,
+    pcd: &PcdLines<'_, '_>,
     known: &[Option<usize>],
     picked: &[&Sku],
 ) -> Result<Rows<PcdRow>, Refusal>
-    requires walks { All (λ s. WalkEnds skus.now s.now.name) picked.now }
-    requires own { Grouped stated_view stated_sku (map stated_view lines.now) own.now }
-    requires tables { AreTables skus.now tables.now }
-    requires known { AreKnown
-        (valued line.now (map stated_view lines.now) (map (λ s. s.now) sets.now) skus.now) skus.now
-        (length tables.now.order.items) known.now }
+    requires walks { All (λ s. WalkEnds pcd.now.skus.now s.now.name) picked.now }
+    requires tables { HasTables pcd.now }
+    requires known { AreSources pcd.now known.now }
     ensures { Answers result
-        (all_rows
-        (map (λ sku. row_by_source kind line.now (map stated_view lines.now)
-        (map (λ s. s.now) sets.now) sku.name
-        (source line.now (map stated_view lines.now) (map (λ s. s.now) sets.now) skus.now sku.name))
-        (map (λ s. s.now) picked.now))) }
+        (all_rows (map (λ sku. sku_row kind pcd.now sku.name) (map (λ s. s.now) picked.now))) }
 {
     let mut rows = Rows::new(alloc);
     for sku in picked {
-        let more = row_at(
-            alloc, kind, line, lines, own, sets, skus, tables, known, sku,
-        )?;
+        let more = row_at(alloc, kind, pcd, known, sku)?;
         append(alloc, &mut rows, more.items())?;
     }
     Ok(rows)
 }
 
 // The rows by the lines of each SKU.
-fn rows_by_sku<'a>(
+fn rows_by_sku(
     alloc: Global,
     kind: Kind,
-    line: &'a DecPcd,
-    lines: &[StatedLine<'a>],
-    own: &IndexMap<Vec<u8>, Vec<StatedLine<'a>>>,
-    sets: &[&'a PcdSet],
-    skus: &Rows<Sku>,
-    tables: &SkuTables,
+    pcd: &PcdLines<'_, '_>,
     picked: &[&Sku],
 ) -> Result<Rows<PcdRow>, Refusal>
-    requires walks { All (λ s. WalkEnds skus.now s.now.name) picked.now }
-    requires own { Grouped stated_view stated_sku (map stated_view lines.now) own.now }
-    requires tables { AreTables skus.now tables.now }
+    requires walks { All (λ s. WalkEnds pcd.now.skus.now s.now.name) picked.now }
+    requires tables { HasTables pcd.now }
     ensures { Answers result
-        (all_rows
-        (map (λ sku. row_by_source kind line.now (map stated_view lines.now)
-        (map (λ s. s.now) sets.now) sku.name
-        (source line.now (map stated_view lines.now) (map (λ s. s.now) sets.now) skus.now sku.name))
-        (map (λ s. s.now) picked.now))) }
+        (all_rows (map (λ sku. sku_row kind pcd.now sku.name) (map (λ s. s.now) picked.now))) }
 {
-    let known = sources_of(alloc, line, own, sets, skus, tables)?;
-    rows_for(
-        alloc,
-        kind,
-        line,
-        lines,
-        own,
-        sets,
-        skus,
-        tables,
-        known.as_slice(),
-        picked,
-    )
+    let known = sources_of(alloc, pcd)?;
+    rows_for(alloc, kind, pcd, known.as_slice(), picked)
 }
 
 /// The rows of a dynamic PCD, one for each chosen SKU, by the tables of all SKUs.
@@ -421,5 +359,13 @@ pub(crate) fn dynamic_rows<'a>(
 {
     vpd_faults(alloc, line.datum, lines)?;
     let own = lines_by_sku(alloc, lines)?;
-    rows_by_sku(alloc, kind, line, lines, &own, sets, skus, tables, picked)
+    let pcd = PcdLines {
+        line,
+        lines,
+        own: &own,
+        sets,
+        skus,
+        tables,
+    };
+    rows_by_sku(alloc, kind, &pcd, picked)
 }

@@ -7,10 +7,11 @@ ghost use Rattle.pcd_resolve.specs.Groups.{Grouped};
 ghost use Rattle.pcd_ranks.specs.Listing.{stated_in, uses_in};
 ghost use Rattle.pcd_ranks.specs.Names.{serves};
 ghost use Rattle.pcd_resolve.specs.Platform.{SkusEnd, chosen, counts, is_chosen, platform_sets, platform_values, rows_at, rows_by, wanted, words_fault};
+ghost use Rattle.pcd_resolve.specs.PlatformTables.{HoldsPlatform};
 ghost use Rattle.pcd_resolve.specs.Rows.{all_rows, names_of};
 ghost use Rattle.pcd_resolve.specs.SkuTables.{AreTables};
 ghost use Rattle.pcd_resolve.specs.Sought.{found, sought_view};
-ghost use Rattle.pcd_resolve.specs.Tables.{set_name, stated_name, use_name};
+ghost use Rattle.pcd_resolve.specs.Tables.{set_name, use_name};
 ghost use Rattle.pcd_ranks.specs.Views.{stated_view, use_view};
 
 use crate::dynamic::dynamic_rows;
@@ -34,6 +35,18 @@ use meta_lexer::parts::field_texts;
 use pcd_ranks::listing::{StatedLine, UseLine};
 use pcd_ranks::names::{is_common, is_dynamic, serves};
 use std::alloc::Global;
+
+/// A platform, with the tables of its SKUs, the chosen ones of these, and by the names of PCDs what
+/// uses, states and sets them.
+#[derive(Clone, Copy)]
+pub(crate) struct PlatformTables<'t, 'a> {
+    pub ask: &'a PlatformAsk,
+    pub skus: &'t SkuTables,
+    pub picked: &'t [&'a Sku],
+    pub uses: &'t IndexMap<Vec<u8>, Vec<UseLine<'a>>>,
+    pub lines: &'t IndexMap<Vec<u8>, Vec<StatedLine<'a>>>,
+    pub sets: &'t IndexMap<Vec<u8>, Vec<&'a PcdSet>>,
+}
 
 fn serves_one(line: Arch, arches: &[Arch]) -> bool
     ensures { result ≡ list_any (λ arch. serves line arch) arches.now }
@@ -83,21 +96,18 @@ pub fn counted<'a>(
 
 fn rows_by<'a>(
     alloc: Global,
-    ask: &'a PlatformAsk,
+    tables: &PlatformTables<'_, 'a>,
     sought: &DeclarationSearch<'_, 'a>,
-    skus: &SkuTables,
-    picked: &[&'a Sku],
     lines: &[StatedLine<'a>],
     sets: &[&'a PcdSet],
     kind: Kind,
 ) -> Result<Rows<PcdRow>, Refusal>
-    requires sought { sought_view sought.now ≡ found ask.now sought.now.name.now.items }
+    requires tables { HoldsPlatform tables.now }
+    requires sought { sought_view sought.now
+        ≡ found tables.now.ask.now sought.now.name.now.items }
     requires kind { sought.now.kind ≡ Some kind }
-    requires skus { AreTables ask.now.platform.skus skus.now }
-    requires picked { map (λ s. s.now) picked.now ≡ chosen ask.now }
-    requires walks { All (λ s. WalkEnds ask.now.platform.skus s.now.name) picked.now }
     ensures { Answers result
-        (rows_by ask.now sought.now.name.now.items (map stated_view lines.now)
+        (rows_by tables.now.ask.now sought.now.name.now.items (map stated_view lines.now)
         (map (λ s. s.now) sets.now) (Some kind)) }
 {
     if !is_dynamic(kind) {
@@ -106,83 +116,58 @@ fn rows_by<'a>(
     let Some(line) = declaration(kind, sought) else {
         return Ok(Rows::new(alloc));
     };
-    let lines = counted(alloc, ask.arches.items(), lines)?;
+    let lines = counted(alloc, tables.ask.arches.items(), lines)?;
     dynamic_rows(
         alloc,
         kind,
         line,
         lines.as_slice(),
         sets,
-        &ask.platform.value().skus,
-        skus,
-        picked,
+        &tables.ask.platform.value().skus,
+        tables.skus,
+        tables.picked,
     )
 }
 
 #[tactic(auto, unfolding(crate::specs::Platform::rows_at, crate::specs::Faults::checked_kind))]
 fn rows_at<'a>(
     alloc: Global,
-    ask: &'a PlatformAsk,
+    tables: &PlatformTables<'_, 'a>,
     sought: &DeclarationSearch<'_, 'a>,
-    skus: &SkuTables,
-    picked: &[&'a Sku],
-    uses: &IndexMap<Vec<u8>, Vec<UseLine<'a>>>,
-    lines: &IndexMap<Vec<u8>, Vec<StatedLine<'a>>>,
-    sets: &IndexMap<Vec<u8>, Vec<&'a PcdSet>>,
 ) -> Result<Rows<PcdRow>, Refusal>
-    requires sought { sought_view sought.now ≡ found ask.now sought.now.name.now.items }
-    requires skus { AreTables ask.now.platform.skus skus.now }
-    requires picked { map (λ s. s.now) picked.now ≡ chosen ask.now }
-    requires walks { All (λ s. WalkEnds ask.now.platform.skus s.now.name) picked.now }
-    requires uses { Grouped use_view use_name (uses_in ask.now.modules) uses.now }
-    requires lines { Grouped stated_view stated_name (stated_in ask.now.platform) lines.now }
-    requires sets { Grouped (λ s. s.now) set_name (platform_sets ask.now) sets.now }
+    requires tables { HoldsPlatform tables.now }
+    requires sought { sought_view sought.now
+        ≡ found tables.now.ask.now sought.now.name.now.items }
     ensures { Answers result
-        (rows_at ask.now (uses_in ask.now.modules) (stated_in ask.now.platform)
-        sought.now.name.now.items) }
+        (rows_at tables.now.ask.now (uses_in tables.now.ask.now.modules)
+        (stated_in tables.now.ask.now.platform) sought.now.name.now.items) }
 {
     let pcd = sought.name;
-    let lines = group(lines, pcd);
-    pcd_faults(alloc, pcd.as_slice(), group(uses, pcd), lines)?;
+    let lines = group(tables.lines, pcd);
+    pcd_faults(alloc, pcd.as_slice(), group(tables.uses, pcd), lines)?;
     match sought.kind {
-        Some(kind) => rows_by(
-            alloc,
-            ask,
-            sought,
-            skus,
-            picked,
-            lines,
-            group(sets, pcd),
-            kind,
-        ),
+        Some(kind) => rows_by(alloc, tables, sought, lines, group(tables.sets, pcd), kind),
         None => Ok(Rows::new(alloc)),
     }
 }
 
 fn all_rows<'a>(
     alloc: Global,
-    ask: &'a PlatformAsk,
+    tables: &PlatformTables<'_, 'a>,
     all: &[DeclarationSearch<'_, 'a>],
-    skus: &SkuTables,
-    picked: &[&'a Sku],
-    uses: &IndexMap<Vec<u8>, Vec<UseLine<'a>>>,
-    lines: &IndexMap<Vec<u8>, Vec<StatedLine<'a>>>,
-    sets: &IndexMap<Vec<u8>, Vec<&'a PcdSet>>,
 ) -> Result<Rows<PcdRow>, Refusal>
-    requires sought { All (λ s. sought_view s ≡ found ask.now s.name.now.items) all.now }
-    requires skus { AreTables ask.now.platform.skus skus.now }
-    requires picked { map (λ s. s.now) picked.now ≡ chosen ask.now }
-    requires walks { All (λ s. WalkEnds ask.now.platform.skus s.now.name) picked.now }
-    requires uses { Grouped use_view use_name (uses_in ask.now.modules) uses.now }
-    requires lines { Grouped stated_view stated_name (stated_in ask.now.platform) lines.now }
-    requires sets { Grouped (λ s. s.now) set_name (platform_sets ask.now) sets.now }
+    requires tables { HoldsPlatform tables.now }
+    requires sought { All (λ s. sought_view s ≡ found tables.now.ask.now s.name.now.items)
+        all.now }
     ensures { Answers result
-        (all_rows (map (rows_at ask.now (uses_in ask.now.modules) (stated_in ask.now.platform))
+        (all_rows
+        (map (rows_at tables.now.ask.now (uses_in tables.now.ask.now.modules)
+        (stated_in tables.now.ask.now.platform))
         (map (λ s. s.name.now.items) all.now))) }
 {
     let mut rows = Rows::new(alloc);
     for sought in all {
-        let more = rows_at(alloc, ask, sought, skus, picked, uses, lines, sets)?;
+        let more = rows_at(alloc, tables, sought)?;
         append(alloc, &mut rows, more.items())?;
     }
     Ok(rows)
@@ -227,29 +212,21 @@ fn chosen_of<'a>(alloc: Global, ask: &'a PlatformAsk) -> Result<Vec<&'a Sku>, Wa
     )
 }
 
-// The rows of the PCDs of these names, by the tables of what names them.
+// The rows of the PCDs of these names.
 fn rows_by_tables<'a>(
     alloc: Global,
-    ask: &'a PlatformAsk,
+    tables: &PlatformTables<'_, 'a>,
     names: &[Vec<u8>],
-    skus: &SkuTables,
-    picked: &[&'a Sku],
-    uses: &IndexMap<Vec<u8>, Vec<UseLine<'a>>>,
-    lines: &IndexMap<Vec<u8>, Vec<StatedLine<'a>>>,
-    sets: &IndexMap<Vec<u8>, Vec<&'a PcdSet>>,
 ) -> Result<Rows<PcdRow>, Refusal>
-    requires skus { AreTables ask.now.platform.skus skus.now }
-    requires picked { map (λ s. s.now) picked.now ≡ chosen ask.now }
-    requires walks { All (λ s. WalkEnds ask.now.platform.skus s.now.name) picked.now }
-    requires uses { Grouped use_view use_name (uses_in ask.now.modules) uses.now }
-    requires lines { Grouped stated_view stated_name (stated_in ask.now.platform) lines.now }
-    requires sets { Grouped (λ s. s.now) set_name (platform_sets ask.now) sets.now }
+    requires { HoldsPlatform tables.now }
     ensures { Answers result
-        (all_rows (map (rows_at ask.now (uses_in ask.now.modules) (stated_in ask.now.platform))
+        (all_rows
+        (map (rows_at tables.now.ask.now (uses_in tables.now.ask.now.modules)
+        (stated_in tables.now.ask.now.platform))
         (map (λ n. n.items) names.now))) }
 {
-    let all = sought_of(alloc, ask, names, uses, lines)?;
-    all_rows(alloc, ask, all.as_slice(), skus, picked, uses, lines, sets)
+    let all = sought_of(alloc, tables.ask, names, tables.uses, tables.lines)?;
+    all_rows(alloc, tables, all.as_slice())
 }
 
 // The same, by the tables of the platform's lines and of what is set.
@@ -271,7 +248,15 @@ fn rows_by_uses<'a>(
 {
     let lines = all_lines(alloc, ask.platform.value())?;
     let sets = sets_of_ask(alloc, ask)?;
-    rows_by_tables(alloc, ask, names, skus, picked, uses, &lines, &sets)
+    let tables = PlatformTables {
+        ask,
+        skus,
+        picked,
+        uses,
+        lines: &lines,
+        sets: &sets,
+    };
+    rows_by_tables(alloc, &tables, names)
 }
 
 // The rows of the PCDs that modules use.

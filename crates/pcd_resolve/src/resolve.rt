@@ -4,6 +4,7 @@ ghost use Rattle.build_base.specs.Answer.{Answers};
 ghost use Rattle.pcd_resolve.specs.Groups.{Grouped, GroupedAt};
 ghost use Rattle.pcd_ranks.specs.Listing.{stated_in, uses_of_module};
 ghost use Rattle.pcd_resolve.specs.NameFilter.{is_kept};
+ghost use Rattle.pcd_resolve.specs.ModuleLines.{HoldsModule};
 ghost use Rattle.pcd_resolve.specs.Rows.{all_rows, module_values, names_of, rows_in, sets_in};
 ghost use Rattle.pcd_resolve.specs.Tables.{AllKept, IsTabled, row_name, set_name, stated_name, use_name};
 ghost use Rattle.pcd_ranks.specs.Views.{stated_view, use_view};
@@ -23,41 +24,40 @@ use indexmap::IndexMap;
 use pcd_ranks::listing::{StatedLine, UseLine};
 use std::alloc::Global;
 
+/// A module and its tables: by the names of PCDs what uses, states and sets them, and the rows of
+/// those that are dynamic.
+#[derive(Clone, Copy)]
+pub(crate) struct ModuleLines<'t, 'a> {
+    pub ask: &'a ModuleAsk,
+    pub tables: &'t ModuleTables<'a>,
+    pub uses: &'t IndexMap<Vec<u8>, Vec<UseLine<'a>>>,
+    pub lines: &'t IndexMap<Vec<u8>, Vec<StatedLine<'a>>>,
+    pub sets: &'t IndexMap<Vec<u8>, Vec<&'a PcdSet>>,
+    pub dynamic: &'t IndexMap<Vec<u8>, Vec<&'a PcdRow>>,
+}
+
 #[tactic(auto, unfolding(crate::specs::Rows::rows_in))]
-fn rows_at<'a>(
+fn rows_at(
     alloc: Global,
-    ask: &'a ModuleAsk,
+    from: &ModuleLines<'_, '_>,
     pcd: &Vec<u8>,
-    tables: &ModuleTables<'a>,
-    uses: &IndexMap<Vec<u8>, Vec<UseLine<'a>>>,
-    lines: &IndexMap<Vec<u8>, Vec<StatedLine<'a>>>,
-    sets: &IndexMap<Vec<u8>, Vec<&'a PcdSet>>,
-    dynamic: &IndexMap<Vec<u8>, Vec<&'a PcdRow>>,
 ) -> Result<Rows<PcdRow>, Refusal>
-    requires tabled { IsTabled tables.now }
-    requires parts { tables.now.parts.now ≡ ask.now.parts }
-    requires uses { Grouped use_view use_name (uses_of_module ask.now.parts) uses.now }
-    requires lines { GroupedAt tables.now.marks.items stated_view stated_name
-        (stated_in ask.now.platform) lines.now }
-    requires sets { GroupedAt tables.now.marks.items (λ s. s.now) set_name (sets_in ask.now)
-        sets.now }
-    requires dynamic { GroupedAt tables.now.marks.items (λ r. r.now) row_name ask.now.dynamic.rows
-        dynamic.now }
-    requires kept { is_kept tables.now.marks.items pcd.now.items ≡ true }
+    requires from { HoldsModule from.now }
+    requires kept { is_kept from.now.tables.now.marks.items pcd.now.items ≡ true }
     ensures { Answers result
-        (rows_in ask.now (uses_of_module ask.now.parts) (stated_in ask.now.platform)
-        pcd.now.items) }
+        (rows_in from.now.ask.now (uses_of_module from.now.ask.now.parts)
+        (stated_in from.now.ask.now.platform) pcd.now.items) }
 {
-    let declared = declared_in(alloc, tables, pcd)?;
+    let declared = declared_in(alloc, from.tables, pcd)?;
     rows_of(
         alloc,
         pcd.as_slice(),
-        &ask.parts.module,
-        group(uses, pcd),
-        group(lines, pcd),
+        &from.ask.parts.module,
+        group(from.uses, pcd),
+        group(from.lines, pcd),
         declared.as_slice(),
-        group(sets, pcd),
-        group(dynamic, pcd),
+        group(from.sets, pcd),
+        group(from.dynamic, pcd),
     )
 }
 
@@ -74,33 +74,22 @@ pub(crate) fn append(
     Ok(())
 }
 
-fn all_rows<'a>(
+fn all_rows(
     alloc: Global,
-    ask: &'a ModuleAsk,
+    from: &ModuleLines<'_, '_>,
     names: &[Vec<u8>],
-    tables: &ModuleTables<'a>,
-    uses: &IndexMap<Vec<u8>, Vec<UseLine<'a>>>,
-    lines: &IndexMap<Vec<u8>, Vec<StatedLine<'a>>>,
-    sets: &IndexMap<Vec<u8>, Vec<&'a PcdSet>>,
-    dynamic: &IndexMap<Vec<u8>, Vec<&'a PcdRow>>,
 ) -> Result<Rows<PcdRow>, Refusal>
-    requires tabled { IsTabled tables.now }
-    requires parts { tables.now.parts.now ≡ ask.now.parts }
-    requires uses { Grouped use_view use_name (uses_of_module ask.now.parts) uses.now }
-    requires lines { GroupedAt tables.now.marks.items stated_view stated_name
-        (stated_in ask.now.platform) lines.now }
-    requires sets { GroupedAt tables.now.marks.items (λ s. s.now) set_name (sets_in ask.now)
-        sets.now }
-    requires dynamic { GroupedAt tables.now.marks.items (λ r. r.now) row_name ask.now.dynamic.rows
-        dynamic.now }
-    requires kept { AllKept tables.now.marks.items (map (λ n. n.items) names.now) }
+    requires from { HoldsModule from.now }
+    requires kept { AllKept from.now.tables.now.marks.items (map (λ n. n.items) names.now) }
     ensures { Answers result
-        (all_rows (map (rows_in ask.now (uses_of_module ask.now.parts) (stated_in ask.now.platform))
+        (all_rows
+        (map (rows_in from.now.ask.now (uses_of_module from.now.ask.now.parts)
+        (stated_in from.now.ask.now.platform))
         (map (λ n. n.items) names.now))) }
 {
     let mut rows = Rows::new(alloc);
     for pcd in names {
-        let more = rows_at(alloc, ask, pcd, tables, uses, lines, sets, dynamic)?;
+        let more = rows_at(alloc, from, pcd)?;
         append(alloc, &mut rows, more.items())?;
     }
     Ok(rows)
@@ -144,7 +133,15 @@ fn rows_by_lines<'a>(
     let marks = tables.marks.as_slice();
     let sets = sets_of_ask(alloc, marks, ask)?;
     let dynamic = rows_by_name(alloc, marks, ask.dynamic.value().rows.items())?;
-    all_rows(alloc, ask, names, tables, uses, lines, &sets, &dynamic)
+    let from = ModuleLines {
+        ask,
+        tables,
+        uses,
+        lines,
+        sets: &sets,
+        dynamic: &dynamic,
+    };
+    all_rows(alloc, &from, names)
 }
 
 fn rows_by_tables<'a>(

@@ -1,10 +1,10 @@
 //! The rows of one PCD.
-ghost use Rattle.std.specs.Prelude.{◌≡◌, ◌≤◌, map, length, IfOk, Some, codes, option_copied};
+ghost use Rattle.std.specs.Prelude.{◌≡◌, ◌≤◌, ◌∷◌, [], map, length, IfOk, Some, codes, option_copied};
 ghost use Rattle.std.specs.Option.{option_map};
 ghost use Rattle.build_base.specs.Answer.{Answers};
 ghost use Rattle.pcd_ranks.specs.Assignments.{Assignment, value_from};
 ghost use Rattle.pcd_resolve.specs.Kinds.{declaration};
-ghost use Rattle.pcd_resolve.specs.Rows.{stated_max, maximum, row, row_of, fixed_row, rows_by_kind, rows_of};
+ghost use Rattle.pcd_resolve.specs.Rows.{stated_max, maximum, row, row_by, row_of, fixed_row, rows_by_kind, rows_of};
 ghost use Rattle.pcd_ranks.specs.Views.{given_view, stated_view, use_view};
 
 use crate::faults::checked_kind;
@@ -79,6 +79,50 @@ fn row(
     })
 }
 
+fn only_row(
+    alloc: Global,
+    kind: Kind,
+    line: &DecPcd,
+    sku: &[u8],
+    rank: u8,
+    value: Text,
+    max: u32,
+) -> Result<Rows<PcdRow>, WantOfMemory>
+    ensures { IfOk result (λ rows. rows ≡ row kind line.now sku.now rank value max ∷ []) }
+{
+    let row = row(alloc, kind, line, sku, rank, value, max)?;
+    let mut rows = Rows::new(alloc);
+    rows.push(row)?;
+    Ok(rows)
+}
+
+// The row of a PCD to which a text is assigned.
+fn row_by(
+    alloc: Global,
+    kind: Kind,
+    line: &DecPcd,
+    sku: &[u8],
+    all: &[LentAssignment<'_>],
+    taken: &LentAssignment<'_>,
+    text: &Text,
+) -> Result<Rows<PcdRow>, Refusal>
+    ensures { Answers result
+        (row_by kind line.now sku.now (map given_view all.now) (given_view taken.now)
+        (Some text.now)) }
+{
+    let bytes = parse_value(alloc, taken.at, text, line.datum)?;
+    let max = maximum(
+        alloc,
+        line.datum,
+        taken,
+        text.bytes(),
+        bytes.bytes(),
+        stated_max(max_from(all)),
+    )?;
+    let rows = only_row(alloc, kind, line, sku, taken.rank, bytes, max)?;
+    Ok(rows)
+}
+
 /// The row of a PCD for a SKU.
 #[tactic(auto, unfolding(crate::specs::Rows::row_of))]
 pub fn row_of(
@@ -90,24 +134,13 @@ pub fn row_of(
 ) -> Result<Rows<PcdRow>, Refusal>
     ensures { Answers result (row_of kind line.now sku.now (map given_view all.now)) }
 {
-    let mut rows = Rows::new(alloc);
     let Some(taken) = value_from(all) else {
-        return Ok(rows);
+        return Ok(Rows::new(alloc));
     };
     let Some(text) = taken.value else {
-        return Ok(rows);
+        return Ok(Rows::new(alloc));
     };
-    let bytes = parse_value(alloc, taken.at, text, line.datum)?;
-    let max = maximum(
-        alloc,
-        line.datum,
-        &taken,
-        text.bytes(),
-        bytes.bytes(),
-        stated_max(max_from(all)),
-    )?;
-    rows.push(row(alloc, kind, line, sku, taken.rank, bytes, max)?)?;
-    Ok(rows)
+    row_by(alloc, kind, line, sku, all, &taken, text)
 }
 
 fn fixed_row<'a>(

@@ -8,7 +8,7 @@ ghost use Rattle.pcd_ranks.specs.Assignments.{value_from};
 ghost use Rattle.pcd_ranks.specs.Listing.{Stated};
 ghost use Rattle.pcd_ranks.specs.Views.{stated_view, given_view};
 ghost use Rattle.pcd_resolve.specs.Groups.{Grouped};
-ghost use Rattle.pcd_resolve.specs.Platform.{sku_assignments, valued};
+ghost use Rattle.pcd_resolve.specs.PcdLines.{assignments_for, own_values, AreSources, HasTables};
 ghost use Rattle.pcd_resolve.specs.Rows.{row_of};
 ghost use Rattle.pcd_resolve.specs.SkuTables.{same_name, sku_at, name_at, at_place, stated_sku, within, AreKnown, AreTables};
 ghost use Rattle.pcd_values.specs.Skus.{value_within};
@@ -26,6 +26,18 @@ use indexmap::IndexMap;
 use pcd_ranks::assign::{LentAssignment, value_from};
 use pcd_ranks::listing::StatedLine;
 use std::alloc::Global;
+
+/// What the rows of a dynamic PCD are made from. `own` has its lines by their SKUs, and `tables`
+/// are those of all SKUs.
+#[derive(Clone, Copy)]
+pub(crate) struct PcdLines<'t, 'a> {
+    pub line: &'a DecPcd,
+    pub lines: &'t [StatedLine<'a>],
+    pub own: &'t IndexMap<Vec<u8>, Vec<StatedLine<'a>>>,
+    pub sets: &'t [&'a PcdSet],
+    pub skus: &'t Rows<Sku>,
+    pub tables: &'t SkuTables,
+}
 
 fn add_line<'a>(
     alloc: Global,
@@ -58,33 +70,22 @@ pub(crate) fn lines_by_sku<'a>(
 
 fn assignments_of<'a>(
     alloc: Global,
-    line: &'a DecPcd,
-    own: &IndexMap<Vec<u8>, Vec<StatedLine<'a>>>,
-    sets: &[&'a PcdSet],
+    pcd: &PcdLines<'_, 'a>,
     sku: &[u8],
 ) -> Result<Vec<LentAssignment<'a>>, WantOfMemory>
-    ensures { (lines : List Stated) → Grouped stated_view stated_sku lines own.now
-        → IfOk result (λ v. map given_view v.items
-        ≡ sku_assignments line.now lines (map (λ s. s.now) sets.now) sku.now) }
+    ensures { HasTables pcd.now
+        → IfOk result (λ v. map given_view v.items ≡ assignments_for pcd.now sku.now) }
 {
     let key = Vec::from_slice(alloc, sku)?;
-    let all = sku_assignments(alloc, line, group(own, &key), sets, sku)?;
+    let all = sku_assignments(alloc, pcd.line, group(pcd.own, &key), pcd.sets, sku)?;
     Ok(all)
 }
 
-fn has_value<'a>(
-    alloc: Global,
-    line: &'a DecPcd,
-    own: &IndexMap<Vec<u8>, Vec<StatedLine<'a>>>,
-    sets: &[&'a PcdSet],
-    sku: &Text,
-) -> Result<bool, WantOfMemory>
-    ensures { (lines : List Stated) → Grouped stated_view stated_sku lines own.now
-        → IfOk result (λ b. b
-        ≡ is_some (value_from (sku_assignments line.now lines (map (λ s. s.now) sets.now)
-        sku.now))) }
+fn has_value(alloc: Global, pcd: &PcdLines<'_, '_>, sku: &Text) -> Result<bool, WantOfMemory>
+    ensures { HasTables pcd.now
+        → IfOk result (λ b. b ≡ is_some (value_from (assignments_for pcd.now sku.now))) }
 {
-    let all = assignments_of(alloc, line, own, sets, sku.bytes())?;
+    let all = assignments_of(alloc, pcd, sku.bytes())?;
     Ok(value_from(all.as_slice()).is_some())
 }
 
@@ -105,30 +106,25 @@ fn known_above(ups: &[Option<usize>], known: &[Option<usize>], place: usize) -> 
 }
 
 // The SKU whose value the one at a place takes, by what is known of its parent.
-fn source_at<'a>(
+fn source_at(
     alloc: Global,
-    line: &'a DecPcd,
-    own: &IndexMap<Vec<u8>, Vec<StatedLine<'a>>>,
-    sets: &[&'a PcdSet],
-    skus: &Rows<Sku>,
-    tables: &SkuTables,
+    pcd: &PcdLines<'_, '_>,
     known: &[Option<usize>],
     place: usize,
 ) -> Result<Option<usize>, WantOfMemory>
-    requires { AreTables skus.now tables.now }
-    ensures { (lines : List Stated) (n : ℕ) → Grouped stated_view stated_sku lines own.now
-        → AreKnown (valued line.now lines (map (λ s. s.now) sets.now) skus.now) skus.now n known.now
+    ensures { (n : ℕ) → HasTables pcd.now
+        → AreKnown (own_values pcd.now) pcd.now.skus.now n known.now
         → IfOk result (λ found. (from : ℕ) → found ≡ Some from
-        → value_within (valued line.now lines (map (λ s. s.now) sets.now) skus.now) skus.now
-        (name_at skus.now place) (n + 1) ≡ Some (name_at skus.now from)) }
+        → value_within (own_values pcd.now) pcd.now.skus.now (name_at pcd.now.skus.now place) (n + 1)
+        ≡ Some (name_at pcd.now.skus.now from)) }
 {
-    let Some(sku) = sku_of(skus, place) else {
+    let Some(sku) = sku_of(pcd.skus, place) else {
         return Ok(None);
     };
-    if has_value(alloc, line, own, sets, &sku.name)? {
+    if has_value(alloc, pcd, &sku.name)? {
         return Ok(Some(place));
     }
-    Ok(known_above(tables.ups.as_slice(), known, place))
+    Ok(known_above(pcd.tables.ups.as_slice(), known, place))
 }
 
 fn none_known(alloc: Global, skus: &Rows<Sku>) -> Result<Vec<Option<usize>>, WantOfMemory>
@@ -142,32 +138,15 @@ fn none_known(alloc: Global, skus: &Rows<Sku>) -> Result<Vec<Option<usize>>, Wan
 }
 
 /// The SKU whose value each SKU takes, where the order finds it.
-pub(crate) fn sources_of<'a>(
+pub(crate) fn sources_of(
     alloc: Global,
-    line: &'a DecPcd,
-    own: &IndexMap<Vec<u8>, Vec<StatedLine<'a>>>,
-    sets: &[&'a PcdSet],
-    skus: &Rows<Sku>,
-    tables: &SkuTables,
+    pcd: &PcdLines<'_, '_>,
 ) -> Result<Vec<Option<usize>>, WantOfMemory>
-    requires { AreTables skus.now tables.now }
-    ensures { (lines : List Stated) → Grouped stated_view stated_sku lines own.now
-        → IfOk result (λ known. AreKnown
-        (valued line.now lines (map (λ s. s.now) sets.now) skus.now) skus.now
-        (length tables.now.order.items) known.items) }
+    ensures { HasTables pcd.now → IfOk result (λ known. AreSources pcd.now known.items) }
 {
-    let mut known = none_known(alloc, skus)?;
-    for place in tables.order.as_slice() {
-        let from = source_at(
-            alloc,
-            line,
-            own,
-            sets,
-            skus,
-            tables,
-            known.as_slice(),
-            *place,
-        )?;
+    let mut known = none_known(alloc, pcd.skus)?;
+    for place in pcd.tables.order.as_slice() {
+        let from = source_at(alloc, pcd, known.as_slice(), *place)?;
         set_place(&mut known, *place, from);
     }
     Ok(known)
@@ -215,19 +194,16 @@ pub(crate) fn known_source<'s>(
 }
 
 /// The row of a SKU that takes the value of another one.
-pub(crate) fn row_from<'a>(
+pub(crate) fn row_from(
     alloc: Global,
     kind: Kind,
-    line: &'a DecPcd,
-    own: &IndexMap<Vec<u8>, Vec<StatedLine<'a>>>,
-    sets: &[&'a PcdSet],
+    pcd: &PcdLines<'_, '_>,
     sku: &Text,
     from: &Text,
 ) -> Result<Rows<PcdRow>, Refusal>
-    ensures { (lines : List Stated) → Grouped stated_view stated_sku lines own.now
-        → Answers result (row_of kind line.now sku.now
-        (sku_assignments line.now lines (map (λ s. s.now) sets.now) from.now)) }
+    ensures { HasTables pcd.now
+        → Answers result (row_of kind pcd.now.line.now sku.now (assignments_for pcd.now from.now)) }
 {
-    let all = assignments_of(alloc, line, own, sets, from.bytes())?;
-    row_of(alloc, kind, line, sku.bytes(), all.as_slice())
+    let all = assignments_of(alloc, pcd, from.bytes())?;
+    row_of(alloc, kind, pcd.line, sku.bytes(), all.as_slice())
 }

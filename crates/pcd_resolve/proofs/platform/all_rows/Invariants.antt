@@ -7,5 +7,5 @@ use Rattle.pcd_resolve.proofs.platform.all_rows.Given as goal
 
 abbrev pub invariant-loop-sought : goal.invariant-loop-sought
 invariant-loop-sought l =
-    with_front l.rows (all_rows (map (rows_at l.ask (uses_in l.ask.modules) (stated_in l.ask.platform)) (map (λ s. s.name.now.items) (drop l.sought-index l.all))))
-    ≡ all_rows (map (rows_at l.ask (uses_in l.ask.modules) (stated_in l.ask.platform)) (map (λ s. s.name.now.items) l.all))
+    with_front l.rows (all_rows (map (rows_at l.tables.ask.now (uses_in l.tables.ask.now.modules) (stated_in l.tables.ask.now.platform)) (map (λ s. s.name.now.items) (drop l.sought-index l.all))))
+    ≡ all_rows (map (rows_at l.tables.ask.now (uses_in l.tables.ask.now.modules) (stated_in l.tables.ask.now.platform)) (map (λ s. s.name.now.items) l.all))

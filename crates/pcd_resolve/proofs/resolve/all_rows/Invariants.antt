@@ -6,5 +6,5 @@ use Rattle.pcd_resolve.proofs.resolve.all_rows.Given as goal
 
 abbrev pub invariant-loop-pcd : goal.invariant-loop-pcd
 invariant-loop-pcd l =
-    with_front l.rows (all_rows (map (rows_in l.ask (uses_of_module l.ask.parts) (stated_in l.ask.platform)) (map (λ n. n.items) (drop l.pcd-index l.names))))
-    ≡ all_rows (map (rows_in l.ask (uses_of_module l.ask.parts) (stated_in l.ask.platform)) (map (λ n. n.items) l.names))
+    with_front l.rows (all_rows (map (rows_in l.from.ask.now (uses_of_module l.from.ask.now.parts) (stated_in l.from.ask.now.platform)) (map (λ n. n.items) (drop l.pcd-index l.names))))
+    ≡ all_rows (map (rows_in l.from.ask.now (uses_of_module l.from.ask.now.parts) (stated_in l.from.ask.now.platform)) (map (λ n. n.items) l.names))

@@ -6,7 +6,8 @@ use Rattle.pcd_resolve.proofs.SourceLemmas.{assignments_same}
 use Rattle.pcd_resolve.proofs.sku_values.assignments_of.Goals as goal
 
 pub returns : goal.returns
-returns c = λ lines h.
+returns c = λ h.
+    let pcd = c.args.pcd.now in
     c.in_ok-all.ensures
-    ∙ ap (λ (ls : List StatedLine). sku_assignments c.args.line.now (map stated_view ls) (map (λ s. s.now) c.args.sets.now) c.args.sku.now) c.group.ensures
-    ∙ assignments_same stated_view c.args.line.now lines (map (λ s. s.now) c.args.sets.now) c.args.own.now c.in_ok-key.key c.args.sku.now c.in_ok-key.ensures.items h
+    ∙ ap (λ (ls : List StatedLine). sku_assignments pcd.line.now (map stated_view ls) (map (λ s. s.now) pcd.sets.now) c.args.sku.now) c.group.ensures
+    ∙ assignments_same stated_view pcd.line.now (map stated_view pcd.lines.now) (map (λ s. s.now) pcd.sets.now) pcd.own.now c.in_ok-key.key c.args.sku.now c.in_ok-key.ensures.items h.own
