@@ -27,6 +27,8 @@ use Rattle.flash_document.specs.declared.stated.StatedRegion.{StatedRegion}
 use Rattle.flash_document.specs.declared.stated.StatedVolume.{StatedVolume}
 use Rattle.flash_document.specs.declared.held.HeldRegion.{HeldRegion}
 use Rattle.flash_document.specs.declared.held.HeldSizes.{HeldSizes}
+use Rattle.flash_document.specs.declared.check.RegionTest.{RegionTest}
+use Rattle.flash_document.specs.declared.check.RegionTest.TheVariants.{TooLarge, Blocks, TwoSizes}
 use Rattle.flash_document.specs.Devices.{capped}
 use Rattle.flash_document.specs.Names.{lower_case, place_of}
 use Rattle.flash_document.specs.Numbering.{first_loop}
@@ -238,6 +240,12 @@ two_sizes at (Some held) = check_equal_sizes VOLUME_TWO_SIZES at held.first held
 abbrev pub part_sizes : List HeldRegion → Bool → FdfSection → Option Fault
 part_sizes regions again (Volume volume) = two_sizes volume.at (held_first regions again volume)
 part_sizes regions again stated = None
+
+-- the test of a part that is asked for
+abbrev pub part_fault : RegionTest → List HeldRegion → Bool → FdfSection → Option Fault
+part_fault TooLarge regions = part_too_large regions
+part_fault Blocks regions = part_blocks regions
+part_fault TwoSizes regions = part_sizes regions
 
 -- a name with the kind of the thing that has it: D, F or R
 abbrev pub part_key : FdfSection → Option (List ℕ)

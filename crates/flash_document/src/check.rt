@@ -7,7 +7,7 @@ ghost use Rattle.meta_lexer.specs.Faults.{first_fault};
 ghost use Rattle.flash_document.specs.declared.held.HeldRegion.{HeldRegion as Part};
 ghost use Rattle.flash_document.specs.Names.{place_of, Places};
 ghost use Rattle.flash_document.specs.Held.{Sizes};
-ghost use Rattle.flash_document.specs.Whole.{differing_size, first_size, block_of, size_of, unequal, check_is_stated, part_unstated, size_fault, held_first, part_too_large, all_held, unknown, content_unknown, body_unknown, row_unknown, line_unknown, names_of, device_blocks, check_equal_sizes, whole_blocks, volume_blocks, part_blocks, two_sizes, part_sizes, loop_fault, part_key, named_twice, twin, is_again, above_with, twin_marks, first_marked, whole_fault};
+ghost use Rattle.flash_document.specs.Whole.{differing_size, first_size, block_of, size_of, unequal, check_is_stated, part_unstated, size_fault, held_first, part_too_large, all_held, unknown, content_unknown, body_unknown, row_unknown, line_unknown, names_of, device_blocks, check_equal_sizes, whole_blocks, volume_blocks, part_blocks, two_sizes, part_sizes, part_fault, loop_fault, part_key, named_twice, twin, is_again, above_with, twin_marks, first_marked, whole_fault};
 
 use crate::held::{HeldSizes, held_in};
 use crate::names::{add_name, place_in};
@@ -164,33 +164,6 @@ fn part_too_large(
     };
     let held = held_first(alloc, sizes, again, volume)?;
     size_fault(alloc, &volume.at, size_of(volume, held))
-}
-
-/// Refuses the first volume that is too large.
-#[tactic(auto, using(crate::proofs::MarkedLemmas::marked_passed))]
-pub(crate) fn check_sizes(
-    alloc: Global,
-    sizes: &IndexMap<Vec<u8>, HeldSizes>,
-    parts: &[FdfSection],
-    repeats: &[bool],
-) -> Result<(), Refusal>
-    ensures { (regions : List Part) → Sizes regions sizes.now
-        → Checks result (first_marked (part_too_large regions) parts.now repeats.now) }
-{
-    let mut left = parts;
-    let mut marks = repeats;
-    while let [part, rest @ ..] = left {
-        let [again, more @ ..] = marks else {
-            return Ok(());
-        };
-        let found = part_too_large(alloc, sizes, *again, part);
-        if found.is_err() {
-            return found;
-        }
-        left = rest;
-        marks = more;
-    }
-    Ok(())
 }
 
 fn unknown(
@@ -353,33 +326,6 @@ fn part_blocks(
     }
 }
 
-/// Refuses the first device or volume whose blocks are no whole size.
-#[tactic(auto, using(crate::proofs::MarkedLemmas::marked_passed))]
-pub fn check_blocks(
-    alloc: Global,
-    sizes: &IndexMap<Vec<u8>, HeldSizes>,
-    parts: &[FdfSection],
-    repeats: &[bool],
-) -> Result<(), Refusal>
-    ensures { (regions : List Part) → Sizes regions sizes.now
-        → Checks result (first_marked (part_blocks regions) parts.now repeats.now) }
-{
-    let mut left = parts;
-    let mut marks = repeats;
-    while let [part, rest @ ..] = left {
-        let [again, more @ ..] = marks else {
-            return Ok(());
-        };
-        let found = part_blocks(alloc, sizes, *again, part);
-        if found.is_err() {
-            return found;
-        }
-        left = rest;
-        marks = more;
-    }
-    Ok(())
-}
-
 fn two_sizes(alloc: Global, at: &Place, held: Option<HeldSizes>) -> Result<(), Refusal>
     ensures { Checks result (two_sizes at.now held) }
 {
@@ -405,8 +351,86 @@ fn part_sizes(
     two_sizes(alloc, &volume.at, held)
 }
 
-/// Refuses the first volume in regions of two sizes.
+/// A test of a part by the sizes of the regions that hold it.
+#[derive(Clone, Copy)]
+pub enum RegionTest {
+    TooLarge,
+    Blocks,
+    TwoSizes,
+}
+
+fn part_fault(
+    alloc: Global,
+    sizes: &IndexMap<Vec<u8>, HeldSizes>,
+    test: RegionTest,
+    again: bool,
+    part: &FdfSection,
+) -> Result<(), Refusal>
+    ensures { (regions : List Part) → Sizes regions sizes.now
+        → Checks result (part_fault test regions again part.now) }
+{
+    match test {
+        RegionTest::TooLarge => part_too_large(alloc, sizes, again, part),
+        RegionTest::Blocks => part_blocks(alloc, sizes, again, part),
+        RegionTest::TwoSizes => part_sizes(alloc, sizes, again, part),
+    }
+}
+
+// Refuses the first part that fails a test.
 #[tactic(auto, using(crate::proofs::MarkedLemmas::marked_passed))]
+fn check_parts(
+    alloc: Global,
+    sizes: &IndexMap<Vec<u8>, HeldSizes>,
+    test: RegionTest,
+    parts: &[FdfSection],
+    repeats: &[bool],
+) -> Result<(), Refusal>
+    ensures { (regions : List Part) → Sizes regions sizes.now
+        → Checks result (first_marked (part_fault test regions) parts.now repeats.now) }
+{
+    let mut left = parts;
+    let mut marks = repeats;
+    while let [part, rest @ ..] = left {
+        let [again, more @ ..] = marks else {
+            return Ok(());
+        };
+        let found = part_fault(alloc, sizes, test, *again, part);
+        if found.is_err() {
+            return found;
+        }
+        left = rest;
+        marks = more;
+    }
+    Ok(())
+}
+
+/// Refuses the first volume that is too large.
+pub(crate) fn check_sizes(
+    alloc: Global,
+    sizes: &IndexMap<Vec<u8>, HeldSizes>,
+    parts: &[FdfSection],
+    repeats: &[bool],
+) -> Result<(), Refusal>
+    ensures { (regions : List Part) → Sizes regions sizes.now
+        → Checks result (first_marked (part_too_large regions) parts.now repeats.now) }
+{
+    check_parts(alloc, sizes, RegionTest::TooLarge, parts, repeats)
+}
+
+/// Refuses the first device or volume whose blocks are no whole size.
+pub fn check_blocks(
+    alloc: Global,
+    sizes: &IndexMap<Vec<u8>, HeldSizes>,
+    parts: &[FdfSection],
+    repeats: &[bool],
+) -> Result<(), Refusal>
+    ensures { (regions : List Part) → Sizes regions sizes.now
+        → Checks result (first_marked (part_blocks regions) parts.now repeats.now) }
+{
+    check_parts(alloc, sizes, RegionTest::Blocks, parts, repeats)
+}
+
+/// Refuses the first volume in regions of two sizes.
 pub(crate) fn check_regions(
     alloc: Global,
     sizes: &IndexMap<Vec<u8>, HeldSizes>,
@@ -416,20 +440,7 @@ pub(crate) fn check_regions(
     ensures { (regions : List Part) → Sizes regions sizes.now
         → Checks result (first_marked (part_sizes regions) parts.now repeats.now) }
 {
-    let mut left = parts;
-    let mut marks = repeats;
-    while let [part, rest @ ..] = left {
-        let [again, more @ ..] = marks else {
-            return Ok(());
-        };
-        let found = part_sizes(alloc, sizes, *again, part);
-        if found.is_err() {
-            return found;
-        }
-        left = rest;
-        marks = more;
-    }
-    Ok(())
+    check_parts(alloc, sizes, RegionTest::TwoSizes, parts, repeats)
 }
 
 fn key_with(alloc: Global, kind: u8, name: &Text) -> Result<Text, WantOfMemory>

@@ -1,7 +1,7 @@
 //! A device as its section states it.
 ghost use Rattle.std.specs.Prelude.{◌≡◌, ◌++◌, ◌∷◌, [], IfOk, OnOk, List};
 ghost use Rattle.flash_document.specs.Columns.{row_at, column};
-ghost use Rattle.flash_document.specs.Devices.{is_key, number_of, sum_counted, sum_with, block_pairs, first_size, total_of, content_in, regions_of, device_of};
+ghost use Rattle.flash_document.specs.Devices.{is_key, number_of, sum_counted, sum_with, block_pairs, first_size, total_of, content_in, region_at, regions_of, device_of};
 
 use crate::column::row_at;
 use crate::stated::{StatedDevice, StatedRegion, region_content_copy};
@@ -137,6 +137,26 @@ fn region_with(
     })
 }
 
+// Adds the region that starts in a line, with what fills it.
+fn push_region(
+    alloc: Global,
+    regions: &mut Rows<StatedRegion>,
+    k: usize,
+    line: &LineRead,
+    rest: &[LineRead],
+) -> Result<(), WantOfMemory>
+    ensures { OnOk result (regions.new ≡ regions.old
+        ++ region_at (row_at k line.now) (content_in k rest.now)) }
+{
+    match row_at(line, k) {
+        Some(Row::Region(start)) => {
+            let content = content_in(alloc, k, rest)?;
+            regions.push(region_with(alloc, start, content)?)
+        }
+        _ => Ok(()),
+    }
+}
+
 fn regions_of(
     alloc: Global,
     k: usize,
@@ -147,10 +167,7 @@ fn regions_of(
     let mut regions = Rows::new(alloc);
     let mut left = lines;
     while let [line, rest @ ..] = left {
-        if let Some(Row::Region(start)) = row_at(line, k) {
-            let content = content_in(alloc, k, rest)?;
-            regions.push(region_with(alloc, start, content)?)?;
-        }
+        push_region(alloc, &mut regions, k, line, rest)?;
         left = rest;
     }
     Ok(regions)

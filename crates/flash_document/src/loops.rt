@@ -13,11 +13,21 @@ use std::collections::BTreeSet;
 use std::mem;
 
 /// The volumes that one holds by some steps, and those that the last step came to first.
-#[derive(Drop)]
 pub struct Level {
     pub alloc: Global,
     pub seen: BTreeSet<usize>,
     pub edge: Rows<usize>,
+}
+
+// A written `Drop` is one call for whoever lets the value go. A derived one is spelled out there.
+impl Drop for Level {
+    fn drop(self) {
+        let Level {
+            alloc: _alloc,
+            seen: _seen,
+            edge: _edge,
+        } = self;
+    }
 }
 
 impl Level {

@@ -22,12 +22,23 @@ pub struct Waiting {
 
 /// The volumes with numbers, those that may come next, and those that wait, each by one that it
 /// holds.
-#[derive(Drop)]
 pub struct Sorter {
     pub alloc: Global,
     pub numbered: BTreeSet<usize>,
     pub ready: BTreeSet<usize>,
     pub waiting: IndexMap<usize, Rows<Waiting>>,
+}
+
+// A written `Drop` is one call for whoever lets the value go. A derived one is spelled out there.
+impl Drop for Sorter {
+    fn drop(self) {
+        let Sorter {
+            alloc: _alloc,
+            numbered: _numbered,
+            ready: _ready,
+            waiting: _waiting,
+        } = self;
+    }
 }
 
 /// The volumes that a volume holds.

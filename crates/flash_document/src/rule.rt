@@ -78,17 +78,17 @@ fn rule_with(
     let Some(head) = head else {
         return Ok(FdfSection::Settings);
     };
+    let at = at.copy(alloc)?;
+    let template = scope.template.copy(alloc)?;
+    let name = scope.name.copy(alloc)?;
     let rule = RuleDoc {
-        at: at.copy(alloc)?,
+        at,
         arch: scope.arch,
         module_type: scope.module_type,
-        template: scope.template.copy(alloc)?,
+        template,
         file: plan_of(head, sections),
     };
-    Ok(FdfSection::Rule(StatedRule {
-        name: scope.name.copy(alloc)?,
-        rule,
-    }))
+    Ok(FdfSection::Rule(StatedRule { name, rule }))
 }
 
 /// The rule that a section states below the head of a number.

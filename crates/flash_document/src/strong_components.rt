@@ -26,13 +26,25 @@ struct Frame {
 
 /// A walk: the volumes that it came to, those whose sets have no number yet, those on the way to
 /// where it is, and how many turns and sets there were.
-#[derive(Drop)]
 struct Walk {
     visits: Vec<Option<Visit>>,
     waiting: Vec<usize>,
     frames: Vec<Frame>,
     turns: usize,
     sets: usize,
+}
+
+// A written `Drop` is one call for whoever lets the value go. A derived one is spelled out there.
+impl Drop for Walk {
+    fn drop(self) {
+        let Walk {
+            visits: _visits,
+            waiting: _waiting,
+            frames: _frames,
+            turns: _turns,
+            sets: _sets,
+        } = self;
+    }
 }
 
 fn push<T: Drop>(list: &mut Vec<T>, item: T) -> Result<(), WantOfMemory> {

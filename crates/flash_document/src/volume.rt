@@ -2,7 +2,7 @@
 ghost use Rattle.std.specs.Prelude.{◌≡◌, ◌++◌, ◌∷◌, [], IfOk, OnOk, IfSome, IfNone, Some, None, List};
 ghost use Rattle.flash_document.specs.Columns.{row_at};
 ghost use Rattle.flash_document.specs.declared.stated.FdfStatement.TheVariants as item;
-ghost use Rattle.flash_document.specs.Volumes.{is_key, settings_in, last_setting, numbers, switches, rebases, names, systems, is_on, flags_of, members_in, sections_in, whole_in, file_with, items_of, volume_of};
+ghost use Rattle.flash_document.specs.Volumes.{is_key, settings_in, last_setting, numbers, switches, rebases, names, systems, is_on, flags_of, members_in, sections_in, whole_in, file_with, item_at, items_of, volume_of};
 
 use crate::column::row_at;
 use crate::stated::{FdfStatement, StatedFile, StatedVolume, head_copy, section_copy};
@@ -218,20 +218,31 @@ fn apriori_with(
     })
 }
 
+// Adds the statement that begins in a line, with what stands in its braces.
+fn push_item(
+    alloc: Global,
+    items: &mut Rows<FdfStatement>,
+    k: usize,
+    line: &LineRead,
+    rest: &[LineRead],
+) -> Result<(), WantOfMemory>
+    ensures { OnOk result (items.new ≡ items.old ++ item_at (row_at k line.now) k rest.now) }
+{
+    match row_at(line, k) {
+        Some(Row::Apriori(head)) => items.push(apriori_with(alloc, head, k, rest)?),
+        Some(Row::File(head)) => items.push(FdfStatement::File(file_with(alloc, head, k, rest)?)),
+        Some(Row::Inf(inf)) => items.push(FdfStatement::Inf(inf.copy(alloc)?)),
+        _ => Ok(()),
+    }
+}
+
 fn items_of(alloc: Global, k: usize, lines: &[LineRead]) -> Result<Rows<FdfStatement>, WantOfMemory>
     ensures { IfOk result (λ rows. rows ≡ items_of k lines.now) }
 {
     let mut items = Rows::new(alloc);
     let mut left = lines;
     while let [line, rest @ ..] = left {
-        match row_at(line, k) {
-            Some(Row::Apriori(head)) => items.push(apriori_with(alloc, head, k, rest)?)?,
-            Some(Row::File(head)) => {
-                items.push(FdfStatement::File(file_with(alloc, head, k, rest)?))?;
-            }
-            Some(Row::Inf(inf)) => items.push(FdfStatement::Inf(inf.copy(alloc)?))?,
-            _ => {}
-        }
+        push_item(alloc, &mut items, k, line, rest)?;
         left = rest;
     }
     Ok(items)

@@ -6,6 +6,7 @@ ghost use Rattle.flash_document.specs.Whole.{volumes_of, names_of, nests_of, all
 ghost use Rattle.flash_document.specs.Numbering.{first_loop};
 ghost use Rattle.std.specs.List.{flat_map};
 ghost use Rattle.flash_document.specs.Document.{numbered, ordered_names, part_device, volume_plans, document_of, flash_of_lines};
+ghost use Rattle.flash_document.specs.Held.{Sizes};
 ghost use Rattle.flash_document.specs.Names.{Places};
 ghost use Rattle.flash_document.specs.declared.stated.FdfSection.{FdfSection as Part};
 ghost use Rattle.flash_document.specs.Parts.{all_stated};
@@ -45,17 +46,29 @@ pub struct Tables {
     pub order: Rows<usize>,
 }
 
-fn tables_of(
+// The sizes of all regions that hold volumes.
+fn region_sizes(
     alloc: Global,
     parts: &[FdfSection],
-    volumes: &[&StatedVolume],
-) -> Result<Tables, WantOfMemory>
-    ensures { map (λ v. v.now) volumes.now ≡ volumes_of parts.now → IfOk result (Stands parts.now) }
+) -> Result<IndexMap<Vec<u8>, HeldSizes>, WantOfMemory>
+    ensures { IfOk result (Sizes (all_held parts.now)) }
 {
-    let names = names_of(alloc, volumes)?;
-    let places = places_of(alloc, names.items())?;
     let regions = all_held(alloc, parts)?;
-    let sizes = sizes_of(alloc, regions.items())?;
+    sizes_of(alloc, regions.items())
+}
+
+// The tables, with those that rest on the places of the volumes.
+fn tables_with(
+    alloc: Global,
+    volumes: &[&StatedVolume],
+    names: Rows<Text>,
+    places: IndexMap<Vec<u8>, usize>,
+    sizes: IndexMap<Vec<u8>, HeldSizes>,
+) -> Result<Tables, WantOfMemory>
+    ensures { (parts : List Part) → map (λ v. v.now) volumes.now ≡ volumes_of parts
+        → names ≡ names_of parts → Places (names_of parts) places → Sizes (all_held parts) sizes
+        → IfOk result (Stands parts) }
+{
     let nests = nests_of(alloc, &places, volumes)?;
     let order = topological_order(alloc, nests.items())?;
     Ok(Tables {
@@ -65,6 +78,19 @@ fn tables_of(
         nests,
         order,
     })
+}
+
+fn tables_of(
+    alloc: Global,
+    parts: &[FdfSection],
+    volumes: &[&StatedVolume],
+) -> Result<Tables, WantOfMemory>
+    ensures { map (λ v. v.now) volumes.now ≡ volumes_of parts.now → IfOk result (Stands parts.now) }
+{
+    let names = names_of(alloc, volumes)?;
+    let places = places_of(alloc, names.items())?;
+    let sizes = region_sizes(alloc, parts)?;
+    tables_with(alloc, volumes, names, places, sizes)
 }
 
 #[tactic(auto, unfolding(crate::specs::Tables::loop_in))]
