@@ -7,6 +7,7 @@ use crate::pcds::PcdSetForm;
 use crate::volume::{RuleDocForm, VolumePlanForm};
 use build_base::{Path, Place, Rows, Text, WantOfMemory};
 use doc_types::flash::{DevicePlan, FlashDoc, Region, RegionKind};
+use packed_values::fields::put_two;
 use packed_values::plain::put_byte;
 use packed_values::{Input, Packed, all_put, all_taken};
 use std::alloc::Global;
@@ -19,22 +20,13 @@ impl Packed for RegionKindForm {
 
     ghost form = { region_kind_form };
 
-    #[tactic(auto, unfolding(crate::specs::Flash::region_kind_form, packed_values::specs::Arms::tagged_form, packed_values::specs::Arms::arm, packed_values::specs::Arms::last_arm, packed_values::specs::Arms::unit_form, packed_values::specs::Plain::byte_form))]
+    #[tactic(auto, unfolding(crate::specs::Flash::region_kind_form, packed_values::specs::Arms::tagged_form, packed_values::specs::Arms::arm, packed_values::specs::Arms::last_arm, packed_values::specs::Arms::unit_form, packed_values::specs::Plain::byte_form, packed_values::specs::Parts::pair_form))]
     fn put(value: &RegionKind, out: &mut Vec<u8>) -> Result<(), WantOfMemory> {
         match value {
             RegionKind::Empty => put_byte(0, out),
-            RegionKind::Bytes(text) => {
-                put_byte(1, out)?;
-                Text::put(text, out)
-            }
-            RegionKind::Tree(path) => {
-                put_byte(2, out)?;
-                Path::put(path, out)
-            }
-            RegionKind::Volume(number) => {
-                put_byte(3, out)?;
-                u32::put(number, out)
-            }
+            RegionKind::Bytes(text) => put_two::<u8, Text>(&1, text, out),
+            RegionKind::Tree(path) => put_two::<u8, Path>(&2, path, out),
+            RegionKind::Volume(number) => put_two::<u8, u32>(&3, number, out),
         }
     }
 
@@ -132,8 +124,7 @@ impl Packed for DevicePlanForm {
     #[tactic(auto, unfolding(crate::specs::Flash::device_plan_form, packed_values::specs::Parts::pair_form))]
     fn put(value: &DevicePlan, out: &mut Vec<u8>) -> Result<(), WantOfMemory> {
         put_device_plan_first(value, out)?;
-        put_device_plan_second(value, out)?;
-        Ok(())
+        put_device_plan_second(value, out)
     }
 
     #[tactic(auto, unfolding(crate::specs::Flash::device_plan_form, crate::specs::Flash::device_plan_first_form, crate::specs::Flash::device_plan_second_form), using(packed_values::proofs::WhereLemmas::unread_by))]

@@ -22,7 +22,7 @@ impl Packed for ModuleForm {
 
     ghost form = { module_form };
 
-    #[tactic(auto, unfolding(crate::specs::Made::module_form, packed_values::specs::Parts::pair_form))]
+    #[tactic(auto, unfolding(crate::specs::Made::module_form))]
     fn put(value: &Module, out: &mut Vec<u8>) -> Result<(), WantOfMemory> {
         all_put!(value, out; arch: ArchForm, inf: Path)
     }
@@ -41,7 +41,7 @@ impl Packed for CallForm {
 
     ghost form = { call_form };
 
-    #[tactic(auto, unfolding(crate::specs::Made::call_form, packed_values::specs::Parts::pair_form))]
+    #[tactic(auto, unfolding(crate::specs::Made::call_form))]
     fn put(value: &Call, out: &mut Vec<u8>) -> Result<(), WantOfMemory> {
         all_put!(value, out; inf: Path, name: Text)
     }
@@ -60,7 +60,7 @@ impl Packed for ChoiceForm {
 
     ghost form = { choice_form };
 
-    #[tactic(auto, unfolding(crate::specs::Made::choice_form, packed_values::specs::Parts::pair_form))]
+    #[tactic(auto, unfolding(crate::specs::Made::choice_form))]
     fn put(value: &Choice, out: &mut Vec<u8>) -> Result<(), WantOfMemory> {
         all_put!(value, out; library: bool, instances: Rows<Path>, constructors: Rows<CallForm>, destructors: Rows<CallForm>)
     }
@@ -79,7 +79,7 @@ type PcdRowFirst = (PcdNameForm, (KindForm, (DatumForm, u32)));
 type PcdRowSecond = (u32, (u8, (Text, Text)));
 
 // Adds its fields from `pcd` on.
-#[tactic(auto, unfolding(crate::specs::Made::pcd_row_first_form, packed_values::specs::Parts::pair_form))]
+#[tactic(auto, unfolding(crate::specs::Made::pcd_row_first_form))]
 fn put_pcd_row_first(value: &PcdRow, out: &mut Vec<u8>) -> Result<(), WantOfMemory>
     ensures { OnOk result
         (IsPut pcd_row_first_form out.old.items (pcd_row_first value.now) out.new.items) }
@@ -88,7 +88,7 @@ fn put_pcd_row_first(value: &PcdRow, out: &mut Vec<u8>) -> Result<(), WantOfMemo
 }
 
 // Adds its fields from `max` on.
-#[tactic(auto, unfolding(crate::specs::Made::pcd_row_second_form, packed_values::specs::Parts::pair_form))]
+#[tactic(auto, unfolding(crate::specs::Made::pcd_row_second_form))]
 fn put_pcd_row_second(value: &PcdRow, out: &mut Vec<u8>) -> Result<(), WantOfMemory>
     ensures { OnOk result
         (IsPut pcd_row_second_form out.old.items (pcd_row_second value.now) out.new.items) }
@@ -129,8 +129,7 @@ impl Packed for PcdRowForm {
     #[tactic(auto, unfolding(crate::specs::Made::pcd_row_form, packed_values::specs::Parts::pair_form))]
     fn put(value: &PcdRow, out: &mut Vec<u8>) -> Result<(), WantOfMemory> {
         put_pcd_row_first(value, out)?;
-        put_pcd_row_second(value, out)?;
-        Ok(())
+        put_pcd_row_second(value, out)
     }
 
     #[tactic(auto, unfolding(crate::specs::Made::pcd_row_form, crate::specs::Made::pcd_row_first_form, crate::specs::Made::pcd_row_second_form), using(packed_values::proofs::WhereLemmas::unread_by))]
@@ -169,7 +168,7 @@ impl Packed for TextsForm {
 
     ghost form = { texts_form };
 
-    #[tactic(auto, unfolding(crate::specs::Made::texts_form, packed_values::specs::Parts::pair_form))]
+    #[tactic(auto, unfolding(crate::specs::Made::texts_form))]
     fn put(value: &Texts, out: &mut Vec<u8>) -> Result<(), WantOfMemory> {
         all_put!(value, out; c: Text, h: Text)
     }
@@ -188,7 +187,7 @@ impl Packed for FileImageForm {
 
     ghost form = { file_image_form };
 
-    #[tactic(auto, unfolding(crate::specs::Made::file_image_form, packed_values::specs::Parts::pair_form))]
+    #[tactic(auto, unfolding(crate::specs::Made::file_image_form))]
     fn put(value: &FileImage, out: &mut Vec<u8>) -> Result<(), WantOfMemory> {
         all_put!(value, out; at: Place, guid: Guid, align: u32, bytes: Text)
     }
@@ -207,7 +206,7 @@ impl Packed for VpdPlaceForm {
 
     ghost form = { vpd_place_form };
 
-    #[tactic(auto, unfolding(crate::specs::Made::vpd_place_form, packed_values::specs::Parts::pair_form))]
+    #[tactic(auto, unfolding(crate::specs::Made::vpd_place_form))]
     fn put(value: &VpdPlace, out: &mut Vec<u8>) -> Result<(), WantOfMemory> {
         all_put!(value, out; pcd: PcdNameForm, sku: Text, offset: u32, size: u32)
     }
@@ -226,7 +225,7 @@ impl Packed for VpdForm {
 
     ghost form = { vpd_form };
 
-    #[tactic(auto, unfolding(crate::specs::Made::vpd_form, packed_values::specs::Parts::pair_form))]
+    #[tactic(auto, unfolding(crate::specs::Made::vpd_form))]
     fn put(value: &Vpd, out: &mut Vec<u8>) -> Result<(), WantOfMemory> {
         all_put!(value, out; image: Text, map: Text, places: Rows<VpdPlaceForm>)
     }

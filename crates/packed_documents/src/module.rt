@@ -19,7 +19,7 @@ impl Packed for NamedForm {
 
     ghost form = { named_form };
 
-    #[tactic(auto, unfolding(crate::specs::Module::named_form, packed_values::specs::Parts::pair_form))]
+    #[tactic(auto, unfolding(crate::specs::Module::named_form))]
     fn put(value: &Named, out: &mut Vec<u8>) -> Result<(), WantOfMemory> {
         all_put!(value, out; at: Place, arch: ArchForm, name: Text)
     }
@@ -38,7 +38,7 @@ impl Packed for ServedForm {
 
     ghost form = { served_form };
 
-    #[tactic(auto, unfolding(crate::specs::Module::served_form, packed_values::specs::Parts::pair_form))]
+    #[tactic(auto, unfolding(crate::specs::Module::served_form))]
     fn put(value: &Served, out: &mut Vec<u8>) -> Result<(), WantOfMemory> {
         all_put!(value, out; name: Text, types: Rows<ModuleTypeForm>)
     }
@@ -57,7 +57,7 @@ impl Packed for UsedPcdForm {
 
     ghost form = { used_pcd_form };
 
-    #[tactic(auto, unfolding(crate::specs::Module::used_pcd_form, packed_values::specs::Parts::pair_form))]
+    #[tactic(auto, unfolding(crate::specs::Module::used_pcd_form))]
     fn put(value: &UsedPcd, out: &mut Vec<u8>) -> Result<(), WantOfMemory> {
         all_put!(value, out; at: Place, arch: ArchForm, asked: AskedForm, pcd: PcdNameForm, default: Option<Text>)
     }
@@ -76,7 +76,7 @@ impl Packed for DepexPartForm {
 
     ghost form = { depex_part_form };
 
-    #[tactic(auto, unfolding(crate::specs::Module::depex_part_form, packed_values::specs::Parts::pair_form))]
+    #[tactic(auto, unfolding(crate::specs::Module::depex_part_form))]
     fn put(value: &DepexPart, out: &mut Vec<u8>) -> Result<(), WantOfMemory> {
         all_put!(value, out; at: Place, arch: ArchForm, kind: Option<ModuleTypeForm>, terms: Rows<Text>)
     }
@@ -99,7 +99,7 @@ type InfDocThird = (Rows<ServedForm>, (Rows<NamedForm>, Rows<NamedForm>));
 type InfDocFourth = (Rows<NamedForm>, (Rows<UsedPcdForm>, Rows<DepexPartForm>));
 
 // Adds its fields from `at` on.
-#[tactic(auto, unfolding(crate::specs::Module::inf_doc_first_form, packed_values::specs::Parts::pair_form))]
+#[tactic(auto, unfolding(crate::specs::Module::inf_doc_first_form))]
 fn put_inf_doc_first(value: &InfDoc, out: &mut Vec<u8>) -> Result<(), WantOfMemory>
     ensures { OnOk result
         (IsPut inf_doc_first_form out.old.items (inf_doc_first value.now) out.new.items) }
@@ -108,7 +108,7 @@ fn put_inf_doc_first(value: &InfDoc, out: &mut Vec<u8>) -> Result<(), WantOfMemo
 }
 
 // Adds its fields from `version` on.
-#[tactic(auto, unfolding(crate::specs::Module::inf_doc_second_form, packed_values::specs::Parts::pair_form))]
+#[tactic(auto, unfolding(crate::specs::Module::inf_doc_second_form))]
 fn put_inf_doc_second(value: &InfDoc, out: &mut Vec<u8>) -> Result<(), WantOfMemory>
     ensures { OnOk result
         (IsPut inf_doc_second_form out.old.items (inf_doc_second value.now) out.new.items) }
@@ -117,7 +117,7 @@ fn put_inf_doc_second(value: &InfDoc, out: &mut Vec<u8>) -> Result<(), WantOfMem
 }
 
 // Adds its fields from `serves` on.
-#[tactic(auto, unfolding(crate::specs::Module::inf_doc_third_form, packed_values::specs::Parts::pair_form))]
+#[tactic(auto, unfolding(crate::specs::Module::inf_doc_third_form))]
 fn put_inf_doc_third(value: &InfDoc, out: &mut Vec<u8>) -> Result<(), WantOfMemory>
     ensures { OnOk result
         (IsPut inf_doc_third_form out.old.items (inf_doc_third value.now) out.new.items) }
@@ -126,7 +126,7 @@ fn put_inf_doc_third(value: &InfDoc, out: &mut Vec<u8>) -> Result<(), WantOfMemo
 }
 
 // Adds its fields from `guids` on.
-#[tactic(auto, unfolding(crate::specs::Module::inf_doc_fourth_form, packed_values::specs::Parts::pair_form))]
+#[tactic(auto, unfolding(crate::specs::Module::inf_doc_fourth_form))]
 fn put_inf_doc_fourth(value: &InfDoc, out: &mut Vec<u8>) -> Result<(), WantOfMemory>
     ensures { OnOk result
         (IsPut inf_doc_fourth_form out.old.items (inf_doc_fourth value.now) out.new.items) }
@@ -181,8 +181,7 @@ impl Packed for InfDocForm {
         put_inf_doc_first(value, out)?;
         put_inf_doc_second(value, out)?;
         put_inf_doc_third(value, out)?;
-        put_inf_doc_fourth(value, out)?;
-        Ok(())
+        put_inf_doc_fourth(value, out)
     }
 
     #[tactic(auto, unfolding(crate::specs::Module::inf_doc_form, crate::specs::Module::inf_doc_first_form, crate::specs::Module::inf_doc_second_form, crate::specs::Module::inf_doc_third_form, crate::specs::Module::inf_doc_fourth_form), using(packed_values::proofs::WhereLemmas::unread_by))]

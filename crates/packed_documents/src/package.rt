@@ -19,7 +19,7 @@ impl Packed for NamedGuidForm {
 
     ghost form = { named_guid_form };
 
-    #[tactic(auto, unfolding(crate::specs::Package::named_guid_form, packed_values::specs::Parts::pair_form))]
+    #[tactic(auto, unfolding(crate::specs::Package::named_guid_form))]
     fn put(value: &NamedGuid, out: &mut Vec<u8>) -> Result<(), WantOfMemory> {
         all_put!(value, out; at: Place, arch: ArchForm, name: Text, guid: Guid)
     }
@@ -38,7 +38,7 @@ type DecPcdFirst = (Place, (ArchForm, (KindForm, PcdNameForm)));
 type DecPcdSecond = (Text, (DatumForm, u32));
 
 // Adds its fields from `at` on.
-#[tactic(auto, unfolding(crate::specs::Package::dec_pcd_first_form, packed_values::specs::Parts::pair_form))]
+#[tactic(auto, unfolding(crate::specs::Package::dec_pcd_first_form))]
 fn put_dec_pcd_first(value: &DecPcd, out: &mut Vec<u8>) -> Result<(), WantOfMemory>
     ensures { OnOk result
         (IsPut dec_pcd_first_form out.old.items (dec_pcd_first value.now) out.new.items) }
@@ -47,7 +47,7 @@ fn put_dec_pcd_first(value: &DecPcd, out: &mut Vec<u8>) -> Result<(), WantOfMemo
 }
 
 // Adds its fields from `default` on.
-#[tactic(auto, unfolding(crate::specs::Package::dec_pcd_second_form, packed_values::specs::Parts::pair_form))]
+#[tactic(auto, unfolding(crate::specs::Package::dec_pcd_second_form))]
 fn put_dec_pcd_second(value: &DecPcd, out: &mut Vec<u8>) -> Result<(), WantOfMemory>
     ensures { OnOk result
         (IsPut dec_pcd_second_form out.old.items (dec_pcd_second value.now) out.new.items) }
@@ -86,8 +86,7 @@ impl Packed for DecPcdForm {
     #[tactic(auto, unfolding(crate::specs::Package::dec_pcd_form, packed_values::specs::Parts::pair_form))]
     fn put(value: &DecPcd, out: &mut Vec<u8>) -> Result<(), WantOfMemory> {
         put_dec_pcd_first(value, out)?;
-        put_dec_pcd_second(value, out)?;
-        Ok(())
+        put_dec_pcd_second(value, out)
     }
 
     #[tactic(auto, unfolding(crate::specs::Package::dec_pcd_form, crate::specs::Package::dec_pcd_first_form, crate::specs::Package::dec_pcd_second_form), using(packed_values::proofs::WhereLemmas::unread_by))]
@@ -107,7 +106,7 @@ impl Packed for DecDocForm {
 
     ghost form = { dec_doc_form };
 
-    #[tactic(auto, unfolding(crate::specs::Package::dec_doc_form, packed_values::specs::Parts::pair_form))]
+    #[tactic(auto, unfolding(crate::specs::Package::dec_doc_form))]
     fn put(value: &DecDoc, out: &mut Vec<u8>) -> Result<(), WantOfMemory> {
         all_put!(value, out; at: Place, name: Text, guid: Guid, guids: Rows<NamedGuidForm>, pcds: Rows<DecPcdForm>)
     }

@@ -7,6 +7,7 @@ use crate::pcds::PcdNameForm;
 use crate::words::{ArchForm, DatumForm, KindForm, ModuleTypeForm};
 use build_base::{Guid, Macro, Path, Place, Rows, Text, WantOfMemory};
 use doc_types::platform::{Component, LibraryLine, PcdLine, PlatformDoc, Sku, Store};
+use packed_values::fields::{put_five, put_three};
 use packed_values::plain::put_byte;
 use packed_values::{Input, Packed, all_put, all_taken};
 use std::alloc::Global;
@@ -67,16 +68,10 @@ impl Packed for StoreForm {
                 offset,
                 attributes,
             } => {
-                put_byte(1, out)?;
-                Text::put(variable, out)?;
-                Text::put(guid, out)?;
-                u32::put(offset, out)?;
-                Text::put(attributes, out)
+                put_five::<u8, Text, Text, u32, Text>(&1, variable, guid, offset, attributes, out)
             }
             Store::Vpd { offset, rest } => {
-                put_byte(2, out)?;
-                <Option<u32>>::put(offset, out)?;
-                <Rows<Text>>::put(rest, out)
+                put_three::<u8, Option<u32>, Rows<Text>>(&2, offset, rest, out)
             }
         }
     }
@@ -175,8 +170,7 @@ impl Packed for PcdLineForm {
     fn put(value: &PcdLine, out: &mut Vec<u8>) -> Result<(), WantOfMemory> {
         put_pcd_line_first(value, out)?;
         put_pcd_line_second(value, out)?;
-        put_pcd_line_third(value, out)?;
-        Ok(())
+        put_pcd_line_third(value, out)
     }
 
     #[tactic(auto, unfolding(crate::specs::Platform::pcd_line_form, crate::specs::Platform::pcd_line_first_form, crate::specs::Platform::pcd_line_second_form, crate::specs::Platform::pcd_line_third_form), using(packed_values::proofs::WhereLemmas::unread_by))]
@@ -242,8 +236,7 @@ impl Packed for ComponentForm {
     #[tactic(auto, unfolding(crate::specs::Platform::component_form, packed_values::specs::Parts::pair_form))]
     fn put(value: &Component, out: &mut Vec<u8>) -> Result<(), WantOfMemory> {
         put_component_first(value, out)?;
-        put_component_second(value, out)?;
-        Ok(())
+        put_component_second(value, out)
     }
 
     #[tactic(auto, unfolding(crate::specs::Platform::component_form, crate::specs::Platform::component_first_form, crate::specs::Platform::component_second_form), using(packed_values::proofs::WhereLemmas::unread_by))]
@@ -337,8 +330,7 @@ impl Packed for PlatformDocForm {
     fn put(value: &PlatformDoc, out: &mut Vec<u8>) -> Result<(), WantOfMemory> {
         put_platform_doc_first(value, out)?;
         put_platform_doc_second(value, out)?;
-        put_platform_doc_third(value, out)?;
-        Ok(())
+        put_platform_doc_third(value, out)
     }
 
     #[tactic(auto, unfolding(crate::specs::Platform::platform_doc_form, crate::specs::Platform::platform_doc_first_form, crate::specs::Platform::platform_doc_second_form, crate::specs::Platform::platform_doc_third_form), using(packed_values::proofs::WhereLemmas::unread_by))]

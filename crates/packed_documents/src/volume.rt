@@ -9,6 +9,7 @@ use doc_types::volume::{
     Align, FilePlan, InfLine, Item, Member, RuleDoc, SectionPlan, SectionSource, VolumePlan,
 };
 use doc_types::volume_head::VolumeHead;
+use packed_values::fields::{put_four, put_two};
 use packed_values::plain::put_byte;
 use packed_values::{Input, Packed, all_put, all_taken};
 use std::alloc::Global;
@@ -21,15 +22,12 @@ impl Packed for AlignForm {
 
     ghost form = { align_form };
 
-    #[tactic(auto, unfolding(crate::specs::Volume::align_form, packed_values::specs::Arms::tagged_form, packed_values::specs::Arms::arm, packed_values::specs::Arms::last_arm, packed_values::specs::Arms::unit_form, packed_values::specs::Plain::byte_form))]
+    #[tactic(auto, unfolding(crate::specs::Volume::align_form, packed_values::specs::Arms::tagged_form, packed_values::specs::Arms::arm, packed_values::specs::Arms::last_arm, packed_values::specs::Arms::unit_form, packed_values::specs::Plain::byte_form, packed_values::specs::Parts::pair_form))]
     fn put(value: &Align, out: &mut Vec<u8>) -> Result<(), WantOfMemory> {
         match value {
             Align::Unset => put_byte(0, out),
             Align::Auto => put_byte(1, out),
-            Align::Bytes(bytes) => {
-                put_byte(2, out)?;
-                u32::put(bytes, out)
-            }
+            Align::Bytes(bytes) => put_two::<u8, u32>(&2, bytes, out),
         }
     }
 
@@ -55,29 +53,14 @@ impl Packed for SectionSourceForm {
 
     ghost form = { section_source_form };
 
-    #[tactic(auto, unfolding(crate::specs::Volume::section_source_form, packed_values::specs::Arms::tagged_form, packed_values::specs::Arms::arm, packed_values::specs::Arms::last_arm, packed_values::specs::Plain::byte_form))]
+    #[tactic(auto, unfolding(crate::specs::Volume::section_source_form, packed_values::specs::Arms::tagged_form, packed_values::specs::Arms::arm, packed_values::specs::Arms::last_arm, packed_values::specs::Plain::byte_form, packed_values::specs::Parts::pair_form))]
     fn put(value: &SectionSource, out: &mut Vec<u8>) -> Result<(), WantOfMemory> {
         match value {
-            SectionSource::Tree(path) => {
-                put_byte(0, out)?;
-                Path::put(path, out)
-            }
-            SectionSource::Template(text) => {
-                put_byte(1, out)?;
-                Text::put(text, out)
-            }
-            SectionSource::Volume(number) => {
-                put_byte(2, out)?;
-                u32::put(number, out)
-            }
-            SectionSource::Words(text) => {
-                put_byte(3, out)?;
-                Text::put(text, out)
-            }
-            SectionSource::Refused(text) => {
-                put_byte(4, out)?;
-                Text::put(text, out)
-            }
+            SectionSource::Tree(path) => put_two::<u8, Path>(&0, path, out),
+            SectionSource::Template(text) => put_two::<u8, Text>(&1, text, out),
+            SectionSource::Volume(number) => put_two::<u8, u32>(&2, number, out),
+            SectionSource::Words(text) => put_two::<u8, Text>(&3, text, out),
+            SectionSource::Refused(text) => put_two::<u8, Text>(&4, text, out),
         }
     }
 
@@ -166,8 +149,7 @@ impl Packed for SectionPlanForm {
     #[tactic(auto, unfolding(crate::specs::Volume::section_plan_form, packed_values::specs::Parts::pair_form))]
     fn put(value: &SectionPlan, out: &mut Vec<u8>) -> Result<(), WantOfMemory> {
         put_section_plan_first(value, out)?;
-        put_section_plan_second(value, out)?;
-        Ok(())
+        put_section_plan_second(value, out)
     }
 
     #[tactic(auto, unfolding(crate::specs::Volume::section_plan_form, crate::specs::Volume::section_plan_first_form, crate::specs::Volume::section_plan_second_form), using(packed_values::proofs::WhereLemmas::unread_by))]
@@ -237,8 +219,7 @@ impl Packed for FilePlanForm {
     #[tactic(auto, unfolding(crate::specs::Volume::file_plan_form, packed_values::specs::Parts::pair_form))]
     fn put(value: &FilePlan, out: &mut Vec<u8>) -> Result<(), WantOfMemory> {
         put_file_plan_first(value, out)?;
-        put_file_plan_second(value, out)?;
-        Ok(())
+        put_file_plan_second(value, out)
     }
 
     #[tactic(auto, unfolding(crate::specs::Volume::file_plan_form, crate::specs::Volume::file_plan_first_form, crate::specs::Volume::file_plan_second_form), using(packed_values::proofs::WhereLemmas::unread_by))]
@@ -304,8 +285,7 @@ impl Packed for InfLineForm {
     #[tactic(auto, unfolding(crate::specs::Volume::inf_line_form, packed_values::specs::Parts::pair_form))]
     fn put(value: &InfLine, out: &mut Vec<u8>) -> Result<(), WantOfMemory> {
         put_inf_line_first(value, out)?;
-        put_inf_line_second(value, out)?;
-        Ok(())
+        put_inf_line_second(value, out)
     }
 
     #[tactic(auto, unfolding(crate::specs::Volume::inf_line_form, crate::specs::Volume::inf_line_first_form, crate::specs::Volume::inf_line_second_form), using(packed_values::proofs::WhereLemmas::unread_by))]
@@ -325,17 +305,11 @@ impl Packed for MemberForm {
 
     ghost form = { member_form };
 
-    #[tactic(auto, unfolding(crate::specs::Volume::member_form, packed_values::specs::Arms::tagged_form, packed_values::specs::Arms::arm, packed_values::specs::Arms::last_arm, packed_values::specs::Plain::byte_form))]
+    #[tactic(auto, unfolding(crate::specs::Volume::member_form, packed_values::specs::Arms::tagged_form, packed_values::specs::Arms::arm, packed_values::specs::Arms::last_arm, packed_values::specs::Plain::byte_form, packed_values::specs::Parts::pair_form))]
     fn put(value: &Member, out: &mut Vec<u8>) -> Result<(), WantOfMemory> {
         match value {
-            Member::Inf(line) => {
-                put_byte(0, out)?;
-                InfLineForm::put(line, out)
-            }
-            Member::File(guid) => {
-                put_byte(1, out)?;
-                Guid::put(guid, out)
-            }
+            Member::Inf(line) => put_two::<u8, InfLineForm>(&0, line, out),
+            Member::File(guid) => put_two::<u8, Guid>(&1, guid, out),
         }
     }
 
@@ -367,19 +341,10 @@ impl Packed for ItemForm {
     fn put(value: &Item, out: &mut Vec<u8>) -> Result<(), WantOfMemory> {
         match value {
             Item::Apriori { at, pei, members } => {
-                put_byte(0, out)?;
-                Place::put(at, out)?;
-                bool::put(pei, out)?;
-                <Rows<MemberForm>>::put(members, out)
+                put_four::<u8, Place, bool, Rows<MemberForm>>(&0, at, pei, members, out)
             }
-            Item::File(file) => {
-                put_byte(1, out)?;
-                FilePlanForm::put(file, out)
-            }
-            Item::Inf(line) => {
-                put_byte(2, out)?;
-                InfLineForm::put(line, out)
-            }
+            Item::File(file) => put_two::<u8, FilePlanForm>(&1, file, out),
+            Item::Inf(line) => put_two::<u8, InfLineForm>(&2, line, out),
         }
     }
 
@@ -496,8 +461,7 @@ impl Packed for VolumeHeadForm {
     fn put(value: &VolumeHead, out: &mut Vec<u8>) -> Result<(), WantOfMemory> {
         put_volume_head_first(value, out)?;
         put_volume_head_second(value, out)?;
-        put_volume_head_third(value, out)?;
-        Ok(())
+        put_volume_head_third(value, out)
     }
 
     #[tactic(auto, unfolding(crate::specs::Volume::volume_head_form, crate::specs::Volume::volume_head_first_form, crate::specs::Volume::volume_head_second_form, crate::specs::Volume::volume_head_third_form), using(packed_values::proofs::WhereLemmas::unread_by))]
