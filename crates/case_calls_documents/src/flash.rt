@@ -1,9 +1,10 @@
 //! A flash description as rows; what stands in a device, a volume or a file has a blank more in
 //! front. Numbers are decimal.
 
+use crate::reading::flash_at;
 use crate::rows::{begin, pcd};
 use build_base::{Guid, Place, Text};
-use case_player::{Page, Stop};
+use case_player::{Output, Page, Stop};
 use doc_types::flash::{DevicePlan, FlashDoc, Region, RegionKind};
 use doc_types::pcd::PcdSet;
 use doc_types::volume::{
@@ -198,7 +199,7 @@ fn tell_rule(page: &mut Page, rule: &RuleDoc) {
     tell_file(page, &rule.file);
 }
 
-pub(crate) fn tell_flash(page: &mut Page, flash: &FlashDoc) {
+fn tell_flash(page: &mut Page, flash: &FlashDoc) {
     for set in flash.sets.items() {
         tell_set(page, set);
     }
@@ -213,8 +214,8 @@ pub(crate) fn tell_flash(page: &mut Page, flash: &FlashDoc) {
     }
 }
 
-/// How many rows there are of each kind, and statements of the volume that has the most.
-pub(crate) fn tell_counts(page: &mut Page, flash: &FlashDoc) -> Result<(), Stop> {
+// How many rows there are of each kind, and statements of the volume that has the most.
+fn tell_counts(page: &mut Page, flash: &FlashDoc) -> Result<(), Stop> {
     let sets = flash.sets.items().len();
     let devices = flash.devices.items().len();
     let volumes = flash.volumes.items().len();
@@ -228,4 +229,17 @@ pub(crate) fn tell_counts(page: &mut Page, flash: &FlashDoc) -> Result<(), Stop>
     )?;
     page.put(text.as_bytes());
     Ok(())
+}
+
+/// The rows of a document.
+pub(crate) fn call_read_flash(page: &mut Page, files: &[Output], path: &str) -> Result<(), Stop> {
+    let flash = flash_at(page.alloc(), files, path)?;
+    tell_flash(page, &flash);
+    Ok(())
+}
+
+/// How many rows a document has.
+pub(crate) fn call_count_flash(page: &mut Page, files: &[Output], path: &str) -> Result<(), Stop> {
+    let flash = flash_at(page.alloc(), files, path)?;
+    tell_counts(page, &flash)
 }

@@ -1,7 +1,8 @@
 //! A module's description as rows.
 
+use crate::reading::module_at;
 use crate::rows::{begin_row, pcd};
-use case_player::Page;
+use case_player::{Output, Page, Stop};
 use doc_types::depex::DepexPart;
 use doc_types::module::{InfDoc, Named, Served, UsedPcd};
 
@@ -62,7 +63,7 @@ fn tell_names(page: &mut Page, module: &InfDoc) {
     tell_named(page, b"guid", module.guids.items());
 }
 
-pub fn tell_module(page: &mut Page, module: &InfDoc) {
+fn tell_module(page: &mut Page, module: &InfDoc) {
     tell_keys(page, module);
     tell_named(page, b"entry", module.entry_points.items());
     tell_named(page, b"constructor", module.constructors.items());
@@ -77,4 +78,11 @@ pub fn tell_module(page: &mut Page, module: &InfDoc) {
     for part in module.depex.items() {
         tell_part(page, part);
     }
+}
+
+/// The rows of a document.
+pub(crate) fn call_read_inf(page: &mut Page, files: &[Output], path: &str) -> Result<(), Stop> {
+    let module = module_at(page.alloc(), files, path)?;
+    tell_module(page, &module);
+    Ok(())
 }

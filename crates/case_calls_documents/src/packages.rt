@@ -1,7 +1,8 @@
 //! A package's declarations as rows.
 
+use crate::reading::package_at;
 use crate::rows::{begin_row, pcd};
-use case_player::Page;
+use case_player::{Output, Page, Stop};
 use doc_types::depex::NamedGuid;
 use doc_types::package::{DecDoc, DecPcd};
 
@@ -22,7 +23,7 @@ fn tell_pcd(page: &mut Page, row: &DecPcd) {
     page.end();
 }
 
-pub(crate) fn tell_package(page: &mut Page, package: &DecDoc) {
+fn tell_package(page: &mut Page, package: &DecDoc) {
     page.row(b"name", package.name.bytes());
     page.put(b"file");
     page.guid(&package.guid);
@@ -33,4 +34,11 @@ pub(crate) fn tell_package(page: &mut Page, package: &DecDoc) {
     for row in package.pcds.items() {
         tell_pcd(page, row);
     }
+}
+
+/// The rows of a document.
+pub(crate) fn call_read_dec(page: &mut Page, files: &[Output], path: &str) -> Result<(), Stop> {
+    let package = package_at(page.alloc(), files, path)?;
+    tell_package(page, &package);
+    Ok(())
 }

@@ -1,8 +1,9 @@
 //! A platform's description as rows. A row within a component's braces has a blank in front.
 
+use crate::reading::platform_at;
 use crate::rows::{begin_row, pcd};
 use build_base::Text;
-use case_player::Page;
+use case_player::{Output, Page, Stop};
 use doc_types::platform::{Component, LibraryLine, PcdLine, PlatformDoc, Sku, Store};
 
 // A word that isn't empty.
@@ -112,7 +113,7 @@ fn tell_keys(page: &mut Page, platform: &PlatformDoc) {
     }
 }
 
-pub(crate) fn tell_platform(page: &mut Page, platform: &PlatformDoc) {
+fn tell_platform(page: &mut Page, platform: &PlatformDoc) {
     tell_keys(page, platform);
     for sku in platform.skus.items() {
         tell_sku(page, sku);
@@ -126,4 +127,11 @@ pub(crate) fn tell_platform(page: &mut Page, platform: &PlatformDoc) {
     for line in platform.pcds.items() {
         tell_pcd(page, line);
     }
+}
+
+/// The rows of a document.
+pub(crate) fn call_read_dsc(page: &mut Page, files: &[Output], path: &str) -> Result<(), Stop> {
+    let platform = platform_at(page.alloc(), files, path)?;
+    tell_platform(page, &platform);
+    Ok(())
 }

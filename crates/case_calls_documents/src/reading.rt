@@ -3,7 +3,7 @@
 ghost use Rattle.std.specs.Prelude.{IfOk};
 ghost use Rattle.dsc_platform.specs.Shape.{HasShape};
 
-use build_base::{Book, Path};
+use build_base::{Book, Lines, Path};
 use case_calls_texts::{copied, lines_of, path_of};
 use case_player::{Output, Stop};
 use dec_docs::read_dec;
@@ -16,20 +16,35 @@ use flash_document::read_flash;
 use inf_docs::read_inf;
 use std::alloc::Global;
 
+fn package_in(alloc: Global, lines: &Lines) -> Result<DecDoc, Stop> {
+    let mut book = Book::new(alloc);
+    Ok(read_dec(alloc, book.grant(())?, lines)?)
+}
+
 /// A package's declarations.
 pub fn package_of(alloc: Global, files: &[Output], root: &Path) -> Result<DecDoc, Stop> {
     let lines = lines_of(alloc, files, root)?;
-    let mut book = Book::new(alloc);
-    let package = read_dec(alloc, book.grant(())?, &lines)?;
+    let package = package_in(alloc, &lines)?;
     copied(alloc, &package)
+}
+
+fn module_in(alloc: Global, lines: &Lines) -> Result<InfDoc, Stop> {
+    let mut book = Book::new(alloc);
+    Ok(read_inf(alloc, book.grant(())?, lines)?)
 }
 
 /// A module's description.
 pub fn module_of(alloc: Global, files: &[Output], root: &Path) -> Result<InfDoc, Stop> {
     let lines = lines_of(alloc, files, root)?;
-    let mut book = Book::new(alloc);
-    let module = read_inf(alloc, book.grant(())?, &lines)?;
+    let module = module_in(alloc, &lines)?;
     copied(alloc, &module)
+}
+
+fn platform_in(alloc: Global, lines: &Lines) -> Result<PlatformDoc, Stop>
+    ensures { IfOk result (λ platform. HasShape platform) }
+{
+    let mut book = Book::new(alloc);
+    Ok(read_platform(alloc, book.grant(())?, lines)?)
 }
 
 /// A platform's description.
@@ -37,16 +52,19 @@ pub fn platform_of(alloc: Global, files: &[Output], root: &Path) -> Result<Platf
     ensures { IfOk result (λ platform. HasShape platform) }
 {
     let lines = lines_of(alloc, files, root)?;
-    let mut book = Book::new(alloc);
-    let platform = read_platform(alloc, book.grant(())?, &lines)?;
+    let platform = platform_in(alloc, &lines)?;
     copied(alloc, &platform)
+}
+
+fn flash_in(alloc: Global, lines: &Lines) -> Result<FlashDoc, Stop> {
+    let mut book = Book::new(alloc);
+    Ok(read_flash(alloc, book.grant(())?, lines)?)
 }
 
 /// A flash description.
 pub fn flash_of(alloc: Global, files: &[Output], root: &Path) -> Result<FlashDoc, Stop> {
     let lines = lines_of(alloc, files, root)?;
-    let mut book = Book::new(alloc);
-    let flash = read_flash(alloc, book.grant(())?, &lines)?;
+    let flash = flash_in(alloc, &lines)?;
     copied(alloc, &flash)
 }
 

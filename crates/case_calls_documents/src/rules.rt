@@ -41,6 +41,18 @@ fn tell_items(
     Ok(())
 }
 
+fn tell_volumes(
+    page: &mut Page,
+    platform: &PlatformDoc,
+    flash: &FlashDoc,
+    module_type: ModuleType,
+) -> Result<(), Stop> {
+    for volume in flash.volumes.items() {
+        tell_items(page, platform, flash, volume.items.items(), module_type)?;
+    }
+    Ok(())
+}
+
 /// The architecture of each module of the volumes, and the number of its rule, up to the first that
 /// has none, for the words `TYPE PLATFORM FLASH`.
 pub(crate) fn call_modules(page: &mut Page, files: &[Output], words: &str) -> Result<(), Stop> {
@@ -52,8 +64,5 @@ pub(crate) fn call_modules(page: &mut Page, files: &[Output], words: &str) -> Re
     };
     let platform = platform_at(alloc, files, root)?;
     let flash = flash_at(alloc, files, flash)?;
-    for volume in flash.volumes.items() {
-        tell_items(page, &platform, &flash, volume.items.items(), module_type)?;
-    }
-    Ok(())
+    tell_volumes(page, &platform, &flash, module_type)
 }

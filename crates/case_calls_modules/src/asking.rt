@@ -25,20 +25,22 @@ fn flash_of(alloc: Global, at: Place, sets: Rows<PcdSet>) -> FlashDoc {
     }
 }
 
+fn shared_flash(
+    alloc: Global,
+    at: &Place,
+    sets: Rows<PcdSet>,
+) -> Result<Shared<FlashDoc>, WantOfMemory> {
+    let at = at.copy(alloc)?;
+    Shared::new(alloc, flash_of(alloc, at, sets))
+}
+
 fn asked(alloc: Global, plan: Plan, platform: PlatformDoc) -> Result<PlatformAsk, WantOfMemory>
     ensures { IfOk result (λ ask. ask.platform ≡ platform) }
 {
-    let at = platform.at.copy(alloc)?;
+    let mut plan = plan;
+    let flash = shared_flash(alloc, &platform.at, plan.take_sets(alloc))?;
     let platform = Shared::new(alloc, platform)?;
-    let flash = Shared::new(alloc, flash_of(alloc, at, plan.sets))?;
-    Ok(PlatformAsk {
-        platform,
-        flash,
-        commands: plan.commands,
-        skus: plan.skus,
-        arches: plan.arches,
-        modules: plan.modules,
-    })
+    Ok(plan.into_ask(platform, flash))
 }
 
 fn platform_named(alloc: Global, files: &[Output], plan: &Plan) -> Result<PlatformDoc, Stop>

@@ -1,9 +1,9 @@
 //! Calls of the choice of libraries, over the documents of a case.
 
-use crate::words::arch_of;
+use crate::words::module_named;
 use build_base::{Book, Path, Rows};
-use case_calls_documents::{module_of, platform_of};
-use case_calls_texts::{copied, path_of};
+use case_calls_documents::{module_of, platform_at};
+use case_calls_texts::copied;
 use case_player::{Output, Page, Stop, Wrong, first_word};
 use doc_types::choice::{Call, Choice, Module};
 use doc_types::module::InfDoc;
@@ -40,6 +40,17 @@ fn tell_choice(page: &mut Page, choice: &Choice) {
     tell_calls(page, b"destructor", choice.destructors.items());
 }
 
+fn add_inf(
+    alloc: Global,
+    files: &[Output],
+    infs: &mut Rows<Shared<InfDoc>>,
+    path: &Path,
+) -> Result<(), Stop> {
+    let module = module_of(alloc, files, path)?;
+    infs.push(Shared::new(alloc, module)?)?;
+    Ok(())
+}
+
 fn add_infs(
     alloc: Global,
     files: &[Output],
@@ -47,8 +58,30 @@ fn add_infs(
     paths: &[Path],
 ) -> Result<(), Stop> {
     for path in paths {
-        infs.push(Shared::new(alloc, module_of(alloc, files, path)?)?)?;
+        add_inf(alloc, files, infs, path)?;
     }
+    Ok(())
+}
+
+fn chosen(
+    alloc: Global,
+    module: &Module,
+    platform: &PlatformDoc,
+    infs: &Rows<Shared<InfDoc>>,
+) -> Result<Choice, Stop> {
+    let mut book = Book::new(alloc);
+    Ok(choose(alloc, book.grant(())?, module, platform, infs)?)
+}
+
+fn tell_chosen(
+    page: &mut Page,
+    module: &Module,
+    platform: &PlatformDoc,
+    infs: &Rows<Shared<InfDoc>>,
+) -> Result<(), Stop> {
+    let alloc = page.alloc();
+    let choice = chosen(alloc, module, platform, infs)?;
+    tell_choice(page, &copied(alloc, &choice)?);
     Ok(())
 }
 
@@ -61,17 +94,14 @@ fn tell_rounds(
 ) -> Result<(), Stop> {
     let alloc = page.alloc();
     let mut infs = Rows::new(alloc);
-    infs.push(Shared::new(alloc, module_of(alloc, files, &module.inf)?)?)?;
+    add_inf(alloc, files, &mut infs, &module.inf)?;
     for _ in 0..2000 {
         if !is_known(&infs, &module.inf) {
             return Ok(());
         }
         let wanted = next_wanted(alloc, module, platform, &infs)?;
         if wanted.items().is_empty() {
-            let mut book = Book::new(alloc);
-            let choice = choose(alloc, book.grant(())?, module, platform, &infs)?;
-            tell_choice(page, &copied(alloc, &choice)?);
-            return Ok(());
+            return tell_chosen(page, module, platform, &infs);
         }
         tell_round(page, wanted.items());
         add_infs(alloc, files, &mut infs, wanted.items())?;
@@ -85,8 +115,7 @@ pub(crate) fn call_choose(page: &mut Page, files: &[Output], words: &str) -> Res
     let alloc = page.alloc();
     let (arch, rest) = first_word(words);
     let (root, inf) = first_word(rest);
-    let arch = arch_of(arch)?;
-    let inf = path_of(alloc, inf)?;
-    let platform = platform_of(alloc, files, &path_of(alloc, root)?)?;
-    tell_rounds(page, files, &Module { arch, inf }, &platform)
+    let module = module_named(alloc, arch, inf)?;
+    let platform = platform_at(alloc, files, root)?;
+    tell_rounds(page, files, &module, &platform)
 }

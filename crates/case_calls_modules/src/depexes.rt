@@ -5,13 +5,14 @@
 //! for a section.
 
 use crate::words::{guid_of, other_form, text_of_word, texts_of, type_of};
-use build_base::{Book, Path, Place, Rows, Same};
-use case_calls_documents::{module_of, package_of};
-use case_calls_texts::{copied, path_of, place_of};
-use case_player::{Output, Page, Stop, file_of, first_word, text_of};
+use build_base::{Book, Path, Place, Rows, Same, Text};
+use case_calls_documents::{module_at, package_of};
+use case_calls_texts::{copied, place_of};
+use case_player::{Output, Page, Stop, Wrong, file_of, first_word, text_of};
 use depex_code::{compile, compiled_reads_back, read_back};
 use doc_types::arch::Arch;
 use doc_types::depex::{Depex, DepexGroup, DepexPart, NamedGuid};
+use doc_types::module::InfDoc;
 use doc_types::module_type::ModuleType;
 use std::alloc::Global;
 
@@ -59,14 +60,33 @@ fn part(alloc: Global, at: Place, words: &str) -> Result<DepexPart, Stop> {
     })
 }
 
+fn add_guid(
+    alloc: Global,
+    guids: &mut Rows<NamedGuid>,
+    at: Place,
+    words: &str,
+) -> Result<(), Stop> {
+    guids.push(named(alloc, at, words)?)?;
+    Ok(())
+}
+
+fn add_part(
+    alloc: Global,
+    parts: &mut Rows<DepexPart>,
+    at: Place,
+    words: &str,
+) -> Result<(), Stop> {
+    parts.push(part(alloc, at, words)?)?;
+    Ok(())
+}
+
 fn add_to_group(alloc: Global, group: &mut DepexGroup, at: Place, line: &str) -> Result<(), Stop> {
     let (word, rest) = first_word(line);
     match word {
-        "guid" => group.guids.push(named(alloc, at, rest)?)?,
-        "depex" => group.parts.push(part(alloc, at, rest)?)?,
-        _ => return Err(other_form()),
+        "guid" => add_guid(alloc, &mut group.guids, at, rest),
+        "depex" => add_part(alloc, &mut group.parts, at, rest),
+        _ => Err(other_form()),
     }
-    Ok(())
 }
 
 fn empty_group(alloc: Global) -> DepexGroup {
@@ -76,30 +96,60 @@ fn empty_group(alloc: Global) -> DepexGroup {
     }
 }
 
-fn groups_of(alloc: Global, path: &str, text: &str) -> Result<Rows<DepexGroup>, Stop> {
-    let mut groups = Rows::new(alloc);
-    let mut group = empty_group(alloc);
+fn begin_group(alloc: Global, groups: &mut Vec<DepexGroup>) -> Result<(), Wrong> {
+    groups.push(empty_group(alloc))?;
+    Ok(())
+}
+
+fn add_to_last(
+    alloc: Global,
+    groups: &mut [DepexGroup],
+    at: Place,
+    line: &str,
+) -> Result<(), Stop> {
+    match groups.last_mut() {
+        Some(group) => add_to_group(alloc, group, at, line),
+        None => Err(other_form()),
+    }
+}
+
+// The lines of a text, each with its number, in groups.
+fn add_lines(
+    alloc: Global,
+    groups: &mut Vec<DepexGroup>,
+    path: &str,
+    text: &str,
+) -> Result<(), Stop> {
     let mut number: u64 = 0;
     for line in text.lines() {
         number = number.saturating_add(1);
         if line != "inf" {
             let at = place_of(alloc, path, number)?;
-            add_to_group(alloc, &mut group, at, line)?;
+            add_to_last(alloc, groups.as_mut_slice(), at, line)?;
         } else if number > 1 {
-            groups.push(group)?;
-            group = empty_group(alloc);
+            begin_group(alloc, groups)?;
         }
     }
-    groups.push(group)?;
-    Ok(groups)
+    Ok(())
+}
+
+fn groups_of(alloc: Global, path: &str, text: &str) -> Result<Rows<DepexGroup>, Stop> {
+    let mut groups = Vec::new(alloc);
+    begin_group(alloc, &mut groups)?;
+    add_lines(alloc, &mut groups, path, text)?;
+    Ok(Rows::from_vec(groups))
+}
+
+fn code_of(alloc: Global, found: ModuleType, groups: &Rows<DepexGroup>) -> Result<Text, Stop> {
+    let mut book: Book<u8> = Book::new(alloc);
+    Ok(compile(alloc, book.grant(1)?, found, groups)?)
 }
 
 fn tell_code(page: &mut Page, found: ModuleType, groups: &Rows<DepexGroup>) -> Result<(), Stop> {
     let alloc = page.alloc();
     let groups = copied(alloc, groups)?;
     compiled_reads_back(found, &groups);
-    let mut book: Book<u8> = Book::new(alloc);
-    let code = compile(alloc, book.grant(1)?, found, &groups)?;
+    let code = code_of(alloc, found, &groups)?;
     page.file(b"code", code.bytes());
     Ok(())
 }
@@ -114,6 +164,17 @@ pub(crate) fn call_compile(page: &mut Page, files: &[Output], words: &str) -> Re
     tell_code(page, found, &groups)
 }
 
+fn add_copies(
+    alloc: Global,
+    names: &mut Rows<NamedGuid>,
+    declared: &[NamedGuid],
+) -> Result<(), Stop> {
+    for row in declared {
+        names.push(row.copy(alloc)?)?;
+    }
+    Ok(())
+}
+
 // The names that a package declares, behind those of the packages above.
 fn add_names(
     alloc: Global,
@@ -121,11 +182,28 @@ fn add_names(
     names: &mut Rows<NamedGuid>,
     path: &[u8],
 ) -> Result<(), Stop> {
-    let package = package_of(alloc, files, &Path::new(alloc, path)?)?;
-    for row in package.guids.items() {
-        names.push(row.copy(alloc)?)?;
+    let path = Path::new(alloc, path)?;
+    let package = package_of(alloc, files, &path)?;
+    add_copies(alloc, names, package.guids.items())
+}
+
+fn group_of(alloc: Global, files: &[Output], module: &InfDoc) -> Result<DepexGroup, Stop> {
+    let mut group = empty_group(alloc);
+    for package in module.packages.items() {
+        add_names(alloc, files, &mut group.guids, package.name.bytes())?;
     }
-    Ok(())
+    group.parts = module.depex.copy(alloc)?;
+    Ok(group)
+}
+
+fn groups_of_module(
+    alloc: Global,
+    files: &[Output],
+    module: &InfDoc,
+) -> Result<Rows<DepexGroup>, Stop> {
+    let mut groups = Rows::new(alloc);
+    groups.push(group_of(alloc, files, module)?)?;
+    Ok(groups)
 }
 
 /// The bytes of a module's dependency expression, with the names of its packages.
@@ -135,13 +213,7 @@ pub(crate) fn call_compile_module(
     root: &str,
 ) -> Result<(), Stop> {
     let alloc = page.alloc();
-    let module = module_of(alloc, files, &path_of(alloc, root)?)?;
-    let mut group = empty_group(alloc);
-    for package in module.packages.items() {
-        add_names(alloc, files, &mut group.guids, package.name.bytes())?;
-    }
-    group.parts = module.depex.copy(alloc)?;
-    let mut groups = Rows::new(alloc);
-    groups.push(group)?;
+    let module = module_at(alloc, files, root)?;
+    let groups = groups_of_module(alloc, files, &module)?;
     tell_code(page, module.module_type, &groups)
 }

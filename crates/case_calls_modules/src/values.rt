@@ -5,10 +5,10 @@ ghost use Rattle.pcd_resolve.specs.Platform.{SkusEnd};
 use crate::asking::ask_of;
 use crate::parsing::value;
 use build_base::together::three;
-use build_base::{Book, Refusal, Rows, Same, WantOfMemory};
+use build_base::{Book, Rows, Same, WantOfMemory};
 use case_calls_documents::rows::pcd;
 use case_calls_texts::copied;
-use case_player::{Output, Page, Stop, Wrong};
+use case_player::{Output, Page, Stop};
 use doc_types::asks::{ModuleAsk, PlatformAsk};
 use doc_types::parts::ModuleParts;
 use doc_types::values::{PcdRow, Values};
@@ -37,6 +37,14 @@ fn tell_values(page: &mut Page, values: &Values) -> Result<(), Stop> {
     Ok(())
 }
 
+/// The values of a platform's dynamic PCDs.
+pub fn values_of(alloc: Global, ask: &PlatformAsk) -> Result<Values, Stop>
+    requires { SkusEnd ask.now.platform.skus }
+{
+    let mut book = Book::new(alloc);
+    Ok(resolve_platform(alloc, book.grant(())?, ask)?)
+}
+
 /// The rows of a platform's dynamic PCDs, or the first fault.
 pub(crate) fn call_resolve_platform(
     page: &mut Page,
@@ -45,8 +53,7 @@ pub(crate) fn call_resolve_platform(
 ) -> Result<(), Stop> {
     let alloc = page.alloc();
     let ask = ask_of(alloc, files, path)?;
-    let mut book = Book::new(alloc);
-    let values = resolve_platform(alloc, book.grant(())?, &ask)?;
+    let values = values_of(alloc, &ask)?;
     tell_values(page, &copied(alloc, &values)?)
 }
 
@@ -54,14 +61,18 @@ pub(crate) fn call_resolve_platform(
 fn dynamic_of(alloc: Global, ask: &PlatformAsk) -> Result<Values, Stop>
     requires { SkusEnd ask.now.platform.skus }
 {
-    let mut book = Book::new(alloc);
-    match resolve_platform(alloc, book.grant(())?, ask) {
-        Ok(values) => Ok(values),
-        Err(Refusal::Bad(_fault)) => Ok(Values {
+    match values_of(alloc, ask) {
+        Err(Stop::Bad(_fault)) => Ok(Values {
             rows: Rows::new(alloc),
         }),
-        Err(Refusal::WantOfMemory) => Err(Stop::Wrong(Wrong::WantOfMemory)),
+        values => values,
     }
+}
+
+fn shared_dynamic(alloc: Global, ask: &PlatformAsk) -> Result<Shared<Values>, Stop>
+    requires { SkusEnd ask.now.platform.skus }
+{
+    Ok(Shared::new(alloc, dynamic_of(alloc, ask)?)?)
 }
 
 fn asked_of(
@@ -92,16 +103,19 @@ fn module_ask(
     Ok(asked_of(alloc, ask, parts, dynamic)?)
 }
 
-fn tell_values_of(page: &mut Page, ask: &ModuleAsk) -> Result<(), Stop> {
-    let alloc = page.alloc();
+fn module_values(alloc: Global, ask: &ModuleAsk) -> Result<Values, Stop> {
     let mut book = Book::new(alloc);
-    match resolve_module(alloc, book.grant(())?, ask) {
+    Ok(resolve_module(alloc, book.grant(())?, ask)?)
+}
+
+fn tell_values_of(page: &mut Page, ask: &ModuleAsk) -> Result<(), Stop> {
+    match module_values(page.alloc(), ask) {
         Ok(values) => tell_values(page, &values),
-        Err(Refusal::Bad(fault)) => {
+        Err(Stop::Bad(fault)) => {
             page.fault(&fault);
             Ok(())
         }
-        Err(Refusal::WantOfMemory) => Err(Stop::Wrong(Wrong::WantOfMemory)),
+        Err(stop) => Err(stop),
     }
 }
 
@@ -129,6 +143,6 @@ pub(crate) fn call_resolve_module(
 ) -> Result<(), Stop> {
     let alloc = page.alloc();
     let ask = ask_of(alloc, files, path)?;
-    let dynamic = Shared::new(alloc, dynamic_of(alloc, &ask)?)?;
+    let dynamic = shared_dynamic(alloc, &ask)?;
     tell_modules(page, &ask, &dynamic)
 }

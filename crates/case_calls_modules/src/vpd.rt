@@ -1,6 +1,7 @@
 //! The image of vital product data.
 
 use crate::asking::ask_of;
+use crate::values::values_of;
 use build_base::{Book, Same, WantOfMemory};
 use case_calls_documents::rows::pcd;
 use case_calls_texts::copied;
@@ -8,14 +9,13 @@ use case_player::{Output, Page, Stop};
 use doc_types::asks::PlatformAsk;
 use doc_types::values::Values;
 use doc_types::vpd::{Vpd, VpdPlace};
-use pcd_resolve::resolve_platform;
 use shared_value::Shared;
 use std::alloc::Global;
 use vpd_image::{VpdAsk, vpd_of};
 
 fn asked(alloc: Global, ask: &PlatformAsk, values: Values) -> Result<VpdAsk, WantOfMemory> {
-    let platform = ask.platform.copy(alloc)?;
     let values = Shared::new(alloc, values)?;
+    let platform = ask.platform.copy(alloc)?;
     let arches = ask.arches.copy(alloc)?;
     Ok(VpdAsk {
         platform,
@@ -41,9 +41,13 @@ fn tell_vpd(page: &mut Page, vpd: &Vpd) {
     page.file(b"VPD.map", vpd.map.bytes());
 }
 
-fn made(alloc: Global, ask: &VpdAsk) -> Result<Vpd, Stop> {
+fn laid_out(alloc: Global, ask: &VpdAsk) -> Result<Vpd, Stop> {
     let mut book = Book::new(alloc);
-    let vpd = vpd_of(alloc, book.grant(())?, ask)?;
+    Ok(vpd_of(alloc, book.grant(())?, ask)?)
+}
+
+fn made(alloc: Global, ask: &VpdAsk) -> Result<Vpd, Stop> {
+    let vpd = laid_out(alloc, ask)?;
     copied(alloc, &vpd)
 }
 
@@ -52,8 +56,7 @@ fn made(alloc: Global, ask: &VpdAsk) -> Result<Vpd, Stop> {
 pub(crate) fn call_vpd(page: &mut Page, files: &[Output], path: &str) -> Result<(), Stop> {
     let alloc = page.alloc();
     let ask = ask_of(alloc, files, path)?;
-    let mut book = Book::new(alloc);
-    let values = resolve_platform(alloc, book.grant(())?, &ask)?;
+    let values = values_of(alloc, &ask)?;
     let ask = asked(alloc, &ask, values)?;
     tell_vpd(page, &made(alloc, &ask)?);
     Ok(())

@@ -1,8 +1,10 @@
 //! The words of the files that tell what is asked.
 
 use build_base::{Guid, Rows, Text};
+use case_calls_texts::path_of;
 use case_player::{Stop, Wrong};
 use doc_types::arch::{Arch, arch_named};
+use doc_types::choice::Module;
 use doc_types::module_type::{ModuleType, module_type_named};
 use doc_types::pcd::{Datum, PcdName, datum_named, pcd_name_of};
 use meta_lexer::number;
@@ -52,6 +54,13 @@ pub fn pcd_of(alloc: Global, word: &str) -> Result<PcdName, Stop> {
 
 pub(crate) fn text_of_word(alloc: Global, word: &str) -> Result<Text, Stop> {
     Ok(Text::of(alloc, word.as_bytes())?)
+}
+
+/// The module of this architecture and INF file.
+pub fn module_named(alloc: Global, arch: &str, inf: &str) -> Result<Module, Stop> {
+    let arch = arch_of(arch)?;
+    let inf = path_of(alloc, inf)?;
+    Ok(Module { arch, inf })
 }
 
 /// The words of a line.

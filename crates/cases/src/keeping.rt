@@ -5,22 +5,42 @@ use crate::building::build_with;
 use build_base::memory_sink::SinkFail;
 use build_base::{Rows, Text};
 use cache_keepers::{KeeperFail, Left, MemoryKeeper};
-use case_player::{Objects, Output, Told, Wrong, first_word, text_of};
+use case_player::{Objects, Output, Page, Told, Wrong, first_word, text_of};
 use std::alloc::Global;
 use std::thread::Threads;
 
 /// The most bytes of a text that is kept.
 const ROOM: u64 = 0x40_0000;
 
-// The files, what is kept, and what fails in the next run.
-#[derive(Drop)]
+// The files, what is kept, what fails in the next run, and what came of the last one.
 struct Scene {
     alloc: Global,
     files: Vec<Output>,
     kept: Option<Vec<u8>>,
     objects: Objects,
     fails: Vec<KeeperFail>,
+    last: Told,
+}
+
+// A written `Drop` is one call for whoever lets the value go. A derived one is spelled out there.
+impl Drop for Scene {
+    fn drop(self) {
+        let Scene {
+            alloc: _alloc,
+            files: _files,
+            kept: _kept,
+            objects: _objects,
+            fails: _fails,
+            last: _last,
+        } = self;
+    }
+}
+
+// What came of a run, and what is kept then.
+#[derive(Drop)]
+struct Ran {
     told: Told,
+    left: Option<Vec<u8>>,
 }
 
 fn number(text: &str) -> Result<u64, Wrong> {
@@ -47,11 +67,8 @@ fn keeper_of(
         Some(bytes) => Some(Text::of(alloc, bytes)?),
         None => None,
     };
-    let mut planned = Rows::new(alloc);
-    for fail in fails {
-        planned.push(*fail)?;
-    }
-    Ok(MemoryKeeper::new(alloc, text, ROOM, planned)?)
+    let fails = Vec::from_slice(alloc, fails)?;
+    Ok(MemoryKeeper::new(alloc, text, ROOM, Rows::from_vec(fails))?)
 }
 
 fn copied(alloc: Global, bytes: Option<&[u8]>) -> Result<Option<Vec<u8>>, Wrong> {
@@ -61,6 +78,14 @@ fn copied(alloc: Global, bytes: Option<&[u8]>) -> Result<Option<Vec<u8>>, Wrong>
     }
 }
 
+fn copied_files(alloc: Global, files: &[Output]) -> Result<Vec<Output>, Wrong> {
+    let mut copies = Vec::new(alloc);
+    for file in files {
+        copies.push(Output::new(alloc, file.path.as_slice(), file.bytes.as_slice())?)?;
+    }
+    Ok(copies)
+}
+
 fn bytes_in(kept: &Option<Vec<u8>>) -> Option<&[u8]> {
     match kept {
         Some(bytes) => Some(bytes.as_slice()),
@@ -68,116 +93,130 @@ fn bytes_in(kept: &Option<Vec<u8>>) -> Option<&[u8]> {
     }
 }
 
-// How what is kept is told: a text longer than the head of one isn't counted.
-fn kept_word(alloc: Global, before: Option<&[u8]>, now: Option<&[u8]>) -> Result<String, Wrong> {
-    if before == now {
-        return Ok(String::from_str(alloc, "as before")?);
-    }
-    match now {
-        None => Ok(String::from_str(alloc, "nothing")?),
-        Some(bytes) => {
-            let count = bytes.len();
-            if count < 36 {
-                return Ok(format!(in alloc; "{count} bytes")?);
-            }
-            Ok(String::from_str(alloc, "another text")?)
-        }
-    }
+// A run by this keeper.
+fn run_with<H: AllocGlobal + Threads + Sync>(
+    rt: &H,
+    scene: &Scene,
+    words: &str,
+    keeper: &mut MemoryKeeper,
+) -> Result<Ran, Wrong> {
+    let told = build_with(rt, scene.files.as_slice(), &scene.objects, words, keeper)?;
+    let left = copied(scene.alloc, keeper.kept())?;
+    Ok(Ran { told, left })
 }
 
-// A run from what is kept, and what is kept then.
+// A run from what is kept.
 fn run_once<H: AllocGlobal + Threads + Sync>(
     rt: &H,
     scene: &Scene,
     kept: Option<&[u8]>,
     words: &str,
-) -> Result<(Told, Option<Vec<u8>>), Wrong> {
-    let alloc = scene.alloc;
-    let mut keeper = keeper_of(alloc, kept, scene.fails.as_slice())?;
-    let told = build_with(
-        rt,
-        scene.files.as_slice(),
-        &scene.objects,
-        words,
-        &mut keeper,
-    )?;
-    let left = copied(alloc, keeper.kept())?;
-    Ok((told, left))
+) -> Result<Ran, Wrong> {
+    let mut keeper = keeper_of(scene.alloc, kept, scene.fails.as_slice())?;
+    run_with(rt, scene, words, &mut keeper)
+}
+
+// What is kept: a text longer than the head of one isn't counted.
+fn tell_kept(page: &mut Page, now: Option<&[u8]>) {
+    match now {
+        None => page.word(b"nothing"),
+        Some(bytes) => {
+            if bytes.len() < 36 {
+                page.number(bytes.len() as u64);
+                page.word(b"bytes");
+            } else {
+                page.word(b"another text");
+            }
+        }
+    }
 }
 
 // What was written to a stream, and a line feed where it has none.
-fn add_stream(out: &mut Vec<u8>, text: &[u8]) -> Result<(), Wrong> {
-    out.extend_from_slice(text)?;
+fn tell_stream(page: &mut Page, text: &[u8]) {
+    page.put(text);
     match text.last() {
         None | Some(b'\n') => {}
-        Some(_) => out.push(b'\n')?,
+        Some(_) => page.end(),
     }
-    Ok(())
 }
 
-fn add_line(out: &mut Vec<u8>, told: &Told, word: &str, alloc: Global) -> Result<(), Wrong> {
-    let status = told.status;
-    let head = format!(in alloc; "status {status}, kept {word}\n")?;
-    out.extend_from_slice(head.as_bytes())?;
-    add_stream(out, told.out.as_slice())?;
-    add_stream(out, told.err.as_slice())
+// What came of a run, before which this was kept.
+fn tell_run(page: &mut Page, before: Option<&[u8]>, ran: &Ran) {
+    let now = bytes_in(&ran.left);
+    page.put(b"status");
+    page.number(ran.told.status);
+    page.put(b", kept");
+    if before == now {
+        page.word(b"as before");
+    } else {
+        tell_kept(page, now);
+    }
+    page.end();
+    tell_stream(page, ran.told.out.as_slice());
+    tell_stream(page, ran.told.err.as_slice());
 }
 
 fn run_next<H: AllocGlobal + Threads + Sync>(
     rt: &H,
     scene: &mut Scene,
+    page: &mut Page,
     words: &str,
 ) -> Result<(), Wrong> {
-    let alloc = scene.alloc;
-    let (told, left) = run_once(rt, scene, bytes_in(&scene.kept), words)?;
-    let word = kept_word(alloc, bytes_in(&scene.kept), bytes_in(&left))?;
-    add_line(&mut scene.told.out, &told, word.as_str(), alloc)?;
-    scene.told.steps = told.steps;
-    scene.told.files = told.into_files();
+    let ran = run_once(rt, scene, bytes_in(&scene.kept), words)?;
+    tell_run(page, bytes_in(&scene.kept), &ran);
+    let Ran { told, left } = ran;
+    scene.last = told;
     scene.kept = left;
-    scene.objects = Objects::new(alloc);
+    scene.objects = Objects::new(scene.alloc);
     scene.fails.clear();
     Ok(())
+}
+
+// What a run from these bytes tells, where all of them are kept.
+fn run_cut<H: AllocGlobal + Threads + Sync>(
+    rt: &H,
+    scene: &Scene,
+    front: &[u8],
+    words: &str,
+) -> Result<Told, Wrong> {
+    let ran = run_once(rt, scene, Some(front), words)?;
+    let mut page = Page::new(scene.alloc);
+    tell_run(&mut page, bytes_in(&scene.kept), &ran);
+    page.told(Ok(()))
 }
 
 // A run from each strict prefix of what is kept: what differs from the run before is told.
 fn run_cuts<H: AllocGlobal + Threads + Sync>(
     rt: &H,
-    scene: &mut Scene,
+    scene: &Scene,
+    page: &mut Page,
     words: &str,
 ) -> Result<(), Wrong> {
-    let alloc = scene.alloc;
-    let Some(whole) = copied(alloc, bytes_in(&scene.kept))? else {
-        return Err(Wrong::Line("nothing is kept"));
+    let whole = match bytes_in(&scene.kept) {
+        Some(whole) => whole,
+        None => return Err(Wrong::Line("nothing is kept")),
     };
-    let mut last = Vec::new(alloc);
+    let mut last = Told::new(scene.alloc);
     for count in 0..whole.len() {
-        let Some(front) = whole.as_slice().get(..count) else {
-            break;
-        };
-        let (told, left) = run_once(rt, scene, Some(front), words)?;
-        let word = kept_word(alloc, Some(whole.as_slice()), bytes_in(&left))?;
-        let mut line = Vec::new(alloc);
-        add_line(&mut line, &told, word.as_str(), alloc)?;
-        if line.as_slice() != last.as_slice() {
-            scene.told.out.extend_from_slice(line.as_slice())?;
-            last = line;
+        let front = whole.get(..count).unwrap_or(whole);
+        let told = run_cut(rt, scene, front, words)?;
+        if told.out.as_slice() != last.out.as_slice() {
+            page.put(told.out.as_slice());
+            last = told;
         }
     }
     Ok(())
 }
 
 fn copy_file(scene: &mut Scene, rest: &str) -> Result<(), Wrong> {
-    let alloc = scene.alloc;
     let (from, to) = first_word(rest);
     let to = to.trim_ascii();
-    let bytes = Vec::from_slice(alloc, text_of(scene.files.as_slice(), from)?.as_bytes())?;
+    let text = text_of(scene.files.as_slice(), from)?;
+    let copy = Output::new(scene.alloc, to.as_bytes(), text.as_bytes())?;
     scene
         .files
         .retain(|file| file.path.as_slice() != to.as_bytes());
-    scene
-        .files
-        .push(Output::new(alloc, to.as_bytes(), bytes.as_slice())?)?;
+    scene.files.push(copy)?;
     Ok(())
 }
 
@@ -199,36 +238,70 @@ fn plan(scene: &mut Scene, word: &str, rest: &str) -> Result<(), Wrong> {
     let call = number(first)?;
     match word {
         "read" => scene.objects.failing_reads.push(call)?,
-        "write" => scene.objects.failing_writes.push(SinkFail {
-            call,
-            kept: number(second)?,
-        })?,
-        _ => scene.fails.push(KeeperFail {
-            call,
-            left: left_of(second.trim_ascii())?,
-        })?,
+        "write" => {
+            let kept = number(second)?;
+            scene.objects.failing_writes.push(SinkFail { call, kept })?;
+        }
+        _ => {
+            let left = left_of(second.trim_ascii())?;
+            scene.fails.push(KeeperFail { call, left })?;
+        }
     }
+    Ok(())
+}
+
+fn keep_text(scene: &mut Scene, text: &str) -> Result<(), Wrong> {
+    scene.kept = Some(Vec::from_slice(scene.alloc, text.as_bytes())?);
     Ok(())
 }
 
 fn follow<H: AllocGlobal + Threads + Sync>(
     rt: &H,
     scene: &mut Scene,
+    page: &mut Page,
     line: &str,
 ) -> Result<(), Wrong> {
     let (word, rest) = first_word(line);
     match word {
-        "run" => run_next(rt, scene, rest),
-        "cuts" => run_cuts(rt, scene, rest),
+        "run" => run_next(rt, scene, page, rest),
+        "cuts" => run_cuts(rt, scene, page, rest),
         "copy" => copy_file(scene, rest),
-        "text" => {
-            scene.kept = Some(Vec::from_slice(scene.alloc, rest.as_bytes())?);
-            Ok(())
-        }
+        "text" => keep_text(scene, rest),
         "edition" => set_edition(scene, rest),
         "read" | "write" | "keeper" => plan(scene, word, rest),
         _ => Err(Wrong::Line("this is no line of runs")),
     }
+}
+
+fn scene_of(alloc: Global, files: &[Output]) -> Result<Scene, Wrong> {
+    Ok(Scene {
+        alloc,
+        files: copied_files(alloc, files)?,
+        kept: None,
+        objects: Objects::new(alloc),
+        fails: Vec::new(alloc),
+        last: Told::new(alloc),
+    })
+}
+
+fn follow_all<H: AllocGlobal + Threads + Sync>(
+    rt: &H,
+    scene: &mut Scene,
+    page: &mut Page,
+    text: &str,
+) -> Result<(), Wrong> {
+    for line in text.lines() {
+        follow(rt, scene, page, line)?;
+    }
+    Ok(())
+}
+
+// What was told, with the steps and the files of the last run.
+fn told_of(page: Page, scene: &mut Scene) -> Result<Told, Wrong> {
+    let mut told = page.told(Ok(()))?;
+    told.steps = scene.last.steps;
+    told.files = std::mem::replace(&mut scene.last.files, Vec::new(scene.alloc));
+    Ok(told)
 }
 
 /// What comes of the runs of a file of the case, the last of which tells its files.
@@ -238,19 +311,11 @@ pub fn runs<H: AllocGlobal + Threads + Sync>(
     path: &str,
 ) -> Result<Told, Wrong> {
     let alloc = rt.alloc();
-    let mut scene = Scene {
-        alloc,
-        files: Vec::new(alloc),
-        kept: None,
-        objects: Objects::new(alloc),
-        fails: Vec::new(alloc),
-        told: Told::new(alloc),
-    };
-    for file in files {
-        scene.files.push(Output::new(alloc, file.path.as_slice(), file.bytes.as_slice())?)?;
+    let text = text_of(files, path)?;
+    let mut scene = scene_of(alloc, files)?;
+    let mut page = Page::new(alloc);
+    match follow_all(rt, &mut scene, &mut page, text) {
+        Ok(()) => told_of(page, &mut scene),
+        Err(wrong) => Err(wrong),
     }
-    for line in text_of(files, path)?.lines() {
-        follow(rt, &mut scene, line)?;
-    }
-    Ok(scene.told)
 }

@@ -65,31 +65,44 @@ fn is_summary(seen: Option<Seen<'_>>, summary: &[u8]) -> bool {
     }
 }
 
-// Builds three modules with two workers behind this gate. Whether all steps ran, and the summary
-// says so.
-fn builds_all<H: Threads + Sync, G: Gate>(rt: &H, alloc: Global, gate: &G) -> Result<bool, Fail> {
-    let mut tree = SureTree::new(alloc, selftest_files(alloc, 3)?);
+// Builds over these objects behind this gate. Whether all steps ran, and the summary says so.
+fn all_ran<H: Threads + Sync, G: Gate>(
+    rt: &H,
+    alloc: Global,
+    gate: &G,
+    words: &[String],
+    tree: &mut SureTree,
+    sink: &mut SureSink,
+    keeper: &mut SureKeeper,
+) -> bool {
+    let mut book = Book::new(alloc);
+    let status = run(rt, alloc, words, tree, sink, keeper, gate, &mut book);
+    let last = sink.emissions().saturating_sub(1);
+    let told = is_summary(sink.emission(last), b"25 steps, 0 reused\n");
+    status == Status::Done && book.ran().len() == 25 && told
+}
+
+fn builds_tree<H: Threads + Sync, G: Gate>(
+    rt: &H,
+    alloc: Global,
+    gate: &G,
+    words: &[String],
+    tree: &mut SureTree,
+) -> Result<bool, Fail> {
     let room = Room {
         calls: 64,
         bytes: 0x10_0000,
     };
     let mut sink = SureSink::new(alloc, room)?;
     let mut keeper = SureKeeper::new(alloc, None, 0)?;
-    let mut book = Book::new(alloc);
+    Ok(all_ran(rt, alloc, gate, words, tree, &mut sink, &mut keeper))
+}
+
+// Builds three modules with two workers.
+fn builds_all<H: Threads + Sync, G: Gate>(rt: &H, alloc: Global, gate: &G) -> Result<bool, Fail> {
     let words = words_of(alloc)?;
-    let status = run(
-        rt,
-        alloc,
-        words.as_slice(),
-        &mut tree,
-        &mut sink,
-        &mut keeper,
-        gate,
-        &mut book,
-    );
-    let last = sink.emissions().saturating_sub(1);
-    let told = is_summary(sink.emission(last), b"25 steps, 0 reused\n");
-    Ok(status == Status::Done && book.ran().len() == 25 && told)
+    let mut tree = SureTree::new(alloc, selftest_files(alloc, 3)?);
+    builds_tree(rt, alloc, gate, words.as_slice(), &mut tree)
 }
 
 #[test]
