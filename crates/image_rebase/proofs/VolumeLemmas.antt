@@ -22,7 +22,7 @@ use Rattle.fv_compose.specs.Turns.{next_end}
 use Rattle.fv_compose.specs.Volume.{taken_by, last_end, length_for, length_of, twice_fault, place_fault, with_length, volume_image, volume_of}
 use Rattle.fv_compose.specs.Places.{placed_at, placed_from, places_in, places_with, places_of}
 use Rattle.image_rebase.specs.Files.{moved_bytes, with_file_bytes, moved_file, moved_files, has_checksum, has_sections, file_head, file_body}
-use Rattle.image_rebase.specs.Rebase.{base_of, moved_volume, rebased_image}
+use Rattle.image_rebase.specs.Rebase.{base_of, moved_volume, rebased_bytes}
 use Rattle.image_rebase.specs.Changes.{is_in, sections_change, file_changes, files_change, volume_changes, Stays, StaysBut}
 use Rattle.image_rebase.proofs.SameLemmas.{SameAt, either, through}
 use Rattle.image_rebase.proofs.BodyLemmas.{fronted, with_true, in_yes, same_file}
@@ -356,8 +356,8 @@ stays_with head files moved starts size image o p m v =
     subst (StaysBut head files image) (sym p.plain) s
 
 -- what `rebase_volume` gives is the volume of the files as they are, but for the bytes that may change
-pub stays_but : (head : VolumeHead) (files : List FileImage) (image : List ℕ) → rebased_image head files ≡ Ok image → StaysBut head files image (volume_of head files)
-unfolding rebased_image moved_volume
+pub stays_but : (head : VolumeHead) (files : List FileImage) (image : List ℕ) → rebased_bytes head files ≡ Ok image → StaysBut head files image (volume_of head files)
+unfolding rebased_bytes moved_volume
 stays_but head files image e =
     through (places_of head files) (moved_volume head files) image e
     (λ starts o b.

@@ -24,5 +24,5 @@ moved_volume head files places =
 
 -- The volume whose files are moved, in the places that they have in the volume of the files as they
 -- are; or the fault of that volume, or the first of a module.
-unfoldable pub rebased_image : VolumeHead → List FileImage → Result (List ℕ) Fault
-rebased_image head files = and_then (places_of head files) (moved_volume head files)
+unfoldable pub rebased_bytes : VolumeHead → List FileImage → Result (List ℕ) Fault
+rebased_bytes head files = and_then (places_of head files) (moved_volume head files)

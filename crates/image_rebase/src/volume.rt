@@ -5,7 +5,7 @@ ghost use Rattle.build_base.specs.Runs.{runs_bytes};
 ghost use Rattle.fv_compose.specs.Files.{AreAligned, AreRunsOf};
 ghost use Rattle.fv_compose.specs.Volume.{HasShape, volume_of};
 ghost use Rattle.image_rebase.specs.Changes.{StaysBut};
-ghost use Rattle.image_rebase.specs.Rebase.{IsBased, base_of, moved_volume, rebased_image};
+ghost use Rattle.image_rebase.specs.Rebase.{IsBased, base_of, moved_volume, rebased_bytes};
 
 use crate::files::move_files;
 use build_base::{Permit, Refusal, Rows, Run};
@@ -51,7 +51,7 @@ fn move_volume(
 }
 
 // The volume of files each of which is moved at its place.
-#[tactic(auto, unfolding(crate::specs::Rebase::rebased_image))]
+#[tactic(auto, unfolding(crate::specs::Rebase::rebased_bytes))]
 fn rebased_runs(
     alloc: Global,
     permit: Permit,
@@ -60,7 +60,7 @@ fn rebased_runs(
 ) -> Result<Rows<Run>, Refusal>
     requires shape { HasShape head.now }
     requires aligned { AreAligned files.now }
-    ensures value { AnswersAs runs_bytes result (rebased_image head.now files.now) }
+    ensures value { AnswersAs runs_bytes result (rebased_bytes head.now files.now) }
     ensures runs { IfOk result (AreRunsOf files.now) }
 {
     match file_places(alloc, head, files) {
@@ -84,7 +84,7 @@ pub fn rebase_volume(
     requires shape { HasShape head.now }
     requires based { IsBased head.now }
     requires aligned { AreAligned files.now }
-    ensures value { AnswersAs runs_bytes result (rebased_image head.now files.now) }
+    ensures value { AnswersAs runs_bytes result (rebased_bytes head.now files.now) }
     ensures runs { IfOk result (AreRunsOf files.now) }
     ensures stays { IfOk result
         (λ runs. StaysBut head.now files.now (runs_bytes runs) (volume_of head.now files.now)) }

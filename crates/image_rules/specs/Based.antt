@@ -7,7 +7,7 @@ use Rattle.build_base.specs.declared.fault.Fault.{Fault}
 use Rattle.build_stages.specs.Stages.{impossible_answer}
 use Rattle.doc_types.specs.declared.image.FileImage.{FileImage}
 use Rattle.doc_types.specs.declared.volume_head.VolumeHead.{VolumeHead}
-use Rattle.image_rebase.specs.Rebase.{rebased}
+use Rattle.image_rebase.specs.Rebase.{rebased_bytes}
 use Rattle.image_steps.specs.Asks.{is_based}
 use Rattle.image_steps.specs.Volumes.{head_fits, is_stated, images_from, volume_given}
 use Rattle.step_engine.specs.declared.talk.Answer.{Answer}
@@ -16,7 +16,8 @@ use Rattle.std.specs.Prelude.{ℕ}
 
 -- what can be made of files of their shape alone
 unfoldable pub rebased_image : VolumeHead → List FileImage → Result (List ℕ) Fault
-rebased_image head files = if head_fits head && list_all is_stated files then rebased head files
+rebased_image head files =
+    if head_fits head && list_all is_stated files then rebased_bytes head files
     else Err impossible_answer
 
 -- the volume of a head, whose files the answers are, moved to its base where it is to be

@@ -4,7 +4,7 @@ ghost use Rattle.build_base.specs.Answer.{AnswersAs};
 ghost use Rattle.build_stages.specs.Gives.{GivesIn};
 ghost use Rattle.fv_compose.specs.Files.{AreAligned};
 ghost use Rattle.fv_compose.specs.Volume.{HasShape};
-ghost use Rattle.image_rebase.specs.Rebase.{IsBased, rebased};
+ghost use Rattle.image_rebase.specs.Rebase.{IsBased, rebased_bytes};
 ghost use Rattle.image_steps.specs.Asks.{is_based};
 ghost use Rattle.image_rules.specs.Based.{rebased_image, based_given};
 
@@ -27,7 +27,7 @@ fn image(
     requires shape { HasShape head.now }
     requires based { IsBased head.now }
     requires aligned { AreAligned files.now }
-    ensures { AnswersAs (λ image. image) result (rebased head.now files.now) }
+    ensures { AnswersAs (λ image. image) result (rebased_bytes head.now files.now) }
 {
     match rebase_volume(alloc, permit, head, files) {
         Ok(runs) => Ok(Image::of_runs(runs)),

@@ -7,7 +7,7 @@ use Rattle.te_images.specs.declared.te.TeHead.{TeHead}
 use Rattle.te_images.specs.Pe.{number_at, e_lfanew, optional_header, is_pe32_plus, image_base}
 use Rattle.te_images.specs.Te.{te_of}
 use Rattle.image_rebase.specs.declared.module.Module.{Module}
-use Rattle.image_rebase.specs.Module.{relocated, pe_fields, pe_with, pe_module, stripped_size, is_no_te, te_fields, te_module, module_in}
+use Rattle.image_rebase.specs.Module.{with_relocations, pe_fields, pe_with, pe_module, stripped_size, is_no_te, te_fields, te_module, module_in}
 use Rattle.image_rebase.specs.Moves.{moved_content}
 use Rattle.image_rebase.specs.Changes.{base_width}
 use Rattle.volume_laws.specs.MovedBytes.{IsMovedModule, IsMovedWith, IsMovedContent, KeepsFields}
@@ -75,7 +75,7 @@ pe_base_moved place base address content moved s k e =
     ∙ pe_with_base place address content moved (module_in 0x10 content) (λ m f. pe_module_found content m f) s c.module_is
 
 -- the fields of a TE image that is moved
-te_found : (no : Bool) (content : List ℕ) (m : Module) → (if no then None else relocated (te_fields content)) ≡ Some m → te_fields content ≡ m
+te_found : (no : Bool) (content : List ℕ) (m : Module) → (if no then None else with_relocations (te_fields content)) ≡ Some m → te_fields content ≡ m
 te_found true content m e = absurd cc
 te_found false content m e = relocated_is (te_fields content) m e
 

@@ -11,7 +11,7 @@ use Rattle.volume_reader.specs.declared.listed.ListedSection.{ListedSection}
 use Rattle.volume_reader.specs.Sections.{sections_of}
 use Rattle.volume_reader.specs.Written.{Made, IsMade, made_sections}
 use Rattle.volume_reader.proofs.MadeLemmas.{Built, built_of, plan_bits}
-use Rattle.image_rebase.specs.Files.{resummed, with_body, file_head, file_body, moved_from, with_found, moved_sections, has_sections, moved_bytes, with_file_bytes, moved_file}
+use Rattle.image_rebase.specs.Files.{resummed_head, with_body, file_head, file_body, moved_from, with_found, moved_sections, has_sections, moved_bytes, with_file_bytes, moved_file}
 use Rattle.image_rebase.proofs.SameLemmas.{SameAt, through}
 use Rattle.image_rebase.proofs.BodyLemmas.{same_file}
 use Rattle.image_rebase.specs.Changes.{file_changes}
@@ -103,7 +103,7 @@ found_parts plan body place base address (Some sections) bytes n e l k =
     (λ moved a b.
     let s : with_body (file_head old) moved ≡ bytes = cc in
     let t : file_head old ≡ front = ap (λ h. take h old) (was.head ∙ sym was.front) ∙ take-append_seam front body in
-    let r : resummed (file_head old) moved ≡ front_by plan (plan_step plan) (length body) moved = ap (λ z. resummed z moved) t ∙ resummed_is plan (length body) body moved n in
+    let r : resummed_head (file_head old) moved ≡ front_by plan (plan_step plan) (length body) moved = ap (λ z. resummed_head z moved) t ∙ resummed_is plan (length body) body moved n in
     let whole : front_by plan (plan_step plan) (length body) moved ++ moved ≡ bytes = sym (ap (λ z. z ++ moved) r) ∙ s in
     let now : Shape plan (length body) moved = shape_of plan (length body) moved n in
     let size : length (front_by plan (plan_step plan) (length body) moved ++ moved) ≡ length old = ap length whole ∙ l in

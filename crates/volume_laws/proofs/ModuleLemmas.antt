@@ -12,7 +12,7 @@ use Rattle.te_images.specs.Pe.{optional_header, is_pe32_plus, size_of_optional_h
 use Rattle.te_images.specs.Te.{te_checks, te_head_of, te_of}
 use Rattle.image_rebase.specs.declared.module.Module.{Module}
 use Rattle.image_rebase.specs.declared.blocks.Block.{Block}
-use Rattle.image_rebase.specs.Module.{relocated, pe_fields, pe_with, pe_module, is_no_te, te_fields, te_module, module_in}
+use Rattle.image_rebase.specs.Module.{with_relocations, pe_fields, pe_with, pe_module, is_no_te, te_fields, te_module, module_in}
 use Rattle.image_rebase.specs.Blocks.{directory_in}
 use Rattle.image_rebase.specs.Moves.{sum_at, difference, with_base, moved_entries, moved_blocks, moved_words, blocks_fault, moved_by_blocks, module_blocks, moved_to, new_base, out_of_range, range_fault, moved_in_range, misplaced, moved_module, moved_with, moved_content}
 use Rattle.image_rebase.specs.Changes.{is_in, names, block_names, base_width}
@@ -58,7 +58,7 @@ base_end : (plus : Bool) → offset_by plus + width_by plus ≡ 0x20
 base_end true = refl
 base_end false = refl
 
-pub relocated_is : (found m : Module) → relocated found ≡ Some m → found ≡ m
+pub relocated_is : (found m : Module) → with_relocations found ≡ Some m → found ≡ m
 relocated_is found m e = elim (found.size == 0) as (λ b. (if b then None else Some found) ≡ Some m → found ≡ m) [ true ↦ λ o. absurd cc | false ↦ λ o. cc ] e
 
 pe_based : (content : List ℕ) (head : Result TeHead PeFault) (m : Module) → te_of content ≡ head → pe_with content head ≡ Some m → HasBase content m
@@ -72,7 +72,7 @@ pe_based content (Ok head) m h e =
     let l : optional_header content + offset_by (is_pe32_plus content) + width_by (is_pe32_plus content) ≤ length content = omega arith in
     subst (HasBase content) (relocated_is (pe_fields content head) m e) l
 
-te_based : (no : Bool) (content : List ℕ) (m : Module) → is_no_te content ≡ no → (if no then None else relocated (te_fields content)) ≡ Some m → HasBase content m
+te_based : (no : Bool) (content : List ℕ) (m : Module) → is_no_te content ≡ no → (if no then None else with_relocations (te_fields content)) ≡ Some m → HasBase content m
 unfolding is_no_te te_fields
 te_based true content m n e = absurd cc
 te_based false content m n e =
@@ -82,10 +82,10 @@ te_based false content m n e =
 module_based : (kind : ℕ) (content : List ℕ) (m : Module) → module_in kind content ≡ Some m → HasBase content m
 unfolding module_in pe_module te_module
 module_based kind content m e =
-    elim (kind == 0x10) as (λ b. (if b then pe_with content (te_of content) else if kind == 0x12 then (if is_no_te content then None else relocated (te_fields content)) else None) ≡ Some m → HasBase content m) [
+    elim (kind == 0x10) as (λ b. (if b then pe_with content (te_of content) else if kind == 0x12 then (if is_no_te content then None else with_relocations (te_fields content)) else None) ≡ Some m → HasBase content m) [
       | true ↦ λ o. pe_based content (te_of content) m refl o
       | false ↦ λ o.
-          elim (kind == 0x12) as (λ b. (if b then (if is_no_te content then None else relocated (te_fields content)) else None) ≡ Some m → HasBase content m) [
+          elim (kind == 0x12) as (λ b. (if b then (if is_no_te content then None else with_relocations (te_fields content)) else None) ≡ Some m → HasBase content m) [
             | true ↦ λ q. te_based (is_no_te content) content m refl q
             | false ↦ λ q. absurd cc
           ] o

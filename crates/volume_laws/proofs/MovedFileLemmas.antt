@@ -11,7 +11,7 @@ use Rattle.ffs_sections.specs.File.{header_len}
 use Rattle.volume_reader.specs.declared.listed.ListedSection.{ListedSection}
 use Rattle.volume_reader.specs.Sections.{sections_of}
 use Rattle.image_rebase.specs.Moves.{moved_content}
-use Rattle.image_rebase.specs.Files.{has_module, content_length, content_in, moved_from, has_checksum, resummed, with_body, file_head, file_body, with_found, moved_sections, has_sections, moved_bytes, with_file_bytes, moved_file}
+use Rattle.image_rebase.specs.Files.{has_module, content_length, content_in, moved_from, has_checksum, resummed_head, with_body, file_head, file_body, with_found, moved_sections, has_sections, moved_bytes, with_file_bytes, moved_file}
 use Rattle.image_rebase.proofs.SameLemmas.{through, same_content}
 use Rattle.image_rebase.proofs.BodyLemmas.{reached, Ordered, ordered_sections, ordered_end, fronted, same_file}
 use Rattle.volume_laws.specs.MovedBytes.{IsMovedIn, IsMovedBody, IsMovedFile}
@@ -92,12 +92,12 @@ stands_from place base address body at (section ∷ sections) left o e =
 
 -- Its checksum is that of its body.
 
-sum_long : (head body : List ℕ) → length (resummed head body) ≡ length head
-unfolding resummed
+sum_long : (head body : List ℕ) → length (resummed_head head body) ≡ length head
+unfolding resummed_head
 sum_long head body = elim (has_checksum head) as (λ b. length (if b then slice_set head 0x11 (zero_byte body) else head) ≡ length head) [ true ↦ length-set head 0x11 (zero_byte body) | false ↦ refl ]
 
-sum_read : (head body : List ℕ) → has_checksum head ≡ true → 17 < length head → get_or (resummed head body) 17 0 ≡ zero_byte body
-unfolding resummed
+sum_read : (head body : List ℕ) → has_checksum head ≡ true → 17 < length head → get_or (resummed_head head body) 17 0 ≡ zero_byte body
+unfolding resummed_head
 sum_read head body c h = ap (λ b. get_or (if b then slice_set head 0x11 (zero_byte body) else head) 17 0) c ∙ get_or-set_same head 17 (zero_byte body) 0 h
 
 body_with : (place : Place) (base address : ℕ) (sections : List ListedSection) (bytes body moved : List ℕ) → header_len bytes ≤ length bytes → Ordered (length (file_body bytes)) 0 sections
@@ -105,7 +105,7 @@ body_with : (place : Place) (base address : ℕ) (sections : List ListedSection)
     → IsMovedBody place address sections bytes moved
 body_with place base address sections bytes body moved h o n e w =
     let head : List ℕ = file_head bytes in
-    let sum : List ℕ = resummed head body in
+    let sum : List ℕ = resummed_head head body in
     let lh : length head ≡ header_len bytes = length-take-le (header_len bytes) bytes h in
     let ls : length sum ≡ header_len bytes = sum_long head body ∙ lh in
     let long : 24 ≤ header_len bytes = head_long bytes in

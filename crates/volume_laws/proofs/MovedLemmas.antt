@@ -14,7 +14,7 @@ use Rattle.volume_reader.specs.Volume.{volume_list}
 use Rattle.volume_reader.specs.Written.{Made, files_of, IsMade, IsWritten, written_list}
 use Rattle.volume_reader.proofs.WrittenLemmas.{written_head, written_found, written_listed}
 use Rattle.image_rebase.specs.Files.{moved_file, moved_files}
-use Rattle.image_rebase.specs.Rebase.{base_of, moved_volume, rebased}
+use Rattle.image_rebase.specs.Rebase.{base_of, moved_volume, rebased_bytes}
 use Rattle.image_rebase.proofs.SameLemmas.{through}
 use Rattle.image_rebase.proofs.BodyLemmas.{fronted}
 use Rattle.image_rebase.specs.Changes.{Stays, StaysBut}
@@ -83,9 +83,9 @@ written_by head made files image b m v = record {
   image = ap (volume_of head) m.files_are ∙ v;
 }
 
-moved_written : {P : Type 0} (head : VolumeHead) (made : List Made) (image : List ℕ) → AreBuilt head made → rebased head (files_of made) ≡ Ok image
+moved_written : {P : Type 0} (head : VolumeHead) (made : List Made) (image : List ℕ) → AreBuilt head made → rebased_bytes head (files_of made) ≡ Ok image
     → ((now : List Made) → IsWritten head now image → AreLike head.ffs3 made now → P) → P
-unfolding rebased moved_volume
+unfolding rebased_bytes moved_volume
 moved_written head made image b e k =
     through (places_of head (files_of made)) (moved_volume head (files_of made)) image e
     (λ starts o p.
@@ -105,7 +105,7 @@ alike_of list other e = record {
   free = ap (λ l. l.free) e;
 }
 
-pub moved_read : (head : VolumeHead) (made : List Made) (image : List ℕ) → AreBuilt head made → rebased head (files_of made) ≡ Ok image → IsReadAlike head made image
+pub moved_read : (head : VolumeHead) (made : List Made) (image : List ℕ) → AreBuilt head made → rebased_bytes head (files_of made) ≡ Ok image → IsReadAlike head made image
 moved_read head made image b e =
     moved_written head made image b e
     (λ now w l. record {
@@ -116,7 +116,7 @@ moved_read head made image b e =
       alike = alike_of (written_list head now (length image)) (written_list head made (length image)) (like_list head made now (length image) l);
     })
 
-listed_as : (head : VolumeHead) (made : List Made) (image : List ℕ) → AreBuilt head made → rebased head (files_of made) ≡ Ok image → volume_list image ≡ Ok (written_list head made (length image))
+listed_as : (head : VolumeHead) (made : List Made) (image : List ℕ) → AreBuilt head made → rebased_bytes head (files_of made) ≡ Ok image → volume_list image ≡ Ok (written_list head made (length image))
 listed_as head made image b e =
     moved_written head made image b e (λ now w l. written_listed head now image w ∙ ap (λ z. Ok z) (like_list head made now (length image) l))
 
@@ -124,7 +124,7 @@ listed_as head made image b e =
 plain_written : (head : VolumeHead) (made : List Made) (plain : List ℕ) → AreBuilt head made → volume_of head (files_of made) ≡ Ok plain → IsWritten head made plain
 plain_written head made plain b v = record { shape = b.shape; attributes = b.attributes; erased = b.erased; name = b.name; files = b.files; image = v }
 
-pub moved_listed : (head : VolumeHead) (made : List Made) (image plain : List ℕ) → AreBuilt head made → rebased head (files_of made) ≡ Ok image → volume_of head (files_of made) ≡ Ok plain
+pub moved_listed : (head : VolumeHead) (made : List Made) (image plain : List ℕ) → AreBuilt head made → rebased_bytes head (files_of made) ≡ Ok image → volume_of head (files_of made) ≡ Ok plain
     → volume_list image ≡ volume_list plain
 moved_listed head made image plain b e v =
     let stays : Stays head (files_of made) plain image = subst (StaysBut head (files_of made) image) v (stays_but head (files_of made) image e) in

@@ -9,7 +9,7 @@ use Rattle.fv_compose.specs.Turns.{next_end}
 use Rattle.fv_compose.specs.Volume.{volume_of}
 use Rattle.fv_compose.specs.Places.{placed_at, placed_from, places_of}
 use Rattle.image_rebase.specs.Files.{moved_file, moved_files}
-use Rattle.image_rebase.specs.Rebase.{base_of, moved_volume, rebased}
+use Rattle.image_rebase.specs.Rebase.{base_of, moved_volume, rebased_bytes}
 use Rattle.image_rebase.proofs.SameLemmas.{through}
 use Rattle.image_rebase.proofs.BodyLemmas.{fronted}
 use Rattle.volume_laws.specs.MovedBytes.{AreMovedFiles, IsMovedVolume}
@@ -29,8 +29,8 @@ files_moved ffs3 base size at (file ∷ files) moved e =
     fronted (one ∷ []) rest moved b
     (λ more c j. subst (AreMovedFiles ffs3 base (file ∷ files) (start ∷ starts)) j (file_moved ffs3 base start file one a, files_moved ffs3 base size (next_end at file) files more c)))
 
-pub volume_moved : (head : VolumeHead) (files : List FileImage) (image : List ℕ) → rebased head files ≡ Ok image → IsMovedVolume head files image
-unfolding rebased moved_volume
+pub volume_moved : (head : VolumeHead) (files : List FileImage) (image : List ℕ) → rebased_bytes head files ≡ Ok image → IsMovedVolume head files image
+unfolding rebased_bytes moved_volume
 volume_moved head files image e =
     through (places_of head files) (moved_volume head files) image e
     (λ starts o b.

@@ -14,7 +14,7 @@ use Rattle.ffs_sections.specs.File.{short_fields, long_fields, file_head as head
 use Rattle.volume_reader.specs.Files.{file_attributes}
 use Rattle.volume_reader.proofs.FieldLemmas.{sixteen, sixteen_of, Fields, fields_of}
 use Rattle.volume_reader.proofs.MadeLemmas.{Bits, plan_bits, step_small}
-use Rattle.image_rebase.specs.Files.{has_checksum, resummed}
+use Rattle.image_rebase.specs.Files.{has_checksum, resummed_head}
 
 -- The alignment that a header states by a step is one, and its step is that.
 
@@ -133,8 +133,8 @@ resum_by true f large name head body moved n e =
 resum_by false f large name head body moved n e = e
 
 pub resummed_is : (plan : ImagePlan) (count : ℕ) (body moved : List ℕ) → length plan.guid.0 ≡ 16
-    → resummed (front_by plan (plan_step plan) count body) moved ≡ front_by plan (plan_step plan) count moved
-unfolding resummed
+    → resummed_head (front_by plan (plan_step plan) count body) moved ≡ front_by plan (plan_step plan) count moved
+unfolding resummed_head
 resummed_is plan count body moved n =
     let large : Bool = is_large_file plan.ffs3 count in
     let head : Head = head_by plan (plan_step plan) count body in

@@ -14,7 +14,7 @@ ghost use Rattle.te_images.specs.Pe.{image_base};
 ghost use Rattle.image_rebase.specs.Files.{moved_file};
 ghost use Rattle.image_rebase.specs.Module.{module_in, stripped_size};
 ghost use Rattle.image_rebase.specs.Moves.{moved_content};
-ghost use Rattle.image_rebase.specs.Rebase.{rebased};
+ghost use Rattle.image_rebase.specs.Rebase.{rebased_bytes};
 ghost use Rattle.image_rebase.specs.Standard.{EFI_SECTION_PE32, EFI_SECTION_TE, EFI_TE_IMAGE_HEADER_SIZE};
 ghost use Rattle.volume_laws.specs.Holds.{Holds, IsWrong};
 ghost use Rattle.volume_laws.specs.Moved.{AreBuilt, IsReadAlike};
@@ -26,7 +26,7 @@ ghost use Rattle.volume_laws.specs.MovedBytes.{IsMovedContent, IsMovedFile, IsMo
 /// the pad files between them, in the same order and places, with their names, types and sizes.
 pub fn moved_is_read()
     ensures { (head : VolumeHead) (made : List Made) (image : List ℕ) → AreBuilt head made
-        → rebased head (files_of made) ≡ Ok image → IsReadAlike head made image }
+        → rebased_bytes head (files_of made) ≡ Ok image → IsReadAlike head made image }
 {}
 
 /// What is read of a volume whose modules are moved is what is read of the volume of its files as
@@ -34,7 +34,7 @@ pub fn moved_is_read()
 /// how many bytes are free.
 pub fn moved_is_read_as_it_was()
     ensures { (head : VolumeHead) (made : List Made) (image plain : List ℕ) → AreBuilt head made
-        → rebased head (files_of made) ≡ Ok image → volume_of head (files_of made) ≡ Ok plain
+        → rebased_bytes head (files_of made) ≡ Ok image → volume_of head (files_of made) ≡ Ok plain
         → volume_list image ≡ volume_list plain }
 {}
 
@@ -81,7 +81,7 @@ pub fn content_is_moved()
 /// stands in the volume of the files as they are.
 pub fn volume_is_moved()
     ensures { (head : VolumeHead) (files : List FileImage) (image : List ℕ)
-        → rebased head files ≡ Ok image
+        → rebased_bytes head files ≡ Ok image
         → IsMovedVolume head files image }
 {}
 
