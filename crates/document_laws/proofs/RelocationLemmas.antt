@@ -6,7 +6,7 @@ use Rattle.build_base.specs.First.{with_front}
 use Rattle.build_base.specs.declared.fault.Fault.{Fault}
 use Rattle.build_base.specs.declared.fault.Place.{Place}
 use Rattle.build_base.specs.FaultCodes.{RELOC_BLOCK}
-use Rattle.ffs_sections.specs.Sections.{size_fault}
+use Rattle.ffs_sections.specs.Sections.{fault_with_size}
 use Rattle.image_rebase.specs.Blocks.{block_size, is_end, is_wrong_size, block_at, blocks_from, blocks_of, words_of, entry_bytes, entries_in}
 use Rattle.image_rebase.specs.declared.blocks.Block.{Block}
 use Rattle.document_laws.specs.RelocationBlocks.{HasNoBlock, IsBlock, AreBlocks, AreWords}
@@ -48,7 +48,7 @@ sizes size count e =
 -- what one turn of the walk comes to
 turn : ℕ → Place → ℕ → List ℕ → Bool → Bool → Result (List Block) Fault
 turn n place at left stop wrong =
-    if stop then Ok [] else if wrong then Err (size_fault RELOC_BLOCK place at)
+    if stop then Ok [] else if wrong then Err (fault_with_size RELOC_BLOCK place at)
     else with_front (block_at at left ∷ []) (blocks_from n place (at + block_size left) (drop (block_size left) left))
 
 only_blocks : (blocks : List Block) (n : ℕ) (place : Place) (at : ℕ) (bytes : List ℕ) → length bytes < n → AreBlocks at bytes blocks → blocks_from n place at bytes ≡ Ok blocks

@@ -40,7 +40,7 @@ use Rattle.edk_build.specs.Building.{means, IsBrought, IsBuilt, IsCutShort, IsOw
 use Rattle.edk_build.specs.Emitting.{emitted, outputs_of, status_of, summary}
 use Rattle.edk_build.specs.FilePair.{FilePair}
 use Rattle.edk_build.specs.Kept.{HasText, IsOfText, IsSoundKept, OfKept, StandsFor, StaysSound}
-use Rattle.edk_build.specs.KeptBuild.{Told, told, AsMade, Makes, WroteAll, HasBuilt, HasFailed, HasEnded, HasStopped, Comes}
+use Rattle.edk_build.specs.KeptBuild.{Told, told, AsMade, Makes, WroteAll, HasBuilt, EndsAtFailure, HasEnded, HasStopped, Comes}
 use Rattle.edk_build.specs.Outcome.{outcome, files_by}
 use Rattle.edk_build.specs.Run.{IsComplete, plain, world_of}
 use Rattle.edk_build.specs.Statuses.{OnEnd, OnReadFault, OnUsage, OnWriteFault}
@@ -102,7 +102,7 @@ spells_cut [] [] es s = s
 spells_cut [] (y ∷ ys) es s = inl s
 spells_cut (x ∷ xs) ys es s = inr (inr (s.0, s.1, s.2, s.3, spells_cut xs ys s.1 s.4))
 
-failed_cut : (outputs : List Output) (line stored : List ℕ) (old new : Told) → HasFailed outputs line stored old new
+failed_cut : (outputs : List Output) (line stored : List ℕ) (old new : Told) → EndsAtFailure outputs line stored old new
     → SpelledCut old.written new.written (outputs ++ text ToOut line ∷ [])
 failed_cut outputs line stored old new (inl f) =
     (f.written.0, SpellsCut-more outputs (text ToOut line ∷ []) f.written.0 f.written.1, f.written.2)
@@ -129,7 +129,7 @@ comes w cache left given steps reused outputs line stored m b = record {
 }
 
 stopped : (held : Option Files) (job : Job) (cache left : List (Entry Key Out)) (given : Outcome Out) (steps reused : ℕ) (old new : Told)
-    → AsMade given left steps reused (λ outputs line stored. HasFailed outputs line stored old new)
+    → AsMade given left steps reused (λ outputs line stored. EndsAtFailure outputs line stored old new)
     → (AreSound means cache → AreSound means left) → IfSome held (λ files. AreSound means cache → IsBrought (world_of files job) cache given left steps reused)
     → HasStopped held job cache old new
 stopped held job cache left given steps reused old new m sound b = record {
@@ -154,7 +154,7 @@ stopped held job cache left given steps reused old new m sound b = record {
 }
 
 pub stopped_by : (r : Result Status Stop) (held : Option Files) (job : Job) (cache left : List (Entry Key Out)) (given : Outcome Out) (steps reused : ℕ) (old new : Told)
-    → IfWriteFault r (AsMade given left steps reused (λ outputs line stored. HasFailed outputs line stored old new))
+    → IfWriteFault r (AsMade given left steps reused (λ outputs line stored. EndsAtFailure outputs line stored old new))
     → (AreSound means cache → AreSound means left) → IfSome held (λ files. AreSound means cache → IsBrought (world_of files job) cache given left steps reused)
     → IfWriteFault r (HasStopped held job cache old new)
 stopped_by (Ok s) held job cache left given steps reused old new m sound b = tt
@@ -312,7 +312,7 @@ left_sound (Some before) (Some now) cache left stored stands t s (was, is, inr (
     subst IsSoundKept (sym p.3) (sound_prefix left p.0 p.1 (subst (λ z. IsCacheText left z) p.2 t) (s (b cache stands)))
 
 failed_sound : (old new : Told) (cache left : List (Entry Key Out)) (outputs : List Output) (line stored : List ℕ) → IfSome old.kept (λ kept. StandsFor kept cache) → IsCacheText left stored
-    → (AreSound means cache → AreSound means left) → HasFailed outputs line stored old new → StaysSound old.kept new.kept
+    → (AreSound means cache → AreSound means left) → EndsAtFailure outputs line stored old new → StaysSound old.kept new.kept
 failed_sound old new cache left outputs line stored stands t s (inl f) = same_sound old.kept new.kept f.kept
 failed_sound old new cache left outputs line stored stands t s (inr (inl f)) = left_sound old.kept new.kept cache left stored stands t s f.kept
 failed_sound old new cache left outputs line stored stands t s (inr (inr f)) =

@@ -77,8 +77,8 @@ pub record FailedBehind (outputs : List Output) (line stored : List ℕ) (old ne
   pub keeper : new.keeper ≡ old.keeper
 
 -- the first call that failed was the last
-abbrev pub HasFailed : List Output → List ℕ → List ℕ → Told → Told → Type 0
-HasFailed outputs line stored old new =
+abbrev pub EndsAtFailure : List Output → List ℕ → List ℕ → Told → Told → Type 0
+EndsAtFailure outputs line stored old new =
     FailedBefore outputs old new ⊎ FailedAtStore outputs stored old new
     ⊎ FailedBehind outputs line stored old new
 
@@ -130,7 +130,7 @@ pub record HasStopped (held : Option Files) (job : Job) (cache : List (Entry Key
   pub left : List (Entry Key Out)
   pub stored : List ℕ
   pub stored_is : IsCacheText left stored
-  pub failed : HasFailed outputs line stored old new
+  pub failed : EndsAtFailure outputs line stored old new
   pub sound : AreSound means cache → AreSound means left
   pub comes : IfSome held (λ files. AreSound means cache
       → Comes (world_of files job) cache outputs line left)

@@ -10,7 +10,7 @@ ghost use Rattle.step_pack.specs.declared.key.Key.TheVariants.{All};
 ghost use Rattle.edk_build.specs.Building.{means, result_status};
 ghost use Rattle.edk_build.specs.Kept.{HasText, IsKept, IsSoundKept, StandsFor, StaysSound};
 ghost use Rattle.edk_build.specs.Run.{IsComplete, world_of};
-ghost use Rattle.edk_build.specs.KeptBuild.{AsMade, HasBuilt, HasEnded, HasFailed, HasStopped, RanWanted, WroteAll, told};
+ghost use Rattle.edk_build.specs.KeptBuild.{AsMade, HasBuilt, HasEnded, EndsAtFailure, HasStopped, RanWanted, WroteAll, told};
 ghost use Rattle.edk_build.specs.Made.{made_outputs};
 ghost use Rattle.edk_build.specs.Statuses.{OnEnd, OnReadFault};
 ghost use Rattle.edk_build.specs.Stops.{IfReadFault, IfUnwritten, IfWriteFault};
@@ -103,7 +103,7 @@ fn write_kept<S: Sink, K: Keeper>(
         (told (S.written sink.old) (K.kept keeper.old) (S.faults sink.old) (K.faults keeper.old))
         (told (S.written sink.new) (K.kept keeper.new) (S.faults sink.new) (K.faults keeper.new))) }
     ensures failed { IfWriteFault result
-        (HasFailed (made_outputs ready.now.made) ready.now.summary text.now
+        (EndsAtFailure (made_outputs ready.now.made) ready.now.summary text.now
         (told (S.written sink.old) (K.kept keeper.old) (S.faults sink.old) (K.faults keeper.old))
         (told (S.written sink.new) (K.kept keeper.new) (S.faults sink.new) (K.faults keeper.new))) }
     ensures sink_count { OnOk result (S.faults sink.new ≡ S.faults sink.old) }
@@ -136,7 +136,7 @@ fn write_again<S: Sink, K: Keeper>(
         (told (S.written to.old) (K.kept keeper.now) (S.faults to.old) (K.faults keeper.now))
         (told (S.written to.new) (K.kept keeper.now) (S.faults to.new) (K.faults keeper.now))) }
     ensures failed { (text : List ℕ) → IsKept (K.kept keeper.now) text
-        → IfWriteFault result (HasFailed (made_outputs ready.now.made) ready.now.summary text
+        → IfWriteFault result (EndsAtFailure (made_outputs ready.now.made) ready.now.summary text
         (told (S.written to.old) (K.kept keeper.now) (S.faults to.old) (K.faults keeper.now))
         (told (S.written to.new) (K.kept keeper.now) (S.faults to.new) (K.faults keeper.now))) }
     ensures sink_count { OnOk result (S.faults to.new ≡ S.faults to.old) }
@@ -168,7 +168,7 @@ fn emit_stored<S: Sink, K: Keeper>(
         (K.faults keeper.new)))) }
     ensures failed { IfWriteFault result
         (AsMade brought.now.given brought.now.cache brought.now.steps brought.now.reused
-        (λ outputs line stored. HasFailed outputs line stored
+        (λ outputs line stored. EndsAtFailure outputs line stored
         (told (S.written sink.old) (K.kept keeper.old) (S.faults sink.old) (K.faults keeper.old))
         (told (S.written sink.new) (K.kept keeper.new) (S.faults sink.new)
         (K.faults keeper.new)))) }
@@ -222,7 +222,7 @@ fn emit_again<S: Sink, K: Keeper>(
         (K.faults keeper.now)))) }
     ensures failed { IfWriteFault result
         (AsMade brought.now.given brought.now.cache brought.now.steps brought.now.reused
-        (λ outputs line stored. HasFailed outputs line stored
+        (λ outputs line stored. EndsAtFailure outputs line stored
         (told (S.written sink.old) (K.kept keeper.now) (S.faults sink.old) (K.faults keeper.now))
         (told (S.written sink.new) (K.kept keeper.now) (S.faults sink.new)
         (K.faults keeper.now)))) }
@@ -270,7 +270,7 @@ fn emit_kept<S: Sink, K: Keeper>(
         (K.faults keeper.new)))) }
     ensures failed { IfWriteFault result
         (AsMade brought.now.given brought.now.cache brought.now.steps brought.now.reused
-        (λ outputs line stored. HasFailed outputs line stored
+        (λ outputs line stored. EndsAtFailure outputs line stored
         (told (S.written sink.old) (K.kept keeper.old) (S.faults sink.old) (K.faults keeper.old))
         (told (S.written sink.new) (K.kept keeper.new) (S.faults sink.new)
         (K.faults keeper.new)))) }

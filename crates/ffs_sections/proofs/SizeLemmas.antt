@@ -19,7 +19,7 @@ use Rattle.doc_types.specs.declared.image.ImagePlan.{ImagePlan}
 use Rattle.doc_types.specs.declared.image.FileImage.{FileImage}
 use Rattle.doc_types.specs.Standard.{EFI_SECTION_RAW}
 use Rattle.ffs_sections.specs.Alignment.{is_section_alignment, is_pad, pad_of}
-use Rattle.ffs_sections.specs.Sections.{guid_bytes, is_large, content_at, section_size, section_head, section_bytes, up4, part_pad, pad_section, with_part, part_fault, with_parts, size_fault}
+use Rattle.ffs_sections.specs.Sections.{guid_bytes, is_large, content_at, section_size, section_head, section_bytes, up4, part_pad, pad_section, with_part, part_fault, with_parts, fault_with_size}
 use Rattle.ffs_sections.specs.File.{file_head, file_size, file_limit, file_bytes, file_sized, image_of, is_large_file, plan_head, body_of, file_of}
 use Rattle.ffs_sections.specs.Sizes.{part_end, parts_end, body_length, size_checked, file_length, IsFileLength}
 use Rattle.build_base.specs.FaultCodes.{ALIGNMENT_REFUSED, IMAGE_FILE_TOO_LONG}
@@ -145,9 +145,9 @@ pub sizes_same : (plan : ImagePlan) → length plan.guid.0 ≡ 16 → IsFileLeng
 unfolding file_of file_length
 sizes_same plan n =
     let each : (b : List ℕ) → and_then (file_sized plan b) (λ x. Ok (length x.bytes)) ≡ size_checked plan (length b) =
-    λ b. length_picked (nat_lt (file_limit plan.ffs3) (file_size plan.ffs3 (length b))) (size_fault IMAGE_FILE_TOO_LONG plan.at (file_size plan.ffs3 (length b))) (image_of plan b)
+    λ b. length_picked (nat_lt (file_limit plan.ffs3) (file_size plan.ffs3 (length b))) (fault_with_size IMAGE_FILE_TOO_LONG plan.at (file_size plan.ffs3 (length b))) (image_of plan b)
     (file_size plan.ffs3 (length b)) (length_file plan b n) in
-    aligned_same (is_section_alignment plan.align) (size_fault ALIGNMENT_REFUSED plan.at plan.align) (and_then (body_of plan plan.body) (file_sized plan)) (and_then (body_length plan plan.body) (size_checked plan))
+    aligned_same (is_section_alignment plan.align) (fault_with_size ALIGNMENT_REFUSED plan.at plan.align) (and_then (body_of plan plan.body) (file_sized plan)) (and_then (body_length plan plan.body) (size_checked plan))
     (joined_same (body_of plan plan.body) (file_sized plan) (body_length plan plan.body) (size_checked plan) (body_same plan plan.body) each)
 
 -- a fault of the size is that of the file
@@ -174,12 +174,12 @@ unfolding file_length
 fits_of plan body h e =
     let m : body_length plan plan.body ≡ Ok (length body) = sym (body_same plan plan.body) ∙ ap (λ z. and_then z (λ y. Ok (length y))) e in
     let size : ℕ = file_size plan.ffs3 (length body) in
-    fits_by (is_section_alignment plan.align) (too_long plan body) (size_fault IMAGE_FILE_TOO_LONG plan.at size) (size_fault ALIGNMENT_REFUSED plan.at plan.align) size
-    (sym (ap (λ (z : Result ℕ Fault). is_ok (if is_section_alignment plan.align then and_then z (size_checked plan) else Err (size_fault ALIGNMENT_REFUSED plan.at plan.align))) m) ∙ h)
+    fits_by (is_section_alignment plan.align) (too_long plan body) (fault_with_size IMAGE_FILE_TOO_LONG plan.at size) (fault_with_size ALIGNMENT_REFUSED plan.at plan.align) size
+    (sym (ap (λ (z : Result ℕ Fault). is_ok (if is_section_alignment plan.align then and_then z (size_checked plan) else Err (fault_with_size ALIGNMENT_REFUSED plan.at plan.align))) m) ∙ h)
 
 known_of : (plan : ImagePlan) → is_ok (file_length plan) ≡ true → is_section_alignment plan.align ≡ true
 unfolding file_length
-known_of plan h = known_by (is_section_alignment plan.align) (and_then (body_length plan plan.body) (size_checked plan)) (size_fault ALIGNMENT_REFUSED plan.at plan.align) h
+known_of plan h = known_by (is_section_alignment plan.align) (and_then (body_length plan plan.body) (size_checked plan)) (fault_with_size ALIGNMENT_REFUSED plan.at plan.align) h
 
 made_of : (plan : ImagePlan) (body : List ℕ) → is_ok (file_length plan) ≡ true → body_of plan plan.body ≡ Ok body → file_of plan ≡ Ok (image_of plan body)
 unfolding file_of

@@ -12,7 +12,7 @@ use Rattle.doc_types.specs.declared.image.FileImage.{FileImage}
 use Rattle.ffs_sections.specs.declared.header.Head.{Head}
 use Rattle.ffs_sections.specs.Sums.{zero_byte, summed}
 use Rattle.ffs_sections.specs.Alignment.{is_section_alignment, alignments, IsAlignment, alignment_index, step_bits}
-use Rattle.ffs_sections.specs.Sections.{with_parts, size_fault}
+use Rattle.ffs_sections.specs.Sections.{with_parts, fault_with_size}
 use Rattle.ffs_sections.specs.Standard.{FFS_ATTRIB_LARGE_FILE, FFS_ATTRIB_FIXED, FFS_ATTRIB_CHECKSUM, FFS_FIXED_CHECKSUM, FILE_STATE, FILE_LIMIT, FFS3_LIMIT}
 use Rattle.build_base.specs.FaultCodes.{ALIGNMENT_REFUSED, IMAGE_FILE_TOO_LONG}
 
@@ -99,20 +99,20 @@ image_of plan body =
 abbrev pub size_fault : ImagePlan → ℕ → Option Fault
 size_fault plan count =
     let size = file_size plan.ffs3 count in
-    if nat_lt (file_limit plan.ffs3) size then Some (size_fault IMAGE_FILE_TOO_LONG plan.at size)
+    if nat_lt (file_limit plan.ffs3) size then Some (fault_with_size IMAGE_FILE_TOO_LONG plan.at size)
     else None
 
 -- a file that is too long for its file system is a fault
 abbrev pub file_sized : ImagePlan → List ℕ → Result FileImage Fault
 file_sized plan body =
     let size = file_size plan.ffs3 (length body) in
-    if nat_lt (file_limit plan.ffs3) size then Err (size_fault IMAGE_FILE_TOO_LONG plan.at size)
+    if nat_lt (file_limit plan.ffs3) size then Err (fault_with_size IMAGE_FILE_TOO_LONG plan.at size)
     else Ok (image_of plan body)
 
 unfoldable pub file_of : ImagePlan → Result FileImage Fault
 file_of plan =
     if is_section_alignment plan.align then and_then (body_of plan plan.body) (file_sized plan)
-    else Err (size_fault ALIGNMENT_REFUSED plan.at plan.align)
+    else Err (fault_with_size ALIGNMENT_REFUSED plan.at plan.align)
 
 -- the length of the header that a file begins with: where byte 19 has the attribute of large files
 -- it is 32

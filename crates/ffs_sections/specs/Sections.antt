@@ -69,8 +69,8 @@ with_part ffs3 body part =
     ++ section_bytes ffs3 part.kind part.guid part.bytes
 
 -- a fault whose detail is a number
-abbrev pub size_fault : ℕ → Place → ℕ → Fault
-size_fault code place size = record { code = code; place = place; detail = decimal size }
+abbrev pub fault_with_size : ℕ → Place → ℕ → Fault
+fault_with_size code place size = record { code = code; place = place; detail = decimal size }
 
 -- an alignment that is none or that no pad makes hold, or a section that is too long for its file
 -- system
@@ -78,9 +78,9 @@ unfoldable pub part_fault : Bool → Place → ℕ → Part → Option Fault
 part_fault ffs3 place at part =
     let size = section_size ffs3 part.guid (length part.bytes) in
     first_holding (
-    (not (is_section_alignment part.align), size_fault ALIGNMENT_REFUSED place part.align)
-    ∷ (is_none (part_pad ffs3 at part), size_fault ALIGNMENT_REFUSED place part.align)
-    ∷ (nat_lt (section_limit ffs3) size, size_fault SECTION_TOO_LONG place size)
+    (not (is_section_alignment part.align), fault_with_size ALIGNMENT_REFUSED place part.align)
+    ∷ (is_none (part_pad ffs3 at part), fault_with_size ALIGNMENT_REFUSED place part.align)
+    ∷ (nat_lt (section_limit ffs3) size, fault_with_size SECTION_TOO_LONG place size)
     ∷ [])
 
 -- a body with these sections more, or the first fault of one

@@ -9,7 +9,7 @@ use Rattle.doc_types.specs.declared.image.Body.{Body}
 use Rattle.doc_types.specs.declared.image.Body.TheVariants.{Whole, Sections}
 use Rattle.doc_types.specs.declared.image.ImagePlan.{ImagePlan}
 use Rattle.ffs_sections.specs.Alignment.{is_section_alignment}
-use Rattle.ffs_sections.specs.Sections.{up4, part_pad, part_fault, section_size, size_fault}
+use Rattle.ffs_sections.specs.Sections.{up4, part_pad, part_fault, section_size, fault_with_size}
 use Rattle.ffs_sections.specs.File.{file_size, size_fault, file_of}
 use Rattle.build_base.specs.FaultCodes.{ALIGNMENT_REFUSED}
 
@@ -37,7 +37,7 @@ unfoldable pub file_length : ImagePlan → Result ℕ Fault
 file_length plan =
     if is_section_alignment plan.align
     then and_then (body_length plan plan.body) (size_checked plan)
-    else Err (size_fault ALIGNMENT_REFUSED plan.at plan.align)
+    else Err (fault_with_size ALIGNMENT_REFUSED plan.at plan.align)
 
 -- that of the file's own bytes
 abbrev pub IsFileLength : ImagePlan → Type 0

@@ -7,7 +7,7 @@ ghost use Rattle.ffs_sections.specs.Sections.{guid_bytes, is_large, content_at, 
 ghost use Rattle.ffs_sections.specs.Sizes.{part_end, parts_end};
 
 use crate::alignment::{is_section_alignment, pad};
-use crate::faults::size_fault;
+use crate::faults::fault_with_size;
 use crate::lent::LentPart;
 use crate::standard::{FFS3_LIMIT, SECTION_LIMIT};
 use build_base::bytes::fill;
@@ -76,13 +76,18 @@ fn check_part(
     ensures short { OnOk result (length part.now.bytes < 2 ^ 29) }
 {
     if !is_section_alignment(part.align) {
-        return Err(Refusal::Bad(size_fault(alloc, ALIGNMENT_REFUSED, place, part.align as u64)?));
+        return Err(Refusal::Bad(fault_with_size(
+            alloc,
+            ALIGNMENT_REFUSED,
+            place,
+            part.align as u64,
+        )?));
     }
     let count = part.content.length();
     let head = content_at(ffs3, &part.guid, count);
     let size = match pad((at + 3) / 4 * 4 + head, part.align, part.shift) {
         Some(size) => size,
-        None => return Err(Refusal::Bad(size_fault(
+        None => return Err(Refusal::Bad(fault_with_size(
             alloc,
             ALIGNMENT_REFUSED,
             place,
@@ -91,7 +96,7 @@ fn check_part(
     };
     let len = head + count;
     if len > section_limit(ffs3) {
-        return Err(Refusal::Bad(size_fault(alloc, SECTION_TOO_LONG, place, len)?));
+        return Err(Refusal::Bad(fault_with_size(alloc, SECTION_TOO_LONG, place, len)?));
     }
     Ok(size)
 }

@@ -6,7 +6,7 @@ ghost use Rattle.ffs_sections.specs.File.{file_size, file_limit, is_large_file, 
 ghost use Rattle.ffs_sections.specs.Sizes.{body_length, size_checked, file_length, IsFileLength};
 
 use crate::alignment::is_section_alignment;
-use crate::faults::size_fault;
+use crate::faults::fault_with_size;
 use crate::lent_plan::{LentBody, LentPlan};
 use crate::sections::parts_end;
 use crate::standard::{FFS3_LIMIT, FILE_LIMIT};
@@ -43,7 +43,7 @@ fn check_size(alloc: Global, plan: &LentPlan<'_>, count: u64) -> Result<u64, Ref
 {
     let size = head_len(is_large_file(plan.ffs3, count)) + count;
     if size > file_limit(plan.ffs3) {
-        return Err(Refusal::Bad(size_fault(alloc, IMAGE_FILE_TOO_LONG, plan.at, size)?));
+        return Err(Refusal::Bad(fault_with_size(alloc, IMAGE_FILE_TOO_LONG, plan.at, size)?));
     }
     Ok(size)
 }
@@ -81,7 +81,12 @@ pub fn file_length(alloc: Global, plan: &LentPlan<'_>) -> Result<u64, Refusal>
 {
     size_law(plan, &plan.guid.0);
     if !is_section_alignment(plan.align) {
-        return Err(Refusal::Bad(size_fault(alloc, ALIGNMENT_REFUSED, plan.at, plan.align as u64)?));
+        return Err(Refusal::Bad(fault_with_size(
+            alloc,
+            ALIGNMENT_REFUSED,
+            plan.at,
+            plan.align as u64,
+        )?));
     }
     aligned_length(alloc, plan)
 }

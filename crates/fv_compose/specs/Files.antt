@@ -10,7 +10,7 @@ use Rattle.build_base.specs.declared.fault.Fault.{Fault}
 use Rattle.doc_types.specs.declared.image.FileImage.{FileImage}
 use Rattle.ffs_sections.specs.Alignment.{IsAlignment}
 use Rattle.ffs_sections.specs.File.{header_len}
-use Rattle.ffs_sections.specs.Sections.{size_fault}
+use Rattle.ffs_sections.specs.Sections.{fault_with_size}
 use Rattle.ffs_sections.specs.Standard.{FILE_LIMIT}
 use Rattle.fv_compose.specs.Pads.{pad_bytes}
 use Rattle.fv_compose.specs.Place.{start_of, align_up}
@@ -77,7 +77,7 @@ pad_fault ffs3 at start file =
     first_holding
     ((
       not ffs3 && nat_lt FILE_LIMIT (start - align_up 8 at),
-      size_fault PAD_TOO_LONG file.at (start - align_up 8 at),
+      fault_with_size PAD_TOO_LONG file.at (start - align_up 8 at),
     )
     ∷ [])
 

@@ -16,7 +16,7 @@ use crate::place::align_up;
 use build_base::fault_codes::PAD_TOO_LONG;
 use build_base::{Refusal, RunWriter, Same, Text, WantOfMemory};
 use doc_types::image::FileImage;
-use ffs_sections::faults::size_fault;
+use ffs_sections::faults::fault_with_size;
 use ffs_sections::standard::FILE_LIMIT;
 use std::alloc::Global;
 
@@ -67,7 +67,7 @@ fn check_pad(
 {
     let pad = (start - align_up(8, at)) as u64;
     if is_long(ffs3, pad) {
-        return Err(Refusal::Bad(size_fault(alloc, PAD_TOO_LONG, &file.at, pad)?));
+        return Err(Refusal::Bad(fault_with_size(alloc, PAD_TOO_LONG, &file.at, pad)?));
     }
     Ok(())
 }

@@ -4,7 +4,7 @@ use Rattle.std.proofs.lemmas.Bool.Decides.{nat_tests}
 use Rattle.build_base.specs.First.{with_front}
 use Rattle.build_base.specs.declared.fault.Place.{Place}
 use Rattle.build_base.specs.declared.fault.Fault.{Fault}
-use Rattle.ffs_sections.specs.Sections.{size_fault}
+use Rattle.ffs_sections.specs.Sections.{fault_with_size}
 use Rattle.image_rebase.specs.declared.blocks.Block.{Block}
 use Rattle.image_rebase.specs.Blocks.{block_size, is_wrong_size, is_end, block_at, blocks_from, blocks_of}
 use Rattle.build_base.specs.FaultCodes.{RELOC_BLOCK}
@@ -31,7 +31,7 @@ unfolding blocks_from
 end_here n place at left e = rw e refl
 
 wrong_here : (n : ℕ) (place : Place) (at : ℕ) (left : List ℕ) → is_end left ≡ false → is_wrong_size (block_size left) (length left) ≡ true
-    → blocks_from (suc n) place at left ≡ Err (size_fault RELOC_BLOCK place at)
+    → blocks_from (suc n) place at left ≡ Err (fault_with_size RELOC_BLOCK place at)
 unfolding blocks_from
 wrong_here n place at left e w = rw (e, w) refl
 
@@ -86,7 +86,7 @@ blocks_end place directory blocks at left t e =
     so_at place directory blocks at left h t.so ∙ ap (with_front blocks) (end_here (steps directory blocks) place at left e) ∙ ap (done {B = Block} {F = Fault}) (append-nil blocks)
 
 pub blocks_wrong : (place : Place) (directory : List ℕ) (blocks : List Block) (at : ℕ) (left : List ℕ) → Turned place directory blocks at left → is_end left ≡ false
-    → is_wrong_size (block_size left) (length left) ≡ true → blocks_of place directory ≡ Err (size_fault RELOC_BLOCK place at)
+    → is_wrong_size (block_size left) (length left) ≡ true → blocks_of place directory ≡ Err (fault_with_size RELOC_BLOCK place at)
 blocks_wrong place directory blocks at left t e w =
     let c : length blocks ≤ at = t.count in
     let d : at + length left ≡ length directory = t.whole in

@@ -5,7 +5,7 @@ use Rattle.byteorder.specs.Endian.{little_from}
 use Rattle.build_base.specs.First.{with_front}
 use Rattle.build_base.specs.declared.fault.Place.{Place}
 use Rattle.build_base.specs.declared.fault.Fault.{Fault}
-use Rattle.ffs_sections.specs.Sections.{size_fault}
+use Rattle.ffs_sections.specs.Sections.{fault_with_size}
 use Rattle.image_rebase.specs.Standard.{IMAGE_SIZEOF_BASE_RELOCATION}
 use Rattle.image_rebase.specs.declared.module.Module.{Module}
 use Rattle.image_rebase.specs.declared.blocks.Block.{Block}
@@ -45,7 +45,7 @@ unfoldable pub blocks_from : ℕ → Place → ℕ → List ℕ → Result (List
 blocks_from zero place at left = Ok []
 blocks_from (suc n) place at left =
     if is_end left then Ok []
-    else if is_wrong_size (block_size left) (length left) then Err (size_fault RELOC_BLOCK place at)
+    else if is_wrong_size (block_size left) (length left) then Err (fault_with_size RELOC_BLOCK place at)
     else with_front (block_at at left ∷ [])
     (blocks_from n place (at + block_size left) (drop (block_size left) left))
 

@@ -8,7 +8,7 @@ use Rattle.byteorder.specs.Endian.{little_from}
 use Rattle.build_base.specs.First.{first_holding, first_of, or_else, or_fault, unless, and_then}
 use Rattle.build_base.specs.declared.fault.Place.{Place}
 use Rattle.build_base.specs.declared.fault.Fault.{Fault}
-use Rattle.ffs_sections.specs.Sections.{size_fault}
+use Rattle.ffs_sections.specs.Sections.{fault_with_size}
 use Rattle.te_images.specs.Standard.{IMAGE_SIZEOF_SECTION_HEADER}
 use Rattle.volume_reader.specs.Lines.{hex}
 use Rattle.image_rebase.specs.Standard.{IMAGE_REL_BASED_ABSOLUTE, IMAGE_REL_BASED_HIGHLOW, IMAGE_REL_BASED_DIR64}
@@ -33,7 +33,7 @@ is_misplaced m content number =
 
 -- the first such section, by its number
 abbrev pub misplaced : Place → Module → List ℕ → Option Fault
-misplaced place m content = option_map (λ number. size_fault NOT_IN_PLACE place number)
+misplaced place m content = option_map (λ number. fault_with_size NOT_IN_PLACE place number)
     (find (is_misplaced m content) (range_with_len 0 m.sections))
 
 -- The new ImageBase of a module whose content lies at this address: that of relative address 0.
@@ -73,7 +73,7 @@ unfoldable pub type_fault : Place → ℕ → Option Fault
 type_fault place entry =
     first_holding ((
       not (is_type (entry_type entry)),
-      size_fault RELOC_TYPE place (entry_type entry),
+      fault_with_size RELOC_TYPE place (entry_type entry),
     )
     ∷ [])
 
@@ -156,7 +156,7 @@ moved_by_blocks place m new content blocks =
 -- the blocks of the module's directory
 unfoldable pub module_blocks : Place → Module → List ℕ → Result (List Block) Fault
 module_blocks place m content =
-    if lies_past m (length content) then Err (size_fault RELOC_BLOCK place 0)
+    if lies_past m (length content) then Err (fault_with_size RELOC_BLOCK place 0)
     else blocks_of place (directory_in m content)
 
 -- The sizes of all blocks come before the first entry.

@@ -9,7 +9,7 @@ use crate::module::Module;
 use crate::standard::IMAGE_SIZEOF_BASE_RELOCATION;
 use build_base::fault_codes::RELOC_BLOCK;
 use build_base::{Place, Refusal, Rows};
-use ffs_sections::faults::size_fault;
+use ffs_sections::faults::fault_with_size;
 use std::alloc::Global;
 
 /// A block: its page, and where its entries start in the directory and how many bytes they have.
@@ -100,7 +100,7 @@ fn blocks_of(alloc: Global, place: &Place, directory: &[u8]) -> Result<Rows<Bloc
     while !is_end(left) {
         let size = block_size(left);
         if is_wrong_size(size, left.len() as u64) {
-            return Err(Refusal::Bad(size_fault(alloc, RELOC_BLOCK, place, at)?));
+            return Err(Refusal::Bad(fault_with_size(alloc, RELOC_BLOCK, place, at)?));
         }
         blocks.push(block_at(at, left))?;
         at += size as u64;
@@ -120,7 +120,7 @@ pub(crate) fn module_blocks(
     ensures { Answers result (module_blocks place.now image.now content.now) }
 {
     if lies_past(image, content.len() as u64) {
-        return Err(Refusal::Bad(size_fault(alloc, RELOC_BLOCK, place, 0)?));
+        return Err(Refusal::Bad(fault_with_size(alloc, RELOC_BLOCK, place, 0)?));
     }
     blocks_of(alloc, place, directory_in(image, content))
 }

@@ -11,7 +11,7 @@ use crate::bytes::{put, u32_at, u64_at};
 use crate::standard::{IMAGE_REL_BASED_ABSOLUTE, IMAGE_REL_BASED_DIR64, IMAGE_REL_BASED_HIGHLOW};
 use build_base::fault_codes::{RELOC_OUTSIDE, RELOC_TYPE};
 use build_base::{Fault, Place, Refusal, Same, Text, WantOfMemory};
-use ffs_sections::faults::size_fault;
+use ffs_sections::faults::fault_with_size;
 use itoa::Buffer;
 use std::alloc::Global;
 
@@ -47,7 +47,7 @@ fn check_type(alloc: Global, place: &Place, entry: u16) -> Result<(), Refusal>
 {
     let kind = entry / 0x1000;
     if !is_type(kind) {
-        return Err(Refusal::Bad(size_fault(alloc, RELOC_TYPE, place, kind as u64)?));
+        return Err(Refusal::Bad(fault_with_size(alloc, RELOC_TYPE, place, kind as u64)?));
     }
     Ok(())
 }

@@ -11,7 +11,7 @@ use crate::module::{Module, module_in};
 use crate::standard::IMAGE_SIZEOF_SECTION_HEADER;
 use build_base::fault_codes::{BASE_RANGE, NOT_IN_PLACE};
 use build_base::{Fault, Place, Refusal, Same, Text, WantOfMemory};
-use ffs_sections::faults::size_fault;
+use ffs_sections::faults::fault_with_size;
 use std::alloc::Global;
 use volume_reader::put_hex;
 
@@ -48,7 +48,12 @@ fn check_sections(
     ensures { Checks result (misplaced place.now image.now content.now) }
 {
     match misplaced_section(image, content) {
-        Some(number) => Err(Refusal::Bad(size_fault(alloc, NOT_IN_PLACE, place, number as u64)?)),
+        Some(number) => Err(Refusal::Bad(fault_with_size(
+            alloc,
+            NOT_IN_PLACE,
+            place,
+            number as u64,
+        )?)),
         None => Ok(()),
     }
 }

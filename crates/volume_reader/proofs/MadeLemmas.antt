@@ -15,7 +15,7 @@ use Rattle.doc_types.specs.declared.volume_head.VolumeHead.{VolumeHead}
 use Rattle.ffs_sections.specs.declared.header.Head.{Head}
 use Rattle.ffs_sections.specs.Sums.{zero_byte}
 use Rattle.ffs_sections.specs.Alignment.{is_section_alignment, alignments, IsAlignment, alignment_index, step_bits}
-use Rattle.ffs_sections.specs.Sections.{size_fault}
+use Rattle.ffs_sections.specs.Sections.{fault_with_size}
 use Rattle.ffs_sections.specs.File.{file_head, head_len, header_len, state_of, body_of, body_align, plan_step, attributes_of, is_large_file, file_size, file_limit, plan_head, file_bytes, image_of, file_sized, file_of}
 use Rattle.ffs_sections.proofs.HeadLemmas.{length_head, head_at_file}
 use Rattle.fv_compose.specs.Pads.{is_large_pad, pad_header, pad_bytes}
@@ -94,11 +94,11 @@ pub record Built (plan : ImagePlan) (file : FileImage) : Type 0 where
   pub whole : file ≡ image_of plan body
 
 sized_from : (plan : ImagePlan) (file : FileImage) (body : List ℕ) (b : Bool) → body_of plan plan.body ≡ Ok body → nat_lt (file_limit plan.ffs3) (file_size plan.ffs3 (length body)) ≡ b
-    → (if b then Err (size_fault IMAGE_FILE_TOO_LONG plan.at (file_size plan.ffs3 (length body))) else Ok (image_of plan body)) ≡ Ok file → Built plan file
+    → (if b then Err (fault_with_size IMAGE_FILE_TOO_LONG plan.at (file_size plan.ffs3 (length body))) else Ok (image_of plan body)) ≡ Ok file → Built plan file
 sized_from plan file body true p t e = absurd cc
 sized_from plan file body false p t e = record { body = body; parts = p; room = grind (arith, nat_tests); whole = let s : image_of plan body ≡ file = cc in sym s }
 
-built_from : (plan : ImagePlan) (file : FileImage) (b : Bool) (r : Result (List ℕ) Fault) → body_of plan plan.body ≡ r → (if b then and_then r (file_sized plan) else Err (size_fault ALIGNMENT_REFUSED plan.at plan.align)) ≡ Ok file → Built plan file
+built_from : (plan : ImagePlan) (file : FileImage) (b : Bool) (r : Result (List ℕ) Fault) → body_of plan plan.body ≡ r → (if b then and_then r (file_sized plan) else Err (fault_with_size ALIGNMENT_REFUSED plan.at plan.align)) ≡ Ok file → Built plan file
 built_from plan file true (Ok body) p e = sized_from plan file body (nat_lt (file_limit plan.ffs3) (file_size plan.ffs3 (length body))) p refl e
 built_from plan file true (Err f) p e = absurd cc
 built_from plan file false r p e = absurd cc

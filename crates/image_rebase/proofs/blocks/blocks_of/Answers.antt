@@ -1,5 +1,5 @@
 use Rattle.std.proofs.Common.{◌≡◌, ◌∙◌, sym, ap, refl, length, false, true}
-use Rattle.ffs_sections.specs.Sections.{size_fault}
+use Rattle.ffs_sections.specs.Sections.{fault_with_size}
 use Rattle.image_rebase.specs.Blocks.{block_size, is_wrong_size, is_end}
 use Rattle.image_rebase.proofs.BlockLemmas.{Turned, blocks_turn, blocks_end, blocks_wrong}
 use Rattle.image_rebase.proofs.blocks.blocks_of.Goals as goal
@@ -11,7 +11,7 @@ returns-then-is_wrong_size c =
     let e : is_end left ≡ false = sym c.is_end.ensures.value ∙ c.loop-left-test.true in
     let w : is_wrong_size (block_size left) (length left) ≡ true =
     ap (λ z. is_wrong_size z (length left)) (sym c.block_size-size.ensures) ∙ sym c.is_wrong_size.ensures.value ∙ c.if-is_wrong_size.true in
-    rw c.in_ok-size_fault.ensures
+    rw c.in_ok-fault_with_size.ensures
     (blocks_wrong c.args.place.now c.args.directory.now c.loop-left.blocks c.loop-left.at left (record { count = i.count; whole = i.whole; so = i.so }) e w)
 
 pub loop-left-preserved : goal.loop-left-preserved
