@@ -246,9 +246,9 @@ def draw(name: str, size: int, volumes: list[Volume]) -> str:
 def listing_of(image: Path) -> str:
     """What the program lists. It takes a path beside the current folder, so it runs in the image's own."""
     program = Path(os.environ.get("GARLICMOOR") or TOP / "garlicmoor").resolve()
-    ran = subprocess.run([program, "volinfo", image.name], cwd=image.parent, capture_output=True, text=True)
+    # What the program says on standard error is seen at once: `garlicmoor` may have to prove the program first.
+    ran = subprocess.run([program, "volinfo", image.name], cwd=image.parent, stdout=subprocess.PIPE, text=True)
     if ran.returncode:
-        sys.stderr.write(ran.stderr)
         sys.exit(ran.returncode)
     return ran.stdout
 
