@@ -76,6 +76,7 @@ ended held job cache left given steps reused status old new m e entry sound b = 
   stored_is = m.3.stored_is;
   kept = keeps_all old.kept new.kept m.2 m.4.kept;
   own = (given, entry, e);
+  wrote = (given, steps, reused, entry, m.0, m.1, m.2, m.3, e, m.4);
   sound = sound;
   built =
       some_then held (λ files. AreSound means cache → IsBrought (world_of files job) cache given left steps reused)
@@ -129,16 +130,17 @@ comes w cache left given steps reused outputs line stored m b = record {
 }
 
 stopped : (held : Option Files) (job : Job) (cache left : List (Entry Key Out)) (given : Outcome Out) (steps reused : ℕ) (old new : Told)
-    → AsMade given left steps reused (λ outputs line stored. EndsAtFailure outputs line stored old new)
+    → AsMade given left steps reused (λ outputs line stored. EndsAtFailure outputs line stored old new) → IsEntryOf key.All given left
     → (AreSound means cache → AreSound means left) → IfSome held (λ files. AreSound means cache → IsBrought (world_of files job) cache given left steps reused)
     → HasStopped held job cache old new
-stopped held job cache left given steps reused old new m sound b = record {
+stopped held job cache left given steps reused old new m entry sound b = record {
   outputs = m.0;
   line = m.1;
   left = left;
   stored = m.2;
   stored_is = m.3.stored_is;
   failed = m.4;
+  made = (given, steps, reused, entry, m.0, m.1, m.2, m.3, m.4);
   sound = sound;
   comes =
       some_then held (λ files. AreSound means cache → IsBrought (world_of files job) cache given left steps reused)
@@ -154,13 +156,13 @@ stopped held job cache left given steps reused old new m sound b = record {
 }
 
 pub stopped_by : (r : Result Status Stop) (held : Option Files) (job : Job) (cache left : List (Entry Key Out)) (given : Outcome Out) (steps reused : ℕ) (old new : Told)
-    → IfWriteFault r (AsMade given left steps reused (λ outputs line stored. EndsAtFailure outputs line stored old new))
+    → IfWriteFault r (AsMade given left steps reused (λ outputs line stored. EndsAtFailure outputs line stored old new)) → IsEntryOf key.All given left
     → (AreSound means cache → AreSound means left) → IfSome held (λ files. AreSound means cache → IsBrought (world_of files job) cache given left steps reused)
     → IfWriteFault r (HasStopped held job cache old new)
-stopped_by (Ok s) held job cache left given steps reused old new m sound b = tt
-stopped_by (Err stop.ReadFault) held job cache left given steps reused old new m sound b = tt
-stopped_by (Err stop.WantOfMemory) held job cache left given steps reused old new m sound b = tt
-stopped_by (Err stop.WriteFault) held job cache left given steps reused old new m sound b = stopped held job cache left given steps reused old new m sound b
+stopped_by (Ok s) held job cache left given steps reused old new m entry sound b = tt
+stopped_by (Err stop.ReadFault) held job cache left given steps reused old new m entry sound b = tt
+stopped_by (Err stop.WantOfMemory) held job cache left given steps reused old new m entry sound b = tt
+stopped_by (Err stop.WriteFault) held job cache left given steps reused old new m entry sound b = stopped held job cache left given steps reused old new m entry sound b
 
 -- where there are no edits, and the fields are those of the job
 pub told_brought : (held : Option Files) (es : List Edit) (job : Job) (f : List (List ℕ)) (cache left : List (Entry Key Out)) (given : Outcome Out) (steps reused : ℕ)

@@ -5,7 +5,7 @@ use Rattle.std.specs.Result.{IsErrAnd}
 use Rattle.std.proofs.lemmas.List.{take_all}
 use Rattle.std.proofs.lemmas.List.Elements.{All-tail}
 use Rattle.build_base.proofs.OptionLemmas.{some_then, some_both}
-use Rattle.build_base.proofs.SpellingLemmas.{Spelled-then, SpelledCut-then}
+use Rattle.build_base.proofs.SpellingLemmas.{Spelled-then}
 use Rattle.build_base.specs.Outside.{Files, Emission, Grew, got_of}
 use Rattle.build_base.specs.declared.outside.Got.{Got}
 use Rattle.build_base.specs.declared.fault.Fault.{Fault}
@@ -22,7 +22,7 @@ use Rattle.build_rules.specs.Rules.{is_job}
 use Rattle.edk_build.proofs.RunLemmas.{same_ran, same_all}
 use Rattle.edk_build.specs.Building.{means, IsBuilt, IsCutShort, Leaves}
 use Rattle.edk_build.specs.Emitting.{emitted}
-use Rattle.edk_build.specs.History.{start, label_of, after_edit, after_build, world_at, IsDone, AreDone, from_fault, order_fault, fault_outputs, IsFaulty, HasBegun, WasDone, Written, HasStopped, IsTold, Follows}
+use Rattle.edk_build.specs.History.{start, label_of, after_edit, after_build, world_at, IsDone, AreDone, from_fault, order_fault, fault_outputs, IsFaulty, HasBegun, WasDone, Written, WrittenBehind, HasStopped, IsTold, Follows}
 use Rattle.edk_build.specs.Outcome.{outcome}
 use Rattle.edk_build.specs.Script.{HaveJobs, HasJob, script_line}
 use Rattle.edk_build.specs.Stops.{IfWriteFault, IfUnwritten, stop_status}
@@ -115,17 +115,6 @@ so_far_more held lines line left stand a now next b old mid new f w sound = reco
   sound = sound;
 }
 
-cut_after : (a b c : Option (List Emission)) (xs ys : List Output) → Spelled a b xs → SpelledCut b c ys → SpelledCut a c (xs ++ ys)
-cut_after a b c xs ys s t = subst (λ z. SpelledCut a c (xs ++ z)) (append-nil ys) (SpelledCut-then a b c xs ys [] s t)
-
-pub written_after : (s : Status) (a b c : Option (List Emission)) (xs ys : List Output) → Spelled a b xs → Written s b c ys → Written s a c (xs ++ ys)
-written_after status.WriteFault a b c xs ys s t = cut_after a b c xs ys s t
-written_after status.Done a b c xs ys s t = Spelled-then a b c xs ys s t
-written_after status.FileFault a b c xs ys s t = Spelled-then a b c xs ys s t
-written_after status.Usage a b c xs ys s t = Spelled-then a b c xs ys s t
-written_after status.ReadFault a b c xs ys s t = Spelled-then a b c xs ys s t
-written_after status.WantOfMemory a b c xs ys s t = Spelled-then a b c xs ys s t
-
 pub so_far_stopped : (held : Option Files) (at : List ℕ) (lines : List ScriptLine) (line : ScriptLine) (left : List ScriptLine) (stand : ReplayState) (a now : List Key) (st : Status) (b : List Key) (old mid new : Option (List Emission))
     → SoFar held lines (line ∷ left) stand a now old mid → HasStopped held at line st stand now b mid new → Follows held at (Some lines) st a b old new
 so_far_stopped held at lines line left stand a now st b old mid new f h = (
@@ -142,8 +131,8 @@ so_far_stopped held at lines line left stand a now st b old mid new f h = (
     ends = h.stopped;
     list = refl;
   },
-  some_both held (λ files. Spelled old mid f.front) (λ files. Written st mid new h.outputs) (λ files. Written st old new (f.front ++ h.outputs)) f.written h.written
-      (λ files s t. written_after st old mid new f.front h.outputs s t),
+  some_both held (λ files. Spelled old mid f.front) (λ files. Written st mid new h.outputs) (λ files. WrittenBehind st old new f.front h.outputs) f.written h.written
+      (λ files s t. (mid, s, t)),
 )
 
 -- what is left behind the first line
@@ -187,7 +176,8 @@ so_far_ended held at lines left stand a now old new l f = (
     ends = (refl, refl, refl);
     list = sym (append-nil f.front);
   },
-  f.written,
+  some_both held (λ files. Spelled old new f.front) (λ files. Spelled new new []) (λ files. WrittenBehind status.Done old new f.front []) f.written (nothing_spelled held new new refl)
+      (λ files s t. (new, s, t)),
 )
 
 pub was_dropped : (held : Option Files) (path : List ℕ) (s next : ReplayState) (a : List Key) (old new : Option (List Emission)) → next ≡ after_edit s path None → new ≡ old

@@ -3,6 +3,7 @@ use Rattle.std.proofs.Common.{◌≡◌, inl, inr, refl, sym, ◌∙◌, ℕ, �
 use Rattle.std.proofs.Common.{append-nil}
 use Rattle.build_base.specs.Outside.{Files, Emission, HasFailed}
 use Rattle.build_base.specs.Path.{is_path, is_segment, is_dots, is_path_byte}
+use Rattle.build_base.proofs.SpellingLemmas.{Spelled-then}
 use Rattle.build_base.specs.Spelling.{Output, Spelled, SpelledCut}
 use Rattle.build_base.specs.World.{World}
 use Rattle.step_engine.specs.Build.{setting, IsHere, Ran, RanAll}
@@ -15,7 +16,7 @@ use Rattle.step_pack.specs.declared.key.Key.TheVariants as key
 use Rattle.step_pack.specs.declared.out.Out.{Out}
 use Rattle.build_rules.specs.Rules.{is_job}
 use Rattle.build_words.specs.Fields.{job_fields}
-use Rattle.edk_build.proofs.ReplayLemmas.{grew_nothing, written_after}
+use Rattle.edk_build.proofs.ReplayLemmas.{grew_nothing}
 use Rattle.edk_build.proofs.RunLemmas.{same_ran, same_all, told_over}
 use Rattle.edk_build.specs.Building.{means, IsBuilt, IsCutShort, Leaves}
 use Rattle.edk_build.specs.Commands.{IfSelftest}
@@ -127,22 +128,28 @@ stopped_early t old a w = record {
 pub series_stopped : (t : Turn) (turns : List Turn) (st : Status) (old : List (Entry Key Out)) (a b : List Key) (before now : Option (List Emission))
     → HasStopped t st old a b before now → WereBuilt (t ∷ turns) st old a b before now
 unfolding AreBuilt
-series_stopped t turns st old a b before now h = record { outputs = h.outputs; built = inl h.stopped; written = h.written }
+series_stopped t turns st old a b before now h = record {
+  front = [];
+  back = h.outputs;
+  built = inl (h.stopped, refl);
+  written = (before, nothing_grown before before refl, h.written);
+}
 
 -- one build more in front of the others
 pub series_more : (t : Turn) (turns : List Turn) (st : Status) (old : List (Entry Key Out)) (a : List Key) (mid : List (Entry Key Out)) (m b : List Key) (before w now : Option (List Emission))
     → WasDone t old a mid m before w → WereBuilt turns st mid m b w now → WereBuilt (t ∷ turns) st old a b before now
 unfolding AreBuilt
 series_more t turns st old a mid m b before w now d x = record {
-  outputs = d.outputs ++ x.outputs;
-  built = inr (d.outputs, mid, m, x.outputs, d.done, x.built, refl);
-  written = written_after st before w now d.outputs x.outputs d.written x.written;
+  front = d.outputs ++ x.front;
+  back = x.back;
+  built = inr (d.outputs, mid, m, x.front, d.done, x.built, refl);
+  written = (x.written.0, Spelled-then before w x.written.0 d.outputs x.front d.written x.written.1, x.written.2);
 }
 
 -- no build is left
 pub series_ended : (cache : List (Entry Key Out)) (a : List Key) (w : Option (List Emission)) → WereBuilt [] status.Done cache a a w w
 unfolding AreBuilt
-series_ended cache a w = record { outputs = []; built = (refl, refl, refl); written = nothing_grown w w refl }
+series_ended cache a w = record { front = []; back = []; built = (refl, refl, refl, refl); written = (w, nothing_grown w w refl, nothing_grown w w refl) }
 
 stops_well : (t : Turn) (st : Status) (cache : List (Entry Key Out)) (a : List Key) (outputs : List Output) (b : List Key) → StopsAt t st cache a outputs b → IsSelftestStatus st
 stops_well t status.Done cache a outputs b x = absurd x
@@ -152,15 +159,15 @@ stops_well t status.ReadFault cache a outputs b x = absurd x
 stops_well t status.WriteFault cache a outputs b x = tt
 stops_well t status.WantOfMemory cache a outputs b x = tt
 
-built_well : (turns : List Turn) (st : Status) (cache : List (Entry Key Out)) (a : List Key) (outputs : List Output) (b : List Key) → AreBuilt turns st cache a outputs b → IsSelftestStatus st
+built_well : (turns : List Turn) (st : Status) (cache : List (Entry Key Out)) (a : List Key) (front back : List Output) (b : List Key) → AreBuilt turns st cache a front back b → IsSelftestStatus st
 unfolding AreBuilt
-built_well [] st cache a outputs b x = subst IsSelftestStatus (sym x.0) tt
-built_well (t ∷ turns) st cache a outputs b (inl x) = stops_well t st cache a outputs b x
-built_well (t ∷ turns) st cache a outputs b (inr x) = built_well turns st x.1 x.2 x.3 b x.5
+built_well [] st cache a front back b x = subst IsSelftestStatus (sym x.0) tt
+built_well (t ∷ turns) st cache a front back b (inl x) = stops_well t st cache a back b x.0
+built_well (t ∷ turns) st cache a front back b (inr x) = built_well turns st x.1 x.2 x.3 back b x.5
 
 pub series_status : (turns : List Turn) (st : Status) (cache : List (Entry Key Out)) (a b : List Key) (before now : Option (List Emission))
     → WereBuilt turns st cache a b before now → IsSelftestStatus st
-series_status turns st cache a b before now x = built_well turns st cache a x.outputs b x.built
+series_status turns st cache a b before now x = built_well turns st cache a x.front x.back b x.built
 
 pub status_usage : (st : Status) → IsSelftestStatus st → OnUsage st ⊥
 status_usage status.Done x = tt

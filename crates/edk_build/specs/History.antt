@@ -174,6 +174,12 @@ abbrev pub Written : Status → Option (List Emission) → Option (List Emission
 Written answer.WriteFault old new outputs = SpelledCut old new outputs
 Written _ old new outputs = Spelled old new outputs
 
+-- what the lines above emitted is written whole, and what the last one emitted, or a cut of it
+abbrev pub WrittenBehind : Status → Option (List Emission) → Option (List Emission) → List Output
+    → List Output → Type 0
+WrittenBehind status old new front back =
+    (mid : Option (List Emission)) × Spelled old mid front × Written status mid new back
+
 -- a replay stopped at a line, and what that emitted is written
 pub record HasStopped (held : Option Files) (at : List ℕ) (line : ScriptLine) (status : Status)
     (s : ReplayState) (a b : List Key) (old new : Option (List Emission)) : Type 0 where
@@ -219,8 +225,8 @@ IsUnread _ = ⊥
 abbrev pub Follows : Option Files → List ℕ → Option (List ScriptLine) → Status → List Key → List Key
     → Option (List Emission) → Option (List Emission) → Type 0
 Follows held at (Some lines) status a b old new =
-    (outputs : List Output) × History held at lines status a outputs b
-    × IfSome held (λ files. Written status old new outputs)
+    (outputs : List Output) × (h : History held at lines status a outputs b)
+    × IfSome held (λ files. WrittenBehind status old new h.front h.back)
 Follows held at None status a b old new = (status ≡ answer.Usage) × (b ≡ a)
 
 -- what comes of what was got as the script

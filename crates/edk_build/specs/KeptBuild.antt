@@ -11,7 +11,7 @@ use Rattle.build_base.specs.declared.outside.Target.{Target}
 use Rattle.build_base.specs.declared.outside.Target.TheVariants.{Out as ToOut}
 use Rattle.build_words.specs.declared.job.Job.{Job}
 use Rattle.step_cache.specs.CacheText.{IsCacheText}
-use Rattle.step_engine.specs.Build.{setting, Ran, RanAll, HasRead}
+use Rattle.step_engine.specs.Build.{setting, IsEntryOf, Ran, RanAll, HasRead}
 use Rattle.step_engine.specs.Entries.{AreSound}
 use Rattle.step_engine.specs.declared.talk.Entry.{Entry}
 use Rattle.step_engine.specs.declared.talk.Outcome.{Outcome}
@@ -98,6 +98,14 @@ AsMade given left steps reused P =
     (outputs : List Output) × (line : List ℕ) × (stored : List ℕ)
     × Makes given left steps reused outputs line stored × P outputs line stored
 
+-- A build makes its outputs of the entries that it leaves, also where the tree tells nothing: the
+-- top step's entry is one of them, and each output has the bytes of the entry that it names.
+abbrev pub MadeOf : List (Entry Key Out)
+    → (Outcome Out → List Output → List ℕ → List ℕ → Type 0) → Type 0
+MadeOf left P =
+    (given : Outcome Out) × (steps : ℕ) × (reused : ℕ) × IsEntryOf key.All given left
+    × AsMade given left steps reused (P given)
+
 -- A build came to its end that began with this cache: what is kept then is the text of the cache
 -- that it left, and what that and the status are, also where the tree tells nothing.
 pub record HasEnded (held : Option Files) (job : Job) (cache : List (Entry Key Out))
@@ -107,6 +115,8 @@ pub record HasEnded (held : Option Files) (job : Job) (cache : List (Entry Key O
   pub stored_is : IsCacheText left stored
   pub kept : IfSome new.kept (λ kept. kept ≡ Some stored)
   pub own : IsOwn status left
+  pub wrote : MadeOf left (λ given outputs line stored. (status ≡ result_status given)
+      × WroteAll outputs line stored old new)
   pub sound : AreSound means cache → AreSound means left
   pub built : IfSome held (λ files. AreSound means cache
       → IsBuilt (world_of files job) cache plain status old.written new.written)
@@ -131,6 +141,7 @@ pub record HasStopped (held : Option Files) (job : Job) (cache : List (Entry Key
   pub stored : List ℕ
   pub stored_is : IsCacheText left stored
   pub failed : EndsAtFailure outputs line stored old new
+  pub made : MadeOf left (λ given outputs line stored. EndsAtFailure outputs line stored old new)
   pub sound : AreSound means cache → AreSound means left
   pub comes : IfSome held (λ files. AreSound means cache
       → Comes (world_of files job) cache outputs line left)

@@ -14,7 +14,7 @@ use Rattle.build_words.specs.declared.job.Job.{Job}
 use Rattle.selftest_tree.specs.Tree.{workspace, edited_workspace}
 use Rattle.edk_build.specs.Building.{means, IsCounted, Leaves}
 use Rattle.edk_build.specs.Emitting.{emitted}
-use Rattle.edk_build.specs.History.{Written}
+use Rattle.edk_build.specs.History.{Written, WrittenBehind}
 use Rattle.edk_build.specs.Outcome.{outcome}
 use Rattle.edk_build.specs.Run.{world_of}
 use Rattle.edk_build.specs.declared.label.Label.{Label}
@@ -96,23 +96,26 @@ pub record HasStopped (t : Turn) (status : Status) (cache : List (Entry Key Out)
   pub written : Written status old new outputs
 
 -- Builds one after the other, each from the cache that the one before it left: all came to their
--- end, or one stopped.
+-- end, or one stopped. What the builds in front of that one emitted comes first, and then its own.
 unfoldable pub AreBuilt : List Turn → Status → List (Entry Key Out) → List Key → List Output
-    → List Key → Type 0
-AreBuilt [] status cache a outputs b = (status ≡ answer.Done) × (outputs ≡ []) × (b ≡ a)
-AreBuilt (t ∷ turns) status cache a outputs b =
-    StopsAt t status cache a outputs b
-    ⊎ ((front : List Output) × (mid : List (Entry Key Out)) × (now : List Key)
-    × (back : List Output)
-    × IsDone t cache a front mid now × AreBuilt turns status mid now back b
-    × (outputs ≡ front ++ back))
+    → List Output → List Key → Type 0
+AreBuilt [] status cache a front back b = (status ≡ answer.Done) × (front ≡ []) × (back ≡ [])
+    × (b ≡ a)
+AreBuilt (t ∷ turns) status cache a front back b =
+    (StopsAt t status cache a back b × (front ≡ []))
+    ⊎ ((first : List Output) × (mid : List (Entry Key Out)) × (now : List Key)
+    × (more : List Output)
+    × IsDone t cache a first mid now × AreBuilt turns status mid now more back b
+    × (front ≡ first ++ more))
 
--- what they emitted is written, or a cut of it where the sink failed
+-- What the builds in front emitted is written whole, and what the one that stopped emitted, or a cut
+-- of it where the sink failed.
 pub record WereBuilt (turns : List Turn) (status : Status) (cache : List (Entry Key Out))
     (a b : List Key) (old new : Option (List Emission)) : Type 0 where
-  pub outputs : List Output
-  pub built : AreBuilt turns status cache a outputs b
-  pub written : Written status old new outputs
+  pub front : List Output
+  pub back : List Output
+  pub built : AreBuilt turns status cache a front back b
+  pub written : WrittenBehind status old new front back
 
 -- a selftest with n modules begins with no cache
 abbrev pub IsSelftest : ℕ → Status → List Key → List Key → Option (List Emission)

@@ -1,5 +1,5 @@
 //! Laws of what is kept.
-ghost use Rattle.std.specs.Prelude.{◌≡◌, ◌++◌, ◌<◌, ℕ, List, Option, Some, None};
+ghost use Rattle.std.specs.Prelude.{◌≡◌, ◌++◌, ◌∷◌, ◌<◌, [], ℕ, List, Option, Some, None};
 ghost use Rattle.build_rules.specs.Adopting.{AreOlder, by_older};
 ghost use Rattle.build_rules.specs.Trees.{EdkStages};
 ghost use Rattle.build_stages.specs.Stages.{meaning_of};
@@ -11,7 +11,8 @@ ghost use Rattle.step_pack.specs.declared.key.Key.{Key as KeyOf};
 ghost use Rattle.step_pack.specs.declared.out.Out.{Out as OutOf};
 ghost use Rattle.edk_build.specs.Building.{means};
 ghost use Rattle.edk_build.specs.Kept.{IsSoundKept, StandsFor};
-ghost use Rattle.edk_build.specs.KeptRuns.{AreRight, BuildRun, Follow};
+ghost use Rattle.edk_build.specs.KeptRuns.{AreRight, BuildRun, Follow, IsEnd, RanNothing};
+ghost use Rattle.edk_build.specs.Statuses.{OnEnd};
 
 /// What is kept stands for one cache. Nothing, no cache's text, the text of a sound cache and each
 /// prefix of it stand for none that isn't sound.
@@ -36,8 +37,16 @@ pub(crate) fn older_texts_are_adopted()
 
 /// Runs of `build` with edits between them, each of which begins with what the one before it kept,
 /// write what the definitions give for their words and the files of their moments, where the first
-/// begins with what stands for no unsound cache.
+/// begins with what stands for no unsound cache. Each begins with the cache that what is kept stands
+/// for, and what is kept then is the text of the cache that it leaves.
 pub(crate) fn runs_are_right()
     ensures { (kept : Option (List ℕ)) (runs : List BuildRun) → IsSoundKept kept → Follow kept runs
         → AreRight runs }
+{}
+
+/// A run of the same words over the same files, behind one that came to its end, runs no step.
+pub(crate) fn again_runs_nothing()
+    ensures { (kept : Option (List ℕ)) (first second : BuildRun) → IsSoundKept kept
+        → Follow kept (first ∷ second ∷ []) → second.files ≡ first.files → second.job ≡ first.job
+        → IsEnd first.status → OnEnd second.status (RanNothing second) }
 {}

@@ -23,7 +23,7 @@ pub returns-clause-stopped : goal.returns-clause-stopped
 returns-clause-stopped g c =
     let b = c.in-Ok-bring_all.brought in
     stopped_by c.emit_kept.result (g.T.Tree.held c.args.tree.now) c.args.job.now c.args.loaded.cache b.cache b.given b.steps b.reused _ _
-    c.emit_kept.ensures.failed c.in-Ok-bring_all.ensures.sound
+    c.emit_kept.ensures.failed c.in-Ok-bring_all.ensures.own c.in-Ok-bring_all.ensures.sound
     (told_brought (g.T.Tree.held c.args.tree.now) c.new-edits.result c.args.job.now c.in-Ok.fields c.args.loaded.cache b.cache b.given b.steps b.reused
     c.requires.job c.new-edits.ensures c.in-Ok.ensures c.in-Ok-bring_all.ensures.brought)
 
