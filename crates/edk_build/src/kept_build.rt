@@ -384,7 +384,8 @@ pub(crate) fn build_kept<H: Threads + Sync, T: Tree, S: Sink, K: Keeper, G: Gate
     ensures tree_count { OnEnd result (T.faults tree.new ≡ T.faults tree.old) }
     ensures read_fault { OnReadFault result
         (HasFailed (T.faults tree.old) (T.faults tree.new)
-        ⊎ HasFailed (K.faults keeper.old) (K.faults keeper.new)) }
+        ⊎ (HasFailed (K.faults keeper.old) (K.faults keeper.new) × (tree.new ≡ tree.old)
+        × (sink.new ≡ sink.old) × (book.new ≡ book.old))) }
 
     // Where what is kept is sound.
     ensures complete { IfSome (T.held tree.old)

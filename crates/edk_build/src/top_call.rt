@@ -125,7 +125,8 @@ pub fn run<H: Threads + Sync, T: Tree, S: Sink, K: Keeper, G: Gate>(
     ensures keeper_count { OnEnd result (K.faults keeper.new ≡ K.faults keeper.old) }
     ensures read_fault { OnReadFault result (HasFailed (T.faults tree.old) (T.faults tree.new)
         ⊎ OfBuild (command_of (map string_bytes words.now))
-        (HasFailed (K.faults keeper.old) (K.faults keeper.new))) }
+        (HasFailed (K.faults keeper.old) (K.faults keeper.new) × (tree.new ≡ tree.old)
+        × (sink.new ≡ sink.old) × (book.new ≡ book.old))) }
     ensures write_fault { OnWriteFault result (HasFailed (S.faults sink.old) (S.faults sink.new)
         ⊎ OfBuild (command_of (map string_bytes words.now))
         (HasFailed (K.faults keeper.old) (K.faults keeper.new))) }
