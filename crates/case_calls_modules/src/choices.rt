@@ -63,28 +63,6 @@ fn add_infs(
     Ok(())
 }
 
-fn chosen(
-    alloc: Global,
-    module: &Module,
-    platform: &PlatformDoc,
-    infs: &Rows<Shared<InfDoc>>,
-) -> Result<Choice, Stop> {
-    let mut book = Book::new(alloc);
-    Ok(choose(alloc, book.grant(())?, module, platform, infs)?)
-}
-
-fn tell_chosen(
-    page: &mut Page,
-    module: &Module,
-    platform: &PlatformDoc,
-    infs: &Rows<Shared<InfDoc>>,
-) -> Result<(), Stop> {
-    let alloc = page.alloc();
-    let choice = chosen(alloc, module, platform, infs)?;
-    tell_choice(page, &copied(alloc, &choice)?);
-    Ok(())
-}
-
 // The rounds in which INF files are wanted, and then the choice.
 fn tell_rounds(
     page: &mut Page,
@@ -101,7 +79,10 @@ fn tell_rounds(
         }
         let wanted = next_wanted(alloc, module, platform, &infs)?;
         if wanted.items().is_empty() {
-            return tell_chosen(page, module, platform, &infs);
+            let mut book = Book::new(alloc);
+            let choice = choose(alloc, book.grant(())?, module, platform, &infs)?;
+            tell_choice(page, &copied(alloc, &choice)?);
+            return Ok(());
         }
         tell_round(page, wanted.items());
         add_infs(alloc, files, &mut infs, wanted.items())?;

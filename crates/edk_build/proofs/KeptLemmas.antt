@@ -76,7 +76,7 @@ ended held job cache left given steps reused status old new m e entry sound b = 
   stored_is = m.3.stored_is;
   kept = keeps_all old.kept new.kept m.2 m.4.kept;
   own = (given, entry, e);
-  wrote = (given, steps, reused, entry, m.0, m.1, m.2, m.3, e, m.4);
+  wrote = (given, steps, reused, entry, (m.0, m.1, m.2, m.3, (e, m.4)));
   sound = sound;
   built =
       some_then held (λ files. AreSound means cache → IsBrought (world_of files job) cache given left steps reused)
@@ -140,7 +140,7 @@ stopped held job cache left given steps reused old new m entry sound b = record 
   stored = m.2;
   stored_is = m.3.stored_is;
   failed = m.4;
-  made = (given, steps, reused, entry, m.0, m.1, m.2, m.3, m.4);
+  made = (given, steps, reused, entry, m);
   sound = sound;
   comes =
       some_then held (λ files. AreSound means cache → IsBrought (world_of files job) cache given left steps reused)

@@ -1,5 +1,5 @@
 -- Laws of what is kept.
-use Rattle.std.proofs.Common.{◌≡◌, inl, inr, refl, sym, ◌∙◌, ⊥, ℕ, List, [], ◌∷◌, ◌++◌, length, Option, Some, None, Contains, subst, arith}
+use Rattle.std.proofs.Common.{◌≡◌, inl, inr, refl, sym, ◌∙◌, ℕ, List, [], ◌∷◌, ◌++◌, length, Option, Some, None, Contains, subst, arith}
 use Rattle.std.specs.Option.{IfSome}
 use Rattle.build_base.specs.World.{World}
 use Rattle.build_rules.proofs.AdoptLemmas.{all_stay}
@@ -160,7 +160,5 @@ again_nothing kept first second s f files job ended =
       k.0,
       k.1,
       k.2,
-      k.3.built,
-      no_steps (world_of second.files second.job) k.0 k.3.built.steps
-          (full_of first second f.2.0 files job one.0 one.3 k.0 k.1) k.3.built.counted.ran,
+      (k.3.built, no_steps (world_of second.files second.job) k.0 k.3.built.steps (full_of first second f.2.0 files job one.0 one.3 k.0 k.1) k.3.built.counted.ran),
     )) both.1.built

@@ -1,6 +1,6 @@
 -- Separate runs of `build` with one keeper, and edits of the files between them: what the clauses
 -- of a run say of each, and what follows for all. The rule is this project's own.
-use Rattle.std.specs.Prelude.{◌≡◌, ⊥, ℕ, List, [], ◌∷◌, Option, Some}
+use Rattle.std.specs.Prelude.{◌≡◌, ℕ, List, [], ◌∷◌, Option, Some}
 use Rattle.build_base.specs.Outside.{Files}
 use Rattle.build_words.specs.declared.job.Job.{Job}
 use Rattle.step_engine.specs.Entries.{AreSound}
