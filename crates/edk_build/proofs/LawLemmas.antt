@@ -161,4 +161,4 @@ again_nothing kept first second s f files job ended =
       k.1,
       k.2,
       (k.3.built, no_steps (world_of second.files second.job) k.0 k.3.built.steps (full_of first second f.2.0 files job one.0 one.3 k.0 k.1) k.3.built.counted.ran),
-    )) both.1.built
+    )) both.1.0.built
