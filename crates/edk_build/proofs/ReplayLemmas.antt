@@ -135,6 +135,11 @@ so_far_stopped held at lines line left stand a now st b old mid new f h = (
       (λ files s t. (mid, s, t)),
 )
 
+-- what comes of the lines of a script
+pub follows_script : (held : Option Files) (at : List ℕ) (script : Option (List ScriptLine)) (lines : List ScriptLine) (st : Status) (a b : List Key) (old new : Option (List Emission)) → script ≡ Some lines
+    → Follows held at (Some lines) st a b old new → Follows held at script st a b old new
+follows_script held at script lines st a b old new e f = subst (λ z. Follows held at z st a b old new) (sym e) f
+
 -- what is left behind the first line
 behind : (line : ScriptLine) (left : List ScriptLine) → take (length (line ∷ left) - 1) (drop 1 (line ∷ left)) ≡ left
 behind line left = take_all (length (line ∷ left) - 1) left (omega arith)
