@@ -72,7 +72,7 @@ impl<R: Runtime + AllocGlobal> Tree for DiskTree<R> {
                 if bytes.len() as u64 > limit {
                     return Ok(Got::TooLong);
                 }
-                match Text::shared(self.rt.alloc(), bytes) {
+                match Text::from_vec_shared(self.rt.alloc(), bytes) {
                     Ok(text) => Ok(Got::File(text)),
                     Err(_) => Err(TreeFailed::WantOfMemory),
                 }

@@ -218,7 +218,7 @@ fn show<'a>(store: &'a [u8], note: &Note) -> Seen<'a>
 }
 
 #[tactic(auto, using(crate::proofs::MemorySinkLemmas::all_seen_at, crate::proofs::MemorySinkLemmas::all_seen_past, crate::proofs::MemorySinkLemmas::kept_at))]
-fn shown<'a>(store: &'a [u8], notes: &[Note], k: u64) -> Option<Seen<'a>>
+fn emission_at<'a>(store: &'a [u8], notes: &[Note], k: u64) -> Option<Seen<'a>>
     requires { IsKept store.now notes.now }
     ensures { option_map seen_emission result ≡ slice_get (all_seen store.now notes.now) k }
 {
@@ -249,7 +249,7 @@ impl MemorySink {
     pub fn emission(&self, k: u64) -> Option<Seen<'_>>
         ensures { option_map seen_emission result ≡ slice_get self.now.kept k }
     {
-        shown(self.store.as_slice(), self.notes.as_slice(), k)
+        emission_at(self.store.as_slice(), self.notes.as_slice(), k)
     }
 }
 

@@ -63,7 +63,7 @@ impl Store {
     }
 
     /// These bytes, which copies share.
-    pub(crate) fn shared(alloc: Global, bytes: Vec<u8>) -> Result<Store, AllocError>
+    pub(crate) fn from_vec_shared(alloc: Global, bytes: Vec<u8>) -> Result<Store, AllocError>
         ensures { IfOk result (λ store. store_bytes store ≡ bytes.items) }
     {
         match Arc::new(alloc, bytes) {

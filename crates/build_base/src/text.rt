@@ -49,11 +49,11 @@ impl Text {
     }
 
     /// The text of a vector, without a copy, of which all copies share the bytes.
-    pub fn shared(alloc: Global, bytes: Vec<u8>) -> Result<Text, WantOfMemory>
+    pub fn from_vec_shared(alloc: Global, bytes: Vec<u8>) -> Result<Text, WantOfMemory>
         ensures { IfOk result (λ t. t ≡ bytes.items) }
     {
         Ok(Text {
-            store: Store::shared(alloc, bytes)?,
+            store: Store::from_vec_shared(alloc, bytes)?,
         })
     }
 

@@ -90,7 +90,7 @@ impl<R: Runtime + AllocGlobal> Keeper for DiskKeeper<R> {
                 if bytes.len() > LIMIT {
                     return Ok(None);
                 }
-                match Text::shared(self.rt.alloc(), bytes) {
+                match Text::from_vec_shared(self.rt.alloc(), bytes) {
                     Ok(text) => Ok(Some(text)),
                     Err(_) => Err(KeeperFailed::WantOfMemory),
                 }

@@ -58,7 +58,7 @@ fn shared_path(alloc: Global, path: &Path) -> Result<Path, WantOfMemory>
     ensures { IfOk result (λ p. p ≡ path.now) }
 {
     let bytes = Vec::from_slice(alloc, path.bytes())?;
-    match Path::of_text(Text::shared(alloc, bytes)?) {
+    match Path::of_text(Text::from_vec_shared(alloc, bytes)?) {
         Some(shared) => Ok(shared),
         None => path.copy(alloc),
     }

@@ -101,7 +101,7 @@ fn bytes(
     let mut out = Vec::new(alloc);
     append_head(alloc, &mut out, large, name, &head)?;
     out.extend_from_slice(body)?;
-    Text::shared(alloc, out)
+    Text::from_vec_shared(alloc, out)
 }
 
 // The same, with a header of the length that it states.

@@ -155,5 +155,5 @@ pub fn unpack(alloc: Global, bytes: &[u8]) -> Result<Option<Kept>, WantOfMemory>
         (λ kept. IsTextOf kept.edition kept.cache bytes.now)) }
 {
     let own = Vec::from_slice(alloc, bytes)?;
-    unpack_text(alloc, &Text::shared(alloc, own)?)
+    unpack_text(alloc, &Text::from_vec_shared(alloc, own)?)
 }
