@@ -12,7 +12,7 @@ use Rattle.depex_code.specs.declared.token.Joiner.TheVariants.{And}
 use Rattle.depex_code.specs.Tree.{Tree, both, nest, opcodes, is_alone}
 use Rattle.build_base.specs.FaultText.{fault_of}
 use Rattle.build_base.specs.First.{or_fault}
-use Rattle.depex_code.specs.Compiled.{over, limit_fault, part_tree, no_leave, joined_to, with_group, around, next_tree, parts_tree, groups_tree, map_ok}
+use Rattle.depex_code.specs.Compiled.{limit_detail, limit_fault, part_tree, no_leave, joined_to, with_group, around, next_tree, parts_tree, groups_tree, map_ok}
 use Rattle.depex_code.specs.Sizes.{Reach, reach_of, join_reach, join_size, size_of}
 use Rattle.depex_code.specs.SizedJoins.{join_to_size, join_to_reach, around_reach, with_group_size, reach_fault, next_piece, next_size, parts_size, groups_size}
 use Rattle.depex_code.proofs.SizeLemmas.{join-sized, join-reached, prefix-reached}
@@ -58,14 +58,14 @@ low-lt d n = low (nat_lt n d) refl where
   low true t = lt-ltb n (min d (n + 1)) (omega (arith, ltb-true n d t)) ∙ sym t
   low false f = le-ltb n (min d (n + 1)) (omega (arith, ltb-false n d f)) ∙ sym f
 
-over-low : (d c : ℕ) → over (min d 65) (min c 4097) ≡ over d c
-over-low d c =
+limit_detail-low : (d c : ℕ) → limit_detail (min d 65) (min c 4097) ≡ limit_detail d c
+limit_detail-low d c =
     ap (λ b. cond b (Some (codes "65")) (cond (nat_lt 4096 (min c 4097)) (Some (codes "4097")) None)) (low-lt d 64)
     ∙ ap (λ b. cond (nat_lt 64 d) (Some (codes "65")) (cond b (Some (codes "4097")) None)) (low-lt c 4096)
 
 reach-fault : (at : Place) (t : Tree) → reach_fault at (reached t) ≡ limit_fault at t
 unfolding limit_fault
-reach-fault at t = ap (option_map (fault_of TOO_DEEP at)) (over-low (nest t) (opcodes t))
+reach-fault at t = ap (option_map (fault_of TOO_DEEP at)) (limit_detail-low (nest t) (opcodes t))
 
 next-fault : (front : Bool) (at : Place) (w o : Option Tree) (t : Tree)
     → reach_fault at (around_reach front (join_to_reach (option_map size_of w) (join_to_size (option_map size_of o) (size_of t))))

@@ -118,12 +118,12 @@ abbrev pub around : Bool → Tree → Tree
 around front t = if front then sor t else t
 
 -- 504: the tree nests over 64, or has more than 4,096 opcodes
-abbrev pub over : ℕ → ℕ → Option (List ℕ)
-over deep count = if nat_lt 64 deep then Some (codes "65") else if nat_lt 4096 count
+abbrev pub limit_detail : ℕ → ℕ → Option (List ℕ)
+limit_detail deep count = if nat_lt 64 deep then Some (codes "65") else if nat_lt 4096 count
     then Some (codes "4097") else None
 
 unfoldable pub limit_fault : Place → Tree → Option Fault
-limit_fault at t = option_map (fault_of TOO_DEEP at) (over (nest t) (opcodes t))
+limit_fault at t = option_map (fault_of TOO_DEEP at) (limit_detail (nest t) (opcodes t))
 
 abbrev pub no_leave : Leave
 no_leave = record { sor = false; edge = false }

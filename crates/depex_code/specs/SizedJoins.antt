@@ -11,7 +11,7 @@ use Rattle.depex_code.specs.declared.leave.Leave.{Leave}
 use Rattle.depex_code.specs.declared.token.Joiner.TheVariants.{And}
 use Rattle.build_base.specs.FaultText.{fault_of}
 use Rattle.build_base.specs.First.{or_fault}
-use Rattle.depex_code.specs.Compiled.{over, part_tree, no_leave, map_ok}
+use Rattle.depex_code.specs.Compiled.{limit_detail, part_tree, no_leave, map_ok}
 use Rattle.depex_code.specs.Tree.{each_once}
 use Rattle.depex_code.specs.Sizes.{Reach, Form, Size, join_reach, prefix_reach, join_size, size_of}
 use Rattle.build_base.specs.FaultCodes.{TOO_DEEP}
@@ -32,7 +32,7 @@ with_group_size whole None = whole
 with_group_size whole (Some x) = Some (join_to_size whole x)
 
 abbrev pub reach_fault : Place → Reach → Option Fault
-reach_fault at r = option_map (fault_of TOO_DEEP at) (over r.deep r.count)
+reach_fault at r = option_map (fault_of TOO_DEEP at) (limit_detail r.deep r.count)
 
 -- one more piece of a group
 abbrev pub next_piece : Bool → Option Size → Option Size → Place → Size → Result Size Fault

@@ -3,7 +3,7 @@ ghost use Rattle.std.specs.Prelude.{◌≡◌, ◌++◌, ◌∷◌, [], Some, No
 ghost use Rattle.build_base.specs.First.{and_then};
 ghost use Rattle.build_base.specs.Answer.{AnswersAs, Checks};
 ghost use Rattle.depex_code.specs.Kept.{reach_view, form_view, piece_size};
-ghost use Rattle.depex_code.specs.Compiled.{over, no_leave};
+ghost use Rattle.depex_code.specs.Compiled.{limit_detail, no_leave};
 ghost use Rattle.depex_code.specs.SizedJoins.{join_to_size, join_to_reach, around_reach, with_group_size, reach_fault, next_piece, next_size, parts_size, groups_size, front_bytes, simple_bytes, final_bytes};
 
 use crate::conjunction::conjunction;
@@ -62,8 +62,8 @@ fn around(front: bool, measure: Measure) -> Measure
 }
 
 // What a measure past the limits is refused with.
-fn over(measure: Measure) -> Option<&'static [u8]>
-    ensures { option_map (λ detail. detail.now) result ≡ over measure.deep measure.count }
+fn limit_detail(measure: Measure) -> Option<&'static [u8]>
+    ensures { option_map (λ detail. detail.now) result ≡ limit_detail measure.deep measure.count }
 {
     if measure.deep > DEEPEST {
         return Some(b"65");
@@ -77,7 +77,7 @@ fn over(measure: Measure) -> Option<&'static [u8]>
 fn within_limits(alloc: Global, at: &Place, measure: Measure) -> Result<(), Refusal>
     ensures { Checks result (reach_fault at.now (reach_view measure)) }
 {
-    match over(measure) {
+    match limit_detail(measure) {
         Some(detail) => Err(refuse(alloc, TOO_DEEP, at, detail)),
         None => Ok(()),
     }

@@ -1,12 +1,9 @@
 -- Tables of names.
-use Rattle.std.specs.Prelude.{◌≡◌, ℕ, Bool, List}
-use Rattle.std.specs.Str.{bytes_eq}
+use Rattle.std.specs.Prelude.{◌≡◌, ℕ, List}
 use Rattle.std.specs.Global.{Vec}
 use Rattle.std.specs.HashMap.{HashMap, get}
+pub use Rattle.doc_types.specs.NameKeys.{same_key}
 use Rattle.dsc_lines.specs.SkuLines.{place_of}
-
-abbrev pub same_key : Vec ℕ → Vec ℕ → Bool
-same_key x y = bytes_eq x.items y.items
 
 -- a table gives where each name stands first
 abbrev pub Placed : {S : Type 0} → List (List ℕ) → HashMap (Vec ℕ) ℕ S → Type 0

@@ -1,15 +1,13 @@
 -- Names of volumes and other things, compared without regard to case (EDK II FDF specification).
-use Rattle.std.specs.Prelude.{◌≡◌, ℕ, ◌+◌, Bool, nat_eq, if◌then◌else◌, List, [], ◌∷◌, map, Option, Some, None}
+use Rattle.std.specs.Prelude.{◌≡◌, ℕ, ◌+◌, nat_eq, if◌then◌else◌, List, [], ◌∷◌, map, Option, Some, None}
 use Rattle.std.specs.Char.{to_ascii_lowercase}
 use Rattle.std.specs.Cmp.Lexicographic.{pointwise}
 use Rattle.std.specs.Global.{Vec}
 use Rattle.std.specs.HashMap.{HashMap, get}
+pub use Rattle.doc_types.specs.NameKeys.{same_key}
 
 abbrev pub lower_case : List ℕ → List ℕ
 lower_case name = map to_ascii_lowercase name
-
-abbrev pub same_key : Vec ℕ → Vec ℕ → Bool
-same_key x y = pointwise nat_eq x.items y.items
 
 -- the place of the first name that is a key in lower case
 unfoldable pub place_from : ℕ → List ℕ → List (List ℕ) → Option ℕ

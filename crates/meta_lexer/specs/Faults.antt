@@ -26,6 +26,6 @@ Fails WantOfMemory read = Unit {0}
 Fails (Bad code line start end) read = read
     ≡ Err (record { code = code; line = line; start = start; end = end })
 
-abbrev pub Gives : {X Y : Type 0} → (X → Y) → Result X LexRefusal → Result Y Spot → Type 0
-Gives view (Ok x) read = read ≡ Ok (view x)
-Gives view (Err e) read = Fails e read
+abbrev pub ReadsAs : {X Y : Type 0} → (X → Y) → Result X LexRefusal → Result Y Spot → Type 0
+ReadsAs view (Ok x) read = read ≡ Ok (view x)
+ReadsAs view (Err e) read = Fails e read

@@ -1,7 +1,7 @@
 //! Parts of a text between marks that stand outside quotes, parentheses and braces.
 ghost use Rattle.std.specs.Prelude.{◌≡◌, ℕ, ◌+◌, ◌-◌, ◌<◌, ◌≤◌, ◌^◌, ◌==◌, length, not, IfOk, OnOk, ◌++◌, ◌∷◌, []};
 ghost use Rattle.std.specs.List.{suffix_len, All};
-ghost use Rattle.meta_lexer.specs.Faults.{Gives};
+ghost use Rattle.meta_lexer.specs.Faults.{ReadsAs};
 ghost use Rattle.meta_lexer.specs.Fields.{fields_of, parts_of, open_view, after, separates, ends_quoted, IsWithin};
 
 use crate::refusal::LexRefusal;
@@ -121,7 +121,7 @@ pub fn split_unquoted(
 /// The fields of a line, between `|`.
 #[tactic(auto, unfolding(crate::specs::Fields::fields_of))]
 pub fn fields(alloc: Global, text: &[u8]) -> Result<Vec<Span>, LexRefusal>
-    ensures fields { Gives (λ v. v.items) result (fields_of text.now) }
+    ensures fields { ReadsAs (λ v. v.items) result (fields_of text.now) }
     ensures within { IfOk result (λ v. All (IsWithin text.now) v.items) }
 {
     if ends_quoted(text) {

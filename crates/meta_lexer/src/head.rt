@@ -2,7 +2,7 @@
 ghost use Rattle.std.specs.Prelude.{◌≡◌, ◌<◌, ◌≤◌, ◌==◌, IfOk, length, nat_lt, not, Some, None, if◌then◌else◌};
 ghost use Rattle.std.specs.Option.{option_map};
 ghost use Rattle.std.specs.List.{list_all};
-ghost use Rattle.meta_lexer.specs.Faults.{Gives};
+ghost use Rattle.meta_lexer.specs.Faults.{ReadsAs};
 ghost use Rattle.meta_lexer.specs.Fields.{bytes_at, IsWithin};
 ghost use Rattle.meta_lexer.specs.Heads.{inner, stands_between, is_quoted, without_quotes, part_at, head_of, heads_of, is_head, are_heads, begins_section, section_of};
 
@@ -128,7 +128,7 @@ pub fn begins_section(text: &[u8]) -> bool
 /// The heads of a section, or nothing where the text is no section's head.
 #[tactic(auto, unfolding(crate::specs::Heads::section_of))]
 pub fn section_head(alloc: Global, text: &[u8]) -> Result<Option<Rows<Head>>, LexRefusal>
-    ensures { Gives (λ o. o) result (section_of text.now) }
+    ensures { ReadsAs (λ o. o) result (section_of text.now) }
 {
     if !begins_section(text) {
         return Ok(None);

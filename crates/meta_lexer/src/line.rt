@@ -2,7 +2,7 @@
 
 ghost use Rattle.std.specs.Prelude.{◌≡◌, ◌≢◌, ℕ, ◌+◌, ◌-◌, ◌*◌, ◌<◌, ◌≤◌, ◌^◌, List, [], ◌∷◌, length, take, drop, map, IsTrue, false, not, ◌↔◌, ◌⊎◌};
 ghost use Rattle.std.specs.List.{prefix_len, suffix_len, position_or_len};
-ghost use Rattle.meta_lexer.specs.Faults.{Gives};
+ghost use Rattle.meta_lexer.specs.Faults.{ReadsAs};
 ghost use Rattle.build_base.specs.First.{unless};
 ghost use Rattle.meta_lexer.specs.Lines.{piece_of, is_feed, lines_of, line_view, piece_line, piece_fault, pieces_from, comment_from, without_blanks, without_return};
 
@@ -146,7 +146,7 @@ fn bad_at(text: &[u8]) -> usize
 pub fn line_of(number: u64, start: u64, piece: &[u8]) -> Result<Line<'_>, LexRefusal>
     requires { start + length piece.now < 2 ^ 64 }
     ensures { let p = piece_of number start piece.now
-        in Gives line_view result (unless (piece_fault p) (piece_line p)) }
+        in ReadsAs line_view result (unless (piece_fault p) (piece_line p)) }
 {
     let text = without_line_end(piece);
     let code = before_comment(text);
@@ -176,7 +176,7 @@ pub fn line_of(number: u64, start: u64, piece: &[u8]) -> Result<Line<'_>, LexRef
 
 /// The lines of a text, or the fault of the first piece that has one.
 pub fn lines(alloc: Global, bytes: &[u8]) -> Result<Vec<Line<'_>>, LexRefusal>
-    ensures { Gives (λ v. map line_view v.items) result (lines_of bytes.now) }
+    ensures { ReadsAs (λ v. map line_view v.items) result (lines_of bytes.now) }
 {
     let mut found = Vec::new(alloc);
     let mut number = 1;

@@ -1,7 +1,7 @@
 //! Tokens of a text: words, numerals, quoted texts and marks.
 ghost use Rattle.std.specs.Prelude.{◌≡◌, ℕ, List, ◌+◌, ◌-◌, ◌<◌, ◌≤◌, ◌^◌, ◌==◌, ◌++◌, min, length, drop, not, IfOk, OnOk};
 ghost use Rattle.std.specs.List.{list_all, prefix_len, position_or_len, All};
-ghost use Rattle.meta_lexer.specs.Faults.{Gives};
+ghost use Rattle.meta_lexer.specs.Faults.{ReadsAs};
 ghost use Rattle.meta_lexer.specs.Numbers.{is_digit};
 ghost use Rattle.meta_lexer.specs.Tokens.{is_word_byte, are_digits, is_numeral, is_pair, word_size, quoted_size, mark_size, word_kind, front_of, front_view, tokens_after, tokens_of, quoted_of, token_span};
 ghost use Rattle.meta_lexer.specs.Fields.{IsWithin};
@@ -191,7 +191,7 @@ fn push_front(found: &mut Vec<Token>, at: usize, rest: &[u8]) -> Result<usize, W
 /// The tokens of a text, in order.
 #[tactic(auto, unfolding(crate::specs::Tokens::tokens_of))]
 pub fn tokens(alloc: Global, text: &[u8]) -> Result<Vec<Token>, LexRefusal>
-    ensures tokens { Gives (λ v. v.items) result (tokens_of text.now) }
+    ensures tokens { ReadsAs (λ v. v.items) result (tokens_of text.now) }
     ensures within { IfOk result
         (λ v. All (λ token. IsWithin text.now (token_span token)) v.items) }
 {

@@ -1,9 +1,9 @@
 -- Which sections of a module's file require the files that they name (EDK II FDF specification,
 -- [Rule] sections).
-use Rattle.std.specs.Prelude.{◌≡◌, ℕ, ◌&&◌, not, Bool, nat_eq, find, List, drop, Option, Some, None, slice_get}
-use Rattle.std.specs.Cmp.Lexicographic.{pointwise}
+use Rattle.std.specs.Prelude.{◌≡◌, ℕ, ◌&&◌, not, Bool, find, List, drop, Option, Some, None, slice_get}
 use Rattle.std.specs.Global.{Vec}
 use Rattle.std.specs.HashMap.{HashMap, get}
+pub use Rattle.doc_types.specs.NameKeys.{same_key}
 use Rattle.doc_types.specs.declared.volume.SectionPlan.{SectionPlan}
 use Rattle.module_images.specs.Asks.{is_source_of}
 
@@ -14,9 +14,6 @@ requires_path path section = not section.optional && is_source_of path section.s
 -- the first of some sections that requires the file of a path
 abbrev pub requiring : List SectionPlan → List ℕ → Option SectionPlan
 requiring sections path = find (requires_path path) sections
-
-abbrev pub same_key : Vec ℕ → Vec ℕ → Bool
-same_key x y = pointwise nat_eq x.items y.items
 
 abbrev pub section_at : {X : Type 0} → List X → Option ℕ → Option X
 section_at xs None = None

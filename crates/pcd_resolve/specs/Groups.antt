@@ -1,15 +1,13 @@
 -- Tables of items by their names.
-use Rattle.std.specs.Prelude.{◌≡◌, ℕ, Bool, true, nat_eq, List, [], map, filter, Option, Some, None}
-use Rattle.std.specs.Cmp.Lexicographic.{pointwise, slice_cmp}
+use Rattle.std.specs.Prelude.{◌≡◌, ℕ, Bool, true, List, [], map, filter, Option, Some, None}
+use Rattle.std.specs.Cmp.Lexicographic.{slice_cmp}
 use Rattle.std.specs.Ordering.{nat_cmp}
 use Rattle.std.specs.declared.cmp.Ordering.{Ordering}
 use Rattle.std.specs.Global.{Vec}
 use Rattle.std.specs.HashMap.{HashMap, get}
 use Rattle.std.specs.Str.{bytes_eq}
+pub use Rattle.doc_types.specs.NameKeys.{same_key}
 use Rattle.pcd_resolve.specs.NameFilter.{is_kept}
-
-abbrev pub same_key : Vec ℕ → Vec ℕ → Bool
-same_key x y = pointwise nat_eq x.items y.items
 
 -- the order of names by their bytes
 abbrev pub by_bytes : Vec ℕ → Vec ℕ → Ordering

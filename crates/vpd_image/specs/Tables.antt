@@ -1,8 +1,8 @@
 -- The entries that the code holds, and its table of the rows that are left.
-use Rattle.std.specs.Prelude.{◌≡◌, ℕ, Bool, nat_eq, List, find, drop, Option, Some, None, slice_get}
-use Rattle.std.specs.Cmp.Lexicographic.{pointwise}
+use Rattle.std.specs.Prelude.{◌≡◌, ℕ, List, find, drop, Option, Some, None, slice_get}
 use Rattle.std.specs.Global.{Vec}
 use Rattle.std.specs.HashMap.{HashMap, get}
+pub use Rattle.doc_types.specs.NameKeys.{same_key}
 use Rattle.doc_types.specs.declared.arch.Arch.{Arch}
 use Rattle.doc_types.specs.declared.platform.PcdLine.{PcdLine}
 use Rattle.doc_types.specs.declared.values.PcdRow.{PcdRow}
@@ -16,9 +16,6 @@ entry_view e = record { line = e.line.now; row = e.row.now }
 
 abbrev pub placed_view : PlacedLine → Placed
 placed_view p = record { entry = entry_view p.entry; offset = p.offset }
-
-abbrev pub same_key : Vec ℕ → Vec ℕ → Bool
-same_key x y = pointwise nat_eq x.items y.items
 
 abbrev pub row_at : {X : Type 0} → List X → Option ℕ → Option X
 row_at xs None = None
