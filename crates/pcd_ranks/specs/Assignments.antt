@@ -12,7 +12,8 @@ use Rattle.doc_types.specs.declared.platform.Store.{Store}
 use Rattle.doc_types.specs.declared.platform.Store.TheVariants.{Vpd}
 use Rattle.doc_types.specs.declared.pcd.PcdSet.{PcdSet}
 use Rattle.build_base.specs.Best.{best}
-use Rattle.pcd_ranks.specs.Names.{dotted, is_common, is_void}
+use Rattle.doc_types.specs.Pcds.{full_name}
+use Rattle.pcd_ranks.specs.Names.{is_common, is_void}
 use Rattle.pcd_ranks.specs.Listing.{Use, Stated, applies}
 
 -- An assignment: its rank, of which 1 is the highest, whether it is for an architecture of its own,
@@ -92,7 +93,7 @@ by_set set =
     record { rank = set.rank; own = false; at = set.at; value = Some set.value; max = None }
 
 abbrev pub sets_of : List ℕ → List PcdSet → List PcdSet
-sets_of pcd sets = filter (λ set. bytes_eq (dotted set.pcd) pcd) sets
+sets_of pcd sets = filter (λ set. bytes_eq (full_name set.pcd) pcd) sets
 
 -- the assignments of a PCD for a module, from its declaration, its uses, the platform's lines and
 -- the sets that name it

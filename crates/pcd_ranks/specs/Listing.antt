@@ -13,7 +13,8 @@ use Rattle.doc_types.specs.declared.parts.Package.{Package}
 use Rattle.doc_types.specs.declared.platform.Component.{Component}
 use Rattle.doc_types.specs.declared.platform.PcdLine.{PcdLine}
 use Rattle.doc_types.specs.declared.platform.PlatformDoc.{PlatformDoc}
-use Rattle.pcd_ranks.specs.Names.{dotted, serves}
+use Rattle.doc_types.specs.Pcds.{full_name}
+use Rattle.pcd_ranks.specs.Names.{serves}
 
 -- A line of the package of a path.
 pub record Declared : Type 0 where
@@ -28,7 +29,7 @@ unfoldable pub package_lines : List Package → List Declared
 package_lines decs = flat_map (λ held. map (line_from held.path) held.doc.pcds) decs
 
 abbrev pub declared_of : List ℕ → List Declared → List Declared
-declared_of pcd lines = filter (λ d. bytes_eq (dotted d.line.pcd) pcd) lines
+declared_of pcd lines = filter (λ d. bytes_eq (full_name d.line.pcd) pcd) lines
 
 -- a line of the package of a path that counts for an architecture
 unfoldable pub is_from : Arch → List ℕ → Declared → Bool
@@ -83,8 +84,8 @@ unfoldable pub use_of : ModuleParts → InfDoc → UsedPcd → Use
 use_of parts inf line = record {
   user = parts.«module»;
   line = line;
-  own = declared_for parts inf (dotted line.pcd);
-  all = declared_in parts (dotted line.pcd);
+  own = declared_for parts inf (full_name line.pcd);
+  all = declared_in parts (full_name line.pcd);
 }
 
 -- the uses by an INF of a module: its lines that count for the module's architecture
@@ -101,7 +102,7 @@ unfoldable pub uses_in : List ModuleParts → List Use
 uses_in modules = flat_map uses_of_module modules
 
 abbrev pub uses_of : List ℕ → List Use → List Use
-uses_of pcd uses = filter (λ used. bytes_eq (dotted used.line.pcd) pcd) uses
+uses_of pcd uses = filter (λ used. bytes_eq (full_name used.line.pcd) pcd) uses
 
 -- A line of the platform, and the component in which it stands, if it stands in one.
 pub record Stated : Type 0 where
@@ -116,7 +117,7 @@ stated_in platform =
     platform.components
 
 abbrev pub stated_for : List ℕ → List Stated → List Stated
-stated_for pcd lines = filter (λ stated. bytes_eq (dotted stated.line.pcd) pcd) lines
+stated_for pcd lines = filter (λ stated. bytes_eq (full_name stated.line.pcd) pcd) lines
 
 -- a line of a section applies to the modules of its architecture, one of a component to the
 -- component's module

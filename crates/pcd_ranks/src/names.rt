@@ -1,22 +1,9 @@
 //! When names, kinds, types and architectures are the same.
-ghost use Rattle.std.specs.Prelude.{◌≡◌, IfOk};
-ghost use Rattle.pcd_ranks.specs.Names.{dotted, serves, is_common, same_kind, same_datum, is_void, is_dynamic};
+ghost use Rattle.std.specs.Prelude.{◌≡◌};
+ghost use Rattle.pcd_ranks.specs.Names.{serves, is_common, same_kind, same_datum, is_void, is_dynamic};
 
 use doc_types::arch::Arch;
-use doc_types::pcd::{Datum, Kind, PcdName};
-use std::alloc::{AllocError, Global};
-
-/// `Space.Name`.
-pub fn dotted(alloc: Global, pcd: &PcdName) -> Result<Vec<u8>, AllocError>
-    ensures { IfOk result (λ v. v.items ≡ dotted pcd.now) }
-{
-    let (space, name) = (pcd.space.bytes(), pcd.name.bytes());
-    let mut joined = Vec::with_capacity(alloc, space.len() + 1 + name.len())?;
-    joined.extend_from_slice(space)?;
-    joined.extend_from_slice(b".")?;
-    joined.extend_from_slice(name)?;
-    Ok(joined)
-}
+use doc_types::pcd::{Datum, Kind};
 
 /// Whether a line of an architecture counts for another one.
 #[tactic(auto, unfolding(crate::specs::Names::serves))]

@@ -10,13 +10,13 @@ use Rattle.std.specs.Ordering.{nat_cmp}
 use Rattle.build_base.proofs.Steps.{head_drop}
 use Rattle.doc_types.specs.declared.parts.ModuleParts.{ModuleParts}
 use Rattle.pcd_ranks.specs.Listing.{Use, uses_of_module}
-use Rattle.pcd_ranks.specs.Names.{dotted}
+use Rattle.doc_types.specs.Pcds.{full_name}
 use Rattle.pcd_resolve.specs.Rows.{with_names}
 
 with_both : (names : List (List ℕ)) (us vs : List Use) → with_names names (us ++ vs) ≡ with_names (with_names names us) vs
 with_both names us vs =
-    ap (λ ns. fold (insert_key (slice_cmp nat_cmp)) names ns) (map-append (λ used. dotted used.line.pcd) us vs)
-    ∙ fold-append (insert_key (slice_cmp nat_cmp)) names (map (λ used. dotted used.line.pcd) us) (map (λ used. dotted used.line.pcd) vs)
+    ap (λ ns. fold (insert_key (slice_cmp nat_cmp)) names ns) (map-append (λ used. full_name used.line.pcd) us vs)
+    ∙ fold-append (insert_key (slice_cmp nat_cmp)) names (map (λ used. full_name used.line.pcd) us) (map (λ used. full_name used.line.pcd) vs)
 
 -- the names of one module more
 pub names_more : (names more whole : List (List ℕ)) (modules : List ModuleParts) (i : ℕ) (parts : ModuleParts)

@@ -12,7 +12,8 @@ use Rattle.doc_types.specs.declared.package.DecPcd.{DecPcd}
 use Rattle.doc_types.specs.declared.pcd.Datum.{Datum}
 use Rattle.doc_types.specs.declared.pcd.Datum.TheVariants.{U8, U16, U32, U64, Boolean, Void}
 use Rattle.doc_types.specs.declared.pcd.Kind.{Kind}
-use Rattle.pcd_ranks.specs.Names.{dotted, same_kind, same_datum, is_dynamic}
+use Rattle.doc_types.specs.Pcds.{full_name}
+use Rattle.pcd_ranks.specs.Names.{same_kind, same_datum, is_dynamic}
 use Rattle.pcd_ranks.specs.Listing.{Use, Stated, applies}
 use Rattle.pcd_resolve.specs.Kinds.{asked_kind, has_kind, Claim, claims, kind_of, declaration}
 use Rattle.build_base.specs.FaultCodes.{DATUM_CONFLICT, DYNAMIC_IN_COMPONENT, KIND_ASKED, KIND_CONFLICT, NOT_DECLARED, SKU_ON_FIXED}
@@ -24,7 +25,7 @@ nothing (x ∷ xs) = false
 -- NotDeclared: no package of the INF declares the PCD for the architecture
 unfoldable pub not_declared : Use → Option Fault
 not_declared used = if nothing used.own
-    then Some (fault_of NOT_DECLARED used.line.at (dotted used.line.pcd))
+    then Some (fault_of NOT_DECLARED used.line.at (full_name used.line.pcd))
     else None
 
 -- how a type is written
@@ -66,13 +67,13 @@ is_inside (Some home) = true
 -- DynamicInComponent: a line of a dynamic kind in a component
 unfoldable pub dynamic_in_component : Stated → Option Fault
 dynamic_in_component stated = if is_inside stated.home && is_dynamic stated.line.kind
-    then Some (fault_of DYNAMIC_IN_COMPONENT stated.line.at (dotted stated.line.pcd)) else None
+    then Some (fault_of DYNAMIC_IN_COMPONENT stated.line.at (full_name stated.line.pcd)) else None
 
 -- SkuOnFixed: a SKU other than DEFAULT for another kind
 unfoldable pub sku_on_fixed : Stated → Option Fault
 sku_on_fixed stated =
     if not (is_dynamic stated.line.kind) && not (bytes_eq stated.line.sku (codes "DEFAULT"))
-    then Some (fault_of SKU_ON_FIXED stated.line.at (dotted stated.line.pcd)) else None
+    then Some (fault_of SKU_ON_FIXED stated.line.at (full_name stated.line.pcd)) else None
 
 -- KindConflict: a line says another kind than the first one
 unfoldable pub kind_conflict : List ℕ → Kind → Claim → Option Fault
@@ -87,7 +88,7 @@ asks_other kind (Some asked) = not (same_kind asked kind)
 unfoldable pub kind_asked : Kind → Use → Option Fault
 kind_asked kind used =
     if asks_other kind (asked_kind used.line.asked) || not (has_kind used.own kind)
-    then Some (fault_of KIND_ASKED used.line.at (dotted used.line.pcd)) else None
+    then Some (fault_of KIND_ASKED used.line.at (full_name used.line.pcd)) else None
 
 -- the faults that suppose a kind, each at its first line
 unfoldable pub kind_faults : List ℕ → List Use → List Stated → Kind → Option Fault

@@ -16,7 +16,8 @@ use Rattle.doc_types.specs.declared.pcd.PcdSet.{PcdSet}
 use Rattle.doc_types.specs.declared.values.PcdRow.{PcdRow}
 use Rattle.doc_types.specs.declared.values.Values.{Values}
 use Rattle.pcd_values.specs.Parsing.{width, parsed}
-use Rattle.pcd_ranks.specs.Names.{dotted, is_void, is_dynamic}
+use Rattle.doc_types.specs.Pcds.{full_name}
+use Rattle.pcd_ranks.specs.Names.{is_void, is_dynamic}
 use Rattle.pcd_ranks.specs.Listing.{Use, Stated, uses_of_module, uses_of, stated_in, stated_for, declared_in}
 use Rattle.pcd_resolve.specs.Kinds.{declaration}
 use Rattle.pcd_resolve.specs.Faults.{checked_kind}
@@ -71,7 +72,7 @@ row_of kind line sku all = row_from kind line sku all (value_from all)
 
 -- the rows of a dynamic kind are those of the platform
 abbrev pub rows_named : List ℕ → List PcdRow → List PcdRow
-rows_named pcd rows = filter (λ row. bytes_eq (dotted row.pcd) pcd) rows
+rows_named pcd rows = filter (λ row. bytes_eq (full_name row.pcd) pcd) rows
 
 abbrev pub fixed_row : Module → List Use → List Stated → List PcdSet → Kind → Option DecPcd
     → Result (List PcdRow) Fault
@@ -99,7 +100,7 @@ rows_of pcd user uses lines declared sets dynamic =
 -- names with those of uses, in ascending order
 abbrev pub with_names : List (List ℕ) → List Use → List (List ℕ)
 with_names names uses = fold (insert_key (slice_cmp nat_cmp)) names
-    (map (λ used. dotted used.line.pcd) uses)
+    (map (λ used. full_name used.line.pcd) uses)
 
 -- the names of uses in ascending order, each once
 unfoldable pub names_of : List Use → List (List ℕ)

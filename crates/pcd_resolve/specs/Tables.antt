@@ -8,24 +8,24 @@ use Rattle.doc_types.specs.declared.values.PcdRow.{PcdRow}
 use Rattle.pcd_resolve.specs.declared.packages.ModuleTables.{ModuleTables}
 use Rattle.pcd_resolve.specs.Groups.{GroupedAt}
 use Rattle.pcd_resolve.specs.NameFilter.{is_kept}
-use Rattle.pcd_ranks.specs.Names.{dotted}
+use Rattle.doc_types.specs.Pcds.{full_name}
 use Rattle.pcd_ranks.specs.Listing.{Declared, Use, Stated, arch_of, package_lines, packages_in}
 use Rattle.pcd_ranks.specs.Views.{declared_view}
 
 abbrev pub stated_name : Stated → List ℕ
-stated_name stated = dotted stated.line.pcd
+stated_name stated = full_name stated.line.pcd
 
 abbrev pub use_name : Use → List ℕ
-use_name used = dotted used.line.pcd
+use_name used = full_name used.line.pcd
 
 abbrev pub set_name : PcdSet → List ℕ
-set_name set = dotted set.pcd
+set_name set = full_name set.pcd
 
 abbrev pub row_name : PcdRow → List ℕ
-row_name row = dotted row.pcd
+row_name row = full_name row.pcd
 
 abbrev pub declared_name : Declared → List ℕ
-declared_name d = dotted d.line.pcd
+declared_name d = full_name d.line.pcd
 
 abbrev pub at_home : Option Component → PcdLine → Stated
 at_home home line = record { home = home; line = line }

@@ -6,7 +6,7 @@ ghost use Rattle.build_base.specs.FaultText.{fault_of};
 ghost use Rattle.meta_lexer.specs.Faults.{first_fault};
 ghost use Rattle.pcd_resolve.specs.Kinds.{claims, claim_of, kind_given, declaration};
 ghost use Rattle.pcd_resolve.specs.Faults.{not_declared, datum_text, datum_differs, is_other, is_against, asks_other, datum_conflict, dynamic_in_component, sku_on_fixed, kind_conflict, kind_asked, kind_faults, pcd_fault, checked_kind};
-ghost use Rattle.pcd_ranks.specs.Names.{dotted};
+ghost use Rattle.doc_types.specs.Pcds.{full_name};
 ghost use Rattle.pcd_ranks.specs.Views.{use_view, stated_view};
 
 use crate::kinds::{asked_kind, declaration, has_kind, kind_given, kind_of};
@@ -17,7 +17,7 @@ use build_base::{Place, Refusal, refuse};
 use doc_types::package::DecPcd;
 use doc_types::pcd::{Datum, Kind, PcdName};
 use pcd_ranks::listing::{StatedLine, UseLine, applies};
-use pcd_ranks::names::{dotted, is_dynamic, same_datum, same_kind};
+use pcd_ranks::names::{is_dynamic, same_datum, same_kind};
 use std::alloc::Global;
 
 #[tactic(auto, unfolding(crate::specs::Faults::not_declared))]
@@ -194,9 +194,9 @@ fn dynamic_in_component(alloc: Global, stated: &StatedLine<'_>) -> Result<(), Re
 }
 
 fn refuse_named(alloc: Global, code: u16, at: &Place, pcd: &PcdName) -> Refusal
-    ensures { Finds result (Some (fault_of code at.now (dotted pcd.now))) }
+    ensures { Finds result (Some (fault_of code at.now (full_name pcd.now))) }
 {
-    match dotted(alloc, pcd) {
+    match pcd.full_name(alloc) {
         Ok(name) => refuse(alloc, code, at, name.as_slice()),
         Err(_) => Refusal::WantOfMemory,
     }

@@ -4,7 +4,7 @@
 ghost use Rattle.std.specs.Prelude.{◌≡◌, ◌<◌, ◌++◌, codes, fold, length, map, slice_get, OnOk, IfOk};
 ghost use Rattle.pcd_ranks.specs.Listing.{uses_of_module};
 ghost use Rattle.pcd_resolve.specs.NameFilter.{is_kept, mark_of, place_of, step, with_mark, with_marks};
-ghost use Rattle.pcd_ranks.specs.Names.{dotted};
+ghost use Rattle.doc_types.specs.Pcds.{full_name};
 ghost use Rattle.pcd_resolve.specs.Tables.{use_name, AllKept};
 ghost use Rattle.pcd_ranks.specs.Views.{at_view};
 
@@ -13,7 +13,6 @@ use build_base::WantOfMemory;
 use doc_types::parts::ModuleParts;
 use doc_types::pcd::PcdName;
 use pcd_ranks::listing::UseAt;
-use pcd_ranks::names::dotted;
 use std::alloc::Global;
 
 fn place_from(start: usize, bytes: &[u8]) -> usize
@@ -81,7 +80,7 @@ pub fn is_kept(marks: &[bool], name: &[u8]) -> bool
 
 /// Whether lines of a PCD are wanted. Its name is not put together for that.
 pub(crate) fn is_pcd_kept(marks: &[bool], pcd: &PcdName) -> bool
-    ensures { result ≡ is_kept marks.now (dotted pcd.now) }
+    ensures { result ≡ is_kept marks.now (full_name pcd.now) }
 {
     let name = pcd.name.bytes();
     if name.len() < 8 {
@@ -111,7 +110,7 @@ fn mark_use(
     ensures { OnOk result (marks.new.items
         ≡ with_mark marks.old.items (use_name (at_view parts.now at.now))) }
 {
-    let name = dotted(alloc, &at.line.pcd)?;
+    let name = at.line.pcd.full_name(alloc)?;
     mark(marks, name.as_slice());
     Ok(())
 }

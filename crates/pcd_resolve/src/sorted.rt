@@ -14,7 +14,6 @@ use crate::uses::uses_of_module;
 use build_base::WantOfMemory;
 use doc_types::parts::ModuleParts;
 use pcd_ranks::listing::UseAt;
-use pcd_ranks::names::dotted;
 use std::alloc::Global;
 use std::collections::BTreeSet;
 
@@ -46,7 +45,7 @@ fn put_use(
         ≡ insert_key (slice_cmp nat_cmp) (map (λ n. n.items) names.old.keys)
         (use_name (at_view parts.now at.now))) }
 {
-    let name = dotted(alloc, &at.line.pcd)?;
+    let name = at.line.pcd.full_name(alloc)?;
     put_name(names, name)?;
     Ok(())
 }

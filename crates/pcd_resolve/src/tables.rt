@@ -20,7 +20,6 @@ use doc_types::platform::{Component, PcdLine, PlatformDoc};
 use doc_types::values::PcdRow;
 use indexmap::IndexMap;
 use pcd_ranks::listing::{DeclaredLine, StatedLine};
-use pcd_ranks::names::dotted;
 use std::alloc::Global;
 
 fn add_line<'a>(
@@ -37,7 +36,7 @@ fn add_line<'a>(
     if !is_pcd_kept(marks, &line.pcd) {
         return Ok(());
     }
-    let name = dotted(alloc, &line.pcd)?;
+    let name = line.pcd.full_name(alloc)?;
     add(alloc, table, name, StatedLine { home, line })?;
     Ok(())
 }
@@ -103,7 +102,7 @@ fn add_set<'a>(
     if !is_pcd_kept(marks, &set.pcd) {
         return Ok(());
     }
-    let name = dotted(alloc, &set.pcd)?;
+    let name = set.pcd.full_name(alloc)?;
     add(alloc, table, name, set)?;
     Ok(())
 }
@@ -136,7 +135,7 @@ fn add_row<'a>(
     if !is_pcd_kept(marks, &row.pcd) {
         return Ok(());
     }
-    let name = dotted(alloc, &row.pcd)?;
+    let name = row.pcd.full_name(alloc)?;
     add(alloc, table, name, row)?;
     Ok(())
 }
@@ -171,7 +170,7 @@ fn add_declared<'a>(
     if !is_pcd_kept(marks, &line.pcd) {
         return Ok(());
     }
-    let name = dotted(alloc, &line.pcd)?;
+    let name = line.pcd.full_name(alloc)?;
     add(alloc, table, name, DeclaredLine { from, line })?;
     Ok(())
 }

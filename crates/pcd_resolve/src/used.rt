@@ -15,7 +15,6 @@ use build_base::WantOfMemory;
 use doc_types::parts::ModuleParts;
 use indexmap::IndexMap;
 use pcd_ranks::listing::{UseAt, UseLine};
-use pcd_ranks::names::dotted;
 use std::alloc::Global;
 
 #[tactic(auto, unfolding(pcd_ranks::specs::Listing::use_of))]
@@ -48,7 +47,7 @@ fn name_of(
 ) -> Result<Vec<u8>, WantOfMemory>
     ensures { IfOk result (λ v. v.items ≡ use_name (at_view tables.now.parts.now at.now)) }
 {
-    Ok(dotted(alloc, &at.line.pcd)?)
+    Ok(at.line.pcd.full_name(alloc)?)
 }
 
 fn add_use<'a>(

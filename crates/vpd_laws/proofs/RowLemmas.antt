@@ -26,7 +26,8 @@ use Rattle.doc_types.specs.declared.platform.Sku.{Sku}
 use Rattle.doc_types.specs.declared.values.PcdRow.{PcdRow}
 use Rattle.doc_types.specs.declared.values.Values.{Values}
 use Rattle.pcd_values.specs.Parsing.{width, bytes_of, fitting, number_bytes, number_value, parsed}
-use Rattle.pcd_ranks.specs.Names.{dotted, is_void, is_dynamic}
+use Rattle.doc_types.specs.Pcds.{full_name}
+use Rattle.pcd_ranks.specs.Names.{is_void, is_dynamic}
 use Rattle.pcd_ranks.specs.Listing.{Use, Stated, uses_in, uses_of, uses_of_module, stated_in, stated_for, declared_in}
 use Rattle.pcd_ranks.specs.Assignments.{Assignment, assignments, sets_of, value_from, max_from}
 use Rattle.pcd_resolve.specs.Faults.{checked_kind}
@@ -215,7 +216,7 @@ used_sized : (ask : ModuleAsk) (uses : List Use) (lines : List Stated) (pcd : Li
 unfolding rows_in
 used_sized ask uses lines pcd rows a e =
     named_sized pcd ask.parts.«module» (uses_of pcd uses) (stated_for pcd lines) (declared_in ask.parts pcd) (sets_of pcd (sets_in ask)) (rows_named pcd ask.dynamic.rows) rows
-    (kept_sized (λ row. bytes_eq (dotted row.pcd) pcd) ask.dynamic.rows a) e
+    (kept_sized (λ row. bytes_eq (full_name row.pcd) pcd) ask.dynamic.rows a) e
 
 pub module_sized : (ask : ModuleAsk) (values : Values) → AreSized ask.dynamic.rows → module_values ask ≡ Ok values → AreSized values.rows
 unfolding module_values
