@@ -1,5 +1,5 @@
 //! Files that stand ready, and how they are written: it takes no memory.
-ghost use Rattle.std.specs.Prelude.{◌≡◌, ◌≤◌, ◌++◌, ◌∷◌, IfOk, map, length, List, ℕ, codes};
+ghost use Rattle.std.specs.Prelude.{◌≡◌, ◌≤◌, ◌++◌, [], ◌∷◌, IfOk, map, length, List, ℕ, codes};
 ghost use Rattle.build_base.specs.Outside.{Cause};
 ghost use Rattle.build_base.specs.Spelling.{WritesFile, Writes};
 ghost use Rattle.edk_build.specs.FilePair.{output_of};
@@ -49,6 +49,7 @@ impl<'a> FileOut<'a> {
 fn first_piece<'a>(pieces: &mut ContentPieces<'a>) -> &'a [u8]
     ensures whole { pieces.old ≡ result.now ++ pieces.new }
     ensures short { length result.now ≤ 65536 }
+    ensures empty { result.now ≡ [] → pieces.new ≡ [] }
 {
     match pieces.next() {
         Some(piece) => piece,
