@@ -19,7 +19,7 @@ use Rattle.doc_types.specs.declared.parts.ModuleParts.{ModuleParts}
 use Rattle.doc_types.specs.declared.parts.Package.{Package}
 use Rattle.pcd_resolve.specs.Listing.{packages_of}
 use Rattle.pcd_resolve.specs.NameFilter.{with_marks}
-use Rattle.pcd_resolve.specs.Names.{serves}
+use Rattle.pcd_resolve.specs.Names.{covers}
 use Rattle.build_base.specs.FaultCodes.{AUTOGEN_GUID_UNKNOWN}
 
 -- A line of the package of a path.
@@ -42,7 +42,7 @@ lines_of name lines = filter (λ d. bytes_eq (declared_name d) name) lines
 
 -- a line of the package of a path that counts for an architecture
 unfoldable pub is_from : Arch → List ℕ → Declared → Bool
-is_from arch path d = bytes_eq d.from path && serves d.line.arch arch
+is_from arch path d = bytes_eq d.from path && covers d.line.arch arch
 
 -- what the first line of a package says
 abbrev pub guid_from : Arch → List Declared → List ℕ → Option Guid
@@ -64,7 +64,7 @@ found_guid named (Some guid) = Ok ((named.name, guid) ∷ [])
 -- what a line of an INF with these packages names; a line of another architecture names nothing
 unfoldable pub line_guids : Arch → List Declared → List (List ℕ) → Named → Result (List Found) Fault
 line_guids arch lines paths named =
-    if serves named.arch arch then found_guid named (first_guid arch (lines_of named.name lines) paths)
+    if covers named.arch arch then found_guid named (first_guid arch (lines_of named.name lines) paths)
     else Ok []
 
 -- what all give, or the first fault

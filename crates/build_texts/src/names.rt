@@ -13,13 +13,12 @@ ghost use Rattle.build_texts.specs.Views.{declared_view, entry_view, given, seen
 use crate::packages::{DeclaredGuid, first_guid, lines_by_name};
 use build_base::fault_codes::AUTOGEN_GUID_UNKNOWN;
 use build_base::{Guid, Refusal, WantOfMemory, refuse};
-use doc_types::arch::Arch;
+use doc_types::arch::{Arch, covers};
 use doc_types::module::{InfDoc, Named};
 use doc_types::parts::ModuleParts;
 use indexmap::IndexMap;
 use pcd_resolve::groups::group;
 use pcd_resolve::name_filter::{mark, no_marks};
-use pcd_resolve::names::serves;
 use pcd_resolve::packages::packages_of;
 use shared_value::Shared;
 use std::alloc::Global;
@@ -68,7 +67,7 @@ fn line_guid<'a>(
         → GroupedAt marks.now declared_view declared_name lines table.now
         → AnswersAs given result (line_guids arch lines (map (λ p. p.now) paths.now) named.now) }
 {
-    if !serves(named.arch, arch) {
+    if !covers(named.arch, arch) {
         return Ok(None);
     }
     let name = key_of(alloc, named)?;

@@ -7,13 +7,12 @@ ghost use Rattle.build_texts.specs.Views.{declared_view};
 ghost use Rattle.pcd_resolve.specs.Groups.{GroupedAt};
 
 use build_base::{Guid, Path, WantOfMemory};
-use doc_types::arch::Arch;
+use doc_types::arch::{Arch, covers};
 use doc_types::depex::NamedGuid;
 use doc_types::parts::Package;
 use indexmap::IndexMap;
 use pcd_resolve::groups::add;
 use pcd_resolve::name_filter::is_kept;
-use pcd_resolve::names::serves;
 use std::alloc::Global;
 
 /// A line of the package of a path.
@@ -117,7 +116,7 @@ fn is_from(arch: Arch, path: &[u8], declared: &DeclaredGuid<'_>) -> bool
     if declared.from.bytes() != path {
         return false;
     }
-    serves(declared.line.arch, arch)
+    covers(declared.line.arch, arch)
 }
 
 fn guid_from(arch: Arch, lines: &[DeclaredGuid<'_>], path: &[u8]) -> Option<Guid>

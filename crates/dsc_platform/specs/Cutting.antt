@@ -6,7 +6,6 @@ use Rattle.doc_reading.specs.Grammar.{Read, entered, gave}
 use Rattle.doc_reading.specs.Blocks.{Block, blocks}
 use Rattle.doc_reading.specs.Reading.{last_of}
 use Rattle.doc_types.specs.declared.arch.Arch.{Arch}
-use Rattle.doc_types.specs.declared.arch.Arch.TheVariants.{Common, Ia32, X64, Arm, Aarch64, Riscv64, Loongarch64, Ebc}
 use Rattle.doc_types.specs.declared.platform.Component.{Component}
 use Rattle.doc_types.specs.declared.platform.LibraryLine.{LibraryLine}
 use Rattle.doc_types.specs.declared.platform.PcdLine.{PcdLine}
@@ -16,6 +15,7 @@ use Rattle.dsc_lines.specs.declared.rows.Part.TheVariants.{Library, Begins, Tagg
 use Rattle.dsc_lines.specs.declared.rows.DscRow.{DscRow}
 use Rattle.dsc_lines.specs.declared.section.Scope.{Scope}
 use Rattle.dsc_lines.specs.Standing.{parts_in}
+unfoldable pub use Rattle.doc_types.specs.Arches.{same_arch}
 
 abbrev pub is_begun : Part → Bool
 is_begun (Begins begun) = true
@@ -27,17 +27,6 @@ is_begun Closes = false
 
 abbrev pub begins : List Part → Bool
 begins parts = list_any is_begun parts
-
-unfoldable pub same_arch : Arch → Arch → Bool
-same_arch Common Common = true
-same_arch Ia32 Ia32 = true
-same_arch X64 X64 = true
-same_arch Arm Arm = true
-same_arch Aarch64 Aarch64 = true
-same_arch Riscv64 Riscv64 = true
-same_arch Loongarch64 Loongarch64 = true
-same_arch Ebc Ebc = true
-same_arch first second = false
 
 -- what a line inside gives to the component of its head
 abbrev pub library_for : Arch → Part → List LibraryLine

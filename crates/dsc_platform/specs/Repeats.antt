@@ -8,23 +8,10 @@ use Rattle.build_base.specs.FaultText.{fault_of}
 use Rattle.build_base.specs.declared.fault.Fault.{Fault}
 use Rattle.doc_reading.specs.Reading.{lines_fault}
 use Rattle.doc_types.specs.declared.arch.Arch.{Arch}
-use Rattle.doc_types.specs.declared.arch.Arch.TheVariants.{Common, Ia32, X64, Arm, Aarch64, Riscv64, Loongarch64, Ebc}
 use Rattle.doc_types.specs.declared.platform.Component.{Component}
 use Rattle.dsc_lines.specs.SkuNames.{same_key}
 use Rattle.build_base.specs.FaultCodes.{DUPLICATE_COMPONENT}
-
--- whether an architecture is for all, or the same
-unfoldable pub archs_overlap : Arch → Arch → Bool
-archs_overlap Common second = true
-archs_overlap first Common = true
-archs_overlap Ia32 Ia32 = true
-archs_overlap X64 X64 = true
-archs_overlap Arm Arm = true
-archs_overlap Aarch64 Aarch64 = true
-archs_overlap Riscv64 Riscv64 = true
-archs_overlap Loongarch64 Loongarch64 = true
-archs_overlap Ebc Ebc = true
-archs_overlap first second = false
+unfoldable pub use Rattle.doc_types.specs.Arches.{archs_overlap}
 
 -- one module, for one architecture
 abbrev pub repeats : Component → Component → Bool

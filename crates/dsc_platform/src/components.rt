@@ -6,7 +6,7 @@ ghost use Rattle.dsc_platform.specs.Cutting.{is_begun, begins, same_arch, librar
 
 use build_base::together::two;
 use build_base::{Guid, Rows, Same, WantOfMemory};
-use doc_types::arch::Arch;
+use doc_types::arch::{Arch, same_arch};
 use doc_types::platform::{Component, LibraryLine, PcdLine};
 use dsc_lines::rows::{Begun, Part};
 use std::alloc::Global;
@@ -26,23 +26,6 @@ pub fn begins(parts: &[Part]) -> bool
     ensures { result ≡ begins parts.now }
 {
     parts.iter().any(|part| is_begun(part))
-}
-
-#[tactic(auto, unfolding(crate::specs::Cutting::same_arch))]
-fn same_arch(first: Arch, second: Arch) -> bool
-    ensures { result ≡ same_arch first second }
-{
-    match (first, second) {
-        (Arch::Common, Arch::Common) => true,
-        (Arch::Ia32, Arch::Ia32) => true,
-        (Arch::X64, Arch::X64) => true,
-        (Arch::Arm, Arch::Arm) => true,
-        (Arch::Aarch64, Arch::Aarch64) => true,
-        (Arch::Riscv64, Arch::Riscv64) => true,
-        (Arch::Loongarch64, Arch::Loongarch64) => true,
-        (Arch::Ebc, Arch::Ebc) => true,
-        _ => false,
-    }
 }
 
 fn push_library(

@@ -10,28 +10,10 @@ ghost use Rattle.dsc_platform.specs.Repeats.{archs_overlap, repeats, repeat_faul
 
 use build_base::fault_codes::DUPLICATE_COMPONENT;
 use build_base::{Refusal, Rows, WantOfMemory, refuse};
-use doc_types::arch::Arch;
+use doc_types::arch::{Arch, archs_overlap};
 use doc_types::platform::Component;
 use indexmap::IndexMap;
 use std::alloc::Global;
-
-#[tactic(auto, unfolding(crate::specs::Repeats::archs_overlap))]
-fn archs_overlap(first: Arch, second: Arch) -> bool
-    ensures { result ≡ archs_overlap first second }
-{
-    match (first, second) {
-        (Arch::Common, _) => true,
-        (_, Arch::Common) => true,
-        (Arch::Ia32, Arch::Ia32) => true,
-        (Arch::X64, Arch::X64) => true,
-        (Arch::Arm, Arch::Arm) => true,
-        (Arch::Aarch64, Arch::Aarch64) => true,
-        (Arch::Riscv64, Arch::Riscv64) => true,
-        (Arch::Loongarch64, Arch::Loongarch64) => true,
-        (Arch::Ebc, Arch::Ebc) => true,
-        _ => false,
-    }
-}
 
 fn any_meets(arches: &[Arch], arch: Arch) -> bool
     ensures { result ≡ list_any (λ a. archs_overlap a arch) arches.now }

@@ -11,10 +11,11 @@ ghost use Rattle.meta_lexer.specs.Faults.{first_fault};
 use crate::tables::Tables;
 use build_base::fault_codes::{CLASS_NOT_SERVED, CLASS_UNRESOLVED, TYPE_NOT_SERVED};
 use build_base::{Path, Refusal, refuse};
+use doc_types::arch::covers;
 use doc_types::module::{InfDoc, Named, Served};
 use doc_types::module_type::ModuleType;
 use doc_types::platform::LibraryLine;
-use line_ranks::{Consumer, covers, same_type};
+use line_ranks::{Consumer, same_type};
 use std::alloc::Global;
 
 fn is_free(kind: ModuleType) -> bool

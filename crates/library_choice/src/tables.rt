@@ -8,10 +8,11 @@ ghost use Rattle.library_choice.specs.Lines.{chosen_line};
 
 use crate::known_infs::KnownInfs;
 use build_base::{Path, Rows, Same, Text, WantOfMemory};
+use doc_types::arch::covers;
 use doc_types::module::{InfDoc, Named};
 use doc_types::platform::LibraryLine;
 use indexmap::IndexMap;
-use line_ranks::{Consumer, applies, covers, line_places, picked_line};
+use line_ranks::{Consumer, applies, line_places, picked_line};
 use shared_value::Shared;
 use std::alloc::Global;
 use std::marker::Model;

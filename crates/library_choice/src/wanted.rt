@@ -6,10 +6,10 @@ ghost use Rattle.library_choice.specs.Rounds.{Falls};
 
 use crate::search::InstanceSearch;
 use build_base::{Path, Rows, Same, WantOfMemory};
+use doc_types::arch::covers;
 use doc_types::choice::Module;
 use doc_types::module::InfDoc;
 use doc_types::platform::{Component, LibraryLine, PlatformDoc};
-use line_ranks::covers;
 use shared_value::Shared;
 use std::alloc::Global;
 

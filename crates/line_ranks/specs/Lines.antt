@@ -4,23 +4,12 @@ use Rattle.std.specs.Prelude.{ℕ, Bool, true, false, ◌&&◌, nat_eq, if◌the
 use Rattle.std.specs.Option.{is_some}
 use Rattle.std.specs.Cmp.Lexicographic.{pointwise}
 use Rattle.doc_types.specs.declared.arch.Arch.{Arch}
-use Rattle.doc_types.specs.declared.arch.Arch.TheVariants.{Common, Ia32, X64, Arm, Aarch64, Riscv64, Loongarch64, Ebc}
+use Rattle.doc_types.specs.declared.arch.Arch.TheVariants.{Common}
 use Rattle.doc_types.specs.declared.module_type.ModuleType.{ModuleType}
 use Rattle.doc_types.specs.declared.module_type.ModuleType.TheVariants.{Base, Sec, PeiCore, Peim, DxeCore, DxeDriver, DxeRuntimeDriver, DxeSalDriver, DxeSmmDriver, SmmCore, MmStandalone, MmCoreStandalone, UefiDriver, UefiApplication, UserDefined, HostApplication}
 use Rattle.doc_types.specs.declared.platform.LibraryLine.{LibraryLine}
 use Rattle.line_ranks.specs.declared.user.Consumer.{Consumer}
-
--- what is stated for an architecture, or for all, holds for one
-unfoldable pub covers : Arch → Arch → Bool
-covers Common own = true
-covers Ia32 Ia32 = true
-covers X64 X64 = true
-covers Arm Arm = true
-covers Aarch64 Aarch64 = true
-covers Riscv64 Riscv64 = true
-covers Loongarch64 Loongarch64 = true
-covers Ebc Ebc = true
-covers stated own = false
+unfoldable pub use Rattle.doc_types.specs.Arches.{covers}
 
 unfoldable pub same_type : ModuleType → ModuleType → Bool
 same_type Base Base = true

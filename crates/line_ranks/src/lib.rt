@@ -6,6 +6,6 @@ mod lines;
 mod places;
 mod user;
 
-pub use lines::{applies, covers, rank, same_type, type_covers};
+pub use lines::{applies, rank, same_type, type_covers};
 pub use places::{line_places, picked_line};
 pub use user::Consumer;

@@ -3,27 +3,9 @@ ghost use Rattle.std.specs.Prelude.{◌≡◌};
 ghost use Rattle.line_ranks.specs.Lines.{covers, same_type, type_covers, applies, is_common, section_rank, rank};
 
 use crate::user::Consumer;
-use doc_types::arch::Arch;
+use doc_types::arch::{Arch, covers};
 use doc_types::module_type::ModuleType;
 use doc_types::platform::LibraryLine;
-
-/// Whether what is stated for an architecture, or for all, holds for one.
-#[tactic(auto, unfolding(crate::specs::Lines::covers))]
-pub fn covers(stated: Arch, own: Arch) -> bool
-    ensures { result ≡ covers stated own }
-{
-    match (stated, own) {
-        (Arch::Common, _) => true,
-        (Arch::Ia32, Arch::Ia32) => true,
-        (Arch::X64, Arch::X64) => true,
-        (Arch::Arm, Arch::Arm) => true,
-        (Arch::Aarch64, Arch::Aarch64) => true,
-        (Arch::Riscv64, Arch::Riscv64) => true,
-        (Arch::Loongarch64, Arch::Loongarch64) => true,
-        (Arch::Ebc, Arch::Ebc) => true,
-        _ => false,
-    }
-}
 
 /// Whether two types are one.
 #[tactic(auto, unfolding(crate::specs::Lines::same_type))]

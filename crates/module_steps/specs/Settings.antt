@@ -14,11 +14,12 @@ use Rattle.doc_types.specs.declared.choice.Module.{Module}
 use Rattle.doc_types.specs.declared.pcd.PcdSet.{PcdSet}
 use Rattle.doc_types.specs.declared.platform.Component.{Component}
 use Rattle.doc_types.specs.declared.platform.PlatformDoc.{PlatformDoc}
-use Rattle.pcd_resolve.specs.Names.{serves, is_common}
+use Rattle.pcd_resolve.specs.Names.{covers, is_common}
 use Rattle.pcd_resolve.specs.Platform.{is_all, sku_unknown}
 use Rattle.build_stages.specs.Stages.{impossible_answer}
 use Rattle.module_steps.specs.declared.settings.Setting.{Setting}
 use Rattle.build_base.specs.FaultCodes.{ARCH_UNSUPPORTED}
+unfoldable pub use Rattle.doc_types.specs.Arches.{same_arch}
 
 -- the texts that line feeds join
 unfoldable pub text_lines : List ℕ → List (List ℕ)
@@ -34,9 +35,6 @@ arch_in text = one_arch (arch_named text)
 
 abbrev pub arches_in : List (List ℕ) → Result (List Arch) Fault
 arches_in texts = all_ok (map arch_in texts)
-
-abbrev pub same_arch : Arch → Arch → Bool
-same_arch first second = serves first second && serves second first
 
 abbrev pub has_arch : List Arch → Arch → Bool
 has_arch arches arch = list_any (λ other. same_arch other arch) arches
@@ -59,7 +57,7 @@ module_of arch component = record { arch = arch; inf = component.inf }
 -- a component is built for an architecture where it is its own, or where it is for all
 abbrev pub module_where : Arch → Component → List Module
 module_where arch component =
-    if serves component.arch arch then module_of arch component ∷ [] else []
+    if covers component.arch arch then module_of arch component ∷ [] else []
 
 abbrev pub modules_for : List Component → Arch → List Module
 modules_for components arch = flat_map (module_where arch) components

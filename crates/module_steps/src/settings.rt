@@ -7,17 +7,17 @@ ghost use Rattle.build_base.specs.First.{all_ok, or_fault};
 ghost use Rattle.meta_lexer.specs.Faults.{first_fault};
 ghost use Rattle.build_stages.specs.Gives.{GivesIn};
 ghost use Rattle.build_stages.specs.Known.{shown};
-ghost use Rattle.module_steps.specs.Settings.{text_lines, one_arch, arch_in, arches_in, same_arch, has_arch, put_arch, each_once, built_arches, module_of, module_where, modules_for, modules_of, is_supported, arch_unsupported, skus_fault, named_skus, set_named, set_by, set_of, command_line_pcds, arches_built, built_modules, words_checked, setting_by, setting_of};
+ghost use Rattle.module_steps.specs.Settings.{text_lines, arch_in, arches_in, same_arch, has_arch, put_arch, each_once, built_arches, module_where, modules_for, modules_of, is_supported, arch_unsupported, skus_fault, named_skus, set_named, set_of, command_line_pcds, arches_built, built_modules, words_checked, setting_by, setting_of};
 
 use crate::parts::each_text;
 use build_base::fault_codes::ARCH_UNSUPPORTED;
 use build_base::{Place, Refusal, Rows, Same, Text, WantOfMemory, refuse};
 use build_stages::Stop;
-use doc_types::arch::{Arch, arch_named};
+use doc_types::arch::{Arch, arch_named, covers, same_arch};
 use doc_types::choice::Module;
 use doc_types::pcd::{PcdName, PcdSet};
 use doc_types::platform::{Component, PlatformDoc};
-use pcd_resolve::names::{is_common, serves};
+use pcd_resolve::names::is_common;
 use pcd_resolve::skus::{is_all, skus_known};
 use std::alloc::{AllocError, Global};
 use step_pack::Key;
@@ -76,12 +76,6 @@ fn arches_in(alloc: Global, texts: &[Text]) -> Result<Rows<Arch>, Stop<Key>>
     Ok(arches)
 }
 
-fn same_arch(first: Arch, second: Arch) -> bool
-    ensures { result ≡ same_arch first second }
-{
-    serves(first, second) && serves(second, first)
-}
-
 fn has_arch(arches: &[Arch], arch: Arch) -> bool
     ensures { result ≡ has_arch arches.now arch }
 {
@@ -131,7 +125,7 @@ fn push_where(
 ) -> Result<(), WantOfMemory>
     ensures { OnOk result (modules.new ≡ modules.old ++ module_where arch component.now) }
 {
-    if serves(component.arch, arch) {
+    if covers(component.arch, arch) {
         let inf = component.inf.copy(alloc)?;
         modules.push(Module { arch, inf })?;
     }

@@ -14,7 +14,7 @@ use Rattle.doc_types.specs.declared.platform.Component.{Component}
 use Rattle.doc_types.specs.declared.platform.PcdLine.{PcdLine}
 use Rattle.doc_types.specs.declared.platform.PlatformDoc.{PlatformDoc}
 use Rattle.doc_types.specs.Pcds.{full_name}
-use Rattle.pcd_ranks.specs.Names.{serves}
+use Rattle.pcd_ranks.specs.Names.{covers}
 
 -- A line of the package of a path.
 pub record Declared : Type 0 where
@@ -33,7 +33,7 @@ declared_of pcd lines = filter (λ d. bytes_eq (full_name d.line.pcd) pcd) lines
 
 -- a line of the package of a path that counts for an architecture
 unfoldable pub is_from : Arch → List ℕ → Declared → Bool
-is_from arch path d = bytes_eq d.from path && serves d.line.arch arch
+is_from arch path d = bytes_eq d.from path && covers d.line.arch arch
 
 abbrev pub of_package : Arch → List Declared → List ℕ → List DecPcd
 of_package arch lines path = map (λ d. d.line) (filter (is_from arch path) lines)
@@ -45,7 +45,7 @@ by_packages arch lines paths = flat_map (of_package arch lines) paths
 -- the packages that an INF names for an architecture
 unfoldable pub packages_of : Arch → InfDoc → List (List ℕ)
 packages_of arch inf = map (λ named. named.name)
-    (filter (λ named. serves named.arch arch) inf.packages)
+    (filter (λ named. covers named.arch arch) inf.packages)
 
 -- names with one more, where it isn't there
 abbrev pub put_once : List (List ℕ) → List ℕ → List (List ℕ)
@@ -91,7 +91,7 @@ use_of parts inf line = record {
 -- the uses by an INF of a module: its lines that count for the module's architecture
 unfoldable pub uses_by : ModuleParts → InfDoc → List Use
 uses_by parts inf = map (use_of parts inf)
-    (filter (λ line. serves line.arch (arch_of parts)) inf.pcds)
+    (filter (λ line. covers line.arch (arch_of parts)) inf.pcds)
 
 -- the uses by a module, INF by INF
 unfoldable pub uses_of_module : ModuleParts → List Use
@@ -122,8 +122,8 @@ stated_for pcd lines = filter (λ stated. bytes_eq (full_name stated.line.pcd) p
 -- a line of a section applies to the modules of its architecture, one of a component to the
 -- component's module
 abbrev pub applies_at : Module → PcdLine → Option Component → Bool
-applies_at user line None = serves line.arch user.arch
-applies_at user line (Some home) = bytes_eq home.inf user.inf && serves home.arch user.arch
+applies_at user line None = covers line.arch user.arch
+applies_at user line (Some home) = bytes_eq home.inf user.inf && covers home.arch user.arch
 
 unfoldable pub applies : Module → Stated → Bool
 applies user stated = applies_at user stated.line stated.home

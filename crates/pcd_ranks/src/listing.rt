@@ -2,11 +2,11 @@
 ghost use Rattle.std.specs.Prelude.{◌≡◌, ◌&&◌};
 ghost use Rattle.std.specs.Str.{bytes_eq};
 ghost use Rattle.pcd_ranks.specs.Listing.{applies};
-ghost use Rattle.pcd_ranks.specs.Names.{serves};
+ghost use Rattle.pcd_ranks.specs.Names.{covers};
 ghost use Rattle.pcd_ranks.specs.Views.{stated_view};
 
-use crate::names::serves;
 use build_base::Path;
+use doc_types::arch::covers;
 use doc_types::choice::Module;
 use doc_types::module::{InfDoc, UsedPcd};
 use doc_types::package::DecPcd;
@@ -45,12 +45,12 @@ pub struct StatedLine<'a> {
 }
 
 fn is_of(user: &Module, home: &Component) -> bool
-    ensures { result ≡ (bytes_eq home.now.inf user.now.inf && serves home.now.arch user.now.arch) }
+    ensures { result ≡ (bytes_eq home.now.inf user.now.inf && covers home.now.arch user.now.arch) }
 {
     if home.inf.bytes() != user.inf.bytes() {
         return false;
     }
-    serves(home.arch, user.arch)
+    covers(home.arch, user.arch)
 }
 
 /// Whether a line of the platform applies to a module.
@@ -59,7 +59,7 @@ pub fn applies(user: &Module, stated: &StatedLine<'_>) -> bool
     ensures { result ≡ applies user.now (stated_view stated.now) }
 {
     match stated.home {
-        None => serves(stated.line.arch, user.arch),
+        None => covers(stated.line.arch, user.arch),
         Some(home) => is_of(user, home),
     }
 }

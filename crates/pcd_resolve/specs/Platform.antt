@@ -27,7 +27,7 @@ use Rattle.doc_types.specs.declared.values.SkuRow.{SkuRow}
 use Rattle.doc_types.specs.declared.values.Values.{Values}
 use Rattle.doc_types.specs.SkuWalks.{EndsAtDefault}
 use Rattle.pcd_values.specs.Skus.{value_within}
-use Rattle.pcd_ranks.specs.Names.{serves, is_common, is_void, is_dynamic}
+use Rattle.pcd_ranks.specs.Names.{covers, is_common, is_void, is_dynamic}
 use Rattle.pcd_ranks.specs.Listing.{Use, Stated, uses_in, uses_of, stated_in, stated_for, declared_in}
 use Rattle.pcd_resolve.specs.Kinds.{of_kind, head_of}
 use Rattle.pcd_resolve.specs.Faults.{checked_kind}
@@ -68,7 +68,7 @@ is_outside (Some home) = false
 -- a line of a section counts where its architecture is common or a built one
 unfoldable pub counts : List Arch → Stated → Bool
 counts arches stated = is_outside stated.home
-    && (is_common stated.line.arch || list_any (λ arch. serves stated.line.arch arch) arches)
+    && (is_common stated.line.arch || list_any (λ arch. covers stated.line.arch arch) arches)
 
 -- BadValue of a VPD line: two further fields of another type than VOID*, or a maximum that is no
 -- number below 2^32

@@ -15,9 +15,9 @@ use build_base::fault_codes::{
 };
 use build_base::{Place, Refusal, refuse};
 use doc_types::package::DecPcd;
-use doc_types::pcd::{Datum, Kind, PcdName};
+use doc_types::pcd::{Datum, Kind, PcdName, same_kind};
 use pcd_ranks::listing::{StatedLine, UseLine, applies};
-use pcd_ranks::names::{is_dynamic, same_datum, same_kind};
+use pcd_ranks::names::{is_dynamic, same_datum};
 use std::alloc::Global;
 
 #[tactic(auto, unfolding(crate::specs::Faults::not_declared))]

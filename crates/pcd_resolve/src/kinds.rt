@@ -5,9 +5,8 @@ ghost use Rattle.pcd_resolve.specs.Kinds.{asked_kind, has_kind, first_kind, kind
 ghost use Rattle.pcd_ranks.specs.Views.{use_view, stated_view};
 
 use doc_types::package::DecPcd;
-use doc_types::pcd::{Asked, Kind};
+use doc_types::pcd::{Asked, Kind, same_kind};
 use pcd_ranks::listing::{StatedLine, UseLine};
-use pcd_ranks::names::same_kind;
 
 /// The kind for which a section of an INF asks.
 pub(crate) fn asked_kind(asked: Asked) -> Option<Kind>

@@ -4,20 +4,19 @@ ghost use Rattle.std.specs.List.{flat_map, list_any};
 ghost use Rattle.std.specs.Str.{bytes_eq};
 ghost use Rattle.pcd_ranks.specs.Listing.{by_packages, declared_in, declared_for, is_from, of_package, package_lines, packages_in, packages_of, put_once};
 ghost use Rattle.pcd_resolve.specs.NameFilter.{is_kept};
-ghost use Rattle.pcd_ranks.specs.Names.{serves};
+ghost use Rattle.pcd_ranks.specs.Names.{covers};
 ghost use Rattle.pcd_resolve.specs.Tables.{declared_name, IsTabled};
 ghost use Rattle.pcd_ranks.specs.Views.{declared_view};
 
 use crate::groups::group;
 use crate::tables::declared_by_name;
 use build_base::WantOfMemory;
-use doc_types::arch::Arch;
+use doc_types::arch::{Arch, covers};
 use doc_types::module::{InfDoc, Named};
 use doc_types::package::DecPcd;
 use doc_types::parts::ModuleParts;
 use indexmap::IndexMap;
 use pcd_ranks::listing::DeclaredLine;
-use pcd_ranks::names::serves;
 use shared_value::Shared;
 use std::alloc::Global;
 
@@ -49,9 +48,9 @@ fn put_named<'a>(
 ) -> Result<(), WantOfMemory>
     ensures { OnOk result (map (λ p. p.now) paths.new.items
         ≡ map (λ p. p.now) paths.old.items ++ map (λ n. n.name)
-        (filter (λ n. serves n.arch arch) (named.now ∷ []))) }
+        (filter (λ n. covers n.arch arch) (named.now ∷ []))) }
 {
-    if serves(named.arch, arch) {
+    if covers(named.arch, arch) {
         if paths.push(named.name.bytes()).is_err() {
             return Err(WantOfMemory);
         }
@@ -66,7 +65,7 @@ fn put_names<'a>(
 ) -> Result<(), WantOfMemory>
     ensures { OnOk result (map (λ p. p.now) paths.new.items
         ≡ map (λ p. p.now) paths.old.items ++ map (λ n. n.name)
-        (filter (λ n. serves n.arch arch) names.now)) }
+        (filter (λ n. covers n.arch arch) names.now)) }
 {
     for named in names {
         put_named(arch, named, paths)?;
@@ -171,7 +170,7 @@ fn is_from(arch: Arch, path: &[u8], declared: &DeclaredLine<'_>) -> bool
     if declared.from.bytes() != path {
         return false;
     }
-    serves(declared.line.arch, arch)
+    covers(declared.line.arch, arch)
 }
 
 fn put_package<'a>(

@@ -5,7 +5,7 @@ ghost use Rattle.build_base.specs.Answer.{Answers, Checks};
 ghost use Rattle.pcd_values.specs.Skus.{WalkEnds};
 ghost use Rattle.pcd_resolve.specs.Groups.{Grouped};
 ghost use Rattle.pcd_ranks.specs.Listing.{stated_in, uses_in};
-ghost use Rattle.pcd_ranks.specs.Names.{serves};
+ghost use Rattle.pcd_ranks.specs.Names.{covers};
 ghost use Rattle.pcd_resolve.specs.Platform.{SkusEnd, chosen, counts, is_chosen, platform_sets, platform_values, rows_at, rows_by, wanted, words_fault};
 ghost use Rattle.pcd_resolve.specs.PlatformTables.{HoldsPlatform};
 ghost use Rattle.pcd_resolve.specs.Rows.{all_rows, names_of};
@@ -25,7 +25,7 @@ use crate::sought::{DeclarationSearch, declaration, sought_of};
 use crate::tables::{all_lines, all_sets};
 use crate::used::all_uses_by_name;
 use build_base::{Permit, Refusal, Rows, Text, WantOfMemory};
-use doc_types::arch::Arch;
+use doc_types::arch::{Arch, covers};
 use doc_types::asks::PlatformAsk;
 use doc_types::pcd::{Kind, PcdSet};
 use doc_types::platform::Sku;
@@ -33,7 +33,7 @@ use doc_types::values::{PcdRow, Values};
 use indexmap::IndexMap;
 use meta_lexer::parts::field_texts;
 use pcd_ranks::listing::{StatedLine, UseLine};
-use pcd_ranks::names::{is_common, is_dynamic, serves};
+use pcd_ranks::names::{is_common, is_dynamic};
 use std::alloc::Global;
 
 /// A platform, with the tables of its SKUs, the chosen ones of these, and by the names of PCDs what
@@ -49,10 +49,10 @@ pub(crate) struct PlatformTables<'t, 'a> {
 }
 
 fn serves_one(line: Arch, arches: &[Arch]) -> bool
-    ensures { result ≡ list_any (λ arch. serves line arch) arches.now }
+    ensures { result ≡ list_any (λ arch. covers line arch) arches.now }
 {
     for arch in arches {
-        if serves(line, *arch) {
+        if covers(line, *arch) {
             return true;
         }
     }

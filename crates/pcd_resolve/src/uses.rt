@@ -2,14 +2,14 @@
 ghost use Rattle.std.specs.Prelude.{◌≡◌, ◌++◌, ◌∷◌, [], map, filter, IfOk, OnOk};
 ghost use Rattle.std.specs.List.{flat_map};
 ghost use Rattle.pcd_ranks.specs.Listing.{arch_of, use_of, uses_by, uses_of_module};
-ghost use Rattle.pcd_ranks.specs.Names.{serves};
+ghost use Rattle.pcd_ranks.specs.Names.{covers};
 ghost use Rattle.pcd_ranks.specs.Views.{at_view};
 
 use build_base::WantOfMemory;
+use doc_types::arch::covers;
 use doc_types::module::{InfDoc, UsedPcd};
 use doc_types::parts::ModuleParts;
 use pcd_ranks::listing::UseAt;
-use pcd_ranks::names::serves;
 use shared_value::Shared;
 use std::alloc::Global;
 
@@ -22,9 +22,9 @@ fn put_line<'a>(
     ensures { OnOk result (map (at_view parts.now) uses.new.items
         ≡ map (at_view parts.now) uses.old.items
         ++ map (use_of parts.now inf.now)
-        (filter (λ l. serves l.arch (arch_of parts.now)) (line.now ∷ []))) }
+        (filter (λ l. covers l.arch (arch_of parts.now)) (line.now ∷ []))) }
 {
-    if serves(line.arch, parts.module.arch) {
+    if covers(line.arch, parts.module.arch) {
         if uses.push(UseAt { inf, line }).is_err() {
             return Err(WantOfMemory);
         }
@@ -41,7 +41,7 @@ fn put_lines<'a>(
     ensures { OnOk result (map (at_view parts.now) uses.new.items
         ≡ map (at_view parts.now) uses.old.items
         ++ map (use_of parts.now inf.now)
-        (filter (λ l. serves l.arch (arch_of parts.now)) lines.now)) }
+        (filter (λ l. covers l.arch (arch_of parts.now)) lines.now)) }
 {
     for line in lines {
         put_line(parts, inf, line, uses)?;

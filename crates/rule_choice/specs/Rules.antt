@@ -13,6 +13,7 @@ use Rattle.doc_types.specs.declared.module_type.ModuleType.TheVariants as kind
 use Rattle.doc_types.specs.declared.volume.InfLine.{InfLine}
 use Rattle.doc_types.specs.declared.volume.RuleDoc.{RuleDoc}
 use Rattle.build_base.specs.FaultCodes.{RULE_ABSENT}
+unfoldable pub use Rattle.doc_types.specs.Arches.{same_arch}
 
 abbrev pub arch_text : Arch → List ℕ
 arch_text arch.Common = codes "COMMON"
@@ -41,9 +42,6 @@ type_text kind.UefiDriver = codes "UEFI_DRIVER"
 type_text kind.UefiApplication = codes "UEFI_APPLICATION"
 type_text kind.UserDefined = codes "USER_DEFINED"
 type_text kind.HostApplication = codes "HOST_APPLICATION"
-
-abbrev pub same_arch : Arch → Arch → Bool
-same_arch first second = same_word (arch_text first) (arch_text second)
 
 -- a rule is for this architecture and type, with this template
 abbrev pub is_for : Arch → ModuleType → List ℕ → RuleDoc → Bool

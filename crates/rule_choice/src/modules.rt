@@ -5,10 +5,9 @@ ghost use Rattle.build_base.specs.Answer.{Answers, Finds};
 ghost use Rattle.rule_choice.specs.Rules.{same_arch};
 ghost use Rattle.rule_choice.specs.Modules.{is_component, has_component, having_one, having, other_arch, no_component, is_among, only_arch, arch_among, inf_arch};
 
-use crate::rules::same_arch;
 use build_base::fault_codes::{ARCH_AMBIGUOUS, NOT_A_COMPONENT};
 use build_base::{Path, Refusal, Rows, WantOfMemory, refuse};
-use doc_types::arch::Arch;
+use doc_types::arch::{Arch, same_arch};
 use doc_types::platform::{Component, PlatformDoc};
 use doc_types::volume::InfLine;
 use std::alloc::Global;

@@ -6,7 +6,7 @@ ghost use Rattle.rule_choice.specs.Rules.{arch_text, type_text, same_arch, is_fo
 
 use build_base::fault_codes::RULE_ABSENT;
 use build_base::{Refusal, Text, WantOfMemory, refuse};
-use doc_types::arch::Arch;
+use doc_types::arch::{Arch, same_arch};
 use doc_types::flash::FlashDoc;
 use doc_types::module_type::ModuleType;
 use doc_types::volume::{InfLine, RuleDoc};
@@ -49,13 +49,6 @@ fn type_text(module_type: ModuleType) -> &'static [u8]
         ModuleType::UserDefined => b"USER_DEFINED".as_slice(),
         ModuleType::HostApplication => b"HOST_APPLICATION".as_slice(),
     }
-}
-
-/// Two architectures are one.
-pub fn same_arch(first: Arch, second: Arch) -> bool
-    ensures { result ≡ same_arch first second }
-{
-    same_word(arch_text(first), arch_text(second))
 }
 
 // A rule is for this architecture and type, with this template.

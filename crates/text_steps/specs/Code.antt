@@ -16,12 +16,12 @@ use Rattle.doc_types.specs.declared.platform.Component.{Component}
 use Rattle.doc_types.specs.declared.platform.PlatformDoc.{PlatformDoc}
 use Rattle.doc_types.specs.declared.texts.Texts.{Texts}
 use Rattle.doc_types.specs.declared.values.Values.{Values}
-use Rattle.pcd_resolve.specs.Names.{serves}
+use Rattle.pcd_resolve.specs.Names.{covers}
 
 -- the module's component: that of its INF file, for its architecture or for all; a platform has one
 -- at most
 abbrev pub is_component : Module → Component → Bool
-is_component m component = bytes_eq component.inf m.inf && serves component.arch m.arch
+is_component m component = bytes_eq component.inf m.inf && covers component.arch m.arch
 
 abbrev pub guid_in : Option Component → Option Guid
 guid_in None = None

@@ -18,15 +18,15 @@ use Rattle.doc_types.specs.declared.module_type.ModuleType.{ModuleType}
 use Rattle.doc_types.specs.declared.parts.ModuleParts.{ModuleParts}
 use Rattle.doc_types.specs.declared.parts.Package.{Package}
 use Rattle.library_choice.specs.Lines.{type_covers}
-use Rattle.pcd_resolve.specs.Names.{serves}
+use Rattle.pcd_resolve.specs.Names.{covers}
 
 -- a section applies where it is for the module's architecture or for all, and for its type or for
 -- all
 unfoldable pub applies : Arch → ModuleType → DepexPart → Bool
-applies arch kind part = serves part.arch arch && type_covers part.kind kind
+applies arch kind part = covers part.arch arch && type_covers part.kind kind
 
 abbrev pub counts : Arch → NamedGuid → Bool
-counts arch line = serves line.arch arch
+counts arch line = covers line.arch arch
 
 -- the lines of a package that count for an architecture, where it is the package of this path
 abbrev pub names_at : Arch → List ℕ → Package → List NamedGuid
@@ -36,7 +36,7 @@ names_at arch path held = if bytes_eq held.path path then filter (counts arch) h
 -- those of the package that a line of an INF file names, where that line counts
 abbrev pub names_by : Arch → List Package → Named → List NamedGuid
 names_by arch decs named =
-    if serves named.arch arch then flat_map (names_at arch named.name) decs else []
+    if covers named.arch arch then flat_map (names_at arch named.name) decs else []
 
 -- those of its packages in order
 unfoldable pub names_of : Arch → List Package → List Named → List NamedGuid

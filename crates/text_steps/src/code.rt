@@ -10,13 +10,13 @@ use build_base::together::two;
 use build_base::{Guid, Permit, Refusal, WantOfMemory};
 use build_stages::Stop;
 use build_texts::{CodeAsk, code_texts};
+use doc_types::arch::covers;
 use doc_types::choice::{Choice, Module};
 use doc_types::module::InfDoc;
 use doc_types::parts::ModuleParts;
 use doc_types::platform::{Component, PlatformDoc};
 use doc_types::texts::Texts;
 use doc_types::values::Values;
-use pcd_resolve::names::serves;
 use shared_value::Shared;
 use std::alloc::Global;
 use step_pack::Key;
@@ -24,7 +24,7 @@ use step_pack::Key;
 fn is_component(module: &Module, component: &Component) -> bool
     ensures { result ≡ is_component «module».now component.now }
 {
-    component.inf == module.inf && serves(component.arch, module.arch)
+    component.inf == module.inf && covers(component.arch, module.arch)
 }
 
 fn component_of<'a>(module: &Module, components: &'a [Component]) -> Option<&'a Component>

@@ -7,14 +7,13 @@ ghost use Rattle.text_steps.specs.Depex.{applies, counts, names_at, names_by, na
 use build_base::{Permit, Rows, Same, Text, WantOfMemory};
 use build_stages::Stop;
 use depex_code::compile;
-use doc_types::arch::Arch;
+use doc_types::arch::{Arch, covers};
 use doc_types::choice::Choice;
 use doc_types::depex::{DepexGroup, DepexPart, NamedGuid};
 use doc_types::module::{InfDoc, Named};
 use doc_types::module_type::ModuleType;
 use doc_types::parts::{ModuleParts, Package};
 use library_choice::type_covers;
-use pcd_resolve::names::serves;
 use shared_value::Shared;
 use std::alloc::Global;
 use step_pack::Key;
@@ -23,7 +22,7 @@ use step_pack::Key;
 fn applies(arch: Arch, kind: ModuleType, part: &DepexPart) -> bool
     ensures { result ≡ applies arch kind part.now }
 {
-    serves(part.arch, arch) && type_covers(part.kind, kind)
+    covers(part.arch, arch) && type_covers(part.kind, kind)
 }
 
 fn push_part(
@@ -67,7 +66,7 @@ fn push_name(
 ) -> Result<(), WantOfMemory>
     ensures { OnOk result (names.new ≡ names.old ++ filter (counts arch) (line.now ∷ [])) }
 {
-    if serves(line.arch, arch) {
+    if covers(line.arch, arch) {
         return names.push(line.copy(alloc)?);
     }
     Ok(())
@@ -130,7 +129,7 @@ fn push_by(
 ) -> Result<(), WantOfMemory>
     ensures { OnOk result (names.new ≡ names.old ++ names_by arch decs.now named.now) }
 {
-    if serves(named.arch, arch) {
+    if covers(named.arch, arch) {
         push_each(alloc, names, arch, named.name.bytes(), decs)?;
     }
     Ok(())

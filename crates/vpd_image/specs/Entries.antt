@@ -5,12 +5,13 @@ use Rattle.std.specs.Prelude.{ℕ, Bool, true, false, not, ◌&&◌, if◌then�
 use Rattle.std.specs.List.{list_any}
 use Rattle.std.specs.Str.{bytes_eq}
 use Rattle.doc_types.specs.declared.arch.Arch.{Arch}
-use Rattle.doc_types.specs.declared.arch.Arch.TheVariants.{Common, Ia32, X64, Arm, Aarch64, Riscv64, Loongarch64, Ebc}
+use Rattle.doc_types.specs.declared.arch.Arch.TheVariants.{Common}
 use Rattle.doc_types.specs.declared.pcd.PcdName.{PcdName}
 use Rattle.doc_types.specs.declared.platform.PcdLine.{PcdLine}
 use Rattle.doc_types.specs.declared.platform.Store.{Store}
 use Rattle.doc_types.specs.declared.platform.Store.TheVariants.{Vpd}
 use Rattle.doc_types.specs.declared.values.PcdRow.{PcdRow}
+unfoldable pub use Rattle.doc_types.specs.Arches.{same_arch}
 
 -- a line, and the row of its PCD and its SKU
 pub record Entry : Type 0 where
@@ -20,16 +21,6 @@ pub record Entry : Type 0 where
 abbrev pub is_vpd : Store → Bool
 is_vpd (Vpd offset rest) = true
 is_vpd store = false
-
-unfoldable pub same_arch : Arch → Arch → Bool
-same_arch Ia32 Ia32 = true
-same_arch X64 X64 = true
-same_arch Arm Arm = true
-same_arch Aarch64 Aarch64 = true
-same_arch Riscv64 Riscv64 = true
-same_arch Loongarch64 Loongarch64 = true
-same_arch Ebc Ebc = true
-same_arch first second = false
 
 -- an architecture that is common or one of these
 unfoldable pub is_built : List Arch → Arch → Bool

@@ -9,7 +9,7 @@ ghost use Rattle.vpd_image.specs.Tables.{IsLeft, entry_view};
 use crate::labels::line_label;
 use crate::rows::{rows_by_label, take_row};
 use build_base::WantOfMemory;
-use doc_types::arch::Arch;
+use doc_types::arch::{Arch, same_arch};
 use doc_types::platform::{PcdLine, Store};
 use doc_types::values::PcdRow;
 use indexmap::IndexMap;
@@ -27,22 +27,6 @@ fn is_vpd(store: &Store) -> bool
 {
     match store {
         Store::Vpd { .. } => true,
-        _ => false,
-    }
-}
-
-#[tactic(auto, unfolding(crate::specs::Entries::same_arch))]
-fn same_arch(first: Arch, second: Arch) -> bool
-    ensures { result ≡ same_arch first second }
-{
-    match (first, second) {
-        (Arch::Ia32, Arch::Ia32) => true,
-        (Arch::X64, Arch::X64) => true,
-        (Arch::Arm, Arch::Arm) => true,
-        (Arch::Aarch64, Arch::Aarch64) => true,
-        (Arch::Riscv64, Arch::Riscv64) => true,
-        (Arch::Loongarch64, Arch::Loongarch64) => true,
-        (Arch::Ebc, Arch::Ebc) => true,
         _ => false,
     }
 }
