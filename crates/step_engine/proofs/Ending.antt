@@ -1,5 +1,5 @@
 -- What a build leaves, over what holds when its key has its outcome.
-use Rattle.std.proofs.Common.{◌≡◌, ℕ, ◌+◌, List, [], ◌∷◌, refl, sym, ap, ◌∙◌, subst, Contains, All, arith, inl, inr, ◌⊎◌, length, length-append, slice_get, Option, Some, None, IsPermutation, Result, Ok, Err}
+use Rattle.std.proofs.Common.{◌≡◌, ℕ, ◌+◌, List, [], ◌∷◌, refl, sym, ap, ◌∙◌, subst, Contains, All, arith, inl, inr, ◌⊎◌, length, length-append, slice_get, Option, Some, None, IsPermutation, Result, Ok, Err, IfOk}
 use Rattle.std.specs.Result.{IsErrAnd}
 use Rattle.std.proofs.lemmas.List.Elements.{All-nil, All-contains, All-weaker, All-contains_itself}
 use Rattle.std.proofs.lemmas.Option.{slice_get_read}
@@ -36,6 +36,7 @@ use Rattle.step_engine.specs.Reading.{knowledge}
 use Rattle.step_engine.specs.declared.learned.Learned.{Learned}
 use Rattle.step_engine.proofs.AgreeLemmas.{parts_grow, compared_grows, asked_pair, agree_under}
 use Rattle.step_engine.specs.Settling.{IsBroughtTo}
+use Rattle.step_engine.specs.Ended.{IsReached, IsLeftOver}
 use Rattle.step_engine.specs.declared.places.Place.TheVariants.{Done}
 
 module _ {K O : Type 0} (s : Setting K O) (w : World) (here : IsHere s w) (top : K) (z : State K O) (added : List K) (r : Outcome O) (d : IsEnd s top z added r) where
@@ -200,6 +201,38 @@ end_sound s top z added r d o = d.kept.sound o
 
 pub end_joined_sound : {K O : Type 0} (s : Setting K O) (top : K) (z : State K O) (added : List K) (r : Outcome O) (cache : List (Entry K O)) → IsEnd s top z added r → IsJoined z.fresh s.old cache → AreSound s.means s.old → AreSound s.means cache
 end_joined_sound s top z added r cache d j o = joined_sound s.means s.old z.fresh cache o (d.kept.sound o) j
+
+-- the old entries of other keys are left too
+pub left_joined : {K O E : Type 0} (old made : List (Entry K O)) (o : Outcome O) → IsBad o → (r : Result (List (Entry K O)) E) → IfOk r (IsJoined made old) → IfOk r (IsLeftOver old made o)
+left_joined old made o bad (Ok left) j = inr (bad, j)
+left_joined old made o bad (Err e) j = tt
+
+-- what a build that reached its outcome leaves
+module _ {K O : Type 0} (s : Setting K O) (top : K) (book book' : List K) (r : Outcome O) (made : List (Entry K O)) (b : IsReached s top book book' r made) where
+  abbrev now : State K O
+  now = state made b.end.learned b.end.ran b.end.reads
+
+  pub reached_all : RanAll s top book book'
+  reached_all = subst (λ (xs : List K). RanAll s top xs book') b.before (subst (λ (xs : List K). RanAll s top b.begin.ran xs) b.after (end_all s top b.begin b.end b.known r made b.going b.ended))
+
+  pub reached_own : (left : List (Entry K O)) → IsLeftOver s.old made r left → IsEntryOf top r left
+  reached_own left (inl h) = subst (λ (xs : List (Entry K O)). IsEntryOf top r xs) (sym h.1) b.ended.entry
+  reached_own left (inr h) = end_joined s top now b.going.added r left b.ended h.1
+
+  pub reached_sound : (left : List (Entry K O)) → IsLeftOver s.old made r left → AreSound s.means s.old → AreSound s.means left
+  reached_sound left (inl h) o = subst (λ (xs : List (Entry K O)). AreSound s.means xs) (sym h.1) (end_sound s top now b.going.added r b.ended o)
+  reached_sound left (inr h) o = end_joined_sound s top now b.going.added r left b.ended h.1 o
+
+  module _ (cmp : K → K → Ordering) (total : IsTotalOrder cmp) (order : AreInOrder cmp made) (left : List (Entry K O)) (sorted : AreInOrder cmp left) where
+    pub reached_built : IsLeftOver s.old made r left → (n : ℕ) → n ≡ length made → Built cmp s top r left n
+    reached_built (inl h) n is = subst (λ (xs : List (Entry K O)). Built cmp s top r xs n) (sym h.1) (built_good s top now b.going.added r b.ended cmp total order n is h.0)
+    reached_built (inr h) n is = built_bad s top now b.going.added r b.ended cmp total order n is h.0 left sorted h.1
+
+    pub reached_same : IsLeftOver s.old made r left → AreInOrder cmp s.old → (first : ℕ) → first ≡ length book → (length book' ≡ first) × (length left ≡ length s.old) → left ≡ s.old
+    reached_same (inl h) before first is n =
+        h.1 ∙ unchanged_good s top b.begin b.end b.known b.going cmp total made b.same order before first (is ∙ ap length (sym b.before)) (ap length b.after ∙ n.0, ap length (sym h.1) ∙ n.1)
+    reached_same (inr h) before first is n =
+        unchanged_bad s top b.begin b.end b.known b.going cmp total made b.same left h.1 sorted before first (is ∙ ap length (sym b.before)) (ap length b.after ∙ n.0, n.1)
 
 -- one entry a key
 pub one_each : {K O : Type 0} (t : Known K) (added : List K) (fresh : List (Entry K O)) → IsTable t added fresh → IsOneEach fresh

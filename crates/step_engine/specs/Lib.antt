@@ -19,3 +19,4 @@ pub mod Scanning
 pub mod Settling
 pub mod Seeing
 pub mod Edits
+pub mod Ended

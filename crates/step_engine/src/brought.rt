@@ -5,6 +5,7 @@ ghost use Rattle.step_engine.specs.Entries.{AreSound};
 ghost use Rattle.step_engine.specs.Needed.{IsBad};
 ghost use Rattle.step_engine.specs.Caches.{AreInOrder, AddsMissing, AreOthers, IsJoined};
 ghost use Rattle.step_engine.specs.Build.{setting, Counts, IsEntryOf, Ran, RanAll, HasRead, Built};
+ghost use Rattle.step_engine.specs.Ended.{IsReached, IsLeftOver};
 
 use crate::cache::Cache;
 use crate::edits::Edits;
@@ -31,6 +32,13 @@ pub struct Brought<K: StepKey, O: Drop> {
     pub cache: Cache<K, O>,
     pub needed: u64,
     pub unchanged: bool,
+}
+
+// The outcome of the key, and the entries made for it in the order of their keys.
+#[derive(Drop)]
+struct Reached<K: StepKey, O: Drop> {
+    result: Outcome<O>,
+    made: Cache<K, O>,
 }
 
 // Whether an outcome is a fault.
@@ -113,6 +121,100 @@ fn is_idle<K: StepKey, O: Drop>(
     let before = old.entries().len();
     let after = left.entries().len();
     book.ran().len() == first && after == before
+}
+
+// What is left of the entries made: where the outcome is a fault, the old ones of other keys too.
+fn with_others<K: StepKey, O: Same + Drop>(
+    alloc: Global,
+    old: &Cache<K, O>,
+    outcome: &Outcome<O>,
+    made: Cache<K, O>,
+) -> Result<Cache<K, O>, WantOfMemory>
+    ensures left { IfOk result (IsLeftOver old.now made outcome.now) }
+    ensures sorted { IfOk result (AreInOrder K.cmp) }
+{
+    if is_bad(outcome) {
+        return join_entries(alloc, old, made);
+    }
+    Ok(made)
+}
+
+// What a build gives that reached the outcome of its key.
+fn leave<K: StepKey, O: Same + Drop>(
+    alloc: Global,
+    old: &Cache<K, O>,
+    reached: Reached<K, O>,
+    first: usize,
+    book: &Book<K>,
+) -> Result<Brought<K, O>, WantOfMemory>
+    ensures result { IfOk result (λ b. b.result ≡ reached.result) }
+    ensures left { IfOk result (λ b. IsLeftOver old.now reached.made reached.result b.cache) }
+    ensures needed { IfOk result (λ b. b.needed ≡ length reached.made) }
+    ensures idle { IfOk result (λ b. b.unchanged ≡ true ↔ ((length book.now ≡ first)
+        × (length b.cache ≡ length old.now))) }
+    ensures made { AreInOrder K.cmp reached.made }
+    ensures before { IfOk result (λ _. AreInOrder K.cmp old.now) }
+    ensures after { IfOk result (λ b. AreInOrder K.cmp b.cache) }
+{
+    let Reached { result, made } = reached;
+    let needed = made.entries().len() as u64;
+    let cache = with_others(alloc, old, &result, made)?;
+    let unchanged = is_idle(old, &cache, first, book);
+    Ok(Brought {
+        result,
+        cache,
+        needed,
+        unchanged,
+    })
+}
+
+// Brings a key to its outcome, from nothing that is known.
+fn reach<H: Threads + Sync, R: Rules, T: Tree, G: Gate>(
+    rt: &H,
+    alloc: Global,
+    rules: &R,
+    top: &R::Key,
+    job: &Rows<Text>,
+    cache: &Cache<R::Key, R::Out>,
+    tree: &mut T,
+    edits: &Edits,
+    book: &mut Book<R::Key>,
+    workers: u32,
+    gate: &G,
+) -> Result<Reached<R::Key, R::Out>, EngineRefusal>
+    requires some { 1 ≤ workers }
+    requires most { workers ≤ 64 }
+    ensures held { T.held tree.new ≡ T.held tree.old }
+    ensures count { Counts (T.faults tree.old) (T.faults tree.new) result }
+    ensures ran { Ran (setting R.means (over edits.now (T.held tree.old)) job.now cache.now) top.now
+        book.old book.new }
+    ensures read { HasRead (setting R.means (over edits.now (T.held tree.old)) job.now cache.now)
+        top.now (T.reads tree.old) (T.reads tree.new) }
+    ensures ok { IfOk result
+        (λ r. IsReached (setting R.means (over edits.now (T.held tree.old)) job.now cache.now)
+        top.now book.old book.new r.result r.made) }
+{
+    let mut fresh = Vec::new(alloc);
+    let mut places = Places::new(alloc);
+    let mut learned = Learned::new(alloc);
+    let result = run_to_end(
+        rt,
+        alloc,
+        rules,
+        job,
+        cache,
+        top,
+        &mut fresh,
+        &mut places,
+        tree,
+        edits,
+        book,
+        &mut learned,
+        workers,
+        gate,
+    )?;
+    let made = in_order(alloc, fresh, true)?;
+    Ok(Reached { result, made })
 }
 
 /// The outcome of a key, from the entries that an earlier build left.
@@ -213,43 +315,10 @@ pub fn bring_over<H: Threads + Sync, R: Rules, T: Tree, G: Gate>(
     ensures unchanged { IfOk result (λ b. b.unchanged ≡ true → b.cache ≡ cache) }
     ensures told { IfOk result (λ b. book.new ≡ book.old → b.cache ≡ cache → b.unchanged ≡ true) }
 {
-    let mut fresh = Vec::new(alloc);
-    let mut places = Places::new(alloc);
-    let mut learned = Learned::new(alloc);
     let first = book.ran().len();
-    let result = run_to_end(
-        rt,
-        alloc,
-        rules,
-        job,
-        &cache,
-        &top,
-        &mut fresh,
-        &mut places,
-        tree,
-        edits,
-        book,
-        &mut learned,
-        workers,
-        gate,
+    let reached = reach(
+        rt, alloc, rules, &top, job, &cache, tree, edits, book, workers, gate,
     )?;
-    let made = in_order(alloc, fresh, true)?;
-    let needed = made.entries().len() as u64;
-    if is_bad(&result) {
-        let left = join_entries(alloc, &cache, made)?;
-        let unchanged = is_idle(&cache, &left, first, book);
-        return Ok(Brought {
-            result,
-            cache: left,
-            needed,
-            unchanged,
-        });
-    }
-    let unchanged = is_idle(&cache, &made, first, book);
-    Ok(Brought {
-        result,
-        cache: made,
-        needed,
-        unchanged,
-    })
+    let brought = leave(alloc, &cache, reached, first, book)?;
+    Ok(brought)
 }
