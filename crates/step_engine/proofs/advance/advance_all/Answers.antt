@@ -2,6 +2,7 @@
 use Rattle.std.proofs.Common.{refl, ap, ◌∙◌}
 use Rattle.step_engine.specs.Build.{setting}
 use Rattle.step_engine.specs.Edits.{over}
+use Rattle.step_engine.proofs.Ending.{counts_wanting}
 use Rattle.step_engine.proofs.Listing.{list_none, list_noted, list_more, list_refused, need_item, list_item, ready_held, item_held, notes_held, advanced_held, left_here, left_more}
 use Rattle.step_engine.proofs.advance.advance_all.Goals as goal
 
@@ -53,3 +54,18 @@ returns-clause-notes g c = list_noted _ _ _ _ _ _ _ _ c.loop-item.invariant.here
 
 pub returns-clause-ok : goal.returns-clause-ok
 returns-clause-ok g c = c.loop-item.invariant.here
+
+pub returns-in_err-left-clause-held : goal.returns-in_err-left-clause-held
+returns-in_err-left-clause-held g c = c.advance.ensures.held ∙ c.loop-item.invariant.held
+
+pub returns-in_err-sort_in-clause-held : goal.returns-in_err-sort_in-clause-held
+returns-in_err-sort_in-clause-held g c = c.advance.ensures.held ∙ c.loop-item.invariant.held
+
+pub returns-clause-held : goal.returns-clause-held
+returns-clause-held g c = c.loop-item.invariant.held
+
+pub returns-in_err-sort_in-clause-count : goal.returns-in_err-sort_in-clause-count
+returns-in_err-sort_in-clause-count g c = counts_wanting c.from_residual-in_err-sort_in.result _ _ c.from_residual-in_err-sort_in.ensures.1 (c.in_ok-left.ensures.count ∙ c.loop-item.invariant.count)
+
+pub returns-clause-count : goal.returns-clause-count
+returns-clause-count g c = c.loop-item.invariant.count

@@ -5,6 +5,7 @@ use Rattle.step_engine.specs.Edits.{over}
 use Rattle.step_engine.specs.Engine.{state}
 use Rattle.step_engine.specs.Reading.{knowledge}
 use Rattle.step_engine.proofs.Acting.{noted_of}
+use Rattle.step_engine.proofs.Ending.{counts_wanting}
 use Rattle.step_engine.proofs.TakingLemmas.{taking}
 use Rattle.step_engine.proofs.round.round.Goals as goal
 
@@ -26,3 +27,24 @@ returns-clause-ok g c =
     let y = state c.args.fresh.now.items (knowledge g.R.Key.Ord.cmp c.args.learned.now) c.args.book.now (g.T.Tree.reads c.args.tree.now) in
     let z = state c.advance_all.new.fresh.items (knowledge g.R.Key.Ord.cmp c.advance_all.new.learned) c.advance_all.new.book (g.T.Tree.reads c.advance_all.new.tree) in
     c.in_ok-take_all.ensures s y z _ _ refl (taking s y z _ _ _ _ _ _ c.in_ok-runs.ensures.ok c.in_ok-done.ensures)
+
+pub returns-in_err-runs-clause-held : goal.returns-in_err-runs-clause-held
+returns-in_err-runs-clause-held g c = c.advance_all.ensures.held
+
+pub returns-in_err-done-clause-held : goal.returns-in_err-done-clause-held
+returns-in_err-done-clause-held g c = c.advance_all.ensures.held
+
+pub returns-in_err-take_all-clause-held : goal.returns-in_err-take_all-clause-held
+returns-in_err-take_all-clause-held g c = c.advance_all.ensures.held
+
+pub returns-clause-held : goal.returns-clause-held
+returns-clause-held g c = c.advance_all.ensures.held
+
+pub returns-in_err-done-clause-count : goal.returns-in_err-done-clause-count
+returns-in_err-done-clause-count g c = counts_wanting c.from_residual-in_err-done.result _ _ c.from_residual-in_err-done.ensures.1 c.in_ok-runs.ensures.count
+
+pub returns-in_err-take_all-clause-count : goal.returns-in_err-take_all-clause-count
+returns-in_err-take_all-clause-count g c = counts_wanting c.from_residual-in_err-take_all.result _ _ c.from_residual-in_err-take_all.ensures.1 c.in_ok-runs.ensures.count
+
+pub returns-clause-count : goal.returns-clause-count
+returns-clause-count g c = c.in_ok-runs.ensures.count

@@ -5,6 +5,7 @@ use Rattle.step_engine.specs.Edits.{over}
 use Rattle.step_engine.specs.Engine.{state}
 use Rattle.step_engine.specs.Reading.{knowledge}
 use Rattle.step_engine.specs.Table.{place_at}
+use Rattle.step_engine.proofs.Ending.{counts_wanting}
 use Rattle.step_engine.proofs.ScanLemmas.{able_ready, able_items, visit_noted, visited}
 use Rattle.step_engine.proofs.running.run_ready_keys.Goals as goal
 
@@ -56,3 +57,24 @@ returns-clause-notes g c =
     let y = state c.args.fresh.now.items (knowledge g.R.Key.Ord.cmp c.args.learned.now) c.args.book.now (g.T.Tree.reads c.args.tree.now) in
     let laws = g.met.R.Rules g.world.𝓛 g.world.𝓜 g.world.𝓡 ((λ s x. x), (λ x. x), (λ x. x), λ x. x) in
     visit_noted g.R.Key.Ord.cmp s laws.lawful y (place_at g.R.Key.Ord.cmp c.args.places.now) c.requires.ready c.args.pool.now c.take_able.new.pool c.requires.items c.take_able.new.book (place_at g.R.Key.Ord.cmp c.take_able.new.places) c.in_ok-able.able.items c.in_ok-able.ensures.ok c.in_ok-able.ensures.held (state c.round.new.fresh.items (knowledge g.R.Key.Ord.cmp c.round.new.learned) c.round.new.book (g.T.Tree.reads c.round.new.tree)) c.round.ensures.notes
+
+pub returns-in_err-able-clause-held : goal.returns-in_err-able-clause-held
+returns-in_err-able-clause-held g c = refl
+
+pub returns-in_err-left-clause-held : goal.returns-in_err-left-clause-held
+returns-in_err-left-clause-held g c = c.round.ensures.held
+
+pub returns-in_err-put_back-clause-held : goal.returns-in_err-put_back-clause-held
+returns-in_err-put_back-clause-held g c = c.round.ensures.held
+
+pub returns-clause-held : goal.returns-clause-held
+returns-clause-held g c = c.round.ensures.held
+
+pub returns-in_err-able-clause-count : goal.returns-in_err-able-clause-count
+returns-in_err-able-clause-count g c = counts_wanting c.from_residual.result _ _ c.from_residual.ensures.1 refl
+
+pub returns-in_err-put_back-clause-count : goal.returns-in_err-put_back-clause-count
+returns-in_err-put_back-clause-count g c = counts_wanting c.from_residual-in_err-put_back.result _ _ c.from_residual-in_err-put_back.ensures.1 c.in_ok-left.ensures.count
+
+pub returns-clause-count : goal.returns-clause-count
+returns-clause-count g c = c.in_ok-left.ensures.count

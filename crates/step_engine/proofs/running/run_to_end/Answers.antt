@@ -5,6 +5,7 @@ use Rattle.step_engine.specs.Edits.{over}
 use Rattle.step_engine.specs.Engine.{state}
 use Rattle.step_engine.specs.Reading.{knowledge}
 use Rattle.step_engine.proofs.Listing.{ready_held}
+use Rattle.step_engine.proofs.Ending.{counts_wanting}
 use Rattle.step_engine.proofs.ScanLemmas.{begins_noted, settling_more, settling_noted, settling_refused, brought_to, under_held, visited_held, visit_notes_held}
 use Rattle.step_engine.proofs.running.run_to_end.Goals as goal
 
@@ -83,3 +84,36 @@ returns-then-acts-before-clause-notes g c =
     let i = c.loop-acts.invariant in
     let j = settling_more g.R.Key.Ord.cmp s _ y _ _ _ _ _ c.loop-acts.pool c.run_ready_keys.new.pool i.here (visited_held g.R.Key.Ord.cmp s _ _ _ _ _ c.loop-acts.pool c.run_ready_keys.new.pool (ap (over c.args.edits.now) i.held) c.in_ok-run_ready_keys.ensures.ok) in
     settling_noted g.R.Key.Ord.cmp s _ y _ _ _ c.run_ready_keys.new.pool j
+
+pub returns-in_err-pool-clause-held : goal.returns-in_err-pool-clause-held
+returns-in_err-pool-clause-held g c = refl
+
+pub returns-in_err-run_ready_keys-clause-held : goal.returns-in_err-run_ready_keys-clause-held
+returns-in_err-run_ready_keys-clause-held g c = c.run_ready_keys.ensures.held ∙ c.loop-acts.invariant.held
+
+pub returns-in-Some-clause-held : goal.returns-in-Some-clause-held
+returns-in-Some-clause-held g c = c.loop-acts.invariant.held
+
+pub returns-in_err-copy-clause-held : goal.returns-in_err-copy-clause-held
+returns-in_err-copy-clause-held g c = c.loop-acts.invariant.held
+
+pub returns-then-acts-before-clause-held : goal.returns-then-acts-before-clause-held
+returns-then-acts-before-clause-held g c = c.run_ready_keys.ensures.held ∙ c.loop-acts.invariant.held
+
+pub returns-clause-held : goal.returns-clause-held
+returns-clause-held g c = c.loop-acts.invariant.held
+
+pub returns-in_err-pool-clause-count : goal.returns-in_err-pool-clause-count
+returns-in_err-pool-clause-count g c = counts_wanting c.from_residual.result _ _ c.from_residual.ensures.1 refl
+
+pub returns-in-Some-clause-count : goal.returns-in-Some-clause-count
+returns-in-Some-clause-count g c = c.loop-acts.invariant.count
+
+pub returns-in_err-copy-clause-count : goal.returns-in_err-copy-clause-count
+returns-in_err-copy-clause-count g c = counts_wanting c.from_residual-in_err-copy.result _ _ c.from_residual-in_err-copy.ensures.1 c.loop-acts.invariant.count
+
+pub returns-then-acts-before-clause-count : goal.returns-then-acts-before-clause-count
+returns-then-acts-before-clause-count g c = c.in_ok-run_ready_keys.ensures.count ∙ c.loop-acts.invariant.count
+
+pub returns-clause-count : goal.returns-clause-count
+returns-clause-count g c = c.loop-acts.invariant.count
