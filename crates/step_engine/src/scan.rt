@@ -19,6 +19,30 @@ use build_base::text::WantOfMemory;
 use std::alloc::Global;
 use std::mem::replace;
 
+// Opens the parts that a key asks for, and gives them all.
+fn open_parts<R: Rules>(
+    alloc: Global,
+    rules: &R,
+    old: &Cache<R::Key, R::Out>,
+    item: &Item<R::Key, R::Out>,
+    places: &mut Places<R::Key>,
+    book: &mut Book<R::Key>,
+    opened: &mut Vec<Item<R::Key, R::Out>>,
+) -> Result<Vec<R::Key>, WantOfMemory>
+    ensures noted { ScansNoted item.now old.now book.old (place_at R.Key.cmp places.old) book.new }
+    ensures ok { OnOk result ((more : List (Item R.Key R.Out))
+        × (opened.new.items ≡ opened.old.items ++ more)
+        × Scans item.now old.now book.old (place_at R.Key.cmp places.old) book.new
+        (place_at R.Key.cmp places.new) more) }
+{
+    let parts = parts_of(alloc, rules, item, places)?;
+    let mut more = open_all(alloc, old, &parts, book, places)?;
+    if opened.append(&mut more).is_err() {
+        return Err(WantOfMemory);
+    }
+    Ok(parts)
+}
+
 // The parts that a key asks for are opened, and then it waits for them.
 fn scan<R: Rules>(
     alloc: Global,
@@ -38,12 +62,8 @@ fn scan<R: Rules>(
     ensures held { OnOk result ((a : Item R.Key R.Out) → Holds waiting.new.items a → (item ≡ a)
         ⊎ Holds waiting.old.items a) }
 {
-    let parts = parts_of(alloc, rules, &item, places)?;
-    let mut more = open_all(alloc, old, &parts, book, places)?;
+    let parts = open_parts(alloc, rules, old, &item, places, book, opened)?;
     if waiting.push(Waiting { item, parts }).is_err() {
-        return Err(WantOfMemory);
-    }
-    if opened.append(&mut more).is_err() {
         return Err(WantOfMemory);
     }
     Ok(())

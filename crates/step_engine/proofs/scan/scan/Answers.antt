@@ -1,25 +1,19 @@
--- The parts were opened.
+-- The key waits.
 use Rattle.std.proofs.Common.{refl}
-use Rattle.step_engine.proofs.ScanLemmas.{scans, scans_noted, scans_still, scan_held}
+use Rattle.step_engine.proofs.ScanLemmas.{scan_held}
 use Rattle.step_engine.proofs.scan.scan.Goals as goal
 
 pub returns-in_err-parts-clause-noted : goal.returns-in_err-parts-clause-noted
-returns-in_err-parts-clause-noted g c = scans_still _ _ _ _
-
-pub returns-in_err-more-clause-noted : goal.returns-in_err-more-clause-noted
-returns-in_err-more-clause-noted g c = scans_noted _ _ _ _ _ _ c.in_ok-parts.ensures c.open_all.ensures.noted
+returns-in_err-parts-clause-noted g c = c.open_parts.ensures.noted
 
 pub returns-then-is_err-clause-noted : goal.returns-then-is_err-clause-noted
-returns-then-is_err-clause-noted g c = scans_noted _ _ _ _ _ _ c.in_ok-parts.ensures c.open_all.ensures.noted
-
-pub returns-then-is_err-2-clause-noted : goal.returns-then-is_err-2-clause-noted
-returns-then-is_err-2-clause-noted g c = scans_noted _ _ _ _ _ _ c.in_ok-parts.ensures c.open_all.ensures.noted
+returns-then-is_err-clause-noted g c = c.open_parts.ensures.noted
 
 pub returns-clause-noted : goal.returns-clause-noted
-returns-clause-noted g c = scans_noted _ _ _ _ _ _ c.in_ok-parts.ensures c.open_all.ensures.noted
+returns-clause-noted g c = c.open_parts.ensures.noted
 
 pub returns-clause-ok : goal.returns-clause-ok
-returns-clause-ok g c = (c.in_ok-more.more.items, rw (c.append.ensures.items, c.if-is_err-2.ensures.negation) refl, scans _ _ _ _ _ _ _ _ c.in_ok-parts.ensures c.in_ok-more.ensures.ok)
+returns-clause-ok g c = c.in_ok-parts.ensures.ok
 
 pub returns-clause-held : goal.returns-clause-held
 returns-clause-held g c = λ a h. scan_held c.args.waiting.now.items c.push.new.self.items (record { item = c.args.item; parts = c.in_ok-parts.parts }) a (rw (c.push.ensures.items, c.if-is_err.ensures.negation) refl) h
