@@ -36,3 +36,33 @@ returns-in-Some-false-clause-ok g c =
     let a = rw (c.items.ensures, c.value-talk.ensures) at c.in-Some.ensures.lookup in
     let d = rw (c.in-Some-false.is, c.in-Some-false.field-0-test) at c.in_ok-found-in-Some.ensures.ok in
     record { still = record { moves = d.moves; kept = d.kept }; outcome = (check_stale _ _ c.args.check.entry c.args.check.batch c.requires.check _ c.in-Some.batch.now a.3.0 a.1 d, refl) }
+
+pub returns-in_err-found-in-Some-clause-held : goal.returns-in_err-found-in-Some-clause-held
+returns-in_err-found-in-Some-clause-held g c = c.check_batch.ensures.held
+
+pub returns-in_err-found-in-Some-clause-adds : goal.returns-in_err-found-in-Some-clause-adds
+returns-in_err-found-in-Some-clause-adds g c = c.check_batch.ensures.adds
+
+pub returns-in-Some-true-clause-held : goal.returns-in-Some-true-clause-held
+returns-in-Some-true-clause-held g c = c.check_batch.ensures.held
+
+pub returns-in-Some-true-clause-adds : goal.returns-in-Some-true-clause-adds
+returns-in-Some-true-clause-adds g c = c.check_batch.ensures.adds
+
+pub returns-in-Some-false-clause-held : goal.returns-in-Some-false-clause-held
+returns-in-Some-false-clause-held g c = c.check_batch.ensures.held
+
+pub returns-in-Some-false-clause-adds : goal.returns-in-Some-false-clause-adds
+returns-in-Some-false-clause-adds g c = c.check_batch.ensures.adds
+
+pub returns-in-None-clause-held : goal.returns-in-None-clause-held
+returns-in-None-clause-held g c = refl
+
+pub returns-in-None-clause-count : goal.returns-in-None-clause-count
+returns-in-None-clause-count g c = refl
+
+pub returns-in-Some-true-clause-count : goal.returns-in-Some-true-clause-count
+returns-in-Some-true-clause-count g c = c.in_ok-found-in-Some.ensures.count
+
+pub returns-in-Some-false-clause-count : goal.returns-in-Some-false-clause-count
+returns-in-Some-false-clause-count g c = c.in_ok-found-in-Some.ensures.count

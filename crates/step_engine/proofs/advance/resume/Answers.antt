@@ -1,6 +1,7 @@
 -- The step is answered.
 use Rattle.std.proofs.Common.{refl}
 use Rattle.step_engine.proofs.Advancing.{resumed}
+use Rattle.step_engine.proofs.Ending.{counts_wanting}
 use Rattle.step_engine.proofs.advance.resume.Goals as goal
 
 pub returns-clause-ok : goal.returns-clause-ok
@@ -11,3 +12,36 @@ returns-clause-ok g c =
       item = rw c.in_ok-push.ensures.ok (resumed _ _ _ _ _ _ _ c.requires.asked d);
       key = refl;
     }
+
+pub returns-in_err-found-clause-held : goal.returns-in_err-found-clause-held
+returns-in_err-found-clause-held g c = c.answers.ensures.held
+
+pub returns-in_err-found-clause-adds : goal.returns-in_err-found-clause-adds
+returns-in_err-found-clause-adds g c = c.answers.ensures.adds
+
+pub returns-in_default-clause-held : goal.returns-in_default-clause-held
+returns-in_default-clause-held g c = c.answers.ensures.held
+
+pub returns-in_default-clause-adds : goal.returns-in_default-clause-adds
+returns-in_default-clause-adds g c = c.answers.ensures.adds
+
+pub returns-in_err-push-clause-held : goal.returns-in_err-push-clause-held
+returns-in_err-push-clause-held g c = c.answers.ensures.held
+
+pub returns-in_err-push-clause-adds : goal.returns-in_err-push-clause-adds
+returns-in_err-push-clause-adds g c = c.answers.ensures.adds
+
+pub returns-clause-held : goal.returns-clause-held
+returns-clause-held g c = c.answers.ensures.held
+
+pub returns-clause-adds : goal.returns-clause-adds
+returns-clause-adds g c = c.answers.ensures.adds
+
+pub returns-in_default-clause-count : goal.returns-in_default-clause-count
+returns-in_default-clause-count g c = c.in_ok-found.ensures.count
+
+pub returns-in_err-push-clause-count : goal.returns-in_err-push-clause-count
+returns-in_err-push-clause-count g c = counts_wanting c.from_residual-in_err-push.result _ _ c.from_residual-in_err-push.ensures.1 c.in_ok-found.ensures.count
+
+pub returns-clause-count : goal.returns-clause-count
+returns-clause-count g c = c.in_ok-found.ensures.count

@@ -3,6 +3,7 @@ use Rattle.std.proofs.Common.{refl, ap, ◌∙◌}
 use Rattle.step_engine.specs.Edits.{over}
 use Rattle.step_engine.proofs.Steps.{way_none, way_more, way_adds, here_on, answering_none, answering_more, answering_all}
 use Rattle.step_engine.proofs.Asking.{still_then}
+use Rattle.step_engine.proofs.Ending.{counts_wanting}
 use Rattle.step_engine.proofs.answers.answers.Goals as goal
 
 pub loop-ask-init : goal.loop-ask-init
@@ -34,3 +35,30 @@ loop-ask-preserved g c =
 
 pub returns-clause-ok : goal.returns-clause-ok
 returns-clause-ok g c = answering_all _ _ _ _ _ _ _ _ _ _ _ c.loop-ask.invariant.way c.loop-ask.invariant.here c.items-ask-items.ensures c.loop-ask-test.false
+
+pub returns-in_err-found-clause-held : goal.returns-in_err-found-clause-held
+returns-in_err-found-clause-held g c = c.answer.ensures.held ∙ c.loop-ask.invariant.held
+
+pub returns-in_default-clause-held : goal.returns-in_default-clause-held
+returns-in_default-clause-held g c = c.answer.ensures.held ∙ c.loop-ask.invariant.held
+
+pub returns-in_err-ask-clause-held : goal.returns-in_err-ask-clause-held
+returns-in_err-ask-clause-held g c = c.answer.ensures.held ∙ c.loop-ask.invariant.held
+
+pub returns-in_err-keep_pair-clause-held : goal.returns-in_err-keep_pair-clause-held
+returns-in_err-keep_pair-clause-held g c = c.answer.ensures.held ∙ c.loop-ask.invariant.held
+
+pub returns-clause-held : goal.returns-clause-held
+returns-clause-held g c = c.loop-ask.invariant.held
+
+pub returns-in_default-clause-count : goal.returns-in_default-clause-count
+returns-in_default-clause-count g c = c.in_ok-found.ensures.count ∙ c.loop-ask.invariant.way.count
+
+pub returns-in_err-ask-clause-count : goal.returns-in_err-ask-clause-count
+returns-in_err-ask-clause-count g c = counts_wanting c.from_residual-in_err-ask.result _ _ c.from_residual-in_err-ask.ensures.1 (c.in_ok-found.ensures.count ∙ c.loop-ask.invariant.way.count)
+
+pub returns-in_err-keep_pair-clause-count : goal.returns-in_err-keep_pair-clause-count
+returns-in_err-keep_pair-clause-count g c = counts_wanting c.from_residual-in_err-keep_pair.result _ _ c.from_residual-in_err-keep_pair.ensures.1 (c.in_ok-found.ensures.count ∙ c.loop-ask.invariant.way.count)
+
+pub returns-clause-count : goal.returns-clause-count
+returns-clause-count g c = c.loop-ask.invariant.way.count

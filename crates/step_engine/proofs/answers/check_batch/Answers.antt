@@ -47,3 +47,24 @@ loop-pair-preserved g c =
 
 pub returns-clause-ok : goal.returns-clause-ok
 returns-clause-ok g c = checking_batch_all _ _ _ _ _ _ _ _ _ _ _ c.loop-pair.invariant.way c.loop-pair.invariant.here c.items-pair-items.ensures c.loop-pair-test.false
+
+pub returns-then-not-is_lower-clause-held : goal.returns-then-not-is_lower-clause-held
+returns-then-not-is_lower-clause-held g c = c.loop-pair.invariant.held
+
+pub returns-in_err-found-clause-held : goal.returns-in_err-found-clause-held
+returns-in_err-found-clause-held g c = c.check_pair.ensures.held ∙ c.loop-pair.invariant.held
+
+pub returns-in_default-clause-held : goal.returns-in_default-clause-held
+returns-in_default-clause-held g c = c.check_pair.ensures.held ∙ c.loop-pair.invariant.held
+
+pub returns-clause-held : goal.returns-clause-held
+returns-clause-held g c = c.loop-pair.invariant.held
+
+pub returns-then-not-is_lower-clause-count : goal.returns-then-not-is_lower-clause-count
+returns-then-not-is_lower-clause-count g c = c.loop-pair.invariant.way.count
+
+pub returns-in_default-clause-count : goal.returns-in_default-clause-count
+returns-in_default-clause-count g c = c.in_ok-found.ensures.count ∙ c.loop-pair.invariant.way.count
+
+pub returns-clause-count : goal.returns-clause-count
+returns-clause-count g c = c.loop-pair.invariant.way.count
