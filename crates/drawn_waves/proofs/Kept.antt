@@ -7,34 +7,34 @@ use Rattle.std.specs.Prelude.{slice_get, slice_index}
 use Rattle.std.proofs.lemmas.List.Sums.{sum_by-append, sum_by_push}
 use Rattle.atomic_table.specs.Table.{State, Me, step, Act, keeps, takes, stepped, Allows, Splits, Joins, opening}
 use Rattle.atomic_table.proofs.Lists.{at_set, set_again, at_snoc}
-use Rattle.drawn_waves.specs.declared.table.Hand.{Hand}
-use Rattle.drawn_waves.specs.Drawing.{upto, past, count_past, at_home, hand, spent, gained, kept, given, joined, IsHand, Drawn, Drew, drew, looked}
+use Rattle.drawn_waves.specs.declared.table.WorkerView.{WorkerView}
+use Rattle.drawn_waves.specs.Drawing.{upto, past, count_past, at_home, hand, spent_view, longer_view, kept_half, given_half, joined_view, IsWorkerView, Drawn, Drew, drew, looked}
 use Rattle.drawn_waves.proofs.Sums.{sum_at, part_le, sums_le, all_alone, past_le, upto_past, upto_none, upto_more, none_past, past_none_all}
 use Rattle.drawn_waves.proofs.Homes.{at_home_here, at_home_more, at_home_past, at_home_first}
 
 module _ {I : Type 0} (items : List I) (workers : ℕ) where
   abbrev St : Type 0
-  St = State (Option I) (Hand I)
+  St = State (Option I) (WorkerView I)
 
   abbrev Rule : St → Type 0
   Rule = Drawn items workers
 
-  abbrev Each : List (Hand I) → Type 0
-  Each views = (j : ℕ) (u : Hand I) → get_elem? views j ≡ some u → IsHand items workers u
+  abbrev Each : List (WorkerView I) → Type 0
+  Each views = (j : ℕ) (u : WorkerView I) → get_elem? views j ≡ some u → IsWorkerView items workers u
 
-  each_set : (views : List (Hand I)) (id : ℕ) (w : Hand I) → Each views → IsHand items workers w → Each (set views id w)
-  each_set views id w each mine j u e = ⊎_elim (λ (t : (j ≡ id) × (w ≡ u)). subst (IsHand items workers) t.1 mine) (λ (t : (j ≢ id) × (get_elem? views j ≡ some u)). each j u t.1) (at_set views id j w u e)
+  each_set : (views : List (WorkerView I)) (id : ℕ) (w : WorkerView I) → Each views → IsWorkerView items workers w → Each (set views id w)
+  each_set views id w each mine j u e = ⊎_elim (λ (t : (j ≡ id) × (w ≡ u)). subst (IsWorkerView items workers) t.1 mine) (λ (t : (j ≢ id) × (get_elem? views j ≡ some u)). each j u t.1) (at_set views id j w u e)
 
-  each_more : (views : List (Hand I)) (w : Hand I) → Each views → IsHand items workers w → Each (views ++ w ∷ [])
-  each_more views w each mine j u e = ⊎_elim (each j u) (λ (t : w ≡ u). subst (IsHand items workers) t mine) (at_snoc views w u j e)
+  each_more : (views : List (WorkerView I)) (w : WorkerView I) → Each views → IsWorkerView items workers w → Each (views ++ w ∷ [])
+  each_more views w each mine j u e = ⊎_elim (each j u) (λ (t : w ≡ u). subst (IsWorkerView items workers) t mine) (at_snoc views w u j e)
 
-  nobody : IsHand items workers spent
+  nobody : IsWorkerView items workers spent_view
   nobody = record { idle = λ _. refl; items_are = λ l. absurd (omega arith); workers_are = λ l. absurd (omega arith); ends = omega arith }
 
-  abbrev share_of : Hand I → ℕ
+  abbrev share_of : WorkerView I → ℕ
   share_of v = v.share
 
-  abbrev weigh : (ℕ → ℕ) → Hand I → ℕ
+  abbrev weigh : (ℕ → ℕ) → WorkerView I → ℕ
   weigh h v = sum_by h v.numbers
 
   -- the word is at most the length and the workers
@@ -43,14 +43,14 @@ module _ {I : Type 0} (items : List I) (workers : ℕ) where
       let c = sums_le (weigh (past n)) share_of s.views (λ j u e. (r.each j u e).ends) in let d = r.shares in omega arith
 
   -- each number in a view is below the word
-  pub drawn_below : (s : St) (r : Rule s) (id : ℕ) (v : Hand I) → get_elem? s.views id ≡ some v → All (λ x. x < r.drawn) v.numbers
+  pub drawn_below : (s : St) (r : Rule s) (id : ℕ) (v : WorkerView I) → get_elem? s.views id ≡ some v → All (λ x. x < r.drawn) v.numbers
   drawn_below s r id v at = let a = r.numbers (past r.drawn) in let b = upto_none r.drawn r.drawn (omega arith) in
       let c = part_le (weigh (past r.drawn)) s.views id v at in none_past r.drawn v.numbers (omega arith)
 
   -- after a draw of the number of a slot, or of one without
-  drawn_more : (s : St) (r : Rule s) (id k : ℕ) (v : Hand I) (homes : List (maybe.Option (Option I))) → k ≡ r.drawn → get_elem? s.views id ≡ some v → 0 < v.share → All (λ x. x < length v.items) v.numbers
-      → homes ≡ at_home (suc k) items → Rule record { words = set s.words 0 ((k + 1) % 18446744073709551616); homes = homes; views = set s.views id (gained v k) }
-  drawn_more s r id k v homes is at live below homes_are = let w : Hand I = gained v k in let mine = r.each id v at in
+  drawn_more : (s : St) (r : Rule s) (id k : ℕ) (v : WorkerView I) (homes : List (maybe.Option (Option I))) → k ≡ r.drawn → get_elem? s.views id ≡ some v → 0 < v.share → All (λ x. x < length v.items) v.numbers
+      → homes ≡ at_home (suc k) items → Rule record { words = set s.words 0 ((k + 1) % 18446744073709551616); homes = homes; views = set s.views id (longer_view v k) }
+  drawn_more s r id k v homes is at live below homes_are = let w : WorkerView I = longer_view v k in let mine = r.each id v at in
       let b = bounded s r in let short = r.short in let few = r.few in let small : (k + 1) % 18446744073709551616 ≡ suc k = omega arith in
       let none : count_past (length items) v.numbers ≡ 0 = past_none_all _ _ (subst (λ (xs : List I). All (λ x. x < length xs) v.numbers) (mine.items_are live) below) in record {
         drawn = suc k;
@@ -70,11 +70,11 @@ module _ {I : Type 0} (items : List I) (workers : ℕ) where
       }
 
   abbrev M : Type 0
-  M = Me (Option I) (Hand I)
+  M = Me (Option I) (WorkerView I)
 
   -- what a draw owes of a state
   abbrev Owes : St → ℕ → M → ℕ → Type 0
-  Owes s id me k = (w : Hand I) × (a : Act (Option I)) × Rattle.atomic_table.specs.Table.Valid s.homes me.1 a × Rule (stepped s 0 ((k + 1) % 18446744073709551616) id me.1 w a)
+  Owes s id me k = (w : WorkerView I) × (a : Act (Option I)) × Rattle.atomic_table.specs.Table.Valid s.homes me.1 a × Rule (stepped s 0 ((k + 1) % 18446744073709551616) id me.1 w a)
       × Drew me k (w, Rattle.atomic_table.specs.Table.carried_after me.1 a)
 
   owes : (s : St) (r : Rule s) (id k : ℕ) (me : M) → k ≡ r.drawn → get_elem? s.views id ≡ some me.0 → 0 < me.0.share → All (λ x. x < length me.0.items) me.0.numbers
@@ -82,7 +82,7 @@ module _ {I : Type 0} (items : List I) (workers : ℕ) where
   owes s r id k me is at live below (Some x) e =
       let here : s.homes ≡ at_home k items = r.homes_are ∙ ap (λ (j : ℕ). at_home j items) (sym is) in
       let same : me.0.items ≡ items = (r.each id me.0 at).items_are live in (
-        gained me.0 k,
+        longer_view me.0 k,
         takes k (Some x),
         ap (λ hs. get_elem? hs k) here ∙ at_home_here items k x e,
         drawn_more s r id k me.0 _ is at live below (ap (λ hs. set hs k none) here ∙ at_home_more items k x e),
@@ -95,7 +95,7 @@ module _ {I : Type 0} (items : List I) (workers : ℕ) where
   owes s r id k me is at live below None e =
       let here : s.homes ≡ at_home k items = r.homes_are ∙ ap (λ (j : ℕ). at_home j items) (sym is) in
       let same : me.0.items ≡ items = (r.each id me.0 at).items_are live in (
-        gained me.0 k,
+        longer_view me.0 k,
         keeps,
         tt,
         drawn_more s r id k me.0 _ is at live below (here ∙ at_home_past items k e),
@@ -110,8 +110,8 @@ module _ {I : Type 0} (items : List I) (workers : ℕ) where
       → Allows Rule slots id me 0 (λ n. (n + 1) % 18446744073709551616) (drew (step slots 0 1 0 none) me)
   draws slots id me live below s r _ at _ = owes s r id (slice_index s.words 0) me (ap (λ ws. slice_index ws 0) r.word_is) at live below _ refl
 
-  pub halves : (id : ℕ) (v : Hand I) → 2 ≤ v.share → All (λ x. x < length v.items) v.numbers → Splits Rule id v (kept v) (given v)
-  halves id v two below s r at = let l : Hand I = kept v in let g : Hand I = given v in let mine = r.each id v at in let vs : List (Hand I) = set s.views id l in
+  pub halves : (id : ℕ) (v : WorkerView I) → 2 ≤ v.share → All (λ x. x < length v.items) v.numbers → Splits Rule id v (kept_half v) (given_half v)
+  halves id v two below s r at = let l : WorkerView I = kept_half v in let g : WorkerView I = given_half v in let mine = r.each id v at in let vs : List (WorkerView I) = set s.views id l in
       let none : count_past (length items) v.numbers ≡ 0 = past_none_all _ _ (subst (λ (xs : List I). All (λ x. x < length xs) v.numbers) (mine.items_are (omega arith)) below) in record {
         drawn = r.drawn;
         word_is = r.word_is;
@@ -129,20 +129,20 @@ module _ {I : Type 0} (items : List I) (workers : ℕ) where
             record { idle = λ _. refl; items_are = λ _. mine.items_are (omega arith); workers_are = λ _. mine.workers_are (omega arith); ends = omega arith };
       }
 
-  pub lifts : (id : ℕ) (v : Hand I) → Splits Rule id v spent v
-  lifts id v s r at = let vs : List (Hand I) = set s.views id spent in record {
+  pub lifts : (id : ℕ) (v : WorkerView I) → Splits Rule id v spent_view v
+  lifts id v s r at = let vs : List (WorkerView I) = set s.views id spent_view in record {
     drawn = r.drawn;
     word_is = r.word_is;
     homes_are = r.homes_are;
     short = r.short;
     few = r.few;
-    shares = let a = sum_at share_of s.views id v spent at in let b = sum_by_push share_of vs v in let d = r.shares in omega arith;
-    numbers = λ h. let a = sum_at (weigh h) s.views id v spent at in let b = sum_by_push (weigh h) vs v in let d = r.numbers h in omega arith;
-    each = each_more vs v (each_set s.views id spent r.each nobody) (r.each id v at);
+    shares = let a = sum_at share_of s.views id v spent_view at in let b = sum_by_push share_of vs v in let d = r.shares in omega arith;
+    numbers = λ h. let a = sum_at (weigh h) s.views id v spent_view at in let b = sum_by_push (weigh h) vs v in let d = r.numbers h in omega arith;
+    each = each_more vs v (each_set s.views id spent_view r.each nobody) (r.each id v at);
   }
 
-  pub gathers : (id : ℕ) (v : Hand I) (other : ℕ) (w : Hand I) → 0 < v.share → Joins Rule id v other w (joined v w) spent
-  gathers id v other w live s r at apart there = let b : Hand I = joined v w in let vs : List (Hand I) = set s.views id b in let mine = r.each id v at in
+  pub gathers : (id : ℕ) (v : WorkerView I) (other : ℕ) (w : WorkerView I) → 0 < v.share → Joins Rule id v other w (joined_view v w) spent_view
+  gathers id v other w live s r at apart there = let b : WorkerView I = joined_view v w in let vs : List (WorkerView I) = set s.views id b in let mine = r.each id v at in
       let was : get_elem? s.views other ≡ some w = ⊎_elim (λ (t : (other ≡ id) × (b ≡ w)). absurd (apart t.0)) (λ (t : (other ≢ id) × (get_elem? s.views other ≡ some w)). t.1) (at_set s.views id other b w there) in
       let theirs = r.each other w was in record {
         drawn = r.drawn;
@@ -150,9 +150,9 @@ module _ {I : Type 0} (items : List I) (workers : ℕ) where
         homes_are = r.homes_are;
         short = r.short;
         few = r.few;
-        shares = let x = sum_at share_of s.views id v b at in let y = sum_at share_of vs other w spent there in let d = r.shares in omega arith;
-        numbers = λ h. let x = sum_at (weigh h) s.views id v b at in let y = sum_at (weigh h) vs other w spent there in let z = sum_by-append h v.numbers w.numbers in let d = r.numbers h in omega arith;
-        each = each_set vs other spent (each_set s.views id b r.each record {
+        shares = let x = sum_at share_of s.views id v b at in let y = sum_at share_of vs other w spent_view there in let d = r.shares in omega arith;
+        numbers = λ h. let x = sum_at (weigh h) s.views id v b at in let y = sum_at (weigh h) vs other w spent_view there in let z = sum_by-append h v.numbers w.numbers in let d = r.numbers h in omega arith;
+        each = each_set vs other spent_view (each_set s.views id b r.each record {
           idle = λ z. absurd (omega arith);
           items_are = λ _. mine.items_are live;
           workers_are = λ _. mine.workers_are live;
@@ -188,8 +188,8 @@ module _ {I : Type 0} (items : List I) (workers : ℕ) where
     each = λ j u e. first j u e;
   }
     where
-      first : (j : ℕ) (u : Hand I) → get_elem? (hand workers [] items workers ∷ []) j ≡ some u → IsHand items workers u
-      first zero u e = subst (IsHand items workers) (mathlib.Core.Option.some-injective _ _ e) record { idle = λ _. refl; items_are = λ _. refl; workers_are = λ _. refl; ends = omega arith }
+      first : (j : ℕ) (u : WorkerView I) → get_elem? (hand workers [] items workers ∷ []) j ≡ some u → IsWorkerView items workers u
+      first zero u e = subst (IsWorkerView items workers) (mathlib.Core.Option.some-injective _ _ e) record { idle = λ _. refl; items_are = λ _. refl; workers_are = λ _. refl; ends = omega arith }
       first (suc j) u e = absurd (some-ne-none u (sym e))
 
   pub starts_with : (slots : List (Option I)) → slots ≡ map Some items → 1 ≤ workers → workers ≤ 64 → length items ≤ 2 ^ 62 → Rule (opening (0 ∷ []) slots (hand workers [] items workers))

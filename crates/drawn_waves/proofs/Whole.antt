@@ -8,9 +8,9 @@ use Rattle.std.proofs.lemmas.Bool.Decides.{leb_tells}
 use Rattle.std.proofs.lemmas.List.Elements.{filter-append, All-append}
 use Rattle.std.proofs.lemmas.List.Sums.{sum_by-cons, sum_by-append, sum_by_push}
 use Rattle.std.proofs.lemmas.Option.{slice_get_within}
-use Rattle.drawn_waves.specs.declared.table.Hand.{Hand}
+use Rattle.drawn_waves.specs.declared.table.WorkerView.{WorkerView}
 use Rattle.drawn_waves.specs.declared.pieces.Piece.{Piece}
-use Rattle.drawn_waves.specs.Drawing.{upto, past, count_past, kept, given, joined, HasTaken}
+use Rattle.drawn_waves.specs.Drawing.{upto, past, count_past, kept_half, given_half, joined_view, HasTaken}
 use Rattle.drawn_waves.specs.Pieces.{number_of, IsPiece, Ends, AreDrawn, HasDrawn, AreAll, Both, below}
 use Rattle.drawn_waves.proofs.Sums.{past_is, upto_none, upto_more}
 

@@ -6,7 +6,7 @@ use mathlib.Core.Option.{none, some}
 use mathlib.Core.Option as maybe
 use lib.ListN.{get_elem?}
 use Rattle.atomic_table.specs.Table.{State, Me, Step}
-use Rattle.drawn_waves.specs.declared.table.Hand.{Hand}
+use Rattle.drawn_waves.specs.declared.table.WorkerView.{WorkerView}
 
 -- the numbers below n, in order
 unfoldable pub upto : ℕ → List ℕ
@@ -28,33 +28,33 @@ at_home (suc drawn) [] = []
 at_home (suc drawn) (item ∷ items) = none ∷ at_home drawn items
 
 abbrev Sat : Type 0 → Type 0
-Sat I = Me (Option I) (Hand I)
+Sat I = Me (Option I) (WorkerView I)
 
 module _ {I : Type 0} where
-  abbrev pub hand : ℕ → List ℕ → List I → ℕ → Hand I
+  abbrev pub hand : ℕ → List ℕ → List I → ℕ → WorkerView I
   hand share numbers items workers =
       record { share = share; numbers = numbers; items = items; workers = workers }
 
   -- what is left of a view that another one took over
-  abbrev pub spent : Hand I
-  spent = hand 0 [] [] 0
+  abbrev pub spent_view : WorkerView I
+  spent_view = hand 0 [] [] 0
 
-  abbrev pub gained : Hand I → ℕ → Hand I
-  gained v number = hand v.share (v.numbers ++ number ∷ []) v.items v.workers
+  abbrev pub longer_view : WorkerView I → ℕ → WorkerView I
+  longer_view v number = hand v.share (v.numbers ++ number ∷ []) v.items v.workers
 
   -- the two halves of a view
-  abbrev pub kept : Hand I → Hand I
-  kept v = hand (v.share - v.share / 2) v.numbers v.items v.workers
+  abbrev pub kept_half : WorkerView I → WorkerView I
+  kept_half v = hand (v.share - v.share / 2) v.numbers v.items v.workers
 
-  abbrev pub given : Hand I → Hand I
-  given v = hand (v.share / 2) [] v.items v.workers
+  abbrev pub given_half : WorkerView I → WorkerView I
+  given_half v = hand (v.share / 2) [] v.items v.workers
 
-  abbrev pub joined : Hand I → Hand I → Hand I
-  joined v w = hand (v.share + w.share) (v.numbers ++ w.numbers) v.items v.workers
+  abbrev pub joined_view : WorkerView I → WorkerView I → WorkerView I
+  joined_view v w = hand (v.share + w.share) (v.numbers ++ w.numbers) v.items v.workers
 
   -- a view with a share is live: it knows the wave, and has at most as many numbers at or past the
   -- wave's length as its share. One without is spent
-  pub record IsHand (items : List I) (workers : ℕ) (v : Hand I) : Type 0 where
+  pub record IsWorkerView (items : List I) (workers : ℕ) (v : WorkerView I) : Type 0 where
     pub idle : v.share ≡ 0 → v.numbers ≡ []
     pub items_are : 0 < v.share → v.items ≡ items
     pub workers_are : 0 < v.share → v.workers ≡ workers
@@ -62,7 +62,7 @@ module _ {I : Type 0} where
 
   -- The shares add up to the workers. However numbers are weighed, those of the views weigh what
   -- the numbers below the word weigh: they are these, each in one view and once there
-  pub record Drawn (items : List I) (workers : ℕ) (s : State (Option I) (Hand I)) : Type 0 where
+  pub record Drawn (items : List I) (workers : ℕ) (s : State (Option I) (WorkerView I)) : Type 0 where
     pub drawn : ℕ
     pub word_is : s.words ≡ drawn ∷ []
     pub homes_are : s.homes ≡ at_home drawn items
@@ -71,10 +71,10 @@ module _ {I : Type 0} where
     pub shares : sum_by (λ v. v.share) s.views ≡ workers
     pub numbers : (weight : ℕ → ℕ) → sum_by (λ v. sum_by weight v.numbers) s.views
         ≡ sum_by weight (upto drawn)
-    pub each : (seat : ℕ) (v : Hand I) → get_elem? s.views seat ≡ some v → IsHand items workers v
+    pub each : (seat : ℕ) (v : WorkerView I) → get_elem? s.views seat ≡ some v → IsWorkerView items workers v
 
   -- the share and the wave are as before, and numbers were added at most
-  pub record HasTaken (v w : Hand I) : Type 0 where
+  pub record HasTaken (v w : WorkerView I) : Type 0 where
     pub share : w.share ≡ v.share
     pub items : w.items ≡ v.items
     pub workers : w.workers ≡ v.workers
@@ -83,7 +83,7 @@ module _ {I : Type 0} where
   -- the number was drawn, which is greater than those before, and the slot with the item of that
   -- number was taken
   pub record Drew (m : Sat I) (number : ℕ) (after : Sat I) : Type 0 where
-    pub view : after.0 ≡ gained m.0 number
+    pub view : after.0 ≡ longer_view m.0 number
     pub greater : All (λ x. x < number) m.0.numbers
     pub slot : (item : I) → slice_get m.0.items number ≡ Some item
         → after.1 ≡ (number, Some item) ∷ m.1

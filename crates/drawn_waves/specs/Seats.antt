@@ -1,10 +1,10 @@
 -- What clauses read of a wave's table and of a seat.
 use Rattle.std.specs.Prelude.{◌≡◌, List}
-use Rattle.drawn_waves.specs.declared.table.Hand.{Hand}
+use Rattle.drawn_waves.specs.declared.table.WorkerView.{WorkerView}
 use Rattle.drawn_waves.specs.declared.table.PieceTable.{PieceTable}
 use Rattle.drawn_waves.specs.declared.table.PieceSeat.{PieceSeat}
 
-abbrev pub view : {I : Type 0} → PieceSeat I → Hand I
+abbrev pub view : {I : Type 0} → PieceSeat I → WorkerView I
 view seat = seat.seat.me.0
 
 -- the items that the table was made with

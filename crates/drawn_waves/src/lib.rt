@@ -10,5 +10,5 @@ mod wave;
 
 pub use pieces::{Piece, Taken, take_pieces};
 pub use start::piece_table;
-pub use table::{Drawing, Hand, PieceSeat, PieceStart, PieceTable, Plan};
+pub use table::{Drawing, PieceSeat, PieceStart, PieceTable, Plan, WorkerView};
 pub use wave::draw_wave;

@@ -6,7 +6,7 @@ ghost use Rattle.drawn_waves.specs.Seats.{view, IsSeatOf};
 ghost use Rattle.drawn_waves.specs.Pieces.{number_of, IsPiece, Ends, WorkedOn};
 
 use crate::steps::draw_item;
-use crate::table::{Hand, PieceSeat, PieceTable};
+use crate::table::{PieceSeat, PieceTable, WorkerView};
 use atomic_table::Seat;
 use build_base::outside::Gate;
 use build_base::text::WantOfMemory;
@@ -93,7 +93,7 @@ fn work_on<I, R: Drop, F: Fn(I) -> Result<R, WantOfMemory>>(
 
 // A seat and what its worker made.
 fn hand_back<I, R>(
-    seat: Seat<Option<I>, Hand<I>>,
+    seat: Seat<Option<I>, WorkerView<I>>,
     results: Result<Vec<Piece<R>>, WantOfMemory>,
 ) -> Taken<I, R>
     requires { 0 < seat.me.0.share }

@@ -1,51 +1,51 @@
 //! The steps on the table of a wave: draw, exchange, split and join, and a look at the word.
 ghost use Rattle.std.specs.Prelude.{◌≡◌, ℕ, ◌+◌, ◌-◌, ◌/◌, ◌<◌, ◌≤◌, [], ◌∷◌, ◌++◌, length, slice_get, Some, All, sum_by};
 ghost use Rattle.atomic_table.specs.Table.{rest};
-ghost use Rattle.drawn_waves.specs.Drawing.{upto, gained, kept, given, joined, spent, Drew, drew, Looked, looked};
+ghost use Rattle.drawn_waves.specs.Drawing.{upto, longer_view, kept_half, given_half, joined_view, spent_view, Drew, drew, Looked, looked};
 ghost use Rattle.drawn_waves.specs.Seats.{view, IsSeatOf};
 
-use crate::table::{Hand, PieceSeat, PieceTable};
+use crate::table::{PieceSeat, PieceTable, WorkerView};
 use atomic_table::{Join, Play, Seat, Split};
 
 pub(crate) struct Draws;
 
-impl<I> Play<Option<I>, Hand<I>> for Draws {
+impl<I> Play<Option<I>, WorkerView<I>> for Draws {
     ghost then = { drew };
 }
 
 pub(crate) struct Looks;
 
-impl<I> Play<Option<I>, Hand<I>> for Looks {
+impl<I> Play<Option<I>, WorkerView<I>> for Looks {
     ghost then = { looked };
 }
 
 // The new view has half of the share.
 pub(crate) struct Halve;
 
-impl<I> Split<Hand<I>> for Halve {
-    ghost left = { kept };
+impl<I> Split<WorkerView<I>> for Halve {
+    ghost left = { kept_half };
 
-    ghost right = { given };
+    ghost right = { given_half };
 }
 
 // The new view takes all over, so that its seat holds no slot.
 pub(crate) struct Lift;
 
-impl<I> Split<Hand<I>> for Lift {
-    ghost left = { λ v. spent };
+impl<I> Split<WorkerView<I>> for Lift {
+    ghost left = { λ v. spent_view };
 
     ghost right = { λ v. v };
 }
 
 pub(crate) struct Gather;
 
-impl<I> Join<Hand<I>> for Gather {
-    ghost both = { joined };
+impl<I> Join<WorkerView<I>> for Gather {
+    ghost both = { joined_view };
 
-    ghost spent = { spent };
+    ghost spent = { spent_view };
 }
 
-type Sat<I> = Seat<Option<I>, Hand<I>>;
+type Sat<I> = Seat<Option<I>, WorkerView<I>>;
 
 // Draws the next number, and takes its slot.
 fn draw<I>(table: &PieceTable<I>, seat: &mut Sat<I>) -> u64
@@ -83,7 +83,7 @@ pub(crate) fn draw_item<I>(
     requires below { All (λ x. x < pieces) seat.old.me.0.numbers }
     requires pieces { pieces ≡ length seat.old.me.0.items }
     ensures seat { seat.new.table_id ≡ seat.old.table_id }
-    ensures view { seat.new.me.0 ≡ gained seat.old.me.0 result.0 }
+    ensures view { seat.new.me.0 ≡ longer_view seat.old.me.0 result.0 }
     ensures greater { All (λ x. x < result.0) seat.old.me.0.numbers }
     ensures item { result.1 ≡ slice_get seat.old.me.0.items result.0 }
 {
@@ -100,8 +100,8 @@ pub(crate) fn split<I>(table: &PieceTable<I>, seat: PieceSeat<I>) -> (PieceSeat<
     requires share { 2 ≤ (view seat).share }
     requires below { All (λ x. x < length (view seat).items) (view seat).numbers }
     ensures seats { IsSeatOf table.now result.0 × IsSeatOf table.now result.1 }
-    ensures kept { view result.0 ≡ kept (view seat) }
-    ensures given { view result.1 ≡ given (view seat) }
+    ensures kept { view result.0 ≡ kept_half (view seat) }
+    ensures given { view result.1 ≡ given_half (view seat) }
 {
     let PieceSeat { mut seat } = seat;
     let other = table.table.shared.split_seat::<Halve>(&mut seat);
@@ -116,7 +116,7 @@ pub(crate) fn join_seats<I>(
 ) -> PieceSeat<I>
     requires seats { IsSeatOf table.now seat × IsSeatOf table.now other }
     ensures seat { IsSeatOf table.now result }
-    ensures view { view result ≡ joined (view seat) (view other) }
+    ensures view { view result ≡ joined_view (view seat) (view other) }
 {
     let PieceSeat { mut seat } = seat;
     let PieceSeat { seat: mut other } = other;

@@ -9,7 +9,7 @@ use std::snapshot::Snapshot;
 
 /// What a seat knows: its share of the workers, the numbers that it drew, and the wave. No value
 /// of it is made.
-pub struct Hand<I> {
+pub struct WorkerView<I> {
     pub share: u64,
     pub numbers: LinkedList<u64>,
     pub items: LinkedList<I>,
@@ -26,7 +26,7 @@ pub struct Plan<I> {
 /// The rule: the numbers in the views are those below the word, each once.
 pub struct Drawing;
 
-impl<I> TableRule<Option<I>, Hand<I>, Plan<I>> for Drawing {
+impl<I> TableRule<Option<I>, WorkerView<I>, Plan<I>> for Drawing {
     ghost use Rattle.std.specs.Prelude.{[]};
     ghost use Rattle.drawn_waves.specs.Drawing.{Drawn, hand};
 
@@ -38,14 +38,14 @@ impl<I> TableRule<Option<I>, Hand<I>, Plan<I>> for Drawing {
 /// The table of a wave, which has one word and a slot for each item.
 #[derive(Drop)]
 pub struct PieceTable<I> {
-    pub(crate) table: Table<Option<I>, Hand<I>, Plan<I>, Drawing, Global>,
+    pub(crate) table: Table<Option<I>, WorkerView<I>, Plan<I>, Drawing, Global>,
     ghost one_word: { table.shared.table_id.words ≡ 1 },
 }
 
 /// A seat at such a table. It has no bytes.
 #[derive(Drop)]
 pub struct PieceSeat<I> {
-    pub(crate) seat: Seat<Option<I>, Hand<I>>,
+    pub(crate) seat: Seat<Option<I>, WorkerView<I>>,
     ghost live: { 0 < seat.me.0.share },
 }
 

@@ -2,7 +2,7 @@
 ghost use Rattle.std.specs.Prelude.{◌≡◌, ◌≤◌, [], length, map, IfOk};
 ghost use Rattle.std.specs.Thread.{IsSync, IsSend};
 ghost use Rattle.wave_pool.specs.Wave.{AreCallable, AreAnswers};
-ghost use Rattle.drawn_waves.specs.Drawing.{HasTaken, joined};
+ghost use Rattle.drawn_waves.specs.Drawing.{HasTaken, joined_view};
 ghost use Rattle.drawn_waves.specs.Seats.{view, IsSeatOf};
 ghost use Rattle.drawn_waves.specs.Pieces.{number_of, AreDrawn, HasDrawn, AreAll, Both};
 
@@ -115,7 +115,7 @@ fn both<I: Drop, R: Drop>(
 ) -> Taken<I, R>
     requires seats { IsSeatOf table.now first.seat × IsSeatOf table.now second.seat }
     ensures seat { IsSeatOf table.now result.seat }
-    ensures view { view result.seat ≡ joined (view first.seat) (view second.seat) }
+    ensures view { view result.seat ≡ joined_view (view first.seat) (view second.seat) }
     ensures results { IfOk result.results
         (λ all. Both (λ results. results.items) first.results second.results all.items) }
 {
