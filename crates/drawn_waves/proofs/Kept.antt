@@ -9,7 +9,7 @@ use Rattle.atomic_table.specs.Table.{State, Me, step, Act, keeps, takes, stepped
 use Rattle.atomic_table.proofs.Lists.{at_set, set_again, at_snoc}
 use Rattle.drawn_waves.specs.declared.table.WorkerView.{WorkerView}
 use Rattle.drawn_waves.specs.Drawing.{upto, past, count_past, at_home, hand, spent_view, longer_view, kept_half, given_half, joined_view, IsWorkerView, Drawn, Drew, drew, looked}
-use Rattle.drawn_waves.proofs.Sums.{sum_at, part_le, sums_le, all_alone, past_le, upto_past, upto_none, upto_more, none_past, past_none_all}
+use Rattle.drawn_waves.proofs.Sums.{sum_at, part_le, sums_le, sums_lt, all_alone, past_le, upto_past, upto_none, upto_more, none_past, past_none_all, count_all, count_upto}
 use Rattle.drawn_waves.proofs.Homes.{at_home_here, at_home_more, at_home_past, at_home_first}
 
 module _ {I : Type 0} (items : List I) (workers : ℕ) where
@@ -41,6 +41,19 @@ module _ {I : Type 0} (items : List I) (workers : ℕ) where
   pub bounded : (s : St) (r : Rule s) → r.drawn ≤ length items + workers
   bounded s r = let n : ℕ = length items in let a = upto_past n r.drawn in let b = r.numbers (past n) in
       let c = sums_le (weigh (past n)) share_of s.views (λ j u e. (r.each j u e).ends) in let d = r.shares in omega arith
+
+  -- the number that a view with a share draws next is less than the length and the workers
+  near_of : (s : St) (r : Rule s) (id : ℕ) (v : WorkerView I) → get_elem? s.views id ≡ some v → 0 < v.share → All (λ x. x < length v.items) v.numbers → r.drawn < length items + workers
+  near_of s r id v at live below = let n : ℕ = length items in let a = upto_past n r.drawn in let b = r.numbers (past n) in
+      let none : count_past (length items) v.numbers ≡ 0 = past_none_all _ _ (subst (λ (xs : List I). All (λ x. x < length xs) v.numbers) ((r.each id v at).items_are live) below) in
+      let c = sums_lt (weigh (past n)) share_of s.views id v (λ j u e. (r.each j u e).ends) at (omega arith) in let d = r.shares in omega arith
+
+  -- a view with all shares has every number below the word
+  all_of : (s : St) (r : Rule s) (id : ℕ) (v : WorkerView I) → get_elem? s.views id ≡ some v → v.share ≡ workers → (h : ℕ → ℕ) → sum_by h v.numbers ≡ sum_by h (upto r.drawn)
+  all_of s r id v at whole h = all_alone (weigh h) share_of s.views id v (λ j u e z. ap (λ (xs : List ℕ). sum_by h xs) ((r.each j u e).idle z)) at (whole ∙ sym r.shares) ∙ r.numbers h
+
+  next_of : (s : St) (r : Rule s) (id : ℕ) (v : WorkerView I) → get_elem? s.views id ≡ some v → v.share ≡ workers → r.drawn ≡ length v.numbers
+  next_of s r id v at whole = sym (sym (count_all v.numbers) ∙ all_of s r id v at whole (λ _. 1) ∙ count_upto r.drawn)
 
   -- each number in a view is below the word
   pub drawn_below : (s : St) (r : Rule s) (id : ℕ) (v : WorkerView I) → get_elem? s.views id ≡ some v → All (λ x. x < r.drawn) v.numbers
@@ -89,6 +102,8 @@ module _ {I : Type 0} (items : List I) (workers : ℕ) where
         record {
           view = refl;
           greater = subst (λ (j : ℕ). All (λ x. x < j) me.0.numbers) (sym is) (drawn_below s r id me.0 at);
+          near = let n = near_of s r id me.0 at live below in let l : length me.0.items ≡ length items = ap length same in let f = r.few in omega arith;
+          next = λ whole. is ∙ next_of s r id me.0 at (whole ∙ (r.each id me.0 at).workers_are live);
           slot = λ y f. ap (λ (o : Option I). (k, o) ∷ me.1) (sym e ∙ ap (λ (xs : List I). slice_get xs k) (sym same) ∙ f);
         },
       )
@@ -102,6 +117,8 @@ module _ {I : Type 0} (items : List I) (workers : ℕ) where
         record {
           view = refl;
           greater = subst (λ (j : ℕ). All (λ x. x < j) me.0.numbers) (sym is) (drawn_below s r id me.0 at);
+          near = let n = near_of s r id me.0 at live below in let l : length me.0.items ≡ length items = ap length same in let f = r.few in omega arith;
+          next = λ whole. is ∙ next_of s r id me.0 at (whole ∙ (r.each id me.0 at).workers_are live);
           slot = λ y f. absurd (Rattle.std.proofs.lemmas.Option.none-some y (sym e ∙ ap (λ (xs : List I). slice_get xs k) (sym same) ∙ f));
         },
       )
@@ -170,8 +187,7 @@ module _ {I : Type 0} (items : List I) (workers : ℕ) where
         subst Rule (λ i. record { words = sym same i; homes = s.homes; views = sym (set_again s.views id me.0 at) i }) r,
         record {
           same = refl;
-          all = λ whole h. all_alone (weigh h) share_of s.views id me.0 (λ j u e z. ap (λ (xs : List ℕ). sum_by h xs) ((r.each j u e).idle z)) at (whole ∙ mine.workers_are live ∙ sym r.shares)
-              ∙ (r.numbers h ∙ ap (λ (x : ℕ). sum_by h (upto x)) (sym is));
+          all = λ whole h. all_of s r id me.0 at (whole ∙ mine.workers_are live) h ∙ ap (λ (x : ℕ). sum_by h (upto x)) (sym is);
         },
       )
 

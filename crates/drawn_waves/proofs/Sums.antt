@@ -1,5 +1,5 @@
 -- Sums over views, and over the numbers below one.
-use Rattle.std.proofs.Common.{◌≡◌, ℕ, zero, suc, ◌+◌, ◌<◌, ◌≤◌, cond, List, [], ◌∷◌, set, sym, refl, ap, arith, ⊎_elim, All, sum_by}
+use Rattle.std.proofs.Common.{◌≡◌, ℕ, zero, suc, ◌+◌, ◌<◌, ◌≤◌, cond, List, [], ◌∷◌, length, set, sym, refl, ap, ◌∙◌, arith, ⊎_elim, All, sum_by}
 use mathlib.Core.Option.{some, some-injective, some-ne-none}
 use lib.ListN.{get_elem?}
 use Rattle.std.proofs.lemmas.Bool.Decides.{leb_tells}
@@ -24,6 +24,15 @@ module _ {A : Type 0} where
   sums_le f g [] each = omega arith
   sums_le f g (x ∷ xs) each =
       let a = sum_by-cons f x xs in let b = sum_by-cons g x xs in let c = each 0 x refl in let d = sums_le f g xs (λ id v e. each (suc id) v e) in omega arith
+
+  -- and less where one part is
+  pub sums_lt : (f g : A → ℕ) (views : List A) (id : ℕ) (v : A) → ((j : ℕ) (u : A) → get_elem? views j ≡ some u → f u ≤ g u) → get_elem? views id ≡ some v → f v < g v → sum_by f views < sum_by g views
+  sums_lt f g [] id v each e l = absurd (some-ne-none v (sym e))
+  sums_lt f g (x ∷ xs) zero v each e l =
+      let a = sum_by-cons f x xs in let b = sum_by-cons g x xs in let same = some-injective x v e in let c : f x ≡ f v = ap f same in let d : g x ≡ g v = ap g same in
+      let r = sums_le f g xs (λ j u at. each (suc j) u at) in omega arith
+  sums_lt f g (x ∷ xs) (suc id) v each e l =
+      let a = sum_by-cons f x xs in let b = sum_by-cons g x xs in let c = each 0 x refl in let r = sums_lt f g xs id v (λ j u at. each (suc j) u at) e l in omega arith
 
   pub none_where_none : (f g : A → ℕ) (views : List A) → ((id : ℕ) (v : A) → get_elem? views id ≡ some v → g v ≡ 0 → f v ≡ 0) → sum_by g views ≡ 0 → sum_by f views ≡ 0
   none_where_none f g [] each none = omega arith
@@ -64,6 +73,19 @@ upto_none n (suc k) le = let a = sum_by_push (past n) (upto k) k in let b = upto
 pub upto_more : (weight : ℕ → ℕ) (k : ℕ) → sum_by weight (upto (suc k)) ≡ sum_by weight (upto k) + weight k
 unfolding upto
 upto_more weight k = sum_by_push weight (upto k) k
+
+-- how many numbers there are
+pub count_all : (xs : List ℕ) → sum_by (λ (x : ℕ). 1) xs ≡ length xs
+count_all [] = refl
+count_all (x ∷ xs) = let a = sum_by-cons (λ (y : ℕ). 1) x xs in let b = count_all xs in omega arith
+
+pub count_upto : (n : ℕ) → sum_by (λ (x : ℕ). 1) (upto n) ≡ n
+unfolding upto
+count_upto zero = refl
+count_upto (suc n) = let a = sum_by_push (λ (x : ℕ). 1) (upto n) n in let b = count_upto n in omega arith
+
+pub length_upto : (n : ℕ) → length (upto n) ≡ n
+length_upto n = sym (count_all (upto n)) ∙ count_upto n
 
 pub none_past : (n : ℕ) (xs : List ℕ) → count_past n xs ≡ 0 → All (λ x. x < n) xs
 none_past n [] e k d l = absurd (omega arith)

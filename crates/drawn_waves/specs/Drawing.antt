@@ -80,11 +80,14 @@ module _ {I : Type 0} where
     pub workers : w.workers ≡ v.workers
     pub numbers : (more : List ℕ) × (w.numbers ≡ v.numbers ++ more)
 
-  -- the number was drawn, which is greater than those before, and the slot with the item of that
-  -- number was taken
+  -- the number was drawn, and the slot with the item of that number was taken. The number is greater
+  -- than those before, and less than the wave's length and 64. A view with all shares draws every
+  -- number, from 0 on
   pub record Drew (m : Sat I) (number : ℕ) (after : Sat I) : Type 0 where
     pub view : after.0 ≡ longer_view m.0 number
     pub greater : All (λ x. x < number) m.0.numbers
+    pub near : number < length m.0.items + 64
+    pub next : m.0.share ≡ m.0.workers → number ≡ length m.0.numbers
     pub slot : (item : I) → slice_get m.0.items number ≡ Some item
         → after.1 ≡ (number, Some item) ∷ m.1
 

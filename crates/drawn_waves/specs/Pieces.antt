@@ -11,6 +11,11 @@ abbrev pub Ends : ℕ → List ℕ → List ℕ → List ℕ → Type 0
 Ends length before pieces after = (last : ℕ) × (length ≤ last)
     × (after ≡ before ++ (pieces ++ last ∷ []))
 
+-- each number is less than all behind it
+abbrev pub Rising : List ℕ → Type 0
+Rising [] = Unit {0}
+Rising (x ∷ xs) = All (λ y. x < y) xs × Rising xs
+
 -- the piece's result is one that the work may answer for the item of its number
 abbrev pub IsPiece : {F I R E : Type 0} → (F → I → Result R E → Type 0) → F → List I → Piece R
     → Type 0

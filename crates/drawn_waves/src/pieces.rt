@@ -1,9 +1,9 @@
 //! A worker's turns: it draws numbers until there are no more, and works on their items.
-ghost use Rattle.std.specs.Prelude.{◌≡◌, ◌<◌, length, map, IfOk, OnOk, All};
+ghost use Rattle.std.specs.Prelude.{◌≡◌, ◌+◌, ◌<◌, [], length, map, IfOk, OnOk, All};
 ghost use Rattle.wave_pool.specs.Wave.{AreCallable};
-ghost use Rattle.drawn_waves.specs.Drawing.{HasTaken};
+ghost use Rattle.drawn_waves.specs.Drawing.{HasTaken, upto};
 ghost use Rattle.drawn_waves.specs.Seats.{view, IsSeatOf};
-ghost use Rattle.drawn_waves.specs.Pieces.{number_of, IsPiece, Ends, WorkedOn};
+ghost use Rattle.drawn_waves.specs.Pieces.{number_of, IsPiece, Ends, Rising, WorkedOn};
 
 use crate::steps::draw_item;
 use crate::table::{PieceSeat, PieceTable, WorkerView};
@@ -53,6 +53,10 @@ pub fn take_pieces<
     ensures numbers { IfOk result.results
         (λ taken. Ends pieces (view seat).numbers (map number_of taken.items)
         (view result.seat).numbers) }
+    ensures rising { Rising (view seat).numbers → Rising (view result.seat).numbers }
+    ensures near { All (λ number. number < pieces + 64) (view result.seat).numbers }
+    ensures whole { (view seat).share ≡ (view seat).workers → (view seat).numbers ≡ [] →
+        IfOk result.results (λ taken. map number_of taken.items ≡ upto pieces) }
     ensures results { IfOk result.results
         (λ taken. All (IsPiece F.post work.now (view seat).items) taken.items) }
 {

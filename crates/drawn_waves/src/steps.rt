@@ -85,6 +85,9 @@ pub(crate) fn draw_item<I>(
     ensures seat { seat.new.table_id ≡ seat.old.table_id }
     ensures view { seat.new.me.0 ≡ longer_view seat.old.me.0 result.0 }
     ensures greater { All (λ x. x < result.0) seat.old.me.0.numbers }
+    ensures near { result.0 < length seat.old.me.0.items + 64 }
+    ensures next { seat.old.me.0.share ≡ seat.old.me.0.workers
+        → result.0 ≡ length seat.old.me.0.numbers }
     ensures item { result.1 ≡ slice_get seat.old.me.0.items result.0 }
 {
     let number = draw(table, seat);

@@ -1,6 +1,6 @@
 -- One more turn, and the last draw.
 use Rattle.std.proofs.Common.{rules, arith, sym, ap, ◌∙◌, slice_get}
-use Rattle.drawn_waves.proofs.Turns.{nearer, goes_on, ends, all_at}
+use Rattle.drawn_waves.proofs.Turns.{going_start, nearer, goes_on, ends, ends_whole, rises, stays_near, all_at}
 use Rattle.drawn_waves.proofs.pieces.take_pieces.Goals as goal
 
 pub work_on-requires : goal.work_on-requires
@@ -17,8 +17,31 @@ loop-item-smaller g c = let was = c.loop-item.invariant.1 in let there = sym c.d
 
 pub loop-item-preserved : goal.loop-item-preserved
 loop-item-preserved g c = let was = c.loop-item.invariant.1 in let there = sym c.draw_item-number.ensures.item ∙ c.in-Some.is in
-    (search rules, goes_on _ _ _ _ _ _ _ _ was _ _ _ c.draw_item-number.ensures.view c.requires.pieces there (search rules))
+    (search rules, goes_on _ _ _ _ _ _ _ _ was _ _ _ c.draw_item-number.ensures.view c.requires.pieces there (search rules) c.draw_item-number.ensures.greater c.draw_item-number.ensures.next)
 
 pub returns-in-None-clause-numbers : goal.returns-in-None-clause-numbers
 returns-in-None-clause-numbers g c = let was = c.loop-item.invariant.1 in let same = c.hand_back.ensures in
     rw same.1 (ends _ _ _ _ _ _ _ _ was c.hand_back.result.seat.seat.me.0 (ap (λ s. s.me.0) same.0 ∙ c.draw_item-number.ensures.view) c.requires.pieces (sym c.draw_item-number.ensures.item ∙ c.in-None.is))
+
+pub returns-in-None-clause-rising : goal.returns-in-None-clause-rising
+returns-in-None-clause-rising g c = let was = c.loop-item.invariant.1 in let same = c.hand_back.ensures in
+    rises _ _ _ _ _ _ _ _ was c.hand_back.result.seat.seat.me.0 (ap (λ s. s.me.0) same.0 ∙ c.draw_item-number.ensures.view) c.draw_item-number.ensures.greater
+
+pub returns-in-None-clause-near : goal.returns-in-None-clause-near
+returns-in-None-clause-near g c = let was = c.loop-item.invariant.1 in let same = c.hand_back.ensures in
+    stays_near _ _ _ _ _ _ _ _ was c.hand_back.result.seat.seat.me.0 (ap (λ s. s.me.0) same.0 ∙ c.draw_item-number.ensures.view) c.requires.pieces c.draw_item-number.ensures.near
+
+pub returns-in-None-clause-whole : goal.returns-in-None-clause-whole
+returns-in-None-clause-whole g c = let was = c.loop-item.invariant.1 in let same = c.hand_back.ensures in
+    λ all none. rw same.1 (ends_whole _ _ _ _ _ _ _ _ was c.requires.pieces c.draw_item-number.ensures.next (sym c.draw_item-number.ensures.item ∙ c.in-None.is) all none)
+
+pub returns-then-is_err-clause-rising : goal.returns-then-is_err-clause-rising
+returns-then-is_err-clause-rising g c = let was = c.loop-item.invariant.1 in let same = c.hand_back-then-is_err.ensures in
+    rises _ _ _ _ _ _ _ _ was c.hand_back-then-is_err.result.seat.seat.me.0 (ap (λ s. s.me.0) same.0 ∙ c.draw_item-number.ensures.view) c.draw_item-number.ensures.greater
+
+pub returns-then-is_err-clause-near : goal.returns-then-is_err-clause-near
+returns-then-is_err-clause-near g c = let was = c.loop-item.invariant.1 in let same = c.hand_back-then-is_err.ensures in
+    stays_near _ _ _ _ _ _ _ _ was c.hand_back-then-is_err.result.seat.seat.me.0 (ap (λ s. s.me.0) same.0 ∙ c.draw_item-number.ensures.view) c.requires.pieces c.draw_item-number.ensures.near
+
+pub loop-item-init : goal.loop-item-init
+loop-item-init g c = (search rules, going_start _ _ _ _ _ (search rules) c.requires.below)
