@@ -5,6 +5,7 @@ use Rattle.std.proofs.lemmas.List.{append_cancel_left}
 use Rattle.build_base.specs.World.{World}
 use Rattle.step_engine.specs.Build.{Setting, IsHere, Ran, RanAll}
 use Rattle.step_engine.specs.Build.{IsBuilt as IsBuiltBy}
+use Rattle.step_engine.specs.Caches.{AreInOrder}
 use Rattle.step_engine.specs.Needed.{IsLeft, IsNeededCount, IsNeededEntry, IsOtherEntry, IsStep}
 use Rattle.step_engine.specs.declared.talk.Entry.{Entry}
 use Rattle.step_engine.specs.declared.talk.Outcome.{Outcome}
@@ -58,14 +59,14 @@ counted w s book book' needed h m ran all n =
 -- what the engine promises, as a build has it
 pub brought : (w : World) (s : Setting Key Out) (book book' : List Key) (result : Outcome Out) (cache : List (Entry Key Out)) (needed steps reused : ℕ)
     → IsHere s w → s.means ≡ means → IsBuiltBy key_cmp means w s.old key.All result cache needed → Ran s key.All book book' → RanAll s key.All book book'
-    → steps ≡ length book' - length book → reused ≡ needed - steps → IsBrought w s.old result cache steps reused
-brought w s book book' result cache needed steps reused h m b ran all n r = record {
+    → steps ≡ length book' - length book → reused ≡ needed - steps → AreInOrder key_cmp cache → IsBrought w s.old result cache steps reused
+brought w s book book' result cache needed steps reused h m b ran all n r o = record {
   needed = needed;
   value = b.value;
   agrees = agrees w s.old cache result b.value b.left;
   counted = rw n (counted w s book book' needed h m ran all b.count);
   reuses = r;
-  leaves = record { left = b.left; only = b.only; full = b.full };
+  leaves = record { left = b.left; order = o; only = b.only; full = b.full };
 }
 
 pub built : (w : World) (old : List (Entry Key Out)) (result : Outcome Out) (cache : List (Entry Key Out)) (steps reused : ℕ) (label : Label) (status : Status) (a b : Option (List Emission))

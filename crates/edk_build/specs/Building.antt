@@ -73,6 +73,7 @@ IsOwn status cache = (r : Outcome Out) × IsEntryOf key.All r cache × (status �
 -- what a build leaves: no other cache has its entries
 pub record Leaves (w : World) (old new : List (Entry Key Out)) : Type 0 where
   pub left : IsLeft means w old key.All new
+  pub order : AreInOrder key_cmp new
   pub only : (other : List (Entry Key Out)) → AreInOrder key_cmp other
       → IsLeft means w old key.All other → other ≡ new
   pub full : IsFull means w key.All new

@@ -261,6 +261,7 @@ pub fn bring<H: Threads + Sync, R: Rules, T: Tree, G: Gate>(
     // It leaves the cache as it was where it says so, which it does where nothing ran.
     ensures unchanged { IfOk result (λ b. b.unchanged ≡ true → b.cache ≡ cache) }
     ensures told { IfOk result (λ b. book.new ≡ book.old → b.cache ≡ cache → b.unchanged ≡ true) }
+    ensures order { IfOk result (λ b. AreInOrder R.Key.cmp b.cache) }
 {
     let edits = Edits::new(alloc);
     bring_over(
@@ -314,6 +315,7 @@ pub fn bring_over<H: Threads + Sync, R: Rules, T: Tree, G: Gate>(
     // It leaves the cache as it was where it says so, which it does where nothing ran.
     ensures unchanged { IfOk result (λ b. b.unchanged ≡ true → b.cache ≡ cache) }
     ensures told { IfOk result (λ b. book.new ≡ book.old → b.cache ≡ cache → b.unchanged ≡ true) }
+    ensures order { IfOk result (λ b. AreInOrder R.Key.cmp b.cache) }
 {
     let first = book.ran().len();
     let reached = reach(

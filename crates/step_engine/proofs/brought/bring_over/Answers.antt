@@ -67,3 +67,6 @@ returns-clause-unchanged g c =
 
 pub returns-clause-told : goal.returns-clause-told
 returns-clause-told g c = λ same left. c.in_ok-brought.ensures.idle.1 (ap length same ∙ ap length (sym c.ran-first.ensures), ap length left)
+
+pub returns-clause-order : goal.returns-clause-order
+returns-clause-order g c = c.in_ok-brought.ensures.after
