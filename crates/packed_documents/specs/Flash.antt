@@ -11,7 +11,7 @@ use Rattle.doc_types.specs.declared.flash.RegionKind.TheVariants as region_kind
 use Rattle.packed_values.specs.Form.{Form}
 use Rattle.packed_values.specs.Plain.{byte_form, number_form, text_form, path_form}
 use Rattle.packed_values.specs.Base.{place_form}
-use Rattle.packed_values.specs.Parts.{form_by, pair_form, rows_form}
+use Rattle.packed_values.specs.Parts.{form_by, pair_form, rows_form, triple_form}
 use Rattle.packed_values.specs.Arms.{arm, last_arm, tagged_form, unit_form}
 use Rattle.packed_documents.specs.Pcds.{pcd_set_form}
 use Rattle.packed_documents.specs.Volume.{rule_doc_form, volume_plan_form}
@@ -46,33 +46,32 @@ region_form = form_by (λ x. (x.at, (x.offset, (x.size, x.kind))))
     (λ p. record { at = p.0; offset = p.1.0; size = p.1.1.0; kind = p.1.1.1 }) (λ x. refl)
     (pair_form place_form (pair_form (number_form 8) (pair_form (number_form 8) region_kind_form)))
 
-abbrev pub device_plan_first : DevicePlan → Place × ((List ℕ) × ℕ)
-device_plan_first x = (x.at, (x.name, x.base))
+abbrev pub device_plan_first : DevicePlan → Place × (List ℕ) × ℕ
+device_plan_first x = (x.at, x.name, x.base)
 
-unfoldable pub device_plan_first_form : Form (Place × ((List ℕ) × ℕ))
-device_plan_first_form = pair_form place_form (pair_form text_form (number_form 8))
+unfoldable pub device_plan_first_form : Form (Place × (List ℕ) × ℕ)
+device_plan_first_form = triple_form place_form text_form (number_form 8)
 
-abbrev pub device_plan_second : DevicePlan → ℕ × (ℕ × (List Region))
-device_plan_second x = (x.size, (x.erase, x.regions))
+abbrev pub device_plan_second : DevicePlan → ℕ × ℕ × (List Region)
+device_plan_second x = (x.size, x.erase, x.regions)
 
-unfoldable pub device_plan_second_form : Form (ℕ × (ℕ × (List Region)))
-device_plan_second_form = pair_form (number_form 8) (pair_form byte_form (rows_form region_form))
+unfoldable pub device_plan_second_form : Form (ℕ × ℕ × (List Region))
+device_plan_second_form = triple_form (number_form 8) byte_form (rows_form region_form)
 
-abbrev pub device_plan_of : ((Place × ((List ℕ) × ℕ))) × ((ℕ × (ℕ × (List Region)))) → DevicePlan
+abbrev pub device_plan_of : (Place × (List ℕ) × ℕ) × (ℕ × ℕ × (List Region)) → DevicePlan
 device_plan_of p =
     record {
       at = p.0.0;
-      name = p.0.1.0;
-      base = p.0.1.1;
+      name = p.0.1;
+      base = p.0.2;
       size = p.1.0;
-      erase = p.1.1.0;
-      regions =
-          p.1.1.1;
+      erase = p.1.1;
+      regions = p.1.2;
     }
 
 unfoldable pub device_plan_form : Form DevicePlan
-device_plan_form = form_by (λ x. (device_plan_first x, device_plan_second x)) device_plan_of
-    (λ x. refl)
+device_plan_form = form_by (λ x. (device_plan_first x, device_plan_second x))
+    device_plan_of (λ x. refl)
     (pair_form device_plan_first_form device_plan_second_form)
 
 unfoldable pub flash_doc_form : Form FlashDoc

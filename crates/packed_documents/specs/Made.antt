@@ -15,7 +15,7 @@ use Rattle.doc_types.specs.declared.vpd.VpdPlace.{VpdPlace}
 use Rattle.packed_values.specs.Form.{Form}
 use Rattle.packed_values.specs.Plain.{byte_form, number_form, bool_form, text_form, path_form, guid_form}
 use Rattle.packed_values.specs.Base.{place_form}
-use Rattle.packed_values.specs.Parts.{form_by, pair_form, rows_form}
+use Rattle.packed_values.specs.Parts.{form_by, pair_form, rows_form, quadruple_form}
 use Rattle.packed_documents.specs.Pcds.{pcd_name_form}
 use Rattle.packed_documents.specs.Words.{arch_form, datum_form, kind_form}
 
@@ -37,37 +37,34 @@ choice_form = form_by (λ x. (x.library, (x.instances, (x.constructors, x.destru
     (pair_form bool_form
     (pair_form (rows_form path_form) (pair_form (rows_form call_form) (rows_form call_form))))
 
-abbrev pub pcd_row_first : PcdRow → PcdName × (Kind × (Datum × ℕ))
-pcd_row_first x = (x.pcd, (x.kind, (x.datum, x.token)))
+abbrev pub pcd_row_first : PcdRow → PcdName × Kind × Datum × ℕ
+pcd_row_first x = (x.pcd, x.kind, x.datum, x.token)
 
-unfoldable pub pcd_row_first_form : Form (PcdName × (Kind × (Datum × ℕ)))
-pcd_row_first_form = pair_form pcd_name_form
-    (pair_form kind_form (pair_form datum_form (number_form 4)))
+unfoldable pub pcd_row_first_form : Form (PcdName × Kind × Datum × ℕ)
+pcd_row_first_form = quadruple_form pcd_name_form kind_form datum_form (number_form 4)
 
-abbrev pub pcd_row_second : PcdRow → ℕ × (ℕ × ((List ℕ) × (List ℕ)))
-pcd_row_second x = (x.max, (x.rank, (x.sku, x.value)))
+abbrev pub pcd_row_second : PcdRow → ℕ × ℕ × (List ℕ) × (List ℕ)
+pcd_row_second x = (x.max, x.rank, x.sku, x.value)
 
-unfoldable pub pcd_row_second_form : Form (ℕ × (ℕ × ((List ℕ) × (List ℕ))))
-pcd_row_second_form = pair_form (number_form 4)
-    (pair_form byte_form (pair_form text_form text_form))
+unfoldable pub pcd_row_second_form : Form (ℕ × ℕ × (List ℕ) × (List ℕ))
+pcd_row_second_form = quadruple_form (number_form 4) byte_form text_form text_form
 
-abbrev pub pcd_row_of : ((PcdName × (Kind × (Datum × ℕ))))
-    × ((ℕ × (ℕ × ((List ℕ) × (List ℕ))))) → PcdRow
+abbrev pub pcd_row_of : (PcdName × Kind × Datum × ℕ) × (ℕ × ℕ × (List ℕ) × (List ℕ)) → PcdRow
 pcd_row_of p =
     record {
       pcd = p.0.0;
-      kind = p.0.1.0;
-      datum = p.0.1.1.0;
-      token = p.0.1.1.1;
+      kind = p.0.1;
+      datum = p.0.2;
+      token = p.0.3;
       max = p.1.0;
-      rank =
-          p.1.1.0;
-      sku = p.1.1.1.0;
-      value = p.1.1.1.1;
+      rank = p.1.1;
+      sku = p.1.2;
+      value = p.1.3;
     }
 
 unfoldable pub pcd_row_form : Form PcdRow
-pcd_row_form = form_by (λ x. (pcd_row_first x, pcd_row_second x)) pcd_row_of (λ x. refl)
+pcd_row_form = form_by (λ x. (pcd_row_first x, pcd_row_second x))
+    pcd_row_of (λ x. refl)
     (pair_form pcd_row_first_form pcd_row_second_form)
 
 unfoldable pub values_form : Form Values

@@ -19,7 +19,7 @@ use Rattle.doc_types.specs.declared.platform.Store.TheVariants as store
 use Rattle.packed_values.specs.Form.{Form}
 use Rattle.packed_values.specs.Plain.{number_form, text_form, path_form, guid_form}
 use Rattle.packed_values.specs.Base.{place_form, macro_form}
-use Rattle.packed_values.specs.Parts.{form_by, pair_form, option_form, rows_form}
+use Rattle.packed_values.specs.Parts.{form_by, pair_form, option_form, rows_form, quadruple_form, triple_form}
 use Rattle.packed_values.specs.Arms.{arm, last_arm, tagged_form, unit_form}
 use Rattle.packed_documents.specs.Pcds.{pcd_name_form}
 use Rattle.packed_documents.specs.Words.{arch_form, datum_form, kind_form, module_type_form}
@@ -65,122 +65,119 @@ store_form = form_by store_parts store_of store_back
     (arm (pair_form text_form (pair_form text_form (pair_form (number_form 4) text_form)))
     (last_arm (pair_form (option_form (number_form 4)) (rows_form text_form))))))
 
-abbrev pub pcd_line_first : PcdLine → Place × (Arch × Kind)
-pcd_line_first x = (x.at, (x.arch, x.kind))
+abbrev pub pcd_line_first : PcdLine → Place × Arch × Kind
+pcd_line_first x = (x.at, x.arch, x.kind)
 
-unfoldable pub pcd_line_first_form : Form (Place × (Arch × Kind))
-pcd_line_first_form = pair_form place_form (pair_form arch_form kind_form)
+unfoldable pub pcd_line_first_form : Form (Place × Arch × Kind)
+pcd_line_first_form = triple_form place_form arch_form kind_form
 
-abbrev pub pcd_line_second : PcdLine → (List ℕ) × (PcdName × (Option (List ℕ)))
-pcd_line_second x = (x.sku, (x.pcd, x.value))
+abbrev pub pcd_line_second : PcdLine → (List ℕ) × PcdName × (Option (List ℕ))
+pcd_line_second x = (x.sku, x.pcd, x.value)
 
-unfoldable pub pcd_line_second_form : Form ((List ℕ) × (PcdName × (Option (List ℕ))))
-pcd_line_second_form = pair_form text_form (pair_form pcd_name_form (option_form text_form))
+unfoldable pub pcd_line_second_form : Form ((List ℕ) × PcdName × (Option (List ℕ)))
+pcd_line_second_form = triple_form text_form pcd_name_form (option_form text_form)
 
-abbrev pub pcd_line_third : PcdLine → (Option Datum) × ((Option ℕ) × Store)
-pcd_line_third x = (x.datum, (x.max, x.store))
+abbrev pub pcd_line_third : PcdLine → (Option Datum) × (Option ℕ) × Store
+pcd_line_third x = (x.datum, x.max, x.store)
 
-unfoldable pub pcd_line_third_form : Form ((Option Datum) × ((Option ℕ) × Store))
-pcd_line_third_form = pair_form (option_form datum_form)
-    (pair_form (option_form (number_form 4)) store_form)
+unfoldable pub pcd_line_third_form : Form ((Option Datum) × (Option ℕ) × Store)
+pcd_line_third_form = triple_form (option_form datum_form) (option_form (number_form 4)) store_form
 
-abbrev pub pcd_line_of : ((Place × (Arch × Kind)))
-    × ((((List ℕ) × (PcdName × (Option (List ℕ))))) × (((Option Datum) × ((Option ℕ) × Store))))
-    → PcdLine
+abbrev pub pcd_line_of : (Place × Arch × Kind) × ((List ℕ) × PcdName × (Option (List ℕ)))
+    × ((Option Datum) × (Option ℕ) × Store) → PcdLine
 pcd_line_of p =
     record {
       at = p.0.0;
-      arch = p.0.1.0;
-      kind = p.0.1.1;
-      sku = p.1.0.0;
-      pcd = p.1.0.1.0;
-      value =
-          p.1.0.1.1;
-      datum = p.1.1.0;
-      max = p.1.1.1.0;
-      store = p.1.1.1.1;
+      arch = p.0.1;
+      kind = p.0.2;
+      sku = p.1.0;
+      pcd = p.1.1;
+      value = p.1.2;
+      datum = p.2.0;
+      max = p.2.1;
+      store = p.2.2;
     }
 
 unfoldable pub pcd_line_form : Form PcdLine
-pcd_line_form = form_by (λ x. (pcd_line_first x, (pcd_line_second x, pcd_line_third x))) pcd_line_of
-    (λ x. refl)
-    (pair_form pcd_line_first_form (pair_form pcd_line_second_form pcd_line_third_form))
+pcd_line_form = form_by (λ x. (pcd_line_first x, pcd_line_second x, pcd_line_third x))
+    pcd_line_of (λ x. refl)
+    (triple_form pcd_line_first_form pcd_line_second_form pcd_line_third_form)
 
-abbrev pub component_first : Component → Place × (Arch × (List ℕ))
-component_first x = (x.at, (x.arch, x.inf))
+abbrev pub component_first : Component → Place × Arch × (List ℕ)
+component_first x = (x.at, x.arch, x.inf)
 
-unfoldable pub component_first_form : Form (Place × (Arch × (List ℕ)))
-component_first_form = pair_form place_form (pair_form arch_form path_form)
+unfoldable pub component_first_form : Form (Place × Arch × (List ℕ))
+component_first_form = triple_form place_form arch_form path_form
 
-abbrev pub component_second : Component → (Option Guid) × ((List LibraryLine) × (List PcdLine))
-component_second x = (x.file_guid, (x.libraries, x.pcds))
+abbrev pub component_second : Component → (Option Guid) × (List LibraryLine) × (List PcdLine)
+component_second x = (x.file_guid, x.libraries, x.pcds)
 
-unfoldable pub component_second_form : Form ((Option Guid) × ((List LibraryLine) × (List PcdLine)))
-component_second_form = pair_form (option_form guid_form)
-    (pair_form (rows_form library_line_form) (rows_form pcd_line_form))
+unfoldable pub component_second_form : Form ((Option Guid) × (List LibraryLine) × (List PcdLine))
+component_second_form = triple_form (option_form guid_form) (rows_form library_line_form)
+    (rows_form pcd_line_form)
 
-abbrev pub component_of : ((Place × (Arch × (List ℕ))))
-    × (((Option Guid) × ((List LibraryLine) × (List PcdLine)))) → Component
+abbrev pub component_of : (Place × Arch × (List ℕ))
+    × ((Option Guid) × (List LibraryLine) × (List PcdLine)) → Component
 component_of p =
     record {
       at = p.0.0;
-      arch = p.0.1.0;
-      inf = p.0.1.1;
+      arch = p.0.1;
+      inf = p.0.2;
       file_guid = p.1.0;
-      libraries = p.1.1.0;
-      pcds = p.1.1.1;
+      libraries = p.1.1;
+      pcds = p.1.2;
     }
 
 unfoldable pub component_form : Form Component
-component_form = form_by (λ x. (component_first x, component_second x)) component_of (λ x. refl)
+component_form = form_by (λ x. (component_first x, component_second x))
+    component_of (λ x. refl)
     (pair_form component_first_form component_second_form)
 
-abbrev pub platform_doc_first : PlatformDoc → Place × ((List ℕ) × (Guid × (List ℕ)))
-platform_doc_first x = (x.at, (x.name, (x.guid, x.output)))
+abbrev pub platform_doc_first : PlatformDoc → Place × (List ℕ) × Guid × (List ℕ)
+platform_doc_first x = (x.at, x.name, x.guid, x.output)
 
-unfoldable pub platform_doc_first_form : Form (Place × ((List ℕ) × (Guid × (List ℕ))))
-platform_doc_first_form = pair_form place_form (pair_form text_form (pair_form guid_form path_form))
+unfoldable pub platform_doc_first_form : Form (Place × (List ℕ) × Guid × (List ℕ))
+platform_doc_first_form = quadruple_form place_form text_form guid_form path_form
 
-abbrev pub platform_doc_second : PlatformDoc → (List Arch)
-    × ((List ℕ) × ((Option (List ℕ)) × (List Sku)))
-platform_doc_second x = (x.arches, (x.sku_choice, (x.flash, x.skus)))
+abbrev pub platform_doc_second : PlatformDoc → (List Arch) × (List ℕ) × (Option (List ℕ))
+    × (List Sku)
+platform_doc_second x = (x.arches, x.sku_choice, x.flash, x.skus)
 
 unfoldable pub platform_doc_second_form :
-    Form ((List Arch) × ((List ℕ) × ((Option (List ℕ)) × (List Sku))))
-platform_doc_second_form = pair_form (rows_form arch_form)
-    (pair_form text_form (pair_form (option_form path_form) (rows_form sku_form)))
+    Form ((List Arch) × (List ℕ) × (Option (List ℕ)) × (List Sku))
+platform_doc_second_form = quadruple_form (rows_form arch_form) text_form (option_form path_form)
+    (rows_form sku_form)
 
-abbrev pub platform_doc_third : PlatformDoc → (List LibraryLine)
-    × ((List Component) × ((List PcdLine) × (List Macro)))
-platform_doc_third x = (x.libraries, (x.components, (x.pcds, x.macros)))
+abbrev pub platform_doc_third : PlatformDoc → (List LibraryLine) × (List Component) × (List PcdLine)
+    × (List Macro)
+platform_doc_third x = (x.libraries, x.components, x.pcds, x.macros)
 
 unfoldable pub platform_doc_third_form :
-    Form ((List LibraryLine) × ((List Component) × ((List PcdLine) × (List Macro))))
-platform_doc_third_form = pair_form (rows_form library_line_form)
-    (pair_form (rows_form component_form)
-    (pair_form (rows_form pcd_line_form) (rows_form macro_form)))
+    Form ((List LibraryLine) × (List Component) × (List PcdLine) × (List Macro))
+platform_doc_third_form = quadruple_form (rows_form library_line_form) (rows_form component_form)
+    (rows_form pcd_line_form) (rows_form macro_form)
 
-abbrev pub platform_doc_of : ((Place × ((List ℕ) × (Guid × (List ℕ)))))
-    × ((((List Arch) × ((List ℕ) × ((Option (List ℕ)) × (List Sku)))))
-    × (((List LibraryLine) × ((List Component) × ((List PcdLine) × (List Macro)))))) → PlatformDoc
+abbrev pub platform_doc_of : (Place × (List ℕ) × Guid × (List ℕ))
+    × ((List Arch) × (List ℕ) × (Option (List ℕ)) × (List Sku))
+    × ((List LibraryLine) × (List Component) × (List PcdLine) × (List Macro)) → PlatformDoc
 platform_doc_of p =
     record {
       at = p.0.0;
-      name = p.0.1.0;
-      guid = p.0.1.1.0;
-      output = p.0.1.1.1;
-      arches = p.1.0.0;
-      sku_choice = p.1.0.1.0;
-      flash = p.1.0.1.1.0;
-      skus = p.1.0.1.1.1;
-      libraries = p.1.1.0;
-      components = p.1.1.1.0;
-      pcds = p.1.1.1.1.0;
-      macros = p.1.1.1.1.1;
+      name = p.0.1;
+      guid = p.0.2;
+      output = p.0.3;
+      arches = p.1.0;
+      sku_choice = p.1.1;
+      flash = p.1.2;
+      skus = p.1.3;
+      libraries = p.2.0;
+      components = p.2.1;
+      pcds = p.2.2;
+      macros = p.2.3;
     }
 
 unfoldable pub platform_doc_form : Form PlatformDoc
-platform_doc_form =
-    form_by (λ x. (platform_doc_first x, (platform_doc_second x, platform_doc_third x)))
+platform_doc_form = form_by
+    (λ x. (platform_doc_first x, platform_doc_second x, platform_doc_third x))
     platform_doc_of (λ x. refl)
-    (pair_form platform_doc_first_form (pair_form platform_doc_second_form platform_doc_third_form))
+    (triple_form platform_doc_first_form platform_doc_second_form platform_doc_third_form)

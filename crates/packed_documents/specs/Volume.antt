@@ -22,7 +22,7 @@ use Rattle.doc_types.specs.declared.volume.Item.TheVariants as item
 use Rattle.packed_values.specs.Form.{Form}
 use Rattle.packed_values.specs.Plain.{byte_form, number_form, bool_form, text_form, path_form, guid_form}
 use Rattle.packed_values.specs.Base.{place_form}
-use Rattle.packed_values.specs.Parts.{form_by, pair_form, option_form, rows_form}
+use Rattle.packed_values.specs.Parts.{form_by, pair_form, option_form, rows_form, quadruple_form, triple_form}
 use Rattle.packed_values.specs.Arms.{arm, last_arm, tagged_form, unit_form}
 use Rattle.packed_documents.specs.Words.{arch_form, module_type_form}
 
@@ -77,99 +77,95 @@ section_source_form = form_by section_source_parts section_source_of section_sou
     (tagged_form
     (arm path_form (arm text_form (arm (number_form 4) (arm text_form (last_arm text_form))))))
 
-abbrev pub section_plan_first : SectionPlan → Place × (ℕ × (Bool × Align))
-section_plan_first x = (x.at, (x.kind, (x.optional, x.align)))
+abbrev pub section_plan_first : SectionPlan → Place × ℕ × Bool × Align
+section_plan_first x = (x.at, x.kind, x.optional, x.align)
 
-unfoldable pub section_plan_first_form : Form (Place × (ℕ × (Bool × Align)))
-section_plan_first_form = pair_form place_form
-    (pair_form byte_form (pair_form bool_form align_form))
+unfoldable pub section_plan_first_form : Form (Place × ℕ × Bool × Align)
+section_plan_first_form = quadruple_form place_form byte_form bool_form align_form
 
-abbrev pub section_plan_second : SectionPlan → ℕ × ((Option Guid) × SectionSource)
-section_plan_second x = (x.number, (x.guid, x.source))
+abbrev pub section_plan_second : SectionPlan → ℕ × (Option Guid) × SectionSource
+section_plan_second x = (x.number, x.guid, x.source)
 
-unfoldable pub section_plan_second_form : Form (ℕ × ((Option Guid) × SectionSource))
-section_plan_second_form = pair_form (number_form 2)
-    (pair_form (option_form guid_form) section_source_form)
+unfoldable pub section_plan_second_form : Form (ℕ × (Option Guid) × SectionSource)
+section_plan_second_form = triple_form (number_form 2) (option_form guid_form) section_source_form
 
-abbrev pub section_plan_of : ((Place × (ℕ × (Bool × Align))))
-    × ((ℕ × ((Option Guid) × SectionSource))) → SectionPlan
+abbrev pub section_plan_of : (Place × ℕ × Bool × Align) × (ℕ × (Option Guid) × SectionSource)
+    → SectionPlan
 section_plan_of p =
     record {
       at = p.0.0;
-      kind = p.0.1.0;
-      optional = p.0.1.1.0;
-      align = p.0.1.1.1;
+      kind = p.0.1;
+      optional = p.0.2;
+      align = p.0.3;
       number = p.1.0;
-      guid = p.1.1.0;
-      source = p.1.1.1;
+      guid = p.1.1;
+      source = p.1.2;
     }
 
 unfoldable pub section_plan_form : Form SectionPlan
-section_plan_form = form_by (λ x. (section_plan_first x, section_plan_second x)) section_plan_of
-    (λ x. refl)
+section_plan_form = form_by (λ x. (section_plan_first x, section_plan_second x))
+    section_plan_of (λ x. refl)
     (pair_form section_plan_first_form section_plan_second_form)
 
-abbrev pub file_plan_first : FilePlan → Place × (ℕ × ((Option Guid) × Bool))
-file_plan_first x = (x.at, (x.file_type, (x.guid, x.fixed)))
+abbrev pub file_plan_first : FilePlan → Place × ℕ × (Option Guid) × Bool
+file_plan_first x = (x.at, x.file_type, x.guid, x.fixed)
 
-unfoldable pub file_plan_first_form : Form (Place × (ℕ × ((Option Guid) × Bool)))
-file_plan_first_form = pair_form place_form
-    (pair_form byte_form (pair_form (option_form guid_form) bool_form))
+unfoldable pub file_plan_first_form : Form (Place × ℕ × (Option Guid) × Bool)
+file_plan_first_form = quadruple_form place_form byte_form (option_form guid_form) bool_form
 
-abbrev pub file_plan_second : FilePlan → Bool × (Align × ((Option (List ℕ)) × (List SectionPlan)))
-file_plan_second x = (x.checksum, (x.align, (x.whole, x.sections)))
+abbrev pub file_plan_second : FilePlan → Bool × Align × (Option (List ℕ)) × (List SectionPlan)
+file_plan_second x = (x.checksum, x.align, x.whole, x.sections)
 
-unfoldable pub file_plan_second_form : Form
-    (Bool × (Align × ((Option (List ℕ)) × (List SectionPlan))))
-file_plan_second_form = pair_form bool_form
-    (pair_form align_form (pair_form (option_form path_form) (rows_form section_plan_form)))
+unfoldable pub file_plan_second_form : Form (Bool × Align × (Option (List ℕ)) × (List SectionPlan))
+file_plan_second_form = quadruple_form bool_form align_form (option_form path_form)
+    (rows_form section_plan_form)
 
-abbrev pub file_plan_of : ((Place × (ℕ × ((Option Guid) × Bool))))
-    × ((Bool × (Align × ((Option (List ℕ)) × (List SectionPlan))))) → FilePlan
+abbrev pub file_plan_of : (Place × ℕ × (Option Guid) × Bool)
+    × (Bool × Align × (Option (List ℕ)) × (List SectionPlan)) → FilePlan
 file_plan_of p =
     record {
       at = p.0.0;
-      file_type = p.0.1.0;
-      guid = p.0.1.1.0;
-      fixed = p.0.1.1.1;
+      file_type = p.0.1;
+      guid = p.0.2;
+      fixed = p.0.3;
       checksum = p.1.0;
-      align = p.1.1.0;
-      whole = p.1.1.1.0;
-      sections = p.1.1.1.1;
+      align = p.1.1;
+      whole = p.1.2;
+      sections = p.1.3;
     }
 
 unfoldable pub file_plan_form : Form FilePlan
-file_plan_form = form_by (λ x. (file_plan_first x, file_plan_second x)) file_plan_of (λ x. refl)
+file_plan_form = form_by (λ x. (file_plan_first x, file_plan_second x))
+    file_plan_of (λ x. refl)
     (pair_form file_plan_first_form file_plan_second_form)
 
-abbrev pub inf_line_first : InfLine → Place × ((List ℕ) × (Option Arch))
-inf_line_first x = (x.at, (x.inf, x.arch))
+abbrev pub inf_line_first : InfLine → Place × (List ℕ) × (Option Arch)
+inf_line_first x = (x.at, x.inf, x.arch)
 
-unfoldable pub inf_line_first_form : Form (Place × ((List ℕ) × (Option Arch)))
-inf_line_first_form = pair_form place_form (pair_form path_form (option_form arch_form))
+unfoldable pub inf_line_first_form : Form (Place × (List ℕ) × (Option Arch))
+inf_line_first_form = triple_form place_form path_form (option_form arch_form)
 
-abbrev pub inf_line_second : InfLine → (List ℕ) × ((Option (List ℕ)) × (Option (List ℕ)))
-inf_line_second x = (x.template, (x.version, x.ui))
+abbrev pub inf_line_second : InfLine → (List ℕ) × (Option (List ℕ)) × (Option (List ℕ))
+inf_line_second x = (x.template, x.version, x.ui)
 
-unfoldable pub inf_line_second_form : Form ((List ℕ) × ((Option (List ℕ)) × (Option (List ℕ))))
-inf_line_second_form = pair_form text_form
-    (pair_form (option_form text_form) (option_form text_form))
+unfoldable pub inf_line_second_form : Form ((List ℕ) × (Option (List ℕ)) × (Option (List ℕ)))
+inf_line_second_form = triple_form text_form (option_form text_form) (option_form text_form)
 
-abbrev pub inf_line_of : ((Place × ((List ℕ) × (Option Arch))))
-    × (((List ℕ) × ((Option (List ℕ)) × (Option (List ℕ))))) → InfLine
+abbrev pub inf_line_of : (Place × (List ℕ) × (Option Arch))
+    × ((List ℕ) × (Option (List ℕ)) × (Option (List ℕ))) → InfLine
 inf_line_of p =
     record {
       at = p.0.0;
-      inf = p.0.1.0;
-      arch = p.0.1.1;
+      inf = p.0.1;
+      arch = p.0.2;
       template = p.1.0;
-      version = p.1.1.0;
-      ui =
-          p.1.1.1;
+      version = p.1.1;
+      ui = p.1.2;
     }
 
 unfoldable pub inf_line_form : Form InfLine
-inf_line_form = form_by (λ x. (inf_line_first x, inf_line_second x)) inf_line_of (λ x. refl)
+inf_line_form = form_by (λ x. (inf_line_first x, inf_line_second x))
+    inf_line_of (λ x. refl)
     (pair_form inf_line_first_form inf_line_second_form)
 
 abbrev pub MemberParts : Type 0
@@ -228,48 +224,45 @@ rule_doc_form = form_by (λ x. (x.at, (x.arch, (x.module_type, (x.template, x.fi
     (pair_form place_form
     (pair_form arch_form (pair_form module_type_form (pair_form text_form file_plan_form))))
 
-abbrev pub volume_head_first : VolumeHead → Place × ((List ℕ) × (ℕ × ℕ))
-volume_head_first x = (x.at, (x.name, (x.attributes, x.erase)))
+abbrev pub volume_head_first : VolumeHead → Place × (List ℕ) × ℕ × ℕ
+volume_head_first x = (x.at, x.name, x.attributes, x.erase)
 
-unfoldable pub volume_head_first_form : Form (Place × ((List ℕ) × (ℕ × ℕ)))
-volume_head_first_form = pair_form place_form
-    (pair_form text_form (pair_form (number_form 4) byte_form))
+unfoldable pub volume_head_first_form : Form (Place × (List ℕ) × ℕ × ℕ)
+volume_head_first_form = quadruple_form place_form text_form (number_form 4) byte_form
 
-abbrev pub volume_head_second : VolumeHead → ℕ × ((Option ℕ) × (Option Guid))
-volume_head_second x = (x.block_size, (x.size, x.name_guid))
+abbrev pub volume_head_second : VolumeHead → ℕ × (Option ℕ) × (Option Guid)
+volume_head_second x = (x.block_size, x.size, x.name_guid)
 
-unfoldable pub volume_head_second_form : Form (ℕ × ((Option ℕ) × (Option Guid)))
-volume_head_second_form = pair_form (number_form 8)
-    (pair_form (option_form (number_form 8)) (option_form guid_form))
+unfoldable pub volume_head_second_form : Form (ℕ × (Option ℕ) × (Option Guid))
+volume_head_second_form = triple_form (number_form 8) (option_form (number_form 8))
+    (option_form guid_form)
 
-abbrev pub volume_head_third : VolumeHead → (Option ℕ) × (Bool × Bool)
-volume_head_third x = (x.base, (x.force, x.ffs3))
+abbrev pub volume_head_third : VolumeHead → (Option ℕ) × Bool × Bool
+volume_head_third x = (x.base, x.force, x.ffs3)
 
-unfoldable pub volume_head_third_form : Form ((Option ℕ) × (Bool × Bool))
-volume_head_third_form = pair_form (option_form (number_form 8)) (pair_form bool_form bool_form)
+unfoldable pub volume_head_third_form : Form ((Option ℕ) × Bool × Bool)
+volume_head_third_form = triple_form (option_form (number_form 8)) bool_form bool_form
 
-abbrev pub volume_head_of : ((Place × ((List ℕ) × (ℕ × ℕ))))
-    × (((ℕ × ((Option ℕ) × (Option Guid)))) × (((Option ℕ) × (Bool × Bool)))) → VolumeHead
+abbrev pub volume_head_of : (Place × (List ℕ) × ℕ × ℕ) × (ℕ × (Option ℕ) × (Option Guid))
+    × ((Option ℕ) × Bool × Bool) → VolumeHead
 volume_head_of p =
     record {
       at = p.0.0;
-      name = p.0.1.0;
-      attributes = p.0.1.1.0;
-      erase = p.0.1.1.1;
-      block_size =
-          p.1.0.0;
-      size = p.1.0.1.0;
-      name_guid = p.1.0.1.1;
-      base = p.1.1.0;
-      force = p.1.1.1.0;
-      ffs3 =
-          p.1.1.1.1;
+      name = p.0.1;
+      attributes = p.0.2;
+      erase = p.0.3;
+      block_size = p.1.0;
+      size = p.1.1;
+      name_guid = p.1.2;
+      base = p.2.0;
+      force = p.2.1;
+      ffs3 = p.2.2;
     }
 
 unfoldable pub volume_head_form : Form VolumeHead
-volume_head_form = form_by (λ x. (volume_head_first x, (volume_head_second x, volume_head_third x)))
+volume_head_form = form_by (λ x. (volume_head_first x, volume_head_second x, volume_head_third x))
     volume_head_of (λ x. refl)
-    (pair_form volume_head_first_form (pair_form volume_head_second_form volume_head_third_form))
+    (triple_form volume_head_first_form volume_head_second_form volume_head_third_form)
 
 unfoldable pub volume_plan_form : Form VolumePlan
 volume_plan_form = form_by (λ x. (x.head, x.items))

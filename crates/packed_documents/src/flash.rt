@@ -73,12 +73,14 @@ impl Packed for RegionForm {
 /// How a value of `DevicePlan` is spelled.
 pub struct DevicePlanForm;
 
-type DevicePlanFirst = (Place, (Text, u64));
+type DevicePlanFirst = (Place, Text, u64);
 
-type DevicePlanSecond = (u64, (u8, Rows<RegionForm>));
+type DevicePlanSecond = (u64, u8, Rows<RegionForm>);
+
+type DevicePlanGroups = (DevicePlanFirst, DevicePlanSecond);
 
 // Adds its fields from `at` on.
-#[tactic(auto, unfolding(crate::specs::Flash::device_plan_first_form, packed_values::specs::Parts::pair_form))]
+#[tactic(auto, unfolding(crate::specs::Flash::device_plan_first_form, packed_values::specs::Parts::pair_form, packed_values::specs::Parts::triple_form))]
 fn put_device_plan_first(value: &DevicePlan, out: &mut Vec<u8>) -> Result<(), WantOfMemory>
     ensures { OnOk result
         (IsPut device_plan_first_form out.old.items (device_plan_first value.now) out.new.items) }
@@ -87,7 +89,7 @@ fn put_device_plan_first(value: &DevicePlan, out: &mut Vec<u8>) -> Result<(), Wa
 }
 
 // Adds its fields from `size` on.
-#[tactic(auto, unfolding(crate::specs::Flash::device_plan_second_form, packed_values::specs::Parts::pair_form))]
+#[tactic(auto, unfolding(crate::specs::Flash::device_plan_second_form, packed_values::specs::Parts::pair_form, packed_values::specs::Parts::triple_form))]
 fn put_device_plan_second(value: &DevicePlan, out: &mut Vec<u8>) -> Result<(), WantOfMemory>
     ensures { OnOk result
         (IsPut device_plan_second_form out.old.items (device_plan_second value.now) out.new.items) }
@@ -96,16 +98,12 @@ fn put_device_plan_second(value: &DevicePlan, out: &mut Vec<u8>) -> Result<(), W
 }
 
 // The record of all its fields.
-fn join_device_plan(
-    first: <DevicePlanFirst as Packed>::Value,
-    second: <DevicePlanSecond as Packed>::Value,
-) -> DevicePlan
-    ensures { result ≡ device_plan_of (first, second) }
+fn join_device_plan(groups: <DevicePlanGroups as Packed>::Value) -> DevicePlan
+    ensures { result ≡ device_plan_of groups }
 {
-    let (at, first_1) = first;
-    let (name, base) = first_1;
-    let (size, second_1) = second;
-    let (erase, regions) = second_1;
+    let (first, second) = groups;
+    let (at, name, base) = first;
+    let (size, erase, regions) = second;
     DevicePlan {
         at,
         name,
@@ -129,9 +127,9 @@ impl Packed for DevicePlanForm {
 
     #[tactic(auto, unfolding(crate::specs::Flash::device_plan_form, crate::specs::Flash::device_plan_first_form, crate::specs::Flash::device_plan_second_form), using(packed_values::proofs::WhereLemmas::unread_by))]
     fn take(alloc: Global, input: &mut Input) -> Result<Option<DevicePlan>, WantOfMemory> {
-        match <(DevicePlanFirst, DevicePlanSecond)>::take(alloc, input)? {
+        match <DevicePlanGroups>::take(alloc, input)? {
             None => Ok(None),
-            Some((first, second)) => Ok(Some(join_device_plan(first, second))),
+            Some(groups) => Ok(Some(join_device_plan(groups))),
         }
     }
 }

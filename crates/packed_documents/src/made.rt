@@ -74,12 +74,14 @@ impl Packed for ChoiceForm {
 /// How a value of `PcdRow` is spelled.
 pub struct PcdRowForm;
 
-type PcdRowFirst = (PcdNameForm, (KindForm, (DatumForm, u32)));
+type PcdRowFirst = (PcdNameForm, KindForm, DatumForm, u32);
 
-type PcdRowSecond = (u32, (u8, (Text, Text)));
+type PcdRowSecond = (u32, u8, Text, Text);
+
+type PcdRowGroups = (PcdRowFirst, PcdRowSecond);
 
 // Adds its fields from `pcd` on.
-#[tactic(auto, unfolding(crate::specs::Made::pcd_row_first_form))]
+#[tactic(auto, unfolding(crate::specs::Made::pcd_row_first_form, packed_values::specs::Parts::quadruple_form))]
 fn put_pcd_row_first(value: &PcdRow, out: &mut Vec<u8>) -> Result<(), WantOfMemory>
     ensures { OnOk result
         (IsPut pcd_row_first_form out.old.items (pcd_row_first value.now) out.new.items) }
@@ -88,7 +90,7 @@ fn put_pcd_row_first(value: &PcdRow, out: &mut Vec<u8>) -> Result<(), WantOfMemo
 }
 
 // Adds its fields from `max` on.
-#[tactic(auto, unfolding(crate::specs::Made::pcd_row_second_form))]
+#[tactic(auto, unfolding(crate::specs::Made::pcd_row_second_form, packed_values::specs::Parts::quadruple_form))]
 fn put_pcd_row_second(value: &PcdRow, out: &mut Vec<u8>) -> Result<(), WantOfMemory>
     ensures { OnOk result
         (IsPut pcd_row_second_form out.old.items (pcd_row_second value.now) out.new.items) }
@@ -97,18 +99,12 @@ fn put_pcd_row_second(value: &PcdRow, out: &mut Vec<u8>) -> Result<(), WantOfMem
 }
 
 // The record of all its fields.
-fn join_pcd_row(
-    first: <PcdRowFirst as Packed>::Value,
-    second: <PcdRowSecond as Packed>::Value,
-) -> PcdRow
-    ensures { result ≡ pcd_row_of (first, second) }
+fn join_pcd_row(groups: <PcdRowGroups as Packed>::Value) -> PcdRow
+    ensures { result ≡ pcd_row_of groups }
 {
-    let (pcd, first_1) = first;
-    let (kind, first_2) = first_1;
-    let (datum, token) = first_2;
-    let (max, second_1) = second;
-    let (rank, second_2) = second_1;
-    let (sku, value) = second_2;
+    let (first, second) = groups;
+    let (pcd, kind, datum, token) = first;
+    let (max, rank, sku, value) = second;
     PcdRow {
         pcd,
         kind,
@@ -134,9 +130,9 @@ impl Packed for PcdRowForm {
 
     #[tactic(auto, unfolding(crate::specs::Made::pcd_row_form, crate::specs::Made::pcd_row_first_form, crate::specs::Made::pcd_row_second_form), using(packed_values::proofs::WhereLemmas::unread_by))]
     fn take(alloc: Global, input: &mut Input) -> Result<Option<PcdRow>, WantOfMemory> {
-        match <(PcdRowFirst, PcdRowSecond)>::take(alloc, input)? {
+        match <PcdRowGroups>::take(alloc, input)? {
             None => Ok(None),
-            Some((first, second)) => Ok(Some(join_pcd_row(first, second))),
+            Some(groups) => Ok(Some(join_pcd_row(groups))),
         }
     }
 }

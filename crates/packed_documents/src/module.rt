@@ -90,16 +90,18 @@ impl Packed for DepexPartForm {
 /// How a value of `InfDoc` is spelled.
 pub struct InfDocForm;
 
-type InfDocFirst = (Place, (Text, (Guid, ModuleTypeForm)));
+type InfDocFirst = (Place, Text, Guid, ModuleTypeForm);
 
-type InfDocSecond = (Text, (Rows<NamedForm>, (Rows<NamedForm>, Rows<NamedForm>)));
+type InfDocSecond = (Text, Rows<NamedForm>, Rows<NamedForm>, Rows<NamedForm>);
 
-type InfDocThird = (Rows<ServedForm>, (Rows<NamedForm>, Rows<NamedForm>));
+type InfDocThird = (Rows<ServedForm>, Rows<NamedForm>, Rows<NamedForm>);
 
-type InfDocFourth = (Rows<NamedForm>, (Rows<UsedPcdForm>, Rows<DepexPartForm>));
+type InfDocFourth = (Rows<NamedForm>, Rows<UsedPcdForm>, Rows<DepexPartForm>);
+
+type InfDocGroups = (InfDocFirst, InfDocSecond, InfDocThird, InfDocFourth);
 
 // Adds its fields from `at` on.
-#[tactic(auto, unfolding(crate::specs::Module::inf_doc_first_form))]
+#[tactic(auto, unfolding(crate::specs::Module::inf_doc_first_form, packed_values::specs::Parts::quadruple_form))]
 fn put_inf_doc_first(value: &InfDoc, out: &mut Vec<u8>) -> Result<(), WantOfMemory>
     ensures { OnOk result
         (IsPut inf_doc_first_form out.old.items (inf_doc_first value.now) out.new.items) }
@@ -108,7 +110,7 @@ fn put_inf_doc_first(value: &InfDoc, out: &mut Vec<u8>) -> Result<(), WantOfMemo
 }
 
 // Adds its fields from `version` on.
-#[tactic(auto, unfolding(crate::specs::Module::inf_doc_second_form))]
+#[tactic(auto, unfolding(crate::specs::Module::inf_doc_second_form, packed_values::specs::Parts::quadruple_form))]
 fn put_inf_doc_second(value: &InfDoc, out: &mut Vec<u8>) -> Result<(), WantOfMemory>
     ensures { OnOk result
         (IsPut inf_doc_second_form out.old.items (inf_doc_second value.now) out.new.items) }
@@ -117,7 +119,7 @@ fn put_inf_doc_second(value: &InfDoc, out: &mut Vec<u8>) -> Result<(), WantOfMem
 }
 
 // Adds its fields from `serves` on.
-#[tactic(auto, unfolding(crate::specs::Module::inf_doc_third_form))]
+#[tactic(auto, unfolding(crate::specs::Module::inf_doc_third_form, packed_values::specs::Parts::triple_form))]
 fn put_inf_doc_third(value: &InfDoc, out: &mut Vec<u8>) -> Result<(), WantOfMemory>
     ensures { OnOk result
         (IsPut inf_doc_third_form out.old.items (inf_doc_third value.now) out.new.items) }
@@ -126,7 +128,7 @@ fn put_inf_doc_third(value: &InfDoc, out: &mut Vec<u8>) -> Result<(), WantOfMemo
 }
 
 // Adds its fields from `guids` on.
-#[tactic(auto, unfolding(crate::specs::Module::inf_doc_fourth_form))]
+#[tactic(auto, unfolding(crate::specs::Module::inf_doc_fourth_form, packed_values::specs::Parts::triple_form))]
 fn put_inf_doc_fourth(value: &InfDoc, out: &mut Vec<u8>) -> Result<(), WantOfMemory>
     ensures { OnOk result
         (IsPut inf_doc_fourth_form out.old.items (inf_doc_fourth value.now) out.new.items) }
@@ -135,24 +137,14 @@ fn put_inf_doc_fourth(value: &InfDoc, out: &mut Vec<u8>) -> Result<(), WantOfMem
 }
 
 // The record of all its fields.
-fn join_inf_doc(
-    first: <InfDocFirst as Packed>::Value,
-    second: <InfDocSecond as Packed>::Value,
-    third: <InfDocThird as Packed>::Value,
-    fourth: <InfDocFourth as Packed>::Value,
-) -> InfDoc
-    ensures { result ≡ inf_doc_of (first, (second, (third, fourth))) }
+fn join_inf_doc(groups: <InfDocGroups as Packed>::Value) -> InfDoc
+    ensures { result ≡ inf_doc_of groups }
 {
-    let (at, first_1) = first;
-    let (base_name, first_2) = first_1;
-    let (file_guid, module_type) = first_2;
-    let (version, second_1) = second;
-    let (entry_points, second_2) = second_1;
-    let (constructors, destructors) = second_2;
-    let (serves, third_1) = third;
-    let (packages, classes) = third_1;
-    let (guids, fourth_1) = fourth;
-    let (pcds, depex) = fourth_1;
+    let (first, second, third, fourth) = groups;
+    let (at, base_name, file_guid, module_type) = first;
+    let (version, entry_points, constructors, destructors) = second;
+    let (serves, packages, classes) = third;
+    let (guids, pcds, depex) = fourth;
     InfDoc {
         at,
         base_name,
@@ -176,7 +168,7 @@ impl Packed for InfDocForm {
 
     ghost form = { inf_doc_form };
 
-    #[tactic(auto, unfolding(crate::specs::Module::inf_doc_form, packed_values::specs::Parts::pair_form))]
+    #[tactic(auto, unfolding(crate::specs::Module::inf_doc_form, packed_values::specs::Parts::pair_form, packed_values::specs::Parts::quadruple_form))]
     fn put(value: &InfDoc, out: &mut Vec<u8>) -> Result<(), WantOfMemory> {
         put_inf_doc_first(value, out)?;
         put_inf_doc_second(value, out)?;
@@ -186,11 +178,9 @@ impl Packed for InfDocForm {
 
     #[tactic(auto, unfolding(crate::specs::Module::inf_doc_form, crate::specs::Module::inf_doc_first_form, crate::specs::Module::inf_doc_second_form, crate::specs::Module::inf_doc_third_form, crate::specs::Module::inf_doc_fourth_form), using(packed_values::proofs::WhereLemmas::unread_by))]
     fn take(alloc: Global, input: &mut Input) -> Result<Option<InfDoc>, WantOfMemory> {
-        match <(InfDocFirst, (InfDocSecond, (InfDocThird, InfDocFourth)))>::take(alloc, input)? {
+        match <InfDocGroups>::take(alloc, input)? {
             None => Ok(None),
-            Some((first, (second, (third, fourth)))) => Ok(Some(join_inf_doc(
-                first, second, third, fourth,
-            ))),
+            Some(groups) => Ok(Some(join_inf_doc(groups))),
         }
     }
 }

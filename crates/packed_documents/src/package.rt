@@ -33,12 +33,14 @@ impl Packed for NamedGuidForm {
 /// How a value of `DecPcd` is spelled.
 pub struct DecPcdForm;
 
-type DecPcdFirst = (Place, (ArchForm, (KindForm, PcdNameForm)));
+type DecPcdFirst = (Place, ArchForm, KindForm, PcdNameForm);
 
-type DecPcdSecond = (Text, (DatumForm, u32));
+type DecPcdSecond = (Text, DatumForm, u32);
+
+type DecPcdGroups = (DecPcdFirst, DecPcdSecond);
 
 // Adds its fields from `at` on.
-#[tactic(auto, unfolding(crate::specs::Package::dec_pcd_first_form))]
+#[tactic(auto, unfolding(crate::specs::Package::dec_pcd_first_form, packed_values::specs::Parts::quadruple_form))]
 fn put_dec_pcd_first(value: &DecPcd, out: &mut Vec<u8>) -> Result<(), WantOfMemory>
     ensures { OnOk result
         (IsPut dec_pcd_first_form out.old.items (dec_pcd_first value.now) out.new.items) }
@@ -47,7 +49,7 @@ fn put_dec_pcd_first(value: &DecPcd, out: &mut Vec<u8>) -> Result<(), WantOfMemo
 }
 
 // Adds its fields from `default` on.
-#[tactic(auto, unfolding(crate::specs::Package::dec_pcd_second_form))]
+#[tactic(auto, unfolding(crate::specs::Package::dec_pcd_second_form, packed_values::specs::Parts::triple_form))]
 fn put_dec_pcd_second(value: &DecPcd, out: &mut Vec<u8>) -> Result<(), WantOfMemory>
     ensures { OnOk result
         (IsPut dec_pcd_second_form out.old.items (dec_pcd_second value.now) out.new.items) }
@@ -56,17 +58,12 @@ fn put_dec_pcd_second(value: &DecPcd, out: &mut Vec<u8>) -> Result<(), WantOfMem
 }
 
 // The record of all its fields.
-fn join_dec_pcd(
-    first: <DecPcdFirst as Packed>::Value,
-    second: <DecPcdSecond as Packed>::Value,
-) -> DecPcd
-    ensures { result ≡ dec_pcd_of (first, second) }
+fn join_dec_pcd(groups: <DecPcdGroups as Packed>::Value) -> DecPcd
+    ensures { result ≡ dec_pcd_of groups }
 {
-    let (at, first_1) = first;
-    let (arch, first_2) = first_1;
-    let (kind, pcd) = first_2;
-    let (default, second_1) = second;
-    let (datum, token) = second_1;
+    let (first, second) = groups;
+    let (at, arch, kind, pcd) = first;
+    let (default, datum, token) = second;
     DecPcd {
         at,
         arch,
@@ -91,9 +88,9 @@ impl Packed for DecPcdForm {
 
     #[tactic(auto, unfolding(crate::specs::Package::dec_pcd_form, crate::specs::Package::dec_pcd_first_form, crate::specs::Package::dec_pcd_second_form), using(packed_values::proofs::WhereLemmas::unread_by))]
     fn take(alloc: Global, input: &mut Input) -> Result<Option<DecPcd>, WantOfMemory> {
-        match <(DecPcdFirst, DecPcdSecond)>::take(alloc, input)? {
+        match <DecPcdGroups>::take(alloc, input)? {
             None => Ok(None),
-            Some((first, second)) => Ok(Some(join_dec_pcd(first, second))),
+            Some(groups) => Ok(Some(join_dec_pcd(groups))),
         }
     }
 }

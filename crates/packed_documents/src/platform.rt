@@ -101,14 +101,16 @@ impl Packed for StoreForm {
 /// How a value of `PcdLine` is spelled.
 pub struct PcdLineForm;
 
-type PcdLineFirst = (Place, (ArchForm, KindForm));
+type PcdLineFirst = (Place, ArchForm, KindForm);
 
-type PcdLineSecond = (Text, (PcdNameForm, Option<Text>));
+type PcdLineSecond = (Text, PcdNameForm, Option<Text>);
 
-type PcdLineThird = (Option<DatumForm>, (Option<u32>, StoreForm));
+type PcdLineThird = (Option<DatumForm>, Option<u32>, StoreForm);
+
+type PcdLineGroups = (PcdLineFirst, PcdLineSecond, PcdLineThird);
 
 // Adds its fields from `at` on.
-#[tactic(auto, unfolding(crate::specs::Platform::pcd_line_first_form, packed_values::specs::Parts::pair_form))]
+#[tactic(auto, unfolding(crate::specs::Platform::pcd_line_first_form, packed_values::specs::Parts::pair_form, packed_values::specs::Parts::triple_form))]
 fn put_pcd_line_first(value: &PcdLine, out: &mut Vec<u8>) -> Result<(), WantOfMemory>
     ensures { OnOk result
         (IsPut pcd_line_first_form out.old.items (pcd_line_first value.now) out.new.items) }
@@ -117,7 +119,7 @@ fn put_pcd_line_first(value: &PcdLine, out: &mut Vec<u8>) -> Result<(), WantOfMe
 }
 
 // Adds its fields from `sku` on.
-#[tactic(auto, unfolding(crate::specs::Platform::pcd_line_second_form, packed_values::specs::Parts::pair_form))]
+#[tactic(auto, unfolding(crate::specs::Platform::pcd_line_second_form, packed_values::specs::Parts::pair_form, packed_values::specs::Parts::triple_form))]
 fn put_pcd_line_second(value: &PcdLine, out: &mut Vec<u8>) -> Result<(), WantOfMemory>
     ensures { OnOk result
         (IsPut pcd_line_second_form out.old.items (pcd_line_second value.now) out.new.items) }
@@ -126,7 +128,7 @@ fn put_pcd_line_second(value: &PcdLine, out: &mut Vec<u8>) -> Result<(), WantOfM
 }
 
 // Adds its fields from `datum` on.
-#[tactic(auto, unfolding(crate::specs::Platform::pcd_line_third_form, packed_values::specs::Parts::pair_form))]
+#[tactic(auto, unfolding(crate::specs::Platform::pcd_line_third_form, packed_values::specs::Parts::pair_form, packed_values::specs::Parts::triple_form))]
 fn put_pcd_line_third(value: &PcdLine, out: &mut Vec<u8>) -> Result<(), WantOfMemory>
     ensures { OnOk result
         (IsPut pcd_line_third_form out.old.items (pcd_line_third value.now) out.new.items) }
@@ -135,19 +137,13 @@ fn put_pcd_line_third(value: &PcdLine, out: &mut Vec<u8>) -> Result<(), WantOfMe
 }
 
 // The record of all its fields.
-fn join_pcd_line(
-    first: <PcdLineFirst as Packed>::Value,
-    second: <PcdLineSecond as Packed>::Value,
-    third: <PcdLineThird as Packed>::Value,
-) -> PcdLine
-    ensures { result ≡ pcd_line_of (first, (second, third)) }
+fn join_pcd_line(groups: <PcdLineGroups as Packed>::Value) -> PcdLine
+    ensures { result ≡ pcd_line_of groups }
 {
-    let (at, first_1) = first;
-    let (arch, kind) = first_1;
-    let (sku, second_1) = second;
-    let (pcd, value) = second_1;
-    let (datum, third_1) = third;
-    let (max, store) = third_1;
+    let (first, second, third) = groups;
+    let (at, arch, kind) = first;
+    let (sku, pcd, value) = second;
+    let (datum, max, store) = third;
     PcdLine {
         at,
         arch,
@@ -166,7 +162,7 @@ impl Packed for PcdLineForm {
 
     ghost form = { pcd_line_form };
 
-    #[tactic(auto, unfolding(crate::specs::Platform::pcd_line_form, packed_values::specs::Parts::pair_form))]
+    #[tactic(auto, unfolding(crate::specs::Platform::pcd_line_form, packed_values::specs::Parts::pair_form, packed_values::specs::Parts::triple_form))]
     fn put(value: &PcdLine, out: &mut Vec<u8>) -> Result<(), WantOfMemory> {
         put_pcd_line_first(value, out)?;
         put_pcd_line_second(value, out)?;
@@ -175,9 +171,9 @@ impl Packed for PcdLineForm {
 
     #[tactic(auto, unfolding(crate::specs::Platform::pcd_line_form, crate::specs::Platform::pcd_line_first_form, crate::specs::Platform::pcd_line_second_form, crate::specs::Platform::pcd_line_third_form), using(packed_values::proofs::WhereLemmas::unread_by))]
     fn take(alloc: Global, input: &mut Input) -> Result<Option<PcdLine>, WantOfMemory> {
-        match <(PcdLineFirst, (PcdLineSecond, PcdLineThird))>::take(alloc, input)? {
+        match <PcdLineGroups>::take(alloc, input)? {
             None => Ok(None),
-            Some((first, (second, third))) => Ok(Some(join_pcd_line(first, second, third))),
+            Some(groups) => Ok(Some(join_pcd_line(groups))),
         }
     }
 }
@@ -185,12 +181,14 @@ impl Packed for PcdLineForm {
 /// How a value of `Component` is spelled.
 pub struct ComponentForm;
 
-type ComponentFirst = (Place, (ArchForm, Path));
+type ComponentFirst = (Place, ArchForm, Path);
 
-type ComponentSecond = (Option<Guid>, (Rows<LibraryLineForm>, Rows<PcdLineForm>));
+type ComponentSecond = (Option<Guid>, Rows<LibraryLineForm>, Rows<PcdLineForm>);
+
+type ComponentGroups = (ComponentFirst, ComponentSecond);
 
 // Adds its fields from `at` on.
-#[tactic(auto, unfolding(crate::specs::Platform::component_first_form, packed_values::specs::Parts::pair_form))]
+#[tactic(auto, unfolding(crate::specs::Platform::component_first_form, packed_values::specs::Parts::pair_form, packed_values::specs::Parts::triple_form))]
 fn put_component_first(value: &Component, out: &mut Vec<u8>) -> Result<(), WantOfMemory>
     ensures { OnOk result
         (IsPut component_first_form out.old.items (component_first value.now) out.new.items) }
@@ -199,7 +197,7 @@ fn put_component_first(value: &Component, out: &mut Vec<u8>) -> Result<(), WantO
 }
 
 // Adds its fields from `file_guid` on.
-#[tactic(auto, unfolding(crate::specs::Platform::component_second_form, packed_values::specs::Parts::pair_form))]
+#[tactic(auto, unfolding(crate::specs::Platform::component_second_form, packed_values::specs::Parts::pair_form, packed_values::specs::Parts::triple_form))]
 fn put_component_second(value: &Component, out: &mut Vec<u8>) -> Result<(), WantOfMemory>
     ensures { OnOk result
         (IsPut component_second_form out.old.items (component_second value.now) out.new.items) }
@@ -208,16 +206,12 @@ fn put_component_second(value: &Component, out: &mut Vec<u8>) -> Result<(), Want
 }
 
 // The record of all its fields.
-fn join_component(
-    first: <ComponentFirst as Packed>::Value,
-    second: <ComponentSecond as Packed>::Value,
-) -> Component
-    ensures { result ≡ component_of (first, second) }
+fn join_component(groups: <ComponentGroups as Packed>::Value) -> Component
+    ensures { result ≡ component_of groups }
 {
-    let (at, first_1) = first;
-    let (arch, inf) = first_1;
-    let (file_guid, second_1) = second;
-    let (libraries, pcds) = second_1;
+    let (first, second) = groups;
+    let (at, arch, inf) = first;
+    let (file_guid, libraries, pcds) = second;
     Component {
         at,
         arch,
@@ -241,9 +235,9 @@ impl Packed for ComponentForm {
 
     #[tactic(auto, unfolding(crate::specs::Platform::component_form, crate::specs::Platform::component_first_form, crate::specs::Platform::component_second_form), using(packed_values::proofs::WhereLemmas::unread_by))]
     fn take(alloc: Global, input: &mut Input) -> Result<Option<Component>, WantOfMemory> {
-        match <(ComponentFirst, ComponentSecond)>::take(alloc, input)? {
+        match <ComponentGroups>::take(alloc, input)? {
             None => Ok(None),
-            Some((first, second)) => Ok(Some(join_component(first, second))),
+            Some(groups) => Ok(Some(join_component(groups))),
         }
     }
 }
@@ -251,17 +245,21 @@ impl Packed for ComponentForm {
 /// How a value of `PlatformDoc` is spelled.
 pub struct PlatformDocForm;
 
-type PlatformDocFirst = (Place, (Text, (Guid, Path)));
+type PlatformDocFirst = (Place, Text, Guid, Path);
 
-type PlatformDocSecond = (Rows<ArchForm>, (Text, (Option<Path>, Rows<SkuForm>)));
+type PlatformDocSecond = (Rows<ArchForm>, Text, Option<Path>, Rows<SkuForm>);
 
 type PlatformDocThird = (
     Rows<LibraryLineForm>,
-    (Rows<ComponentForm>, (Rows<PcdLineForm>, Rows<Macro>)),
+    Rows<ComponentForm>,
+    Rows<PcdLineForm>,
+    Rows<Macro>,
 );
 
+type PlatformDocGroups = (PlatformDocFirst, PlatformDocSecond, PlatformDocThird);
+
 // Adds its fields from `at` on.
-#[tactic(auto, unfolding(crate::specs::Platform::platform_doc_first_form, packed_values::specs::Parts::pair_form))]
+#[tactic(auto, unfolding(crate::specs::Platform::platform_doc_first_form, packed_values::specs::Parts::pair_form, packed_values::specs::Parts::quadruple_form))]
 fn put_platform_doc_first(value: &PlatformDoc, out: &mut Vec<u8>) -> Result<(), WantOfMemory>
     ensures { OnOk result
         (IsPut platform_doc_first_form out.old.items (platform_doc_first value.now) out.new.items) }
@@ -270,7 +268,7 @@ fn put_platform_doc_first(value: &PlatformDoc, out: &mut Vec<u8>) -> Result<(), 
 }
 
 // Adds its fields from `arches` on.
-#[tactic(auto, unfolding(crate::specs::Platform::platform_doc_second_form, packed_values::specs::Parts::pair_form))]
+#[tactic(auto, unfolding(crate::specs::Platform::platform_doc_second_form, packed_values::specs::Parts::pair_form, packed_values::specs::Parts::quadruple_form))]
 fn put_platform_doc_second(value: &PlatformDoc, out: &mut Vec<u8>) -> Result<(), WantOfMemory>
     ensures { OnOk result
         (IsPut platform_doc_second_form out.old.items (platform_doc_second value.now)
@@ -280,7 +278,7 @@ fn put_platform_doc_second(value: &PlatformDoc, out: &mut Vec<u8>) -> Result<(),
 }
 
 // Adds its fields from `libraries` on.
-#[tactic(auto, unfolding(crate::specs::Platform::platform_doc_third_form, packed_values::specs::Parts::pair_form))]
+#[tactic(auto, unfolding(crate::specs::Platform::platform_doc_third_form, packed_values::specs::Parts::pair_form, packed_values::specs::Parts::quadruple_form))]
 fn put_platform_doc_third(value: &PlatformDoc, out: &mut Vec<u8>) -> Result<(), WantOfMemory>
     ensures { OnOk result
         (IsPut platform_doc_third_form out.old.items (platform_doc_third value.now) out.new.items) }
@@ -289,22 +287,13 @@ fn put_platform_doc_third(value: &PlatformDoc, out: &mut Vec<u8>) -> Result<(), 
 }
 
 // The record of all its fields.
-fn join_platform_doc(
-    first: <PlatformDocFirst as Packed>::Value,
-    second: <PlatformDocSecond as Packed>::Value,
-    third: <PlatformDocThird as Packed>::Value,
-) -> PlatformDoc
-    ensures { result ≡ platform_doc_of (first, (second, third)) }
+fn join_platform_doc(groups: <PlatformDocGroups as Packed>::Value) -> PlatformDoc
+    ensures { result ≡ platform_doc_of groups }
 {
-    let (at, first_1) = first;
-    let (name, first_2) = first_1;
-    let (guid, output) = first_2;
-    let (arches, second_1) = second;
-    let (sku_choice, second_2) = second_1;
-    let (flash, skus) = second_2;
-    let (libraries, third_1) = third;
-    let (components, third_2) = third_1;
-    let (pcds, macros) = third_2;
+    let (first, second, third) = groups;
+    let (at, name, guid, output) = first;
+    let (arches, sku_choice, flash, skus) = second;
+    let (libraries, components, pcds, macros) = third;
     PlatformDoc {
         at,
         name,
@@ -326,7 +315,7 @@ impl Packed for PlatformDocForm {
 
     ghost form = { platform_doc_form };
 
-    #[tactic(auto, unfolding(crate::specs::Platform::platform_doc_form, packed_values::specs::Parts::pair_form))]
+    #[tactic(auto, unfolding(crate::specs::Platform::platform_doc_form, packed_values::specs::Parts::pair_form, packed_values::specs::Parts::triple_form))]
     fn put(value: &PlatformDoc, out: &mut Vec<u8>) -> Result<(), WantOfMemory> {
         put_platform_doc_first(value, out)?;
         put_platform_doc_second(value, out)?;
@@ -335,9 +324,9 @@ impl Packed for PlatformDocForm {
 
     #[tactic(auto, unfolding(crate::specs::Platform::platform_doc_form, crate::specs::Platform::platform_doc_first_form, crate::specs::Platform::platform_doc_second_form, crate::specs::Platform::platform_doc_third_form), using(packed_values::proofs::WhereLemmas::unread_by))]
     fn take(alloc: Global, input: &mut Input) -> Result<Option<PlatformDoc>, WantOfMemory> {
-        match <(PlatformDocFirst, (PlatformDocSecond, PlatformDocThird))>::take(alloc, input)? {
+        match <PlatformDocGroups>::take(alloc, input)? {
             None => Ok(None),
-            Some((first, (second, third))) => Ok(Some(join_platform_doc(first, second, third))),
+            Some(groups) => Ok(Some(join_platform_doc(groups))),
         }
     }
 }

@@ -95,12 +95,14 @@ impl Packed for SectionSourceForm {
 /// How a value of `SectionPlan` is spelled.
 pub struct SectionPlanForm;
 
-type SectionPlanFirst = (Place, (u8, (bool, AlignForm)));
+type SectionPlanFirst = (Place, u8, bool, AlignForm);
 
-type SectionPlanSecond = (u16, (Option<Guid>, SectionSourceForm));
+type SectionPlanSecond = (u16, Option<Guid>, SectionSourceForm);
+
+type SectionPlanGroups = (SectionPlanFirst, SectionPlanSecond);
 
 // Adds its fields from `at` on.
-#[tactic(auto, unfolding(crate::specs::Volume::section_plan_first_form, packed_values::specs::Parts::pair_form))]
+#[tactic(auto, unfolding(crate::specs::Volume::section_plan_first_form, packed_values::specs::Parts::pair_form, packed_values::specs::Parts::quadruple_form))]
 fn put_section_plan_first(value: &SectionPlan, out: &mut Vec<u8>) -> Result<(), WantOfMemory>
     ensures { OnOk result
         (IsPut section_plan_first_form out.old.items (section_plan_first value.now) out.new.items) }
@@ -109,7 +111,7 @@ fn put_section_plan_first(value: &SectionPlan, out: &mut Vec<u8>) -> Result<(), 
 }
 
 // Adds its fields from `number` on.
-#[tactic(auto, unfolding(crate::specs::Volume::section_plan_second_form, packed_values::specs::Parts::pair_form))]
+#[tactic(auto, unfolding(crate::specs::Volume::section_plan_second_form, packed_values::specs::Parts::pair_form, packed_values::specs::Parts::triple_form))]
 fn put_section_plan_second(value: &SectionPlan, out: &mut Vec<u8>) -> Result<(), WantOfMemory>
     ensures { OnOk result
         (IsPut section_plan_second_form out.old.items (section_plan_second value.now)
@@ -119,17 +121,12 @@ fn put_section_plan_second(value: &SectionPlan, out: &mut Vec<u8>) -> Result<(),
 }
 
 // The record of all its fields.
-fn join_section_plan(
-    first: <SectionPlanFirst as Packed>::Value,
-    second: <SectionPlanSecond as Packed>::Value,
-) -> SectionPlan
-    ensures { result ≡ section_plan_of (first, second) }
+fn join_section_plan(groups: <SectionPlanGroups as Packed>::Value) -> SectionPlan
+    ensures { result ≡ section_plan_of groups }
 {
-    let (at, first_1) = first;
-    let (kind, first_2) = first_1;
-    let (optional, align) = first_2;
-    let (number, second_1) = second;
-    let (guid, source) = second_1;
+    let (first, second) = groups;
+    let (at, kind, optional, align) = first;
+    let (number, guid, source) = second;
     SectionPlan {
         at,
         kind,
@@ -154,9 +151,9 @@ impl Packed for SectionPlanForm {
 
     #[tactic(auto, unfolding(crate::specs::Volume::section_plan_form, crate::specs::Volume::section_plan_first_form, crate::specs::Volume::section_plan_second_form), using(packed_values::proofs::WhereLemmas::unread_by))]
     fn take(alloc: Global, input: &mut Input) -> Result<Option<SectionPlan>, WantOfMemory> {
-        match <(SectionPlanFirst, SectionPlanSecond)>::take(alloc, input)? {
+        match <SectionPlanGroups>::take(alloc, input)? {
             None => Ok(None),
-            Some((first, second)) => Ok(Some(join_section_plan(first, second))),
+            Some(groups) => Ok(Some(join_section_plan(groups))),
         }
     }
 }
@@ -164,12 +161,14 @@ impl Packed for SectionPlanForm {
 /// How a value of `FilePlan` is spelled.
 pub struct FilePlanForm;
 
-type FilePlanFirst = (Place, (u8, (Option<Guid>, bool)));
+type FilePlanFirst = (Place, u8, Option<Guid>, bool);
 
-type FilePlanSecond = (bool, (AlignForm, (Option<Path>, Rows<SectionPlanForm>)));
+type FilePlanSecond = (bool, AlignForm, Option<Path>, Rows<SectionPlanForm>);
+
+type FilePlanGroups = (FilePlanFirst, FilePlanSecond);
 
 // Adds its fields from `at` on.
-#[tactic(auto, unfolding(crate::specs::Volume::file_plan_first_form, packed_values::specs::Parts::pair_form))]
+#[tactic(auto, unfolding(crate::specs::Volume::file_plan_first_form, packed_values::specs::Parts::pair_form, packed_values::specs::Parts::quadruple_form))]
 fn put_file_plan_first(value: &FilePlan, out: &mut Vec<u8>) -> Result<(), WantOfMemory>
     ensures { OnOk result
         (IsPut file_plan_first_form out.old.items (file_plan_first value.now) out.new.items) }
@@ -178,7 +177,7 @@ fn put_file_plan_first(value: &FilePlan, out: &mut Vec<u8>) -> Result<(), WantOf
 }
 
 // Adds its fields from `checksum` on.
-#[tactic(auto, unfolding(crate::specs::Volume::file_plan_second_form, packed_values::specs::Parts::pair_form))]
+#[tactic(auto, unfolding(crate::specs::Volume::file_plan_second_form, packed_values::specs::Parts::pair_form, packed_values::specs::Parts::quadruple_form))]
 fn put_file_plan_second(value: &FilePlan, out: &mut Vec<u8>) -> Result<(), WantOfMemory>
     ensures { OnOk result
         (IsPut file_plan_second_form out.old.items (file_plan_second value.now) out.new.items) }
@@ -187,18 +186,12 @@ fn put_file_plan_second(value: &FilePlan, out: &mut Vec<u8>) -> Result<(), WantO
 }
 
 // The record of all its fields.
-fn join_file_plan(
-    first: <FilePlanFirst as Packed>::Value,
-    second: <FilePlanSecond as Packed>::Value,
-) -> FilePlan
-    ensures { result ≡ file_plan_of (first, second) }
+fn join_file_plan(groups: <FilePlanGroups as Packed>::Value) -> FilePlan
+    ensures { result ≡ file_plan_of groups }
 {
-    let (at, first_1) = first;
-    let (file_type, first_2) = first_1;
-    let (guid, fixed) = first_2;
-    let (checksum, second_1) = second;
-    let (align, second_2) = second_1;
-    let (whole, sections) = second_2;
+    let (first, second) = groups;
+    let (at, file_type, guid, fixed) = first;
+    let (checksum, align, whole, sections) = second;
     FilePlan {
         at,
         file_type,
@@ -224,9 +217,9 @@ impl Packed for FilePlanForm {
 
     #[tactic(auto, unfolding(crate::specs::Volume::file_plan_form, crate::specs::Volume::file_plan_first_form, crate::specs::Volume::file_plan_second_form), using(packed_values::proofs::WhereLemmas::unread_by))]
     fn take(alloc: Global, input: &mut Input) -> Result<Option<FilePlan>, WantOfMemory> {
-        match <(FilePlanFirst, FilePlanSecond)>::take(alloc, input)? {
+        match <FilePlanGroups>::take(alloc, input)? {
             None => Ok(None),
-            Some((first, second)) => Ok(Some(join_file_plan(first, second))),
+            Some(groups) => Ok(Some(join_file_plan(groups))),
         }
     }
 }
@@ -234,12 +227,14 @@ impl Packed for FilePlanForm {
 /// How a value of `InfLine` is spelled.
 pub struct InfLineForm;
 
-type InfLineFirst = (Place, (Path, Option<ArchForm>));
+type InfLineFirst = (Place, Path, Option<ArchForm>);
 
-type InfLineSecond = (Text, (Option<Text>, Option<Text>));
+type InfLineSecond = (Text, Option<Text>, Option<Text>);
+
+type InfLineGroups = (InfLineFirst, InfLineSecond);
 
 // Adds its fields from `at` on.
-#[tactic(auto, unfolding(crate::specs::Volume::inf_line_first_form, packed_values::specs::Parts::pair_form))]
+#[tactic(auto, unfolding(crate::specs::Volume::inf_line_first_form, packed_values::specs::Parts::pair_form, packed_values::specs::Parts::triple_form))]
 fn put_inf_line_first(value: &InfLine, out: &mut Vec<u8>) -> Result<(), WantOfMemory>
     ensures { OnOk result
         (IsPut inf_line_first_form out.old.items (inf_line_first value.now) out.new.items) }
@@ -248,7 +243,7 @@ fn put_inf_line_first(value: &InfLine, out: &mut Vec<u8>) -> Result<(), WantOfMe
 }
 
 // Adds its fields from `template` on.
-#[tactic(auto, unfolding(crate::specs::Volume::inf_line_second_form, packed_values::specs::Parts::pair_form))]
+#[tactic(auto, unfolding(crate::specs::Volume::inf_line_second_form, packed_values::specs::Parts::pair_form, packed_values::specs::Parts::triple_form))]
 fn put_inf_line_second(value: &InfLine, out: &mut Vec<u8>) -> Result<(), WantOfMemory>
     ensures { OnOk result
         (IsPut inf_line_second_form out.old.items (inf_line_second value.now) out.new.items) }
@@ -257,16 +252,12 @@ fn put_inf_line_second(value: &InfLine, out: &mut Vec<u8>) -> Result<(), WantOfM
 }
 
 // The record of all its fields.
-fn join_inf_line(
-    first: <InfLineFirst as Packed>::Value,
-    second: <InfLineSecond as Packed>::Value,
-) -> InfLine
-    ensures { result ≡ inf_line_of (first, second) }
+fn join_inf_line(groups: <InfLineGroups as Packed>::Value) -> InfLine
+    ensures { result ≡ inf_line_of groups }
 {
-    let (at, first_1) = first;
-    let (inf, arch) = first_1;
-    let (template, second_1) = second;
-    let (version, ui) = second_1;
+    let (first, second) = groups;
+    let (at, inf, arch) = first;
+    let (template, version, ui) = second;
     InfLine {
         at,
         inf,
@@ -290,9 +281,9 @@ impl Packed for InfLineForm {
 
     #[tactic(auto, unfolding(crate::specs::Volume::inf_line_form, crate::specs::Volume::inf_line_first_form, crate::specs::Volume::inf_line_second_form), using(packed_values::proofs::WhereLemmas::unread_by))]
     fn take(alloc: Global, input: &mut Input) -> Result<Option<InfLine>, WantOfMemory> {
-        match <(InfLineFirst, InfLineSecond)>::take(alloc, input)? {
+        match <InfLineGroups>::take(alloc, input)? {
             None => Ok(None),
-            Some((first, second)) => Ok(Some(join_inf_line(first, second))),
+            Some(groups) => Ok(Some(join_inf_line(groups))),
         }
     }
 }
@@ -390,14 +381,16 @@ impl Packed for RuleDocForm {
 /// How a value of `VolumeHead` is spelled.
 pub struct VolumeHeadForm;
 
-type VolumeHeadFirst = (Place, (Text, (u32, u8)));
+type VolumeHeadFirst = (Place, Text, u32, u8);
 
-type VolumeHeadSecond = (u64, (Option<u64>, Option<Guid>));
+type VolumeHeadSecond = (u64, Option<u64>, Option<Guid>);
 
-type VolumeHeadThird = (Option<u64>, (bool, bool));
+type VolumeHeadThird = (Option<u64>, bool, bool);
+
+type VolumeHeadGroups = (VolumeHeadFirst, VolumeHeadSecond, VolumeHeadThird);
 
 // Adds its fields from `at` on.
-#[tactic(auto, unfolding(crate::specs::Volume::volume_head_first_form, packed_values::specs::Parts::pair_form))]
+#[tactic(auto, unfolding(crate::specs::Volume::volume_head_first_form, packed_values::specs::Parts::pair_form, packed_values::specs::Parts::quadruple_form))]
 fn put_volume_head_first(value: &VolumeHead, out: &mut Vec<u8>) -> Result<(), WantOfMemory>
     ensures { OnOk result
         (IsPut volume_head_first_form out.old.items (volume_head_first value.now) out.new.items) }
@@ -406,7 +399,7 @@ fn put_volume_head_first(value: &VolumeHead, out: &mut Vec<u8>) -> Result<(), Wa
 }
 
 // Adds its fields from `block_size` on.
-#[tactic(auto, unfolding(crate::specs::Volume::volume_head_second_form, packed_values::specs::Parts::pair_form))]
+#[tactic(auto, unfolding(crate::specs::Volume::volume_head_second_form, packed_values::specs::Parts::pair_form, packed_values::specs::Parts::triple_form))]
 fn put_volume_head_second(value: &VolumeHead, out: &mut Vec<u8>) -> Result<(), WantOfMemory>
     ensures { OnOk result
         (IsPut volume_head_second_form out.old.items (volume_head_second value.now) out.new.items) }
@@ -415,7 +408,7 @@ fn put_volume_head_second(value: &VolumeHead, out: &mut Vec<u8>) -> Result<(), W
 }
 
 // Adds its fields from `base` on.
-#[tactic(auto, unfolding(crate::specs::Volume::volume_head_third_form, packed_values::specs::Parts::pair_form))]
+#[tactic(auto, unfolding(crate::specs::Volume::volume_head_third_form, packed_values::specs::Parts::pair_form, packed_values::specs::Parts::triple_form))]
 fn put_volume_head_third(value: &VolumeHead, out: &mut Vec<u8>) -> Result<(), WantOfMemory>
     ensures { OnOk result
         (IsPut volume_head_third_form out.old.items (volume_head_third value.now) out.new.items) }
@@ -424,20 +417,13 @@ fn put_volume_head_third(value: &VolumeHead, out: &mut Vec<u8>) -> Result<(), Wa
 }
 
 // The record of all its fields.
-fn join_volume_head(
-    first: <VolumeHeadFirst as Packed>::Value,
-    second: <VolumeHeadSecond as Packed>::Value,
-    third: <VolumeHeadThird as Packed>::Value,
-) -> VolumeHead
-    ensures { result ≡ volume_head_of (first, (second, third)) }
+fn join_volume_head(groups: <VolumeHeadGroups as Packed>::Value) -> VolumeHead
+    ensures { result ≡ volume_head_of groups }
 {
-    let (at, first_1) = first;
-    let (name, first_2) = first_1;
-    let (attributes, erase) = first_2;
-    let (block_size, second_1) = second;
-    let (size, name_guid) = second_1;
-    let (base, third_1) = third;
-    let (force, ffs3) = third_1;
+    let (first, second, third) = groups;
+    let (at, name, attributes, erase) = first;
+    let (block_size, size, name_guid) = second;
+    let (base, force, ffs3) = third;
     VolumeHead {
         at,
         name,
@@ -457,7 +443,7 @@ impl Packed for VolumeHeadForm {
 
     ghost form = { volume_head_form };
 
-    #[tactic(auto, unfolding(crate::specs::Volume::volume_head_form, packed_values::specs::Parts::pair_form))]
+    #[tactic(auto, unfolding(crate::specs::Volume::volume_head_form, packed_values::specs::Parts::pair_form, packed_values::specs::Parts::triple_form))]
     fn put(value: &VolumeHead, out: &mut Vec<u8>) -> Result<(), WantOfMemory> {
         put_volume_head_first(value, out)?;
         put_volume_head_second(value, out)?;
@@ -466,9 +452,9 @@ impl Packed for VolumeHeadForm {
 
     #[tactic(auto, unfolding(crate::specs::Volume::volume_head_form, crate::specs::Volume::volume_head_first_form, crate::specs::Volume::volume_head_second_form, crate::specs::Volume::volume_head_third_form), using(packed_values::proofs::WhereLemmas::unread_by))]
     fn take(alloc: Global, input: &mut Input) -> Result<Option<VolumeHead>, WantOfMemory> {
-        match <(VolumeHeadFirst, (VolumeHeadSecond, VolumeHeadThird))>::take(alloc, input)? {
+        match <VolumeHeadGroups>::take(alloc, input)? {
             None => Ok(None),
-            Some((first, (second, third))) => Ok(Some(join_volume_head(first, second, third))),
+            Some(groups) => Ok(Some(join_volume_head(groups))),
         }
     }
 }

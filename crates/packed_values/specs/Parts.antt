@@ -1,4 +1,4 @@
--- Forms made of forms: pairs, options, rows, and types that are seen as others.
+-- Forms made of forms: tuples, options, rows, and types that are seen as others.
 use Rattle.std.specs.Prelude.{◌≡◌, ◌++◌, ◌^◌, ℕ, Bool, true, false, List, [], ◌∷◌, length, nat_lt, ◌&&◌, Option, Some, None}
 use Rattle.std.specs.List.{list_all}
 use Rattle.std.specs.Int.{bytes_low_first}
@@ -40,6 +40,18 @@ pair_form F G = record {
   is_value = λ x. F.is_value x.0 && G.is_value x.1;
   unique = pair_unique F G;
 }
+
+-- three values in order
+unfoldable pub triple_form : {A B C : Type 0} → Form A → Form B → Form C → Form (A × B × C)
+triple_form F G H = form_by (λ x. (x.0, (x.1, x.2))) (λ p. (p.0, p.1.0, p.1.1)) (λ x. refl)
+    (pair_form F (pair_form G H))
+
+-- four values in order
+unfoldable pub quadruple_form : {A B C D : Type 0} → Form A → Form B → Form C → Form D
+    → Form (A × B × C × D)
+quadruple_form F G H I = form_by (λ x. (x.0, (x.1, (x.2, x.3))))
+    (λ p. (p.0, p.1.0, p.1.1.0, p.1.1.1)) (λ x. refl)
+    (pair_form F (pair_form G (pair_form H I)))
 
 abbrev pub option_spelling : {A : Type 0} → Form A → Option A → List ℕ
 option_spelling F None = 0 ∷ []

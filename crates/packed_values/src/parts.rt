@@ -1,9 +1,10 @@
-//! Pairs, options, rows and shared values.
+//! Tuples, options, rows and shared values.
 ghost use Rattle.std.specs.Prelude.{◌≡◌, ◌++◌, length};
 ghost use Rattle.packed_values.specs.Form.{IsPut, IsRead, IsUnread};
 ghost use Rattle.packed_values.specs.Plain.{number_form, byte_form};
-ghost use Rattle.packed_values.specs.Parts.{pair_form, option_form, rows_form, spellings};
+ghost use Rattle.packed_values.specs.Parts.{pair_form, triple_form, quadruple_form, option_form, rows_form, spellings};
 
+use crate::fields::{put_four, put_three};
 use crate::input::Input;
 use crate::packed::Packed;
 use build_base::{Rows, WantOfMemory};
@@ -32,6 +33,53 @@ impl<A: Packed, B: Packed> Packed for (A, B) {
         match B::take(alloc, input)? {
             None => Ok(None),
             Some(second) => Ok(Some((first, second))),
+        }
+    }
+}
+
+impl<A: Packed, B: Packed, C: Packed> Packed for (A, B, C) {
+    type Value = (A::Value, B::Value, C::Value);
+
+    ghost form = { triple_form A.form B.form C.form };
+
+    #[tactic(auto, unfolding(crate::specs::Parts::triple_form, crate::specs::Parts::pair_form))]
+    fn put(value: &(A::Value, B::Value, C::Value), out: &mut Vec<u8>) -> Result<(), WantOfMemory> {
+        put_three::<A, B, C>(&value.0, &value.1, &value.2, out)
+    }
+
+    #[tactic(auto, unfolding(crate::specs::Parts::triple_form), using(crate::proofs::WhereLemmas::unread_by))]
+    fn take(
+        alloc: Global,
+        input: &mut Input,
+    ) -> Result<Option<(A::Value, B::Value, C::Value)>, WantOfMemory> {
+        match <(A, (B, C))>::take(alloc, input)? {
+            None => Ok(None),
+            Some((a, (b, c))) => Ok(Some((a, b, c))),
+        }
+    }
+}
+
+impl<A: Packed, B: Packed, C: Packed, D: Packed> Packed for (A, B, C, D) {
+    type Value = (A::Value, B::Value, C::Value, D::Value);
+
+    ghost form = { quadruple_form A.form B.form C.form D.form };
+
+    #[tactic(auto, unfolding(crate::specs::Parts::quadruple_form, crate::specs::Parts::pair_form))]
+    fn put(
+        value: &(A::Value, B::Value, C::Value, D::Value),
+        out: &mut Vec<u8>,
+    ) -> Result<(), WantOfMemory> {
+        put_four::<A, B, C, D>(&value.0, &value.1, &value.2, &value.3, out)
+    }
+
+    #[tactic(auto, unfolding(crate::specs::Parts::quadruple_form), using(crate::proofs::WhereLemmas::unread_by))]
+    fn take(
+        alloc: Global,
+        input: &mut Input,
+    ) -> Result<Option<(A::Value, B::Value, C::Value, D::Value)>, WantOfMemory> {
+        match <(A, (B, (C, D)))>::take(alloc, input)? {
+            None => Ok(None),
+            Some((a, (b, (c, d)))) => Ok(Some((a, b, c, d))),
         }
     }
 }
