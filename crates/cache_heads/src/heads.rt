@@ -3,7 +3,7 @@ ghost use Rattle.std.specs.Prelude.{◌≡◌, ◌++◌, ◌≤◌, ◌↔◌, I
 ghost use Rattle.cache_heads.specs.Heads.{edition_in, head_of, is_edition, newest};
 
 use build_base::{Text, WantOfMemory};
-use packed_values::Packed;
+use packed_values::Encode;
 use std::alloc::Global;
 
 /// How many bytes stand before the body.
@@ -28,8 +28,8 @@ fn put_head(edition: u32, count: u64, out: &mut Vec<u8>) -> Result<(), WantOfMem
     ensures { OnOk result (out.new.items ≡ out.old.items ++ head_of edition count) }
 {
     out.extend_from_slice(b"EDKSTEPS")?;
-    u32::put(&edition, out)?;
-    u64::put(&(HEAD as u64 + count), out)
+    u32::encode(&edition, out)?;
+    u64::encode(&(HEAD as u64 + count), out)
 }
 
 // Writes a head over what stands at the front.

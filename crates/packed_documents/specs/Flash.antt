@@ -1,4 +1,4 @@
--- The spelling of flash descriptions: the fields of a record in order, and an enum as the number of
+-- The encoding of flash descriptions: the fields of a record in order, and an enum as the number of
 -- the variant, in the order of declaration, and its fields. The rule is this project's own.
 use Rattle.std.specs.Prelude.{◌≡◌, ◌⊎◌, ℕ, List, refl}
 use Rattle.std.proofs.Common.{inl, inr}
@@ -8,13 +8,13 @@ use Rattle.doc_types.specs.declared.flash.FlashDoc.{FlashDoc}
 use Rattle.doc_types.specs.declared.flash.Region.{Region}
 use Rattle.doc_types.specs.declared.flash.RegionKind.{RegionKind}
 use Rattle.doc_types.specs.declared.flash.RegionKind.TheVariants as region_kind
-use Rattle.packed_values.specs.Form.{Form}
-use Rattle.packed_values.specs.Plain.{byte_form, number_form, text_form, path_form}
-use Rattle.packed_values.specs.Base.{place_form}
-use Rattle.packed_values.specs.Parts.{form_by, pair_form, rows_form, triple_form}
-use Rattle.packed_values.specs.Arms.{arm, last_arm, tagged_form, unit_form}
-use Rattle.packed_documents.specs.Pcds.{pcd_set_form}
-use Rattle.packed_documents.specs.Volume.{rule_doc_form, volume_plan_form}
+use Rattle.packed_values.specs.Encoding.{Encoding}
+use Rattle.packed_values.specs.Plain.{byte_encoding, number_encoding, text_encoding, path_encoding}
+use Rattle.packed_values.specs.Base.{place_encoding}
+use Rattle.packed_values.specs.Parts.{encoding_by, pair_encoding, rows_encoding, triple_encoding}
+use Rattle.packed_values.specs.Arms.{arm, last_arm, tagged_encoding, unit_encoding}
+use Rattle.packed_documents.specs.Pcds.{pcd_set_encoding}
+use Rattle.packed_documents.specs.Volume.{rule_doc_encoding, volume_plan_encoding}
 
 abbrev pub RegionKindParts : Type 0
 RegionKindParts = (Unit {0}) ⊎ ((List ℕ) ⊎ ((List ℕ) ⊎ ℕ))
@@ -37,26 +37,29 @@ region_kind_back (region_kind.Bytes text) = refl
 region_kind_back (region_kind.Tree path) = refl
 region_kind_back (region_kind.Volume number) = refl
 
-unfoldable pub region_kind_form : Form RegionKind
-region_kind_form = form_by region_kind_parts region_kind_of region_kind_back
-    (tagged_form (arm unit_form (arm text_form (arm path_form (last_arm (number_form 4))))))
+unfoldable pub region_kind_encoding : Encoding RegionKind
+region_kind_encoding = encoding_by region_kind_parts region_kind_of region_kind_back
+    (tagged_encoding
+    (arm unit_encoding (arm text_encoding (arm path_encoding (last_arm (number_encoding 4))))))
 
-unfoldable pub region_form : Form Region
-region_form = form_by (λ x. (x.at, (x.offset, (x.size, x.kind))))
+unfoldable pub region_encoding : Encoding Region
+region_encoding = encoding_by (λ x. (x.at, (x.offset, (x.size, x.kind))))
     (λ p. record { at = p.0; offset = p.1.0; size = p.1.1.0; kind = p.1.1.1 }) (λ x. refl)
-    (pair_form place_form (pair_form (number_form 8) (pair_form (number_form 8) region_kind_form)))
+    (pair_encoding place_encoding
+    (pair_encoding (number_encoding 8) (pair_encoding (number_encoding 8) region_kind_encoding)))
 
 abbrev pub device_plan_first : DevicePlan → Place × (List ℕ) × ℕ
 device_plan_first x = (x.at, x.name, x.base)
 
-unfoldable pub device_plan_first_form : Form (Place × (List ℕ) × ℕ)
-device_plan_first_form = triple_form place_form text_form (number_form 8)
+unfoldable pub device_plan_first_encoding : Encoding (Place × (List ℕ) × ℕ)
+device_plan_first_encoding = triple_encoding place_encoding text_encoding (number_encoding 8)
 
 abbrev pub device_plan_second : DevicePlan → ℕ × ℕ × (List Region)
 device_plan_second x = (x.size, x.erase, x.regions)
 
-unfoldable pub device_plan_second_form : Form (ℕ × ℕ × (List Region))
-device_plan_second_form = triple_form (number_form 8) byte_form (rows_form region_form)
+unfoldable pub device_plan_second_encoding : Encoding (ℕ × ℕ × (List Region))
+device_plan_second_encoding = triple_encoding (number_encoding 8) byte_encoding
+    (rows_encoding region_encoding)
 
 abbrev pub device_plan_of : (Place × (List ℕ) × ℕ) × (ℕ × ℕ × (List Region)) → DevicePlan
 device_plan_of p =
@@ -69,13 +72,13 @@ device_plan_of p =
       regions = p.1.2;
     }
 
-unfoldable pub device_plan_form : Form DevicePlan
-device_plan_form = form_by (λ x. (device_plan_first x, device_plan_second x))
+unfoldable pub device_plan_encoding : Encoding DevicePlan
+device_plan_encoding = encoding_by (λ x. (device_plan_first x, device_plan_second x))
     device_plan_of (λ x. refl)
-    (pair_form device_plan_first_form device_plan_second_form)
+    (pair_encoding device_plan_first_encoding device_plan_second_encoding)
 
-unfoldable pub flash_doc_form : Form FlashDoc
-flash_doc_form = form_by (λ x. (x.at, (x.sets, (x.devices, (x.volumes, x.rule_list)))))
+unfoldable pub flash_doc_encoding : Encoding FlashDoc
+flash_doc_encoding = encoding_by (λ x. (x.at, (x.sets, (x.devices, (x.volumes, x.rule_list)))))
     (λ p.
     record {
       at = p.0;
@@ -85,7 +88,7 @@ flash_doc_form = form_by (λ x. (x.at, (x.sets, (x.devices, (x.volumes, x.rule_l
       rule_list =
           p.1.1.1.1;
     }) (λ x. refl)
-    (pair_form place_form
-    (pair_form (rows_form pcd_set_form)
-    (pair_form (rows_form device_plan_form)
-    (pair_form (rows_form volume_plan_form) (rows_form rule_doc_form)))))
+    (pair_encoding place_encoding
+    (pair_encoding (rows_encoding pcd_set_encoding)
+    (pair_encoding (rows_encoding device_plan_encoding)
+    (pair_encoding (rows_encoding volume_plan_encoding) (rows_encoding rule_doc_encoding)))))

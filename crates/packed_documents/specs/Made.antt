@@ -1,4 +1,4 @@
--- The spelling of what is made for modules: their fields in order. The rule is this project's own.
+-- The encoding of what is made for modules: their fields in order. The rule is this project's own.
 use Rattle.std.specs.Prelude.{ℕ, List, refl}
 use Rattle.doc_types.specs.declared.choice.Call.{Call}
 use Rattle.doc_types.specs.declared.choice.Choice.{Choice}
@@ -12,42 +12,45 @@ use Rattle.doc_types.specs.declared.texts.Texts.{Texts}
 use Rattle.doc_types.specs.declared.values.Values.{Values}
 use Rattle.doc_types.specs.declared.vpd.Vpd.{Vpd}
 use Rattle.doc_types.specs.declared.vpd.VpdPlace.{VpdPlace}
-use Rattle.packed_values.specs.Form.{Form}
-use Rattle.packed_values.specs.Plain.{byte_form, number_form, bool_form, text_form, path_form, guid_form}
-use Rattle.packed_values.specs.Base.{place_form}
-use Rattle.packed_values.specs.Parts.{form_by, pair_form, rows_form, quadruple_form}
-use Rattle.packed_documents.specs.Pcds.{pcd_name_form}
-use Rattle.packed_documents.specs.Words.{arch_form, datum_form, kind_form}
+use Rattle.packed_values.specs.Encoding.{Encoding}
+use Rattle.packed_values.specs.Plain.{byte_encoding, number_encoding, bool_encoding, text_encoding, path_encoding, guid_encoding}
+use Rattle.packed_values.specs.Base.{place_encoding}
+use Rattle.packed_values.specs.Parts.{encoding_by, pair_encoding, rows_encoding, quadruple_encoding}
+use Rattle.packed_documents.specs.Pcds.{pcd_name_encoding}
+use Rattle.packed_documents.specs.Words.{arch_encoding, datum_encoding, kind_encoding}
 
-unfoldable pub module_form : Form Module
-module_form = form_by (λ x. (x.arch, x.inf))
+unfoldable pub module_encoding : Encoding Module
+module_encoding = encoding_by (λ x. (x.arch, x.inf))
     (λ p. record { arch = p.0; inf = p.1 }) (λ x. refl)
-    (pair_form arch_form path_form)
+    (pair_encoding arch_encoding path_encoding)
 
-unfoldable pub call_form : Form Call
-call_form = form_by (λ x. (x.inf, x.name))
+unfoldable pub call_encoding : Encoding Call
+call_encoding = encoding_by (λ x. (x.inf, x.name))
     (λ p. record { inf = p.0; name = p.1 }) (λ x. refl)
-    (pair_form path_form text_form)
+    (pair_encoding path_encoding text_encoding)
 
-unfoldable pub choice_form : Form Choice
-choice_form = form_by (λ x. (x.library, (x.instances, (x.constructors, x.destructors))))
+unfoldable pub choice_encoding : Encoding Choice
+choice_encoding = encoding_by (λ x. (x.library, (x.instances, (x.constructors, x.destructors))))
     (λ p.
     record { library = p.0; instances = p.1.0; constructors = p.1.1.0; destructors = p.1.1.1 })
     (λ x. refl)
-    (pair_form bool_form
-    (pair_form (rows_form path_form) (pair_form (rows_form call_form) (rows_form call_form))))
+    (pair_encoding bool_encoding
+    (pair_encoding (rows_encoding path_encoding)
+    (pair_encoding (rows_encoding call_encoding) (rows_encoding call_encoding))))
 
 abbrev pub pcd_row_first : PcdRow → PcdName × Kind × Datum × ℕ
 pcd_row_first x = (x.pcd, x.kind, x.datum, x.token)
 
-unfoldable pub pcd_row_first_form : Form (PcdName × Kind × Datum × ℕ)
-pcd_row_first_form = quadruple_form pcd_name_form kind_form datum_form (number_form 4)
+unfoldable pub pcd_row_first_encoding : Encoding (PcdName × Kind × Datum × ℕ)
+pcd_row_first_encoding = quadruple_encoding pcd_name_encoding kind_encoding datum_encoding
+    (number_encoding 4)
 
 abbrev pub pcd_row_second : PcdRow → ℕ × ℕ × (List ℕ) × (List ℕ)
 pcd_row_second x = (x.max, x.rank, x.sku, x.value)
 
-unfoldable pub pcd_row_second_form : Form (ℕ × ℕ × (List ℕ) × (List ℕ))
-pcd_row_second_form = quadruple_form (number_form 4) byte_form text_form text_form
+unfoldable pub pcd_row_second_encoding : Encoding (ℕ × ℕ × (List ℕ) × (List ℕ))
+pcd_row_second_encoding = quadruple_encoding (number_encoding 4) byte_encoding text_encoding
+    text_encoding
 
 abbrev pub pcd_row_of : (PcdName × Kind × Datum × ℕ) × (ℕ × ℕ × (List ℕ) × (List ℕ)) → PcdRow
 pcd_row_of p =
@@ -62,32 +65,34 @@ pcd_row_of p =
       value = p.1.3;
     }
 
-unfoldable pub pcd_row_form : Form PcdRow
-pcd_row_form = form_by (λ x. (pcd_row_first x, pcd_row_second x))
+unfoldable pub pcd_row_encoding : Encoding PcdRow
+pcd_row_encoding = encoding_by (λ x. (pcd_row_first x, pcd_row_second x))
     pcd_row_of (λ x. refl)
-    (pair_form pcd_row_first_form pcd_row_second_form)
+    (pair_encoding pcd_row_first_encoding pcd_row_second_encoding)
 
-unfoldable pub values_form : Form Values
-values_form = form_by (λ x. x.rows)
+unfoldable pub values_encoding : Encoding Values
+values_encoding = encoding_by (λ x. x.rows)
     (λ p. record { rows = p }) (λ x. refl)
-    (rows_form pcd_row_form)
+    (rows_encoding pcd_row_encoding)
 
-unfoldable pub texts_form : Form Texts
-texts_form = form_by (λ x. (x.c, x.h))
+unfoldable pub texts_encoding : Encoding Texts
+texts_encoding = encoding_by (λ x. (x.c, x.h))
     (λ p. record { c = p.0; h = p.1 }) (λ x. refl)
-    (pair_form text_form text_form)
+    (pair_encoding text_encoding text_encoding)
 
-unfoldable pub file_image_form : Form FileImage
-file_image_form = form_by (λ x. (x.at, (x.guid, (x.align, x.bytes))))
+unfoldable pub file_image_encoding : Encoding FileImage
+file_image_encoding = encoding_by (λ x. (x.at, (x.guid, (x.align, x.bytes))))
     (λ p. record { at = p.0; guid = p.1.0; align = p.1.1.0; bytes = p.1.1.1 }) (λ x. refl)
-    (pair_form place_form (pair_form guid_form (pair_form (number_form 4) text_form)))
+    (pair_encoding place_encoding
+    (pair_encoding guid_encoding (pair_encoding (number_encoding 4) text_encoding)))
 
-unfoldable pub vpd_place_form : Form VpdPlace
-vpd_place_form = form_by (λ x. (x.pcd, (x.sku, (x.offset, x.size))))
+unfoldable pub vpd_place_encoding : Encoding VpdPlace
+vpd_place_encoding = encoding_by (λ x. (x.pcd, (x.sku, (x.offset, x.size))))
     (λ p. record { pcd = p.0; sku = p.1.0; offset = p.1.1.0; size = p.1.1.1 }) (λ x. refl)
-    (pair_form pcd_name_form (pair_form text_form (pair_form (number_form 4) (number_form 4))))
+    (pair_encoding pcd_name_encoding
+    (pair_encoding text_encoding (pair_encoding (number_encoding 4) (number_encoding 4))))
 
-unfoldable pub vpd_form : Form Vpd
-vpd_form = form_by (λ x. (x.image, (x.map, x.places)))
+unfoldable pub vpd_encoding : Encoding Vpd
+vpd_encoding = encoding_by (λ x. (x.image, (x.map, x.places)))
     (λ p. record { image = p.0; map = p.1.0; places = p.1.1 }) (λ x. refl)
-    (pair_form text_form (pair_form text_form (rows_form vpd_place_form)))
+    (pair_encoding text_encoding (pair_encoding text_encoding (rows_encoding vpd_place_encoding)))

@@ -1,4 +1,4 @@
--- The spelling of volumes: the fields of a record in order, and an enum as the number of the
+-- The encoding of volumes: the fields of a record in order, and an enum as the number of the
 -- variant, in the order of declaration, and its fields. The rule is this project's own.
 use Rattle.std.specs.Prelude.{◌≡◌, ◌⊎◌, ℕ, Bool, List, Option, refl}
 use Rattle.std.proofs.Common.{inl, inr}
@@ -19,12 +19,12 @@ use Rattle.doc_types.specs.declared.volume.Align.TheVariants as align
 use Rattle.doc_types.specs.declared.volume.SectionSource.TheVariants as section_source
 use Rattle.doc_types.specs.declared.volume.Member.TheVariants as member
 use Rattle.doc_types.specs.declared.volume.Item.TheVariants as item
-use Rattle.packed_values.specs.Form.{Form}
-use Rattle.packed_values.specs.Plain.{byte_form, number_form, bool_form, text_form, path_form, guid_form}
-use Rattle.packed_values.specs.Base.{place_form}
-use Rattle.packed_values.specs.Parts.{form_by, pair_form, option_form, rows_form, quadruple_form, triple_form}
-use Rattle.packed_values.specs.Arms.{arm, last_arm, tagged_form, unit_form}
-use Rattle.packed_documents.specs.Words.{arch_form, module_type_form}
+use Rattle.packed_values.specs.Encoding.{Encoding}
+use Rattle.packed_values.specs.Plain.{byte_encoding, number_encoding, bool_encoding, text_encoding, path_encoding, guid_encoding}
+use Rattle.packed_values.specs.Base.{place_encoding}
+use Rattle.packed_values.specs.Parts.{encoding_by, pair_encoding, option_encoding, rows_encoding, quadruple_encoding, triple_encoding}
+use Rattle.packed_values.specs.Arms.{arm, last_arm, tagged_encoding, unit_encoding}
+use Rattle.packed_documents.specs.Words.{arch_encoding, module_type_encoding}
 
 abbrev pub AlignParts : Type 0
 AlignParts = (Unit {0}) ⊎ ((Unit {0}) ⊎ ℕ)
@@ -44,9 +44,9 @@ align_back align.Unset = refl
 align_back align.Auto = refl
 align_back (align.Bytes bytes) = refl
 
-unfoldable pub align_form : Form Align
-align_form = form_by align_parts align_of align_back
-    (tagged_form (arm unit_form (arm unit_form (last_arm (number_form 4)))))
+unfoldable pub align_encoding : Encoding Align
+align_encoding = encoding_by align_parts align_of align_back
+    (tagged_encoding (arm unit_encoding (arm unit_encoding (last_arm (number_encoding 4)))))
 
 abbrev pub SectionSourceParts : Type 0
 SectionSourceParts = (List ℕ) ⊎ ((List ℕ) ⊎ (ℕ ⊎ ((List ℕ) ⊎ (List ℕ))))
@@ -72,22 +72,25 @@ section_source_back (section_source.Volume number) = refl
 section_source_back (section_source.Words text) = refl
 section_source_back (section_source.Refused text) = refl
 
-unfoldable pub section_source_form : Form SectionSource
-section_source_form = form_by section_source_parts section_source_of section_source_back
-    (tagged_form
-    (arm path_form (arm text_form (arm (number_form 4) (arm text_form (last_arm text_form))))))
+unfoldable pub section_source_encoding : Encoding SectionSource
+section_source_encoding = encoding_by section_source_parts section_source_of section_source_back
+    (tagged_encoding
+    (arm path_encoding
+    (arm text_encoding (arm (number_encoding 4) (arm text_encoding (last_arm text_encoding))))))
 
 abbrev pub section_plan_first : SectionPlan → Place × ℕ × Bool × Align
 section_plan_first x = (x.at, x.kind, x.optional, x.align)
 
-unfoldable pub section_plan_first_form : Form (Place × ℕ × Bool × Align)
-section_plan_first_form = quadruple_form place_form byte_form bool_form align_form
+unfoldable pub section_plan_first_encoding : Encoding (Place × ℕ × Bool × Align)
+section_plan_first_encoding = quadruple_encoding place_encoding byte_encoding bool_encoding
+    align_encoding
 
 abbrev pub section_plan_second : SectionPlan → ℕ × (Option Guid) × SectionSource
 section_plan_second x = (x.number, x.guid, x.source)
 
-unfoldable pub section_plan_second_form : Form (ℕ × (Option Guid) × SectionSource)
-section_plan_second_form = triple_form (number_form 2) (option_form guid_form) section_source_form
+unfoldable pub section_plan_second_encoding : Encoding (ℕ × (Option Guid) × SectionSource)
+section_plan_second_encoding = triple_encoding (number_encoding 2) (option_encoding guid_encoding)
+    section_source_encoding
 
 abbrev pub section_plan_of : (Place × ℕ × Bool × Align) × (ℕ × (Option Guid) × SectionSource)
     → SectionPlan
@@ -102,23 +105,26 @@ section_plan_of p =
       source = p.1.2;
     }
 
-unfoldable pub section_plan_form : Form SectionPlan
-section_plan_form = form_by (λ x. (section_plan_first x, section_plan_second x))
+unfoldable pub section_plan_encoding : Encoding SectionPlan
+section_plan_encoding = encoding_by (λ x. (section_plan_first x, section_plan_second x))
     section_plan_of (λ x. refl)
-    (pair_form section_plan_first_form section_plan_second_form)
+    (pair_encoding section_plan_first_encoding section_plan_second_encoding)
 
 abbrev pub file_plan_first : FilePlan → Place × ℕ × (Option Guid) × Bool
 file_plan_first x = (x.at, x.file_type, x.guid, x.fixed)
 
-unfoldable pub file_plan_first_form : Form (Place × ℕ × (Option Guid) × Bool)
-file_plan_first_form = quadruple_form place_form byte_form (option_form guid_form) bool_form
+unfoldable pub file_plan_first_encoding : Encoding (Place × ℕ × (Option Guid) × Bool)
+file_plan_first_encoding = quadruple_encoding place_encoding byte_encoding
+    (option_encoding guid_encoding) bool_encoding
 
 abbrev pub file_plan_second : FilePlan → Bool × Align × (Option (List ℕ)) × (List SectionPlan)
 file_plan_second x = (x.checksum, x.align, x.whole, x.sections)
 
-unfoldable pub file_plan_second_form : Form (Bool × Align × (Option (List ℕ)) × (List SectionPlan))
-file_plan_second_form = quadruple_form bool_form align_form (option_form path_form)
-    (rows_form section_plan_form)
+unfoldable pub file_plan_second_encoding : Encoding
+    (Bool × Align × (Option (List ℕ)) × (List SectionPlan))
+file_plan_second_encoding = quadruple_encoding bool_encoding align_encoding
+    (option_encoding path_encoding)
+    (rows_encoding section_plan_encoding)
 
 abbrev pub file_plan_of : (Place × ℕ × (Option Guid) × Bool)
     × (Bool × Align × (Option (List ℕ)) × (List SectionPlan)) → FilePlan
@@ -134,22 +140,25 @@ file_plan_of p =
       sections = p.1.3;
     }
 
-unfoldable pub file_plan_form : Form FilePlan
-file_plan_form = form_by (λ x. (file_plan_first x, file_plan_second x))
+unfoldable pub file_plan_encoding : Encoding FilePlan
+file_plan_encoding = encoding_by (λ x. (file_plan_first x, file_plan_second x))
     file_plan_of (λ x. refl)
-    (pair_form file_plan_first_form file_plan_second_form)
+    (pair_encoding file_plan_first_encoding file_plan_second_encoding)
 
 abbrev pub inf_line_first : InfLine → Place × (List ℕ) × (Option Arch)
 inf_line_first x = (x.at, x.inf, x.arch)
 
-unfoldable pub inf_line_first_form : Form (Place × (List ℕ) × (Option Arch))
-inf_line_first_form = triple_form place_form path_form (option_form arch_form)
+unfoldable pub inf_line_first_encoding : Encoding (Place × (List ℕ) × (Option Arch))
+inf_line_first_encoding = triple_encoding place_encoding path_encoding
+    (option_encoding arch_encoding)
 
 abbrev pub inf_line_second : InfLine → (List ℕ) × (Option (List ℕ)) × (Option (List ℕ))
 inf_line_second x = (x.template, x.version, x.ui)
 
-unfoldable pub inf_line_second_form : Form ((List ℕ) × (Option (List ℕ)) × (Option (List ℕ)))
-inf_line_second_form = triple_form text_form (option_form text_form) (option_form text_form)
+unfoldable pub inf_line_second_encoding : Encoding
+    ((List ℕ) × (Option (List ℕ)) × (Option (List ℕ)))
+inf_line_second_encoding = triple_encoding text_encoding (option_encoding text_encoding)
+    (option_encoding text_encoding)
 
 abbrev pub inf_line_of : (Place × (List ℕ) × (Option Arch))
     × ((List ℕ) × (Option (List ℕ)) × (Option (List ℕ))) → InfLine
@@ -163,10 +172,10 @@ inf_line_of p =
       ui = p.1.2;
     }
 
-unfoldable pub inf_line_form : Form InfLine
-inf_line_form = form_by (λ x. (inf_line_first x, inf_line_second x))
+unfoldable pub inf_line_encoding : Encoding InfLine
+inf_line_encoding = encoding_by (λ x. (inf_line_first x, inf_line_second x))
     inf_line_of (λ x. refl)
-    (pair_form inf_line_first_form inf_line_second_form)
+    (pair_encoding inf_line_first_encoding inf_line_second_encoding)
 
 abbrev pub MemberParts : Type 0
 MemberParts = InfLine ⊎ Guid
@@ -183,9 +192,9 @@ pub member_back : (x : Member) → member_of (member_parts x) ≡ x
 member_back (member.Inf line) = refl
 member_back (member.File guid) = refl
 
-unfoldable pub member_form : Form Member
-member_form = form_by member_parts member_of member_back
-    (tagged_form (arm inf_line_form (last_arm guid_form)))
+unfoldable pub member_encoding : Encoding Member
+member_encoding = encoding_by member_parts member_of member_back
+    (tagged_encoding (arm inf_line_encoding (last_arm guid_encoding)))
 
 abbrev pub ItemParts : Type 0
 ItemParts = (Place × (Bool × (List Member))) ⊎ (FilePlan ⊎ InfLine)
@@ -205,13 +214,15 @@ item_back (item.Apriori at pei members) = refl
 item_back (item.File file) = refl
 item_back (item.Inf line) = refl
 
-unfoldable pub item_form : Form Item
-item_form = form_by item_parts item_of item_back
-    (tagged_form (arm (pair_form place_form (pair_form bool_form (rows_form member_form)))
-    (arm file_plan_form (last_arm inf_line_form))))
+unfoldable pub item_encoding : Encoding Item
+item_encoding = encoding_by item_parts item_of item_back
+    (tagged_encoding
+    (arm (pair_encoding place_encoding
+    (pair_encoding bool_encoding (rows_encoding member_encoding)))
+    (arm file_plan_encoding (last_arm inf_line_encoding))))
 
-unfoldable pub rule_doc_form : Form RuleDoc
-rule_doc_form = form_by (λ x. (x.at, (x.arch, (x.module_type, (x.template, x.file)))))
+unfoldable pub rule_doc_encoding : Encoding RuleDoc
+rule_doc_encoding = encoding_by (λ x. (x.at, (x.arch, (x.module_type, (x.template, x.file)))))
     (λ p.
     record {
       at = p.0;
@@ -221,27 +232,31 @@ rule_doc_form = form_by (λ x. (x.at, (x.arch, (x.module_type, (x.template, x.fi
       file =
           p.1.1.1.1;
     }) (λ x. refl)
-    (pair_form place_form
-    (pair_form arch_form (pair_form module_type_form (pair_form text_form file_plan_form))))
+    (pair_encoding place_encoding
+    (pair_encoding arch_encoding
+    (pair_encoding module_type_encoding (pair_encoding text_encoding file_plan_encoding))))
 
 abbrev pub volume_head_first : VolumeHead → Place × (List ℕ) × ℕ × ℕ
 volume_head_first x = (x.at, x.name, x.attributes, x.erase)
 
-unfoldable pub volume_head_first_form : Form (Place × (List ℕ) × ℕ × ℕ)
-volume_head_first_form = quadruple_form place_form text_form (number_form 4) byte_form
+unfoldable pub volume_head_first_encoding : Encoding (Place × (List ℕ) × ℕ × ℕ)
+volume_head_first_encoding = quadruple_encoding place_encoding text_encoding (number_encoding 4)
+    byte_encoding
 
 abbrev pub volume_head_second : VolumeHead → ℕ × (Option ℕ) × (Option Guid)
 volume_head_second x = (x.block_size, x.size, x.name_guid)
 
-unfoldable pub volume_head_second_form : Form (ℕ × (Option ℕ) × (Option Guid))
-volume_head_second_form = triple_form (number_form 8) (option_form (number_form 8))
-    (option_form guid_form)
+unfoldable pub volume_head_second_encoding : Encoding (ℕ × (Option ℕ) × (Option Guid))
+volume_head_second_encoding = triple_encoding (number_encoding 8)
+    (option_encoding (number_encoding 8))
+    (option_encoding guid_encoding)
 
 abbrev pub volume_head_third : VolumeHead → (Option ℕ) × Bool × Bool
 volume_head_third x = (x.base, x.force, x.ffs3)
 
-unfoldable pub volume_head_third_form : Form ((Option ℕ) × Bool × Bool)
-volume_head_third_form = triple_form (option_form (number_form 8)) bool_form bool_form
+unfoldable pub volume_head_third_encoding : Encoding ((Option ℕ) × Bool × Bool)
+volume_head_third_encoding = triple_encoding (option_encoding (number_encoding 8)) bool_encoding
+    bool_encoding
 
 abbrev pub volume_head_of : (Place × (List ℕ) × ℕ × ℕ) × (ℕ × (Option ℕ) × (Option Guid))
     × ((Option ℕ) × Bool × Bool) → VolumeHead
@@ -259,12 +274,14 @@ volume_head_of p =
       ffs3 = p.2.2;
     }
 
-unfoldable pub volume_head_form : Form VolumeHead
-volume_head_form = form_by (λ x. (volume_head_first x, volume_head_second x, volume_head_third x))
+unfoldable pub volume_head_encoding : Encoding VolumeHead
+volume_head_encoding = encoding_by
+    (λ x. (volume_head_first x, volume_head_second x, volume_head_third x))
     volume_head_of (λ x. refl)
-    (triple_form volume_head_first_form volume_head_second_form volume_head_third_form)
+    (triple_encoding volume_head_first_encoding volume_head_second_encoding
+    volume_head_third_encoding)
 
-unfoldable pub volume_plan_form : Form VolumePlan
-volume_plan_form = form_by (λ x. (x.head, x.items))
+unfoldable pub volume_plan_encoding : Encoding VolumePlan
+volume_plan_encoding = encoding_by (λ x. (x.head, x.items))
     (λ p. record { head = p.0; items = p.1 }) (λ x. refl)
-    (pair_form volume_head_form (rows_form item_form))
+    (pair_encoding volume_head_encoding (rows_encoding item_encoding))

@@ -1,4 +1,4 @@
--- The spelling of enums without fields: the number of the variant, in the order of declaration. The
+-- The encoding of enums without fields: the number of the variant, in the order of declaration. The
 -- rule is this project's own.
 use Rattle.std.specs.Prelude.{◌≡◌, ℕ, ◌==◌, if◌then◌else◌, refl}
 use Rattle.doc_types.specs.declared.arch.Arch.{Arch}
@@ -11,9 +11,9 @@ use Rattle.doc_types.specs.declared.module_type.ModuleType.TheVariants as module
 use Rattle.doc_types.specs.declared.pcd.Kind.TheVariants as kind
 use Rattle.doc_types.specs.declared.pcd.Datum.TheVariants as datum
 use Rattle.doc_types.specs.declared.pcd.Asked.TheVariants as asked
-use Rattle.packed_values.specs.Form.{Form}
-use Rattle.packed_values.specs.Plain.{byte_form}
-use Rattle.packed_values.specs.Parts.{form_by}
+use Rattle.packed_values.specs.Encoding.{Encoding}
+use Rattle.packed_values.specs.Plain.{byte_encoding}
+use Rattle.packed_values.specs.Parts.{encoding_by}
 
 abbrev pub arch_number : Arch → ℕ
 arch_number arch.Common = 0
@@ -41,8 +41,8 @@ arch_back arch.Riscv64 = refl
 arch_back arch.Loongarch64 = refl
 arch_back arch.Ebc = refl
 
-unfoldable pub arch_form : Form Arch
-arch_form = form_by arch_number arch_of arch_back byte_form
+unfoldable pub arch_encoding : Encoding Arch
+arch_encoding = encoding_by arch_number arch_of arch_back byte_encoding
 
 abbrev pub module_type_number : ModuleType → ℕ
 module_type_number module_type.Base = 0
@@ -92,8 +92,8 @@ module_type_back module_type.UefiApplication = refl
 module_type_back module_type.UserDefined = refl
 module_type_back module_type.HostApplication = refl
 
-unfoldable pub module_type_form : Form ModuleType
-module_type_form = form_by module_type_number module_type_of module_type_back byte_form
+unfoldable pub module_type_encoding : Encoding ModuleType
+module_type_encoding = encoding_by module_type_number module_type_of module_type_back byte_encoding
 
 abbrev pub kind_number : Kind → ℕ
 kind_number kind.FixedAtBuild = 0
@@ -114,8 +114,8 @@ kind_back kind.FeatureFlag = refl
 kind_back kind.Dynamic = refl
 kind_back kind.DynamicEx = refl
 
-unfoldable pub kind_form : Form Kind
-kind_form = form_by kind_number kind_of kind_back byte_form
+unfoldable pub kind_encoding : Encoding Kind
+kind_encoding = encoding_by kind_number kind_of kind_back byte_encoding
 
 abbrev pub datum_number : Datum → ℕ
 datum_number datum.U8 = 0
@@ -138,8 +138,8 @@ datum_back datum.U64 = refl
 datum_back datum.Boolean = refl
 datum_back datum.Void = refl
 
-unfoldable pub datum_form : Form Datum
-datum_form = form_by datum_number datum_of datum_back byte_form
+unfoldable pub datum_encoding : Encoding Datum
+datum_encoding = encoding_by datum_number datum_of datum_back byte_encoding
 
 abbrev pub asked_number : Asked → ℕ
 asked_number asked.Fixed = 0
@@ -160,5 +160,5 @@ asked_back asked.Patch = refl
 asked_back asked.Any = refl
 asked_back asked.Ex = refl
 
-unfoldable pub asked_form : Form Asked
-asked_form = form_by asked_number asked_of asked_back byte_form
+unfoldable pub asked_encoding : Encoding Asked
+asked_encoding = encoding_by asked_number asked_of asked_back byte_encoding

@@ -1,48 +1,48 @@
 //! Flash descriptions.
 ghost use Rattle.std.specs.Prelude.{◌≡◌, ◌++◌, OnOk};
-ghost use Rattle.packed_values.specs.Form.{IsPut, IsRead, IsUnread};
-ghost use Rattle.packed_documents.specs.Flash.{device_plan_first, device_plan_first_form, device_plan_form, device_plan_of, device_plan_second, device_plan_second_form, flash_doc_form, region_form, region_kind_form};
+ghost use Rattle.packed_values.specs.Encoding.{IsAppended, IsRead, IsUnread};
+ghost use Rattle.packed_documents.specs.Flash.{device_plan_first, device_plan_first_encoding, device_plan_encoding, device_plan_of, device_plan_second, device_plan_second_encoding, flash_doc_encoding, region_encoding, region_kind_encoding};
 
-use crate::pcds::PcdSetForm;
-use crate::volume::{RuleDocForm, VolumePlanForm};
+use crate::pcds::PcdSetEncoding;
+use crate::volume::{RuleDocEncoding, VolumePlanEncoding};
 use build_base::{Path, Place, Rows, Text, WantOfMemory};
 use doc_types::flash::{DevicePlan, FlashDoc, Region, RegionKind};
-use packed_values::fields::put_two;
-use packed_values::plain::put_byte;
-use packed_values::{Input, Packed, all_put, all_taken};
+use packed_values::fields::encode_two;
+use packed_values::plain::encode_byte;
+use packed_values::{Encode, Input, decode_fields, encode_fields};
 use std::alloc::Global;
 
-/// How a value of `RegionKind` is spelled.
-pub struct RegionKindForm;
+/// How a value of `RegionKind` is encoded.
+pub struct RegionKindEncoding;
 
-impl Packed for RegionKindForm {
+impl Encode for RegionKindEncoding {
     type Value = RegionKind;
 
-    ghost form = { region_kind_form };
+    ghost encoding = { region_kind_encoding };
 
-    #[tactic(auto, unfolding(crate::specs::Flash::region_kind_form, packed_values::specs::Arms::tagged_form, packed_values::specs::Arms::arm, packed_values::specs::Arms::last_arm, packed_values::specs::Arms::unit_form, packed_values::specs::Plain::byte_form, packed_values::specs::Parts::pair_form))]
-    fn put(value: &RegionKind, out: &mut Vec<u8>) -> Result<(), WantOfMemory> {
+    #[tactic(auto, unfolding(crate::specs::Flash::region_kind_encoding, packed_values::specs::Arms::tagged_encoding, packed_values::specs::Arms::arm, packed_values::specs::Arms::last_arm, packed_values::specs::Arms::unit_encoding, packed_values::specs::Plain::byte_encoding, packed_values::specs::Parts::pair_encoding))]
+    fn encode(value: &RegionKind, out: &mut Vec<u8>) -> Result<(), WantOfMemory> {
         match value {
-            RegionKind::Empty => put_byte(0, out),
-            RegionKind::Bytes(text) => put_two::<u8, Text>(&1, text, out),
-            RegionKind::Tree(path) => put_two::<u8, Path>(&2, path, out),
-            RegionKind::Volume(number) => put_two::<u8, u32>(&3, number, out),
+            RegionKind::Empty => encode_byte(0, out),
+            RegionKind::Bytes(text) => encode_two::<u8, Text>(&1, text, out),
+            RegionKind::Tree(path) => encode_two::<u8, Path>(&2, path, out),
+            RegionKind::Volume(number) => encode_two::<u8, u32>(&3, number, out),
         }
     }
 
-    #[tactic(auto, unfolding(crate::specs::Flash::region_kind_form, packed_values::specs::Arms::tagged_form, packed_values::specs::Arms::arm, packed_values::specs::Arms::last_arm, packed_values::specs::Arms::unit_form, packed_values::specs::Plain::byte_form))]
-    fn take(alloc: Global, input: &mut Input) -> Result<Option<RegionKind>, WantOfMemory> {
+    #[tactic(auto, unfolding(crate::specs::Flash::region_kind_encoding, packed_values::specs::Arms::tagged_encoding, packed_values::specs::Arms::arm, packed_values::specs::Arms::last_arm, packed_values::specs::Arms::unit_encoding, packed_values::specs::Plain::byte_encoding))]
+    fn decode(alloc: Global, input: &mut Input) -> Result<Option<RegionKind>, WantOfMemory> {
         match input.byte() {
             Some(0) => Ok(Some(RegionKind::Empty)),
-            Some(1) => match Text::take(alloc, input)? {
+            Some(1) => match Text::decode(alloc, input)? {
                 None => Ok(None),
                 Some(text) => Ok(Some(RegionKind::Bytes(text))),
             },
-            Some(2) => match Path::take(alloc, input)? {
+            Some(2) => match Path::decode(alloc, input)? {
                 None => Ok(None),
                 Some(path) => Ok(Some(RegionKind::Tree(path))),
             },
-            Some(3) => match u32::take(alloc, input)? {
+            Some(3) => match u32::decode(alloc, input)? {
                 None => Ok(None),
                 Some(number) => Ok(Some(RegionKind::Volume(number))),
             },
@@ -51,54 +51,56 @@ impl Packed for RegionKindForm {
     }
 }
 
-/// How a value of `Region` is spelled.
-pub struct RegionForm;
+/// How a value of `Region` is encoded.
+pub struct RegionEncoding;
 
-impl Packed for RegionForm {
+impl Encode for RegionEncoding {
     type Value = Region;
 
-    ghost form = { region_form };
+    ghost encoding = { region_encoding };
 
-    #[tactic(auto, unfolding(crate::specs::Flash::region_form, packed_values::specs::Parts::pair_form))]
-    fn put(value: &Region, out: &mut Vec<u8>) -> Result<(), WantOfMemory> {
-        all_put!(value, out; at: Place, offset: u64, size: u64, kind: RegionKindForm)
+    #[tactic(auto, unfolding(crate::specs::Flash::region_encoding, packed_values::specs::Parts::pair_encoding))]
+    fn encode(value: &Region, out: &mut Vec<u8>) -> Result<(), WantOfMemory> {
+        encode_fields!(value, out; at: Place, offset: u64, size: u64, kind: RegionKindEncoding)
     }
 
-    #[tactic(auto, unfolding(crate::specs::Flash::region_form), using(packed_values::proofs::WhereLemmas::unread_by))]
-    fn take(alloc: Global, input: &mut Input) -> Result<Option<Region>, WantOfMemory> {
-        all_taken!(Region, alloc, input; at: Place, offset: u64, size: u64, kind: RegionKindForm)
+    #[tactic(auto, unfolding(crate::specs::Flash::region_encoding), using(packed_values::proofs::WhereLemmas::unread_by))]
+    fn decode(alloc: Global, input: &mut Input) -> Result<Option<Region>, WantOfMemory> {
+        decode_fields!(Region, alloc, input; at: Place, offset: u64, size: u64, kind: RegionKindEncoding)
     }
 }
 
-/// How a value of `DevicePlan` is spelled.
-pub struct DevicePlanForm;
+/// How a value of `DevicePlan` is encoded.
+pub struct DevicePlanEncoding;
 
 type DevicePlanFirst = (Place, Text, u64);
 
-type DevicePlanSecond = (u64, u8, Rows<RegionForm>);
+type DevicePlanSecond = (u64, u8, Rows<RegionEncoding>);
 
 type DevicePlanGroups = (DevicePlanFirst, DevicePlanSecond);
 
 // Adds its fields from `at` on.
-#[tactic(auto, unfolding(crate::specs::Flash::device_plan_first_form, packed_values::specs::Parts::pair_form, packed_values::specs::Parts::triple_form))]
-fn put_device_plan_first(value: &DevicePlan, out: &mut Vec<u8>) -> Result<(), WantOfMemory>
+#[tactic(auto, unfolding(crate::specs::Flash::device_plan_first_encoding, packed_values::specs::Parts::pair_encoding, packed_values::specs::Parts::triple_encoding))]
+fn encode_device_plan_first(value: &DevicePlan, out: &mut Vec<u8>) -> Result<(), WantOfMemory>
     ensures { OnOk result
-        (IsPut device_plan_first_form out.old.items (device_plan_first value.now) out.new.items) }
+        (IsAppended device_plan_first_encoding out.old.items (device_plan_first value.now)
+        out.new.items) }
 {
-    all_put!(value, out; at: Place, name: Text, base: u64)
+    encode_fields!(value, out; at: Place, name: Text, base: u64)
 }
 
 // Adds its fields from `size` on.
-#[tactic(auto, unfolding(crate::specs::Flash::device_plan_second_form, packed_values::specs::Parts::pair_form, packed_values::specs::Parts::triple_form))]
-fn put_device_plan_second(value: &DevicePlan, out: &mut Vec<u8>) -> Result<(), WantOfMemory>
+#[tactic(auto, unfolding(crate::specs::Flash::device_plan_second_encoding, packed_values::specs::Parts::pair_encoding, packed_values::specs::Parts::triple_encoding))]
+fn encode_device_plan_second(value: &DevicePlan, out: &mut Vec<u8>) -> Result<(), WantOfMemory>
     ensures { OnOk result
-        (IsPut device_plan_second_form out.old.items (device_plan_second value.now) out.new.items) }
+        (IsAppended device_plan_second_encoding out.old.items (device_plan_second value.now)
+        out.new.items) }
 {
-    all_put!(value, out; size: u64, erase: u8, regions: Rows<RegionForm>)
+    encode_fields!(value, out; size: u64, erase: u8, regions: Rows<RegionEncoding>)
 }
 
 // The record of all its fields.
-fn join_device_plan(groups: <DevicePlanGroups as Packed>::Value) -> DevicePlan
+fn join_device_plan(groups: <DevicePlanGroups as Encode>::Value) -> DevicePlan
     ensures { result ≡ device_plan_of groups }
 {
     let (first, second) = groups;
@@ -114,41 +116,41 @@ fn join_device_plan(groups: <DevicePlanGroups as Packed>::Value) -> DevicePlan
     }
 }
 
-impl Packed for DevicePlanForm {
+impl Encode for DevicePlanEncoding {
     type Value = DevicePlan;
 
-    ghost form = { device_plan_form };
+    ghost encoding = { device_plan_encoding };
 
-    #[tactic(auto, unfolding(crate::specs::Flash::device_plan_form, packed_values::specs::Parts::pair_form))]
-    fn put(value: &DevicePlan, out: &mut Vec<u8>) -> Result<(), WantOfMemory> {
-        put_device_plan_first(value, out)?;
-        put_device_plan_second(value, out)
+    #[tactic(auto, unfolding(crate::specs::Flash::device_plan_encoding, packed_values::specs::Parts::pair_encoding))]
+    fn encode(value: &DevicePlan, out: &mut Vec<u8>) -> Result<(), WantOfMemory> {
+        encode_device_plan_first(value, out)?;
+        encode_device_plan_second(value, out)
     }
 
-    #[tactic(auto, unfolding(crate::specs::Flash::device_plan_form, crate::specs::Flash::device_plan_first_form, crate::specs::Flash::device_plan_second_form), using(packed_values::proofs::WhereLemmas::unread_by))]
-    fn take(alloc: Global, input: &mut Input) -> Result<Option<DevicePlan>, WantOfMemory> {
-        match <DevicePlanGroups>::take(alloc, input)? {
+    #[tactic(auto, unfolding(crate::specs::Flash::device_plan_encoding, crate::specs::Flash::device_plan_first_encoding, crate::specs::Flash::device_plan_second_encoding), using(packed_values::proofs::WhereLemmas::unread_by))]
+    fn decode(alloc: Global, input: &mut Input) -> Result<Option<DevicePlan>, WantOfMemory> {
+        match <DevicePlanGroups>::decode(alloc, input)? {
             None => Ok(None),
             Some(groups) => Ok(Some(join_device_plan(groups))),
         }
     }
 }
 
-/// How a value of `FlashDoc` is spelled.
-pub struct FlashDocForm;
+/// How a value of `FlashDoc` is encoded.
+pub struct FlashDocEncoding;
 
-impl Packed for FlashDocForm {
+impl Encode for FlashDocEncoding {
     type Value = FlashDoc;
 
-    ghost form = { flash_doc_form };
+    ghost encoding = { flash_doc_encoding };
 
-    #[tactic(auto, unfolding(crate::specs::Flash::flash_doc_form, packed_values::specs::Parts::pair_form))]
-    fn put(value: &FlashDoc, out: &mut Vec<u8>) -> Result<(), WantOfMemory> {
-        all_put!(value, out; at: Place, sets: Rows<PcdSetForm>, devices: Rows<DevicePlanForm>, volumes: Rows<VolumePlanForm>, rule_list: Rows<RuleDocForm>)
+    #[tactic(auto, unfolding(crate::specs::Flash::flash_doc_encoding, packed_values::specs::Parts::pair_encoding))]
+    fn encode(value: &FlashDoc, out: &mut Vec<u8>) -> Result<(), WantOfMemory> {
+        encode_fields!(value, out; at: Place, sets: Rows<PcdSetEncoding>, devices: Rows<DevicePlanEncoding>, volumes: Rows<VolumePlanEncoding>, rule_list: Rows<RuleDocEncoding>)
     }
 
-    #[tactic(auto, unfolding(crate::specs::Flash::flash_doc_form), using(packed_values::proofs::WhereLemmas::unread_by))]
-    fn take(alloc: Global, input: &mut Input) -> Result<Option<FlashDoc>, WantOfMemory> {
-        all_taken!(FlashDoc, alloc, input; at: Place, sets: Rows<PcdSetForm>, devices: Rows<DevicePlanForm>, volumes: Rows<VolumePlanForm>, rule_list: Rows<RuleDocForm>)
+    #[tactic(auto, unfolding(crate::specs::Flash::flash_doc_encoding), using(packed_values::proofs::WhereLemmas::unread_by))]
+    fn decode(alloc: Global, input: &mut Input) -> Result<Option<FlashDoc>, WantOfMemory> {
+        decode_fields!(FlashDoc, alloc, input; at: Place, sets: Rows<PcdSetEncoding>, devices: Rows<DevicePlanEncoding>, volumes: Rows<VolumePlanEncoding>, rule_list: Rows<RuleDocEncoding>)
     }
 }

@@ -1,4 +1,4 @@
-//! The documents and what is made from them as bytes, with one spelling each.
+//! The documents and what is made from them as bytes, with one encoding each.
 #![tactic(auto)]
 
 pub mod flash;

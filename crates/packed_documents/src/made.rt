@@ -1,105 +1,106 @@
 //! What is chosen, resolved and made for modules.
 ghost use Rattle.std.specs.Prelude.{◌≡◌, ◌++◌, OnOk};
-ghost use Rattle.packed_values.specs.Form.{IsPut, IsRead, IsUnread};
-ghost use Rattle.packed_documents.specs.Made.{call_form, choice_form, file_image_form, module_form, pcd_row_first, pcd_row_first_form, pcd_row_form, pcd_row_of, pcd_row_second, pcd_row_second_form, texts_form, values_form, vpd_form, vpd_place_form};
+ghost use Rattle.packed_values.specs.Encoding.{IsAppended, IsRead, IsUnread};
+ghost use Rattle.packed_documents.specs.Made.{call_encoding, choice_encoding, file_image_encoding, module_encoding, pcd_row_first, pcd_row_first_encoding, pcd_row_encoding, pcd_row_of, pcd_row_second, pcd_row_second_encoding, texts_encoding, values_encoding, vpd_encoding, vpd_place_encoding};
 
-use crate::pcds::PcdNameForm;
-use crate::words::{ArchForm, DatumForm, KindForm};
+use crate::pcds::PcdNameEncoding;
+use crate::words::{ArchEncoding, DatumEncoding, KindEncoding};
 use build_base::{Guid, Path, Place, Rows, Text, WantOfMemory};
 use doc_types::choice::{Call, Choice, Module};
 use doc_types::image::FileImage;
 use doc_types::texts::Texts;
 use doc_types::values::{PcdRow, Values};
 use doc_types::vpd::{Vpd, VpdPlace};
-use packed_values::{Input, Packed, all_put, all_taken};
+use packed_values::{Encode, Input, decode_fields, encode_fields};
 use std::alloc::Global;
 
-/// How a value of `Module` is spelled.
-pub struct ModuleForm;
+/// How a value of `Module` is encoded.
+pub struct ModuleEncoding;
 
-impl Packed for ModuleForm {
+impl Encode for ModuleEncoding {
     type Value = Module;
 
-    ghost form = { module_form };
+    ghost encoding = { module_encoding };
 
-    #[tactic(auto, unfolding(crate::specs::Made::module_form))]
-    fn put(value: &Module, out: &mut Vec<u8>) -> Result<(), WantOfMemory> {
-        all_put!(value, out; arch: ArchForm, inf: Path)
+    #[tactic(auto, unfolding(crate::specs::Made::module_encoding))]
+    fn encode(value: &Module, out: &mut Vec<u8>) -> Result<(), WantOfMemory> {
+        encode_fields!(value, out; arch: ArchEncoding, inf: Path)
     }
 
-    #[tactic(auto, unfolding(crate::specs::Made::module_form), using(packed_values::proofs::WhereLemmas::unread_by))]
-    fn take(alloc: Global, input: &mut Input) -> Result<Option<Module>, WantOfMemory> {
-        all_taken!(Module, alloc, input; arch: ArchForm, inf: Path)
+    #[tactic(auto, unfolding(crate::specs::Made::module_encoding), using(packed_values::proofs::WhereLemmas::unread_by))]
+    fn decode(alloc: Global, input: &mut Input) -> Result<Option<Module>, WantOfMemory> {
+        decode_fields!(Module, alloc, input; arch: ArchEncoding, inf: Path)
     }
 }
 
-/// How a value of `Call` is spelled.
-pub struct CallForm;
+/// How a value of `Call` is encoded.
+pub struct CallEncoding;
 
-impl Packed for CallForm {
+impl Encode for CallEncoding {
     type Value = Call;
 
-    ghost form = { call_form };
+    ghost encoding = { call_encoding };
 
-    #[tactic(auto, unfolding(crate::specs::Made::call_form))]
-    fn put(value: &Call, out: &mut Vec<u8>) -> Result<(), WantOfMemory> {
-        all_put!(value, out; inf: Path, name: Text)
+    #[tactic(auto, unfolding(crate::specs::Made::call_encoding))]
+    fn encode(value: &Call, out: &mut Vec<u8>) -> Result<(), WantOfMemory> {
+        encode_fields!(value, out; inf: Path, name: Text)
     }
 
-    #[tactic(auto, unfolding(crate::specs::Made::call_form), using(packed_values::proofs::WhereLemmas::unread_by))]
-    fn take(alloc: Global, input: &mut Input) -> Result<Option<Call>, WantOfMemory> {
-        all_taken!(Call, alloc, input; inf: Path, name: Text)
+    #[tactic(auto, unfolding(crate::specs::Made::call_encoding), using(packed_values::proofs::WhereLemmas::unread_by))]
+    fn decode(alloc: Global, input: &mut Input) -> Result<Option<Call>, WantOfMemory> {
+        decode_fields!(Call, alloc, input; inf: Path, name: Text)
     }
 }
 
-/// How a value of `Choice` is spelled.
-pub struct ChoiceForm;
+/// How a value of `Choice` is encoded.
+pub struct ChoiceEncoding;
 
-impl Packed for ChoiceForm {
+impl Encode for ChoiceEncoding {
     type Value = Choice;
 
-    ghost form = { choice_form };
+    ghost encoding = { choice_encoding };
 
-    #[tactic(auto, unfolding(crate::specs::Made::choice_form))]
-    fn put(value: &Choice, out: &mut Vec<u8>) -> Result<(), WantOfMemory> {
-        all_put!(value, out; library: bool, instances: Rows<Path>, constructors: Rows<CallForm>, destructors: Rows<CallForm>)
+    #[tactic(auto, unfolding(crate::specs::Made::choice_encoding))]
+    fn encode(value: &Choice, out: &mut Vec<u8>) -> Result<(), WantOfMemory> {
+        encode_fields!(value, out; library: bool, instances: Rows<Path>, constructors: Rows<CallEncoding>, destructors: Rows<CallEncoding>)
     }
 
-    #[tactic(auto, unfolding(crate::specs::Made::choice_form), using(packed_values::proofs::WhereLemmas::unread_by))]
-    fn take(alloc: Global, input: &mut Input) -> Result<Option<Choice>, WantOfMemory> {
-        all_taken!(Choice, alloc, input; library: bool, instances: Rows<Path>, constructors: Rows<CallForm>, destructors: Rows<CallForm>)
+    #[tactic(auto, unfolding(crate::specs::Made::choice_encoding), using(packed_values::proofs::WhereLemmas::unread_by))]
+    fn decode(alloc: Global, input: &mut Input) -> Result<Option<Choice>, WantOfMemory> {
+        decode_fields!(Choice, alloc, input; library: bool, instances: Rows<Path>, constructors: Rows<CallEncoding>, destructors: Rows<CallEncoding>)
     }
 }
 
-/// How a value of `PcdRow` is spelled.
-pub struct PcdRowForm;
+/// How a value of `PcdRow` is encoded.
+pub struct PcdRowEncoding;
 
-type PcdRowFirst = (PcdNameForm, KindForm, DatumForm, u32);
+type PcdRowFirst = (PcdNameEncoding, KindEncoding, DatumEncoding, u32);
 
 type PcdRowSecond = (u32, u8, Text, Text);
 
 type PcdRowGroups = (PcdRowFirst, PcdRowSecond);
 
 // Adds its fields from `pcd` on.
-#[tactic(auto, unfolding(crate::specs::Made::pcd_row_first_form, packed_values::specs::Parts::quadruple_form))]
-fn put_pcd_row_first(value: &PcdRow, out: &mut Vec<u8>) -> Result<(), WantOfMemory>
+#[tactic(auto, unfolding(crate::specs::Made::pcd_row_first_encoding, packed_values::specs::Parts::quadruple_encoding))]
+fn encode_pcd_row_first(value: &PcdRow, out: &mut Vec<u8>) -> Result<(), WantOfMemory>
     ensures { OnOk result
-        (IsPut pcd_row_first_form out.old.items (pcd_row_first value.now) out.new.items) }
+        (IsAppended pcd_row_first_encoding out.old.items (pcd_row_first value.now) out.new.items) }
 {
-    all_put!(value, out; pcd: PcdNameForm, kind: KindForm, datum: DatumForm, token: u32)
+    encode_fields!(value, out; pcd: PcdNameEncoding, kind: KindEncoding, datum: DatumEncoding, token: u32)
 }
 
 // Adds its fields from `max` on.
-#[tactic(auto, unfolding(crate::specs::Made::pcd_row_second_form, packed_values::specs::Parts::quadruple_form))]
-fn put_pcd_row_second(value: &PcdRow, out: &mut Vec<u8>) -> Result<(), WantOfMemory>
+#[tactic(auto, unfolding(crate::specs::Made::pcd_row_second_encoding, packed_values::specs::Parts::quadruple_encoding))]
+fn encode_pcd_row_second(value: &PcdRow, out: &mut Vec<u8>) -> Result<(), WantOfMemory>
     ensures { OnOk result
-        (IsPut pcd_row_second_form out.old.items (pcd_row_second value.now) out.new.items) }
+        (IsAppended pcd_row_second_encoding out.old.items (pcd_row_second value.now)
+        out.new.items) }
 {
-    all_put!(value, out; max: u32, rank: u8, sku: Text, value: Text)
+    encode_fields!(value, out; max: u32, rank: u8, sku: Text, value: Text)
 }
 
 // The record of all its fields.
-fn join_pcd_row(groups: <PcdRowGroups as Packed>::Value) -> PcdRow
+fn join_pcd_row(groups: <PcdRowGroups as Encode>::Value) -> PcdRow
     ensures { result ≡ pcd_row_of groups }
 {
     let (first, second) = groups;
@@ -117,117 +118,117 @@ fn join_pcd_row(groups: <PcdRowGroups as Packed>::Value) -> PcdRow
     }
 }
 
-impl Packed for PcdRowForm {
+impl Encode for PcdRowEncoding {
     type Value = PcdRow;
 
-    ghost form = { pcd_row_form };
+    ghost encoding = { pcd_row_encoding };
 
-    #[tactic(auto, unfolding(crate::specs::Made::pcd_row_form, packed_values::specs::Parts::pair_form))]
-    fn put(value: &PcdRow, out: &mut Vec<u8>) -> Result<(), WantOfMemory> {
-        put_pcd_row_first(value, out)?;
-        put_pcd_row_second(value, out)
+    #[tactic(auto, unfolding(crate::specs::Made::pcd_row_encoding, packed_values::specs::Parts::pair_encoding))]
+    fn encode(value: &PcdRow, out: &mut Vec<u8>) -> Result<(), WantOfMemory> {
+        encode_pcd_row_first(value, out)?;
+        encode_pcd_row_second(value, out)
     }
 
-    #[tactic(auto, unfolding(crate::specs::Made::pcd_row_form, crate::specs::Made::pcd_row_first_form, crate::specs::Made::pcd_row_second_form), using(packed_values::proofs::WhereLemmas::unread_by))]
-    fn take(alloc: Global, input: &mut Input) -> Result<Option<PcdRow>, WantOfMemory> {
-        match <PcdRowGroups>::take(alloc, input)? {
+    #[tactic(auto, unfolding(crate::specs::Made::pcd_row_encoding, crate::specs::Made::pcd_row_first_encoding, crate::specs::Made::pcd_row_second_encoding), using(packed_values::proofs::WhereLemmas::unread_by))]
+    fn decode(alloc: Global, input: &mut Input) -> Result<Option<PcdRow>, WantOfMemory> {
+        match <PcdRowGroups>::decode(alloc, input)? {
             None => Ok(None),
             Some(groups) => Ok(Some(join_pcd_row(groups))),
         }
     }
 }
 
-/// How a value of `Values` is spelled.
-pub struct ValuesForm;
+/// How a value of `Values` is encoded.
+pub struct ValuesEncoding;
 
-impl Packed for ValuesForm {
+impl Encode for ValuesEncoding {
     type Value = Values;
 
-    ghost form = { values_form };
+    ghost encoding = { values_encoding };
 
-    #[tactic(auto, unfolding(crate::specs::Made::values_form))]
-    fn put(value: &Values, out: &mut Vec<u8>) -> Result<(), WantOfMemory> {
-        all_put!(value, out; rows: Rows<PcdRowForm>)
+    #[tactic(auto, unfolding(crate::specs::Made::values_encoding))]
+    fn encode(value: &Values, out: &mut Vec<u8>) -> Result<(), WantOfMemory> {
+        encode_fields!(value, out; rows: Rows<PcdRowEncoding>)
     }
 
-    #[tactic(auto, unfolding(crate::specs::Made::values_form), using(packed_values::proofs::WhereLemmas::unread_by))]
-    fn take(alloc: Global, input: &mut Input) -> Result<Option<Values>, WantOfMemory> {
-        all_taken!(Values, alloc, input; rows: Rows<PcdRowForm>)
+    #[tactic(auto, unfolding(crate::specs::Made::values_encoding), using(packed_values::proofs::WhereLemmas::unread_by))]
+    fn decode(alloc: Global, input: &mut Input) -> Result<Option<Values>, WantOfMemory> {
+        decode_fields!(Values, alloc, input; rows: Rows<PcdRowEncoding>)
     }
 }
 
-/// How a value of `Texts` is spelled.
-pub struct TextsForm;
+/// How a value of `Texts` is encoded.
+pub struct TextsEncoding;
 
-impl Packed for TextsForm {
+impl Encode for TextsEncoding {
     type Value = Texts;
 
-    ghost form = { texts_form };
+    ghost encoding = { texts_encoding };
 
-    #[tactic(auto, unfolding(crate::specs::Made::texts_form))]
-    fn put(value: &Texts, out: &mut Vec<u8>) -> Result<(), WantOfMemory> {
-        all_put!(value, out; c: Text, h: Text)
+    #[tactic(auto, unfolding(crate::specs::Made::texts_encoding))]
+    fn encode(value: &Texts, out: &mut Vec<u8>) -> Result<(), WantOfMemory> {
+        encode_fields!(value, out; c: Text, h: Text)
     }
 
-    #[tactic(auto, unfolding(crate::specs::Made::texts_form), using(packed_values::proofs::WhereLemmas::unread_by))]
-    fn take(alloc: Global, input: &mut Input) -> Result<Option<Texts>, WantOfMemory> {
-        all_taken!(Texts, alloc, input; c: Text, h: Text)
+    #[tactic(auto, unfolding(crate::specs::Made::texts_encoding), using(packed_values::proofs::WhereLemmas::unread_by))]
+    fn decode(alloc: Global, input: &mut Input) -> Result<Option<Texts>, WantOfMemory> {
+        decode_fields!(Texts, alloc, input; c: Text, h: Text)
     }
 }
 
-/// How a value of `FileImage` is spelled.
-pub struct FileImageForm;
+/// How a value of `FileImage` is encoded.
+pub struct FileImageEncoding;
 
-impl Packed for FileImageForm {
+impl Encode for FileImageEncoding {
     type Value = FileImage;
 
-    ghost form = { file_image_form };
+    ghost encoding = { file_image_encoding };
 
-    #[tactic(auto, unfolding(crate::specs::Made::file_image_form))]
-    fn put(value: &FileImage, out: &mut Vec<u8>) -> Result<(), WantOfMemory> {
-        all_put!(value, out; at: Place, guid: Guid, align: u32, bytes: Text)
+    #[tactic(auto, unfolding(crate::specs::Made::file_image_encoding))]
+    fn encode(value: &FileImage, out: &mut Vec<u8>) -> Result<(), WantOfMemory> {
+        encode_fields!(value, out; at: Place, guid: Guid, align: u32, bytes: Text)
     }
 
-    #[tactic(auto, unfolding(crate::specs::Made::file_image_form), using(packed_values::proofs::WhereLemmas::unread_by))]
-    fn take(alloc: Global, input: &mut Input) -> Result<Option<FileImage>, WantOfMemory> {
-        all_taken!(FileImage, alloc, input; at: Place, guid: Guid, align: u32, bytes: Text)
+    #[tactic(auto, unfolding(crate::specs::Made::file_image_encoding), using(packed_values::proofs::WhereLemmas::unread_by))]
+    fn decode(alloc: Global, input: &mut Input) -> Result<Option<FileImage>, WantOfMemory> {
+        decode_fields!(FileImage, alloc, input; at: Place, guid: Guid, align: u32, bytes: Text)
     }
 }
 
-/// How a value of `VpdPlace` is spelled.
-pub struct VpdPlaceForm;
+/// How a value of `VpdPlace` is encoded.
+pub struct VpdPlaceEncoding;
 
-impl Packed for VpdPlaceForm {
+impl Encode for VpdPlaceEncoding {
     type Value = VpdPlace;
 
-    ghost form = { vpd_place_form };
+    ghost encoding = { vpd_place_encoding };
 
-    #[tactic(auto, unfolding(crate::specs::Made::vpd_place_form))]
-    fn put(value: &VpdPlace, out: &mut Vec<u8>) -> Result<(), WantOfMemory> {
-        all_put!(value, out; pcd: PcdNameForm, sku: Text, offset: u32, size: u32)
+    #[tactic(auto, unfolding(crate::specs::Made::vpd_place_encoding))]
+    fn encode(value: &VpdPlace, out: &mut Vec<u8>) -> Result<(), WantOfMemory> {
+        encode_fields!(value, out; pcd: PcdNameEncoding, sku: Text, offset: u32, size: u32)
     }
 
-    #[tactic(auto, unfolding(crate::specs::Made::vpd_place_form), using(packed_values::proofs::WhereLemmas::unread_by))]
-    fn take(alloc: Global, input: &mut Input) -> Result<Option<VpdPlace>, WantOfMemory> {
-        all_taken!(VpdPlace, alloc, input; pcd: PcdNameForm, sku: Text, offset: u32, size: u32)
+    #[tactic(auto, unfolding(crate::specs::Made::vpd_place_encoding), using(packed_values::proofs::WhereLemmas::unread_by))]
+    fn decode(alloc: Global, input: &mut Input) -> Result<Option<VpdPlace>, WantOfMemory> {
+        decode_fields!(VpdPlace, alloc, input; pcd: PcdNameEncoding, sku: Text, offset: u32, size: u32)
     }
 }
 
-/// How a value of `Vpd` is spelled.
-pub struct VpdForm;
+/// How a value of `Vpd` is encoded.
+pub struct VpdEncoding;
 
-impl Packed for VpdForm {
+impl Encode for VpdEncoding {
     type Value = Vpd;
 
-    ghost form = { vpd_form };
+    ghost encoding = { vpd_encoding };
 
-    #[tactic(auto, unfolding(crate::specs::Made::vpd_form))]
-    fn put(value: &Vpd, out: &mut Vec<u8>) -> Result<(), WantOfMemory> {
-        all_put!(value, out; image: Text, map: Text, places: Rows<VpdPlaceForm>)
+    #[tactic(auto, unfolding(crate::specs::Made::vpd_encoding))]
+    fn encode(value: &Vpd, out: &mut Vec<u8>) -> Result<(), WantOfMemory> {
+        encode_fields!(value, out; image: Text, map: Text, places: Rows<VpdPlaceEncoding>)
     }
 
-    #[tactic(auto, unfolding(crate::specs::Made::vpd_form), using(packed_values::proofs::WhereLemmas::unread_by))]
-    fn take(alloc: Global, input: &mut Input) -> Result<Option<Vpd>, WantOfMemory> {
-        all_taken!(Vpd, alloc, input; image: Text, map: Text, places: Rows<VpdPlaceForm>)
+    #[tactic(auto, unfolding(crate::specs::Made::vpd_encoding), using(packed_values::proofs::WhereLemmas::unread_by))]
+    fn decode(alloc: Global, input: &mut Input) -> Result<Option<Vpd>, WantOfMemory> {
+        decode_fields!(Vpd, alloc, input; image: Text, map: Text, places: Rows<VpdPlaceEncoding>)
     }
 }

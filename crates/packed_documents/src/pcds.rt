@@ -1,47 +1,47 @@
 //! Names of PCDs, and what is set beside their lines.
 ghost use Rattle.std.specs.Prelude.{◌≡◌, ◌++◌};
-ghost use Rattle.packed_values.specs.Form.{IsPut, IsRead, IsUnread};
-ghost use Rattle.packed_documents.specs.Pcds.{pcd_name_form, pcd_set_form};
+ghost use Rattle.packed_values.specs.Encoding.{IsAppended, IsRead, IsUnread};
+ghost use Rattle.packed_documents.specs.Pcds.{pcd_name_encoding, pcd_set_encoding};
 
 use build_base::{Place, Text, WantOfMemory};
 use doc_types::pcd::{PcdName, PcdSet};
-use packed_values::{Input, Packed, all_put, all_taken};
+use packed_values::{Encode, Input, decode_fields, encode_fields};
 use std::alloc::Global;
 
-/// How a value of `PcdName` is spelled.
-pub struct PcdNameForm;
+/// How a value of `PcdName` is encoded.
+pub struct PcdNameEncoding;
 
-impl Packed for PcdNameForm {
+impl Encode for PcdNameEncoding {
     type Value = PcdName;
 
-    ghost form = { pcd_name_form };
+    ghost encoding = { pcd_name_encoding };
 
-    #[tactic(auto, unfolding(crate::specs::Pcds::pcd_name_form, packed_values::specs::Parts::pair_form))]
-    fn put(value: &PcdName, out: &mut Vec<u8>) -> Result<(), WantOfMemory> {
-        all_put!(value, out; space: Text, name: Text)
+    #[tactic(auto, unfolding(crate::specs::Pcds::pcd_name_encoding, packed_values::specs::Parts::pair_encoding))]
+    fn encode(value: &PcdName, out: &mut Vec<u8>) -> Result<(), WantOfMemory> {
+        encode_fields!(value, out; space: Text, name: Text)
     }
 
-    #[tactic(auto, unfolding(crate::specs::Pcds::pcd_name_form), using(packed_values::proofs::WhereLemmas::unread_by))]
-    fn take(alloc: Global, input: &mut Input) -> Result<Option<PcdName>, WantOfMemory> {
-        all_taken!(PcdName, alloc, input; space: Text, name: Text)
+    #[tactic(auto, unfolding(crate::specs::Pcds::pcd_name_encoding), using(packed_values::proofs::WhereLemmas::unread_by))]
+    fn decode(alloc: Global, input: &mut Input) -> Result<Option<PcdName>, WantOfMemory> {
+        decode_fields!(PcdName, alloc, input; space: Text, name: Text)
     }
 }
 
-/// How a value of `PcdSet` is spelled.
-pub struct PcdSetForm;
+/// How a value of `PcdSet` is encoded.
+pub struct PcdSetEncoding;
 
-impl Packed for PcdSetForm {
+impl Encode for PcdSetEncoding {
     type Value = PcdSet;
 
-    ghost form = { pcd_set_form };
+    ghost encoding = { pcd_set_encoding };
 
-    #[tactic(auto, unfolding(crate::specs::Pcds::pcd_set_form, packed_values::specs::Parts::pair_form))]
-    fn put(value: &PcdSet, out: &mut Vec<u8>) -> Result<(), WantOfMemory> {
-        all_put!(value, out; at: Place, rank: u8, pcd: PcdNameForm, value: Text)
+    #[tactic(auto, unfolding(crate::specs::Pcds::pcd_set_encoding, packed_values::specs::Parts::pair_encoding))]
+    fn encode(value: &PcdSet, out: &mut Vec<u8>) -> Result<(), WantOfMemory> {
+        encode_fields!(value, out; at: Place, rank: u8, pcd: PcdNameEncoding, value: Text)
     }
 
-    #[tactic(auto, unfolding(crate::specs::Pcds::pcd_set_form), using(packed_values::proofs::WhereLemmas::unread_by))]
-    fn take(alloc: Global, input: &mut Input) -> Result<Option<PcdSet>, WantOfMemory> {
-        all_taken!(PcdSet, alloc, input; at: Place, rank: u8, pcd: PcdNameForm, value: Text)
+    #[tactic(auto, unfolding(crate::specs::Pcds::pcd_set_encoding), using(packed_values::proofs::WhereLemmas::unread_by))]
+    fn decode(alloc: Global, input: &mut Input) -> Result<Option<PcdSet>, WantOfMemory> {
+        decode_fields!(PcdSet, alloc, input; at: Place, rank: u8, pcd: PcdNameEncoding, value: Text)
     }
 }

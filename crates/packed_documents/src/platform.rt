@@ -1,86 +1,88 @@
 //! Descriptions of platforms.
 ghost use Rattle.std.specs.Prelude.{◌≡◌, ◌++◌, OnOk};
-ghost use Rattle.packed_values.specs.Form.{IsPut, IsRead, IsUnread};
-ghost use Rattle.packed_documents.specs.Platform.{component_first, component_first_form, component_form, component_of, component_second, component_second_form, library_line_form, pcd_line_first, pcd_line_first_form, pcd_line_form, pcd_line_of, pcd_line_second, pcd_line_second_form, pcd_line_third, pcd_line_third_form, platform_doc_first, platform_doc_first_form, platform_doc_form, platform_doc_of, platform_doc_second, platform_doc_second_form, platform_doc_third, platform_doc_third_form, sku_form, store_form};
+ghost use Rattle.packed_values.specs.Encoding.{IsAppended, IsRead, IsUnread};
+ghost use Rattle.packed_documents.specs.Platform.{component_first, component_first_encoding, component_encoding, component_of, component_second, component_second_encoding, library_line_encoding, pcd_line_first, pcd_line_first_encoding, pcd_line_encoding, pcd_line_of, pcd_line_second, pcd_line_second_encoding, pcd_line_third, pcd_line_third_encoding, platform_doc_first, platform_doc_first_encoding, platform_doc_encoding, platform_doc_of, platform_doc_second, platform_doc_second_encoding, platform_doc_third, platform_doc_third_encoding, sku_encoding, store_encoding};
 
-use crate::pcds::PcdNameForm;
-use crate::words::{ArchForm, DatumForm, KindForm, ModuleTypeForm};
+use crate::pcds::PcdNameEncoding;
+use crate::words::{ArchEncoding, DatumEncoding, KindEncoding, ModuleTypeEncoding};
 use build_base::{Guid, Macro, Path, Place, Rows, Text, WantOfMemory};
 use doc_types::platform::{Component, LibraryLine, PcdLine, PlatformDoc, Sku, Store};
-use packed_values::fields::{put_five, put_three};
-use packed_values::plain::put_byte;
-use packed_values::{Input, Packed, all_put, all_taken};
+use packed_values::fields::{encode_five, encode_three};
+use packed_values::plain::encode_byte;
+use packed_values::{Encode, Input, decode_fields, encode_fields};
 use std::alloc::Global;
 
-/// How a value of `Sku` is spelled.
-pub struct SkuForm;
+/// How a value of `Sku` is encoded.
+pub struct SkuEncoding;
 
-impl Packed for SkuForm {
+impl Encode for SkuEncoding {
     type Value = Sku;
 
-    ghost form = { sku_form };
+    ghost encoding = { sku_encoding };
 
-    #[tactic(auto, unfolding(crate::specs::Platform::sku_form, packed_values::specs::Parts::pair_form))]
-    fn put(value: &Sku, out: &mut Vec<u8>) -> Result<(), WantOfMemory> {
-        all_put!(value, out; id: u64, name: Text, parent: Text)
+    #[tactic(auto, unfolding(crate::specs::Platform::sku_encoding, packed_values::specs::Parts::pair_encoding))]
+    fn encode(value: &Sku, out: &mut Vec<u8>) -> Result<(), WantOfMemory> {
+        encode_fields!(value, out; id: u64, name: Text, parent: Text)
     }
 
-    #[tactic(auto, unfolding(crate::specs::Platform::sku_form), using(packed_values::proofs::WhereLemmas::unread_by))]
-    fn take(alloc: Global, input: &mut Input) -> Result<Option<Sku>, WantOfMemory> {
-        all_taken!(Sku, alloc, input; id: u64, name: Text, parent: Text)
+    #[tactic(auto, unfolding(crate::specs::Platform::sku_encoding), using(packed_values::proofs::WhereLemmas::unread_by))]
+    fn decode(alloc: Global, input: &mut Input) -> Result<Option<Sku>, WantOfMemory> {
+        decode_fields!(Sku, alloc, input; id: u64, name: Text, parent: Text)
     }
 }
 
-/// How a value of `LibraryLine` is spelled.
-pub struct LibraryLineForm;
+/// How a value of `LibraryLine` is encoded.
+pub struct LibraryLineEncoding;
 
-impl Packed for LibraryLineForm {
+impl Encode for LibraryLineEncoding {
     type Value = LibraryLine;
 
-    ghost form = { library_line_form };
+    ghost encoding = { library_line_encoding };
 
-    #[tactic(auto, unfolding(crate::specs::Platform::library_line_form, packed_values::specs::Parts::pair_form))]
-    fn put(value: &LibraryLine, out: &mut Vec<u8>) -> Result<(), WantOfMemory> {
-        all_put!(value, out; at: Place, arch: ArchForm, kind: Option<ModuleTypeForm>, class: Text, instance: Path)
+    #[tactic(auto, unfolding(crate::specs::Platform::library_line_encoding, packed_values::specs::Parts::pair_encoding))]
+    fn encode(value: &LibraryLine, out: &mut Vec<u8>) -> Result<(), WantOfMemory> {
+        encode_fields!(value, out; at: Place, arch: ArchEncoding, kind: Option<ModuleTypeEncoding>, class: Text, instance: Path)
     }
 
-    #[tactic(auto, unfolding(crate::specs::Platform::library_line_form), using(packed_values::proofs::WhereLemmas::unread_by))]
-    fn take(alloc: Global, input: &mut Input) -> Result<Option<LibraryLine>, WantOfMemory> {
-        all_taken!(LibraryLine, alloc, input; at: Place, arch: ArchForm, kind: Option<ModuleTypeForm>, class: Text, instance: Path)
+    #[tactic(auto, unfolding(crate::specs::Platform::library_line_encoding), using(packed_values::proofs::WhereLemmas::unread_by))]
+    fn decode(alloc: Global, input: &mut Input) -> Result<Option<LibraryLine>, WantOfMemory> {
+        decode_fields!(LibraryLine, alloc, input; at: Place, arch: ArchEncoding, kind: Option<ModuleTypeEncoding>, class: Text, instance: Path)
     }
 }
 
-/// How a value of `Store` is spelled.
-pub struct StoreForm;
+/// How a value of `Store` is encoded.
+pub struct StoreEncoding;
 
-impl Packed for StoreForm {
+impl Encode for StoreEncoding {
     type Value = Store;
 
-    ghost form = { store_form };
+    ghost encoding = { store_encoding };
 
-    #[tactic(auto, unfolding(crate::specs::Platform::store_form, packed_values::specs::Arms::tagged_form, packed_values::specs::Arms::arm, packed_values::specs::Arms::last_arm, packed_values::specs::Arms::unit_form, packed_values::specs::Plain::byte_form, packed_values::specs::Parts::pair_form))]
-    fn put(value: &Store, out: &mut Vec<u8>) -> Result<(), WantOfMemory> {
+    #[tactic(auto, unfolding(crate::specs::Platform::store_encoding, packed_values::specs::Arms::tagged_encoding, packed_values::specs::Arms::arm, packed_values::specs::Arms::last_arm, packed_values::specs::Arms::unit_encoding, packed_values::specs::Plain::byte_encoding, packed_values::specs::Parts::pair_encoding))]
+    fn encode(value: &Store, out: &mut Vec<u8>) -> Result<(), WantOfMemory> {
         match value {
-            Store::Plain => put_byte(0, out),
+            Store::Plain => encode_byte(0, out),
             Store::Hii {
                 variable,
                 guid,
                 offset,
                 attributes,
             } => {
-                put_five::<u8, Text, Text, u32, Text>(&1, variable, guid, offset, attributes, out)
+                encode_five::<u8, Text, Text, u32, Text>(
+                    &1, variable, guid, offset, attributes, out,
+                )
             }
             Store::Vpd { offset, rest } => {
-                put_three::<u8, Option<u32>, Rows<Text>>(&2, offset, rest, out)
+                encode_three::<u8, Option<u32>, Rows<Text>>(&2, offset, rest, out)
             }
         }
     }
 
-    #[tactic(auto, unfolding(crate::specs::Platform::store_form, packed_values::specs::Arms::tagged_form, packed_values::specs::Arms::arm, packed_values::specs::Arms::last_arm, packed_values::specs::Arms::unit_form, packed_values::specs::Plain::byte_form))]
-    fn take(alloc: Global, input: &mut Input) -> Result<Option<Store>, WantOfMemory> {
+    #[tactic(auto, unfolding(crate::specs::Platform::store_encoding, packed_values::specs::Arms::tagged_encoding, packed_values::specs::Arms::arm, packed_values::specs::Arms::last_arm, packed_values::specs::Arms::unit_encoding, packed_values::specs::Plain::byte_encoding))]
+    fn decode(alloc: Global, input: &mut Input) -> Result<Option<Store>, WantOfMemory> {
         match input.byte() {
             Some(0) => Ok(Some(Store::Plain)),
-            Some(1) => match <(Text, (Text, (u32, Text)))>::take(alloc, input)? {
+            Some(1) => match <(Text, (Text, (u32, Text)))>::decode(alloc, input)? {
                 None => Ok(None),
                 Some((variable, (guid, (offset, attributes)))) => Ok(Some(Store::Hii {
                     variable,
@@ -89,7 +91,7 @@ impl Packed for StoreForm {
                     attributes,
                 })),
             },
-            Some(2) => match <(Option<u32>, Rows<Text>)>::take(alloc, input)? {
+            Some(2) => match <(Option<u32>, Rows<Text>)>::decode(alloc, input)? {
                 None => Ok(None),
                 Some((offset, rest)) => Ok(Some(Store::Vpd { offset, rest })),
             },
@@ -98,46 +100,49 @@ impl Packed for StoreForm {
     }
 }
 
-/// How a value of `PcdLine` is spelled.
-pub struct PcdLineForm;
+/// How a value of `PcdLine` is encoded.
+pub struct PcdLineEncoding;
 
-type PcdLineFirst = (Place, ArchForm, KindForm);
+type PcdLineFirst = (Place, ArchEncoding, KindEncoding);
 
-type PcdLineSecond = (Text, PcdNameForm, Option<Text>);
+type PcdLineSecond = (Text, PcdNameEncoding, Option<Text>);
 
-type PcdLineThird = (Option<DatumForm>, Option<u32>, StoreForm);
+type PcdLineThird = (Option<DatumEncoding>, Option<u32>, StoreEncoding);
 
 type PcdLineGroups = (PcdLineFirst, PcdLineSecond, PcdLineThird);
 
 // Adds its fields from `at` on.
-#[tactic(auto, unfolding(crate::specs::Platform::pcd_line_first_form, packed_values::specs::Parts::pair_form, packed_values::specs::Parts::triple_form))]
-fn put_pcd_line_first(value: &PcdLine, out: &mut Vec<u8>) -> Result<(), WantOfMemory>
+#[tactic(auto, unfolding(crate::specs::Platform::pcd_line_first_encoding, packed_values::specs::Parts::pair_encoding, packed_values::specs::Parts::triple_encoding))]
+fn encode_pcd_line_first(value: &PcdLine, out: &mut Vec<u8>) -> Result<(), WantOfMemory>
     ensures { OnOk result
-        (IsPut pcd_line_first_form out.old.items (pcd_line_first value.now) out.new.items) }
+        (IsAppended pcd_line_first_encoding out.old.items (pcd_line_first value.now)
+        out.new.items) }
 {
-    all_put!(value, out; at: Place, arch: ArchForm, kind: KindForm)
+    encode_fields!(value, out; at: Place, arch: ArchEncoding, kind: KindEncoding)
 }
 
 // Adds its fields from `sku` on.
-#[tactic(auto, unfolding(crate::specs::Platform::pcd_line_second_form, packed_values::specs::Parts::pair_form, packed_values::specs::Parts::triple_form))]
-fn put_pcd_line_second(value: &PcdLine, out: &mut Vec<u8>) -> Result<(), WantOfMemory>
+#[tactic(auto, unfolding(crate::specs::Platform::pcd_line_second_encoding, packed_values::specs::Parts::pair_encoding, packed_values::specs::Parts::triple_encoding))]
+fn encode_pcd_line_second(value: &PcdLine, out: &mut Vec<u8>) -> Result<(), WantOfMemory>
     ensures { OnOk result
-        (IsPut pcd_line_second_form out.old.items (pcd_line_second value.now) out.new.items) }
+        (IsAppended pcd_line_second_encoding out.old.items (pcd_line_second value.now)
+        out.new.items) }
 {
-    all_put!(value, out; sku: Text, pcd: PcdNameForm, value: Option<Text>)
+    encode_fields!(value, out; sku: Text, pcd: PcdNameEncoding, value: Option<Text>)
 }
 
 // Adds its fields from `datum` on.
-#[tactic(auto, unfolding(crate::specs::Platform::pcd_line_third_form, packed_values::specs::Parts::pair_form, packed_values::specs::Parts::triple_form))]
-fn put_pcd_line_third(value: &PcdLine, out: &mut Vec<u8>) -> Result<(), WantOfMemory>
+#[tactic(auto, unfolding(crate::specs::Platform::pcd_line_third_encoding, packed_values::specs::Parts::pair_encoding, packed_values::specs::Parts::triple_encoding))]
+fn encode_pcd_line_third(value: &PcdLine, out: &mut Vec<u8>) -> Result<(), WantOfMemory>
     ensures { OnOk result
-        (IsPut pcd_line_third_form out.old.items (pcd_line_third value.now) out.new.items) }
+        (IsAppended pcd_line_third_encoding out.old.items (pcd_line_third value.now)
+        out.new.items) }
 {
-    all_put!(value, out; datum: Option<DatumForm>, max: Option<u32>, store: StoreForm)
+    encode_fields!(value, out; datum: Option<DatumEncoding>, max: Option<u32>, store: StoreEncoding)
 }
 
 // The record of all its fields.
-fn join_pcd_line(groups: <PcdLineGroups as Packed>::Value) -> PcdLine
+fn join_pcd_line(groups: <PcdLineGroups as Encode>::Value) -> PcdLine
     ensures { result ≡ pcd_line_of groups }
 {
     let (first, second, third) = groups;
@@ -157,56 +162,62 @@ fn join_pcd_line(groups: <PcdLineGroups as Packed>::Value) -> PcdLine
     }
 }
 
-impl Packed for PcdLineForm {
+impl Encode for PcdLineEncoding {
     type Value = PcdLine;
 
-    ghost form = { pcd_line_form };
+    ghost encoding = { pcd_line_encoding };
 
-    #[tactic(auto, unfolding(crate::specs::Platform::pcd_line_form, packed_values::specs::Parts::pair_form, packed_values::specs::Parts::triple_form))]
-    fn put(value: &PcdLine, out: &mut Vec<u8>) -> Result<(), WantOfMemory> {
-        put_pcd_line_first(value, out)?;
-        put_pcd_line_second(value, out)?;
-        put_pcd_line_third(value, out)
+    #[tactic(auto, unfolding(crate::specs::Platform::pcd_line_encoding, packed_values::specs::Parts::pair_encoding, packed_values::specs::Parts::triple_encoding))]
+    fn encode(value: &PcdLine, out: &mut Vec<u8>) -> Result<(), WantOfMemory> {
+        encode_pcd_line_first(value, out)?;
+        encode_pcd_line_second(value, out)?;
+        encode_pcd_line_third(value, out)
     }
 
-    #[tactic(auto, unfolding(crate::specs::Platform::pcd_line_form, crate::specs::Platform::pcd_line_first_form, crate::specs::Platform::pcd_line_second_form, crate::specs::Platform::pcd_line_third_form), using(packed_values::proofs::WhereLemmas::unread_by))]
-    fn take(alloc: Global, input: &mut Input) -> Result<Option<PcdLine>, WantOfMemory> {
-        match <PcdLineGroups>::take(alloc, input)? {
+    #[tactic(auto, unfolding(crate::specs::Platform::pcd_line_encoding, crate::specs::Platform::pcd_line_first_encoding, crate::specs::Platform::pcd_line_second_encoding, crate::specs::Platform::pcd_line_third_encoding), using(packed_values::proofs::WhereLemmas::unread_by))]
+    fn decode(alloc: Global, input: &mut Input) -> Result<Option<PcdLine>, WantOfMemory> {
+        match <PcdLineGroups>::decode(alloc, input)? {
             None => Ok(None),
             Some(groups) => Ok(Some(join_pcd_line(groups))),
         }
     }
 }
 
-/// How a value of `Component` is spelled.
-pub struct ComponentForm;
+/// How a value of `Component` is encoded.
+pub struct ComponentEncoding;
 
-type ComponentFirst = (Place, ArchForm, Path);
+type ComponentFirst = (Place, ArchEncoding, Path);
 
-type ComponentSecond = (Option<Guid>, Rows<LibraryLineForm>, Rows<PcdLineForm>);
+type ComponentSecond = (
+    Option<Guid>,
+    Rows<LibraryLineEncoding>,
+    Rows<PcdLineEncoding>,
+);
 
 type ComponentGroups = (ComponentFirst, ComponentSecond);
 
 // Adds its fields from `at` on.
-#[tactic(auto, unfolding(crate::specs::Platform::component_first_form, packed_values::specs::Parts::pair_form, packed_values::specs::Parts::triple_form))]
-fn put_component_first(value: &Component, out: &mut Vec<u8>) -> Result<(), WantOfMemory>
+#[tactic(auto, unfolding(crate::specs::Platform::component_first_encoding, packed_values::specs::Parts::pair_encoding, packed_values::specs::Parts::triple_encoding))]
+fn encode_component_first(value: &Component, out: &mut Vec<u8>) -> Result<(), WantOfMemory>
     ensures { OnOk result
-        (IsPut component_first_form out.old.items (component_first value.now) out.new.items) }
+        (IsAppended component_first_encoding out.old.items (component_first value.now)
+        out.new.items) }
 {
-    all_put!(value, out; at: Place, arch: ArchForm, inf: Path)
+    encode_fields!(value, out; at: Place, arch: ArchEncoding, inf: Path)
 }
 
 // Adds its fields from `file_guid` on.
-#[tactic(auto, unfolding(crate::specs::Platform::component_second_form, packed_values::specs::Parts::pair_form, packed_values::specs::Parts::triple_form))]
-fn put_component_second(value: &Component, out: &mut Vec<u8>) -> Result<(), WantOfMemory>
+#[tactic(auto, unfolding(crate::specs::Platform::component_second_encoding, packed_values::specs::Parts::pair_encoding, packed_values::specs::Parts::triple_encoding))]
+fn encode_component_second(value: &Component, out: &mut Vec<u8>) -> Result<(), WantOfMemory>
     ensures { OnOk result
-        (IsPut component_second_form out.old.items (component_second value.now) out.new.items) }
+        (IsAppended component_second_encoding out.old.items (component_second value.now)
+        out.new.items) }
 {
-    all_put!(value, out; file_guid: Option<Guid>, libraries: Rows<LibraryLineForm>, pcds: Rows<PcdLineForm>)
+    encode_fields!(value, out; file_guid: Option<Guid>, libraries: Rows<LibraryLineEncoding>, pcds: Rows<PcdLineEncoding>)
 }
 
 // The record of all its fields.
-fn join_component(groups: <ComponentGroups as Packed>::Value) -> Component
+fn join_component(groups: <ComponentGroups as Encode>::Value) -> Component
     ensures { result ≡ component_of groups }
 {
     let (first, second) = groups;
@@ -222,72 +233,74 @@ fn join_component(groups: <ComponentGroups as Packed>::Value) -> Component
     }
 }
 
-impl Packed for ComponentForm {
+impl Encode for ComponentEncoding {
     type Value = Component;
 
-    ghost form = { component_form };
+    ghost encoding = { component_encoding };
 
-    #[tactic(auto, unfolding(crate::specs::Platform::component_form, packed_values::specs::Parts::pair_form))]
-    fn put(value: &Component, out: &mut Vec<u8>) -> Result<(), WantOfMemory> {
-        put_component_first(value, out)?;
-        put_component_second(value, out)
+    #[tactic(auto, unfolding(crate::specs::Platform::component_encoding, packed_values::specs::Parts::pair_encoding))]
+    fn encode(value: &Component, out: &mut Vec<u8>) -> Result<(), WantOfMemory> {
+        encode_component_first(value, out)?;
+        encode_component_second(value, out)
     }
 
-    #[tactic(auto, unfolding(crate::specs::Platform::component_form, crate::specs::Platform::component_first_form, crate::specs::Platform::component_second_form), using(packed_values::proofs::WhereLemmas::unread_by))]
-    fn take(alloc: Global, input: &mut Input) -> Result<Option<Component>, WantOfMemory> {
-        match <ComponentGroups>::take(alloc, input)? {
+    #[tactic(auto, unfolding(crate::specs::Platform::component_encoding, crate::specs::Platform::component_first_encoding, crate::specs::Platform::component_second_encoding), using(packed_values::proofs::WhereLemmas::unread_by))]
+    fn decode(alloc: Global, input: &mut Input) -> Result<Option<Component>, WantOfMemory> {
+        match <ComponentGroups>::decode(alloc, input)? {
             None => Ok(None),
             Some(groups) => Ok(Some(join_component(groups))),
         }
     }
 }
 
-/// How a value of `PlatformDoc` is spelled.
-pub struct PlatformDocForm;
+/// How a value of `PlatformDoc` is encoded.
+pub struct PlatformDocEncoding;
 
 type PlatformDocFirst = (Place, Text, Guid, Path);
 
-type PlatformDocSecond = (Rows<ArchForm>, Text, Option<Path>, Rows<SkuForm>);
+type PlatformDocSecond = (Rows<ArchEncoding>, Text, Option<Path>, Rows<SkuEncoding>);
 
 type PlatformDocThird = (
-    Rows<LibraryLineForm>,
-    Rows<ComponentForm>,
-    Rows<PcdLineForm>,
+    Rows<LibraryLineEncoding>,
+    Rows<ComponentEncoding>,
+    Rows<PcdLineEncoding>,
     Rows<Macro>,
 );
 
 type PlatformDocGroups = (PlatformDocFirst, PlatformDocSecond, PlatformDocThird);
 
 // Adds its fields from `at` on.
-#[tactic(auto, unfolding(crate::specs::Platform::platform_doc_first_form, packed_values::specs::Parts::pair_form, packed_values::specs::Parts::quadruple_form))]
-fn put_platform_doc_first(value: &PlatformDoc, out: &mut Vec<u8>) -> Result<(), WantOfMemory>
+#[tactic(auto, unfolding(crate::specs::Platform::platform_doc_first_encoding, packed_values::specs::Parts::pair_encoding, packed_values::specs::Parts::quadruple_encoding))]
+fn encode_platform_doc_first(value: &PlatformDoc, out: &mut Vec<u8>) -> Result<(), WantOfMemory>
     ensures { OnOk result
-        (IsPut platform_doc_first_form out.old.items (platform_doc_first value.now) out.new.items) }
+        (IsAppended platform_doc_first_encoding out.old.items (platform_doc_first value.now)
+        out.new.items) }
 {
-    all_put!(value, out; at: Place, name: Text, guid: Guid, output: Path)
+    encode_fields!(value, out; at: Place, name: Text, guid: Guid, output: Path)
 }
 
 // Adds its fields from `arches` on.
-#[tactic(auto, unfolding(crate::specs::Platform::platform_doc_second_form, packed_values::specs::Parts::pair_form, packed_values::specs::Parts::quadruple_form))]
-fn put_platform_doc_second(value: &PlatformDoc, out: &mut Vec<u8>) -> Result<(), WantOfMemory>
+#[tactic(auto, unfolding(crate::specs::Platform::platform_doc_second_encoding, packed_values::specs::Parts::pair_encoding, packed_values::specs::Parts::quadruple_encoding))]
+fn encode_platform_doc_second(value: &PlatformDoc, out: &mut Vec<u8>) -> Result<(), WantOfMemory>
     ensures { OnOk result
-        (IsPut platform_doc_second_form out.old.items (platform_doc_second value.now)
+        (IsAppended platform_doc_second_encoding out.old.items (platform_doc_second value.now)
         out.new.items) }
 {
-    all_put!(value, out; arches: Rows<ArchForm>, sku_choice: Text, flash: Option<Path>, skus: Rows<SkuForm>)
+    encode_fields!(value, out; arches: Rows<ArchEncoding>, sku_choice: Text, flash: Option<Path>, skus: Rows<SkuEncoding>)
 }
 
 // Adds its fields from `libraries` on.
-#[tactic(auto, unfolding(crate::specs::Platform::platform_doc_third_form, packed_values::specs::Parts::pair_form, packed_values::specs::Parts::quadruple_form))]
-fn put_platform_doc_third(value: &PlatformDoc, out: &mut Vec<u8>) -> Result<(), WantOfMemory>
+#[tactic(auto, unfolding(crate::specs::Platform::platform_doc_third_encoding, packed_values::specs::Parts::pair_encoding, packed_values::specs::Parts::quadruple_encoding))]
+fn encode_platform_doc_third(value: &PlatformDoc, out: &mut Vec<u8>) -> Result<(), WantOfMemory>
     ensures { OnOk result
-        (IsPut platform_doc_third_form out.old.items (platform_doc_third value.now) out.new.items) }
+        (IsAppended platform_doc_third_encoding out.old.items (platform_doc_third value.now)
+        out.new.items) }
 {
-    all_put!(value, out; libraries: Rows<LibraryLineForm>, components: Rows<ComponentForm>, pcds: Rows<PcdLineForm>, macros: Rows<Macro>)
+    encode_fields!(value, out; libraries: Rows<LibraryLineEncoding>, components: Rows<ComponentEncoding>, pcds: Rows<PcdLineEncoding>, macros: Rows<Macro>)
 }
 
 // The record of all its fields.
-fn join_platform_doc(groups: <PlatformDocGroups as Packed>::Value) -> PlatformDoc
+fn join_platform_doc(groups: <PlatformDocGroups as Encode>::Value) -> PlatformDoc
     ensures { result ≡ platform_doc_of groups }
 {
     let (first, second, third) = groups;
@@ -310,21 +323,21 @@ fn join_platform_doc(groups: <PlatformDocGroups as Packed>::Value) -> PlatformDo
     }
 }
 
-impl Packed for PlatformDocForm {
+impl Encode for PlatformDocEncoding {
     type Value = PlatformDoc;
 
-    ghost form = { platform_doc_form };
+    ghost encoding = { platform_doc_encoding };
 
-    #[tactic(auto, unfolding(crate::specs::Platform::platform_doc_form, packed_values::specs::Parts::pair_form, packed_values::specs::Parts::triple_form))]
-    fn put(value: &PlatformDoc, out: &mut Vec<u8>) -> Result<(), WantOfMemory> {
-        put_platform_doc_first(value, out)?;
-        put_platform_doc_second(value, out)?;
-        put_platform_doc_third(value, out)
+    #[tactic(auto, unfolding(crate::specs::Platform::platform_doc_encoding, packed_values::specs::Parts::pair_encoding, packed_values::specs::Parts::triple_encoding))]
+    fn encode(value: &PlatformDoc, out: &mut Vec<u8>) -> Result<(), WantOfMemory> {
+        encode_platform_doc_first(value, out)?;
+        encode_platform_doc_second(value, out)?;
+        encode_platform_doc_third(value, out)
     }
 
-    #[tactic(auto, unfolding(crate::specs::Platform::platform_doc_form, crate::specs::Platform::platform_doc_first_form, crate::specs::Platform::platform_doc_second_form, crate::specs::Platform::platform_doc_third_form), using(packed_values::proofs::WhereLemmas::unread_by))]
-    fn take(alloc: Global, input: &mut Input) -> Result<Option<PlatformDoc>, WantOfMemory> {
-        match <PlatformDocGroups>::take(alloc, input)? {
+    #[tactic(auto, unfolding(crate::specs::Platform::platform_doc_encoding, crate::specs::Platform::platform_doc_first_encoding, crate::specs::Platform::platform_doc_second_encoding, crate::specs::Platform::platform_doc_third_encoding), using(packed_values::proofs::WhereLemmas::unread_by))]
+    fn decode(alloc: Global, input: &mut Input) -> Result<Option<PlatformDoc>, WantOfMemory> {
+        match <PlatformDocGroups>::decode(alloc, input)? {
             None => Ok(None),
             Some(groups) => Ok(Some(join_platform_doc(groups))),
         }

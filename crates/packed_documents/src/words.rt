@@ -1,30 +1,30 @@
 //! Words: architectures, types of modules, and those of PCDs.
 ghost use Rattle.std.specs.Prelude.{◌≡◌, ◌++◌};
-ghost use Rattle.packed_values.specs.Form.{IsPut, IsRead, IsUnread};
-ghost use Rattle.packed_documents.specs.Words.{arch_form, asked_form, datum_form, kind_form, module_type_form};
+ghost use Rattle.packed_values.specs.Encoding.{IsAppended, IsRead, IsUnread};
+ghost use Rattle.packed_documents.specs.Words.{arch_encoding, asked_encoding, datum_encoding, kind_encoding, module_type_encoding};
 
 use build_base::WantOfMemory;
 use doc_types::arch::Arch;
 use doc_types::module_type::ModuleType;
 use doc_types::pcd::{Asked, Datum, Kind};
-use packed_values::plain::put_byte;
-use packed_values::{Input, Packed};
+use packed_values::plain::encode_byte;
+use packed_values::{Encode, Input};
 use std::alloc::Global;
 
-/// How a value of `Arch` is spelled.
-pub struct ArchForm;
+/// How a value of `Arch` is encoded.
+pub struct ArchEncoding;
 
-#[tactic(auto, unfolding(crate::specs::Words::arch_form, packed_values::specs::Plain::byte_form))]
-impl Packed for ArchForm {
+#[tactic(auto, unfolding(crate::specs::Words::arch_encoding, packed_values::specs::Plain::byte_encoding))]
+impl Encode for ArchEncoding {
     type Value = Arch;
 
-    ghost form = { arch_form };
+    ghost encoding = { arch_encoding };
 
-    fn put(value: &Arch, out: &mut Vec<u8>) -> Result<(), WantOfMemory> {
-        put_byte(*value as u8, out)
+    fn encode(value: &Arch, out: &mut Vec<u8>) -> Result<(), WantOfMemory> {
+        encode_byte(*value as u8, out)
     }
 
-    fn take(_alloc: Global, input: &mut Input) -> Result<Option<Arch>, WantOfMemory> {
+    fn decode(_alloc: Global, input: &mut Input) -> Result<Option<Arch>, WantOfMemory> {
         match input.byte() {
             Some(0) => Ok(Some(Arch::Common)),
             Some(1) => Ok(Some(Arch::Ia32)),
@@ -39,20 +39,20 @@ impl Packed for ArchForm {
     }
 }
 
-/// How a value of `ModuleType` is spelled.
-pub struct ModuleTypeForm;
+/// How a value of `ModuleType` is encoded.
+pub struct ModuleTypeEncoding;
 
-#[tactic(auto, unfolding(crate::specs::Words::module_type_form, packed_values::specs::Plain::byte_form))]
-impl Packed for ModuleTypeForm {
+#[tactic(auto, unfolding(crate::specs::Words::module_type_encoding, packed_values::specs::Plain::byte_encoding))]
+impl Encode for ModuleTypeEncoding {
     type Value = ModuleType;
 
-    ghost form = { module_type_form };
+    ghost encoding = { module_type_encoding };
 
-    fn put(value: &ModuleType, out: &mut Vec<u8>) -> Result<(), WantOfMemory> {
-        put_byte(*value as u8, out)
+    fn encode(value: &ModuleType, out: &mut Vec<u8>) -> Result<(), WantOfMemory> {
+        encode_byte(*value as u8, out)
     }
 
-    fn take(_alloc: Global, input: &mut Input) -> Result<Option<ModuleType>, WantOfMemory> {
+    fn decode(_alloc: Global, input: &mut Input) -> Result<Option<ModuleType>, WantOfMemory> {
         match input.byte() {
             Some(0) => Ok(Some(ModuleType::Base)),
             Some(1) => Ok(Some(ModuleType::Sec)),
@@ -75,20 +75,20 @@ impl Packed for ModuleTypeForm {
     }
 }
 
-/// How a value of `Kind` is spelled.
-pub struct KindForm;
+/// How a value of `Kind` is encoded.
+pub struct KindEncoding;
 
-#[tactic(auto, unfolding(crate::specs::Words::kind_form, packed_values::specs::Plain::byte_form))]
-impl Packed for KindForm {
+#[tactic(auto, unfolding(crate::specs::Words::kind_encoding, packed_values::specs::Plain::byte_encoding))]
+impl Encode for KindEncoding {
     type Value = Kind;
 
-    ghost form = { kind_form };
+    ghost encoding = { kind_encoding };
 
-    fn put(value: &Kind, out: &mut Vec<u8>) -> Result<(), WantOfMemory> {
-        put_byte(*value as u8, out)
+    fn encode(value: &Kind, out: &mut Vec<u8>) -> Result<(), WantOfMemory> {
+        encode_byte(*value as u8, out)
     }
 
-    fn take(_alloc: Global, input: &mut Input) -> Result<Option<Kind>, WantOfMemory> {
+    fn decode(_alloc: Global, input: &mut Input) -> Result<Option<Kind>, WantOfMemory> {
         match input.byte() {
             Some(0) => Ok(Some(Kind::FixedAtBuild)),
             Some(1) => Ok(Some(Kind::PatchableInModule)),
@@ -100,20 +100,20 @@ impl Packed for KindForm {
     }
 }
 
-/// How a value of `Datum` is spelled.
-pub struct DatumForm;
+/// How a value of `Datum` is encoded.
+pub struct DatumEncoding;
 
-#[tactic(auto, unfolding(crate::specs::Words::datum_form, packed_values::specs::Plain::byte_form))]
-impl Packed for DatumForm {
+#[tactic(auto, unfolding(crate::specs::Words::datum_encoding, packed_values::specs::Plain::byte_encoding))]
+impl Encode for DatumEncoding {
     type Value = Datum;
 
-    ghost form = { datum_form };
+    ghost encoding = { datum_encoding };
 
-    fn put(value: &Datum, out: &mut Vec<u8>) -> Result<(), WantOfMemory> {
-        put_byte(*value as u8, out)
+    fn encode(value: &Datum, out: &mut Vec<u8>) -> Result<(), WantOfMemory> {
+        encode_byte(*value as u8, out)
     }
 
-    fn take(_alloc: Global, input: &mut Input) -> Result<Option<Datum>, WantOfMemory> {
+    fn decode(_alloc: Global, input: &mut Input) -> Result<Option<Datum>, WantOfMemory> {
         match input.byte() {
             Some(0) => Ok(Some(Datum::U8)),
             Some(1) => Ok(Some(Datum::U16)),
@@ -126,20 +126,20 @@ impl Packed for DatumForm {
     }
 }
 
-/// How a value of `Asked` is spelled.
-pub struct AskedForm;
+/// How a value of `Asked` is encoded.
+pub struct AskedEncoding;
 
-#[tactic(auto, unfolding(crate::specs::Words::asked_form, packed_values::specs::Plain::byte_form))]
-impl Packed for AskedForm {
+#[tactic(auto, unfolding(crate::specs::Words::asked_encoding, packed_values::specs::Plain::byte_encoding))]
+impl Encode for AskedEncoding {
     type Value = Asked;
 
-    ghost form = { asked_form };
+    ghost encoding = { asked_encoding };
 
-    fn put(value: &Asked, out: &mut Vec<u8>) -> Result<(), WantOfMemory> {
-        put_byte(*value as u8, out)
+    fn encode(value: &Asked, out: &mut Vec<u8>) -> Result<(), WantOfMemory> {
+        encode_byte(*value as u8, out)
     }
 
-    fn take(_alloc: Global, input: &mut Input) -> Result<Option<Asked>, WantOfMemory> {
+    fn decode(_alloc: Global, input: &mut Input) -> Result<Option<Asked>, WantOfMemory> {
         match input.byte() {
             Some(0) => Ok(Some(Asked::Fixed)),
             Some(1) => Ok(Some(Asked::Feature)),

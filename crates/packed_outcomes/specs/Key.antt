@@ -1,15 +1,15 @@
--- The spelling of the keys of steps: the number of the variant, in the order of declaration, and
+-- The encoding of the keys of steps: the number of the variant, in the order of declaration, and
 -- its fields. The rule is this project's own.
 use Rattle.std.specs.Prelude.{◌≡◌, ◌⊎◌, ℕ, List, refl}
 use Rattle.std.proofs.Common.{inl, inr}
 use Rattle.doc_types.specs.declared.choice.Module.{Module}
 use Rattle.step_pack.specs.declared.key.Key.{Key}
 use Rattle.step_pack.specs.declared.key.Key.TheVariants as key
-use Rattle.packed_values.specs.Form.{Form}
-use Rattle.packed_values.specs.Plain.{number_form, path_form}
-use Rattle.packed_values.specs.Parts.{form_by, pair_form}
-use Rattle.packed_values.specs.Arms.{arm, last_arm, tagged_form, unit_form}
-use Rattle.packed_documents.specs.Made.{module_form}
+use Rattle.packed_values.specs.Encoding.{Encoding}
+use Rattle.packed_values.specs.Plain.{number_encoding, path_encoding}
+use Rattle.packed_values.specs.Parts.{encoding_by, pair_encoding}
+use Rattle.packed_values.specs.Arms.{arm, last_arm, tagged_encoding, unit_encoding}
+use Rattle.packed_documents.specs.Made.{module_encoding}
 
 abbrev pub KeyParts : Type 0
 KeyParts = List ℕ
@@ -88,19 +88,20 @@ key_back key.All = refl
 key_back key.Vpd = refl
 key_back (key.Based number) = refl
 
-unfoldable pub key_form : Form Key
-key_form = form_by key_parts key_of key_back
-    (tagged_form
-    (arm path_form
-    (arm path_form
-    (arm unit_form
-    (arm unit_form
-    (arm module_form
-    (arm unit_form
-    (arm module_form
-    (arm module_form
-    (arm module_form
-    (arm (pair_form (number_form 4) (number_form 4))
-    (arm (number_form 4)
-    (arm (number_form 4)
-    (arm unit_form (arm unit_form (arm unit_form (last_arm (number_form 4))))))))))))))))))
+unfoldable pub key_encoding : Encoding Key
+key_encoding = encoding_by key_parts key_of key_back
+    (tagged_encoding
+    (arm path_encoding
+    (arm path_encoding
+    (arm unit_encoding
+    (arm unit_encoding
+    (arm module_encoding
+    (arm unit_encoding
+    (arm module_encoding
+    (arm module_encoding
+    (arm module_encoding
+    (arm (pair_encoding (number_encoding 4) (number_encoding 4))
+    (arm (number_encoding 4)
+    (arm (number_encoding 4)
+    (arm unit_encoding
+    (arm unit_encoding (arm unit_encoding (last_arm (number_encoding 4))))))))))))))))))

@@ -1,4 +1,4 @@
--- The spelling of what steps give: the fields of a record in order, and an enum as the number of
+-- The encoding of what steps give: the fields of a record in order, and an enum as the number of
 -- the variant, in the order of declaration, and its fields. The rule is this project's own.
 use Rattle.std.specs.Prelude.{◌≡◌, ◌⊎◌, ℕ, List, Option, refl}
 use Rattle.std.proofs.Common.{inl, inr}
@@ -14,21 +14,21 @@ use Rattle.doc_types.specs.declared.vpd.Vpd.{Vpd}
 use Rattle.step_pack.specs.declared.out.Out.{Out}
 use Rattle.step_pack.specs.declared.out.Output.{Output}
 use Rattle.step_pack.specs.declared.out.Out.TheVariants as out
-use Rattle.packed_values.specs.Form.{Form}
-use Rattle.packed_values.specs.Plain.{byte_form, text_form, path_form}
-use Rattle.packed_values.specs.Parts.{form_by, pair_form, option_form, rows_form}
-use Rattle.packed_values.specs.Arms.{arm, last_arm, tagged_form}
-use Rattle.packed_documents.specs.Flash.{flash_doc_form}
-use Rattle.packed_documents.specs.Made.{choice_form, file_image_form, texts_form, values_form, vpd_form}
-use Rattle.packed_documents.specs.Module.{inf_doc_form}
-use Rattle.packed_documents.specs.Package.{dec_doc_form}
-use Rattle.packed_documents.specs.Platform.{platform_doc_form}
-use Rattle.packed_outcomes.specs.Key.{key_form}
+use Rattle.packed_values.specs.Encoding.{Encoding}
+use Rattle.packed_values.specs.Plain.{byte_encoding, text_encoding, path_encoding}
+use Rattle.packed_values.specs.Parts.{encoding_by, pair_encoding, option_encoding, rows_encoding}
+use Rattle.packed_values.specs.Arms.{arm, last_arm, tagged_encoding}
+use Rattle.packed_documents.specs.Flash.{flash_doc_encoding}
+use Rattle.packed_documents.specs.Made.{choice_encoding, file_image_encoding, texts_encoding, values_encoding, vpd_encoding}
+use Rattle.packed_documents.specs.Module.{inf_doc_encoding}
+use Rattle.packed_documents.specs.Package.{dec_doc_encoding}
+use Rattle.packed_documents.specs.Platform.{platform_doc_encoding}
+use Rattle.packed_outcomes.specs.Key.{key_encoding}
 
-unfoldable pub output_form : Form Output
-output_form = form_by (λ x. (x.path, (x.from, x.part)))
+unfoldable pub output_encoding : Encoding Output
+output_encoding = encoding_by (λ x. (x.path, (x.from, x.part)))
     (λ p. record { path = p.0; from = p.1.0; part = p.1.1 }) (λ x. refl)
-    (pair_form path_form (pair_form key_form byte_form))
+    (pair_encoding path_encoding (pair_encoding key_encoding byte_encoding))
 
 abbrev pub OutParts : Type 0
 OutParts = DecDoc
@@ -94,17 +94,18 @@ out_back (out.Report text) = refl
 out_back (out.All outputs) = refl
 out_back (out.Vpd image) = refl
 
-unfoldable pub out_form : Form Out
-out_form = form_by out_parts out_of out_back
-    (tagged_form
-    (arm dec_doc_form
-    (arm inf_doc_form
-    (arm platform_doc_form
-    (arm flash_doc_form
-    (arm choice_form
-    (arm values_form
-    (arm (option_form texts_form)
-    (arm text_form
-    (arm file_image_form
-    (arm text_form
-    (arm text_form (arm text_form (arm (rows_form output_form) (last_arm vpd_form)))))))))))))))
+unfoldable pub out_encoding : Encoding Out
+out_encoding = encoding_by out_parts out_of out_back
+    (tagged_encoding
+    (arm dec_doc_encoding
+    (arm inf_doc_encoding
+    (arm platform_doc_encoding
+    (arm flash_doc_encoding
+    (arm choice_encoding
+    (arm values_encoding
+    (arm (option_encoding texts_encoding)
+    (arm text_encoding
+    (arm file_image_encoding
+    (arm text_encoding
+    (arm text_encoding
+    (arm text_encoding (arm (rows_encoding output_encoding) (last_arm vpd_encoding)))))))))))))))

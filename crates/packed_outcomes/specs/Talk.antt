@@ -1,4 +1,4 @@
--- The spelling of asks, answers and outcomes: the number of the variant, in the order of
+-- The encoding of asks, answers and outcomes: the number of the variant, in the order of
 -- declaration, and its fields. The rule is this project's own.
 use Rattle.std.specs.Prelude.{◌≡◌, ◌⊎◌, ℕ, List, refl}
 use Rattle.std.proofs.Common.{inl, inr}
@@ -11,13 +11,13 @@ use Rattle.step_engine.specs.declared.talk.Outcome.{Outcome}
 use Rattle.step_engine.specs.declared.talk.Ask.TheVariants as ask
 use Rattle.step_engine.specs.declared.talk.Outcome.TheVariants as outcome
 use Rattle.step_engine.specs.declared.talk.Answer.TheVariants as answer
-use Rattle.packed_values.specs.Form.{Form}
-use Rattle.packed_values.specs.Plain.{byte_form, text_form, path_form}
-use Rattle.packed_values.specs.Base.{fault_form}
-use Rattle.packed_values.specs.Parts.{form_by}
-use Rattle.packed_values.specs.Arms.{arm, last_arm, tagged_form, unit_form}
-use Rattle.packed_outcomes.specs.Key.{key_form}
-use Rattle.packed_outcomes.specs.Out.{out_form}
+use Rattle.packed_values.specs.Encoding.{Encoding}
+use Rattle.packed_values.specs.Plain.{byte_encoding, text_encoding, path_encoding}
+use Rattle.packed_values.specs.Base.{fault_encoding}
+use Rattle.packed_values.specs.Parts.{encoding_by}
+use Rattle.packed_values.specs.Arms.{arm, last_arm, tagged_encoding, unit_encoding}
+use Rattle.packed_outcomes.specs.Key.{key_encoding}
+use Rattle.packed_outcomes.specs.Out.{out_encoding}
 
 abbrev pub AskParts : Type 0
 AskParts = List ℕ ⊎ (ℕ ⊎ Key)
@@ -37,9 +37,9 @@ ask_back (ask.File path) = refl
 ask_back (ask.Field number) = refl
 ask_back (ask.Part part) = refl
 
-unfoldable pub ask_form : Form (Ask Key)
-ask_form = form_by ask_parts ask_of ask_back
-    (tagged_form (arm path_form (arm byte_form (last_arm key_form))))
+unfoldable pub ask_encoding : Encoding (Ask Key)
+ask_encoding = encoding_by ask_parts ask_of ask_back
+    (tagged_encoding (arm path_encoding (arm byte_encoding (last_arm key_encoding))))
 
 abbrev pub OutcomeParts : Type 0
 OutcomeParts = Out ⊎ Fault
@@ -56,9 +56,9 @@ pub outcome_back : (x : Outcome Out) → outcome_of (outcome_parts x) ≡ x
 outcome_back (outcome.Good given) = refl
 outcome_back (outcome.Bad fault) = refl
 
-unfoldable pub outcome_form : Form (Outcome Out)
-outcome_form = form_by outcome_parts outcome_of outcome_back
-    (tagged_form (arm out_form (last_arm fault_form)))
+unfoldable pub outcome_encoding : Encoding (Outcome Out)
+outcome_encoding = encoding_by outcome_parts outcome_of outcome_back
+    (tagged_encoding (arm out_encoding (last_arm fault_encoding)))
 
 abbrev pub AnswerParts : Type 0
 AnswerParts = Unit {0} ⊎ (Unit {0} ⊎ (List ℕ ⊎ (List ℕ ⊎ Outcome Out)))
@@ -84,7 +84,8 @@ answer_back (answer.Bytes text) = refl
 answer_back (answer.Field text) = refl
 answer_back (answer.Part given) = refl
 
-unfoldable pub answer_form : Form (Answer Out)
-answer_form = form_by answer_parts answer_of answer_back
-    (tagged_form
-    (arm unit_form (arm unit_form (arm text_form (arm text_form (last_arm outcome_form))))))
+unfoldable pub answer_encoding : Encoding (Answer Out)
+answer_encoding = encoding_by answer_parts answer_of answer_back
+    (tagged_encoding
+    (arm unit_encoding
+    (arm unit_encoding (arm text_encoding (arm text_encoding (last_arm outcome_encoding))))))

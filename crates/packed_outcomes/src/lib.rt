@@ -1,4 +1,4 @@
-//! The keys of steps, what steps give and what they are answered as bytes, with one spelling each.
+//! The keys of steps, what steps give and what they are answered as bytes, with one encoding each.
 #![tactic(auto)]
 
 pub mod key;

@@ -1,72 +1,74 @@
 //! What steps give.
 ghost use Rattle.std.specs.Prelude.{◌≡◌, ◌<◌, ◌≤◌, ◌++◌, ◌∷◌, IfOk};
-ghost use Rattle.packed_values.specs.Form.{Takes, IsPut, IsRead, IsUnread};
-ghost use Rattle.packed_outcomes.specs.Out.{out_form, output_form};
+ghost use Rattle.packed_values.specs.Encoding.{Decodes, IsAppended, IsRead, IsUnread};
+ghost use Rattle.packed_outcomes.specs.Out.{out_encoding, output_encoding};
 
-use crate::key::KeyForm;
+use crate::key::KeyEncoding;
 use build_base::{Image, Path, Rows, Text, WantOfMemory};
-use packed_documents::flash::FlashDocForm;
-use packed_documents::made::{ChoiceForm, FileImageForm, TextsForm, ValuesForm, VpdForm};
-use packed_documents::module::InfDocForm;
-use packed_documents::package::DecDocForm;
-use packed_documents::platform::PlatformDocForm;
-use packed_values::plain::put_byte;
-use packed_values::{Input, Packed, all_put, all_taken};
+use packed_documents::flash::FlashDocEncoding;
+use packed_documents::made::{
+    ChoiceEncoding, FileImageEncoding, TextsEncoding, ValuesEncoding, VpdEncoding,
+};
+use packed_documents::module::InfDocEncoding;
+use packed_documents::package::DecDocEncoding;
+use packed_documents::platform::PlatformDocEncoding;
+use packed_values::plain::encode_byte;
+use packed_values::{Encode, Input, decode_fields, encode_fields};
 use shared_value::Shared;
 use std::alloc::Global;
 use step_pack::{Out, Output};
 
-/// How a value of `Output` is spelled.
-pub struct OutputForm;
+/// How a value of `Output` is encoded.
+pub struct OutputEncoding;
 
-impl Packed for OutputForm {
+impl Encode for OutputEncoding {
     type Value = Output;
 
-    ghost form = { output_form };
+    ghost encoding = { output_encoding };
 
-    #[tactic(auto, unfolding(crate::specs::Out::output_form, packed_values::specs::Parts::pair_form))]
-    fn put(value: &Output, out: &mut Vec<u8>) -> Result<(), WantOfMemory> {
-        all_put!(value, out; path: Path, from: KeyForm, part: u8)
+    #[tactic(auto, unfolding(crate::specs::Out::output_encoding, packed_values::specs::Parts::pair_encoding))]
+    fn encode(value: &Output, out: &mut Vec<u8>) -> Result<(), WantOfMemory> {
+        encode_fields!(value, out; path: Path, from: KeyEncoding, part: u8)
     }
 
-    #[tactic(auto, unfolding(crate::specs::Out::output_form), using(packed_values::proofs::WhereLemmas::unread_by))]
-    fn take(alloc: Global, input: &mut Input) -> Result<Option<Output>, WantOfMemory> {
-        all_taken!(Output, alloc, input; path: Path, from: KeyForm, part: u8)
+    #[tactic(auto, unfolding(crate::specs::Out::output_encoding), using(packed_values::proofs::WhereLemmas::unread_by))]
+    fn decode(alloc: Global, input: &mut Input) -> Result<Option<Output>, WantOfMemory> {
+        decode_fields!(Output, alloc, input; path: Path, from: KeyEncoding, part: u8)
     }
 }
 
 // What stands behind the tag of documents, libraries, values or texts.
-#[tactic(auto, unfolding(crate::specs::Out::out_form, packed_values::specs::Arms::tagged_form, packed_values::specs::Arms::arm, packed_values::specs::Arms::last_arm, packed_values::specs::Plain::byte_form))]
-fn take_told(alloc: Global, input: &mut Input, tag: u8) -> Result<Option<Out>, WantOfMemory>
+#[tactic(auto, unfolding(crate::specs::Out::out_encoding, packed_values::specs::Arms::tagged_encoding, packed_values::specs::Arms::arm, packed_values::specs::Arms::last_arm, packed_values::specs::Plain::byte_encoding))]
+fn decode_told(alloc: Global, input: &mut Input, tag: u8) -> Result<Option<Out>, WantOfMemory>
     requires { tag < 7 }
-    ensures { IfOk result (λ r. Takes out_form (tag ∷ input.old) r input.new) }
+    ensures { IfOk result (λ r. Decodes out_encoding (tag ∷ input.old) r input.new) }
 {
     match tag {
-        0 => match <Shared<DecDocForm>>::take(alloc, input)? {
+        0 => match <Shared<DecDocEncoding>>::decode(alloc, input)? {
             None => Ok(None),
             Some(document) => Ok(Some(Out::Dec(document))),
         },
-        1 => match <Shared<InfDocForm>>::take(alloc, input)? {
+        1 => match <Shared<InfDocEncoding>>::decode(alloc, input)? {
             None => Ok(None),
             Some(document) => Ok(Some(Out::Inf(document))),
         },
-        2 => match <Shared<PlatformDocForm>>::take(alloc, input)? {
+        2 => match <Shared<PlatformDocEncoding>>::decode(alloc, input)? {
             None => Ok(None),
             Some(document) => Ok(Some(Out::Platform(document))),
         },
-        3 => match <Shared<FlashDocForm>>::take(alloc, input)? {
+        3 => match <Shared<FlashDocEncoding>>::decode(alloc, input)? {
             None => Ok(None),
             Some(document) => Ok(Some(Out::Flash(document))),
         },
-        4 => match ChoiceForm::take(alloc, input)? {
+        4 => match ChoiceEncoding::decode(alloc, input)? {
             None => Ok(None),
             Some(choice) => Ok(Some(Out::Choice(choice))),
         },
-        5 => match <Shared<ValuesForm>>::take(alloc, input)? {
+        5 => match <Shared<ValuesEncoding>>::decode(alloc, input)? {
             None => Ok(None),
             Some(values) => Ok(Some(Out::Values(values))),
         },
-        6 => match <Option<TextsForm> as Packed>::take(alloc, input)? {
+        6 => match <Option<TextsEncoding> as Encode>::decode(alloc, input)? {
             None => Ok(None),
             Some(texts) => Ok(Some(Out::Code(texts))),
         },
@@ -75,37 +77,37 @@ fn take_told(alloc: Global, input: &mut Input, tag: u8) -> Result<Option<Out>, W
 }
 
 // What stands behind any other tag.
-#[tactic(auto, unfolding(crate::specs::Out::out_form, packed_values::specs::Arms::tagged_form, packed_values::specs::Arms::arm, packed_values::specs::Arms::last_arm, packed_values::specs::Plain::byte_form))]
-fn take_made(alloc: Global, input: &mut Input, tag: u8) -> Result<Option<Out>, WantOfMemory>
+#[tactic(auto, unfolding(crate::specs::Out::out_encoding, packed_values::specs::Arms::tagged_encoding, packed_values::specs::Arms::arm, packed_values::specs::Arms::last_arm, packed_values::specs::Plain::byte_encoding))]
+fn decode_made(alloc: Global, input: &mut Input, tag: u8) -> Result<Option<Out>, WantOfMemory>
     requires { 7 ≤ tag }
-    ensures { IfOk result (λ r. Takes out_form (tag ∷ input.old) r input.new) }
+    ensures { IfOk result (λ r. Decodes out_encoding (tag ∷ input.old) r input.new) }
 {
     match tag {
-        7 => match Text::take(alloc, input)? {
+        7 => match Text::decode(alloc, input)? {
             None => Ok(None),
             Some(bytes) => Ok(Some(Out::Depex(bytes))),
         },
-        8 => match FileImageForm::take(alloc, input)? {
+        8 => match FileImageEncoding::decode(alloc, input)? {
             None => Ok(None),
             Some(file) => Ok(Some(Out::File(file))),
         },
-        9 => match Image::take(alloc, input)? {
+        9 => match Image::decode(alloc, input)? {
             None => Ok(None),
             Some(image) => Ok(Some(Out::Volume(image))),
         },
-        10 => match Image::take(alloc, input)? {
+        10 => match Image::decode(alloc, input)? {
             None => Ok(None),
             Some(image) => Ok(Some(Out::Device(image))),
         },
-        11 => match Text::take(alloc, input)? {
+        11 => match Text::decode(alloc, input)? {
             None => Ok(None),
             Some(text) => Ok(Some(Out::Report(text))),
         },
-        12 => match <Rows<OutputForm>>::take(alloc, input)? {
+        12 => match <Rows<OutputEncoding>>::decode(alloc, input)? {
             None => Ok(None),
             Some(outputs) => Ok(Some(Out::All(outputs))),
         },
-        13 => match VpdForm::take(alloc, input)? {
+        13 => match VpdEncoding::decode(alloc, input)? {
             None => Ok(None),
             Some(image) => Ok(Some(Out::Vpd(image))),
         },
@@ -113,82 +115,82 @@ fn take_made(alloc: Global, input: &mut Input, tag: u8) -> Result<Option<Out>, W
     }
 }
 
-/// How a value of `Out` is spelled.
-pub struct OutForm;
+/// How a value of `Out` is encoded.
+pub struct OutEncoding;
 
-impl Packed for OutForm {
+impl Encode for OutEncoding {
     type Value = Out;
 
-    ghost form = { out_form };
+    ghost encoding = { out_encoding };
 
-    #[tactic(auto, unfolding(crate::specs::Out::out_form, packed_values::specs::Arms::tagged_form, packed_values::specs::Arms::arm, packed_values::specs::Arms::last_arm, packed_values::specs::Plain::byte_form))]
-    fn put(value: &Out, out: &mut Vec<u8>) -> Result<(), WantOfMemory> {
+    #[tactic(auto, unfolding(crate::specs::Out::out_encoding, packed_values::specs::Arms::tagged_encoding, packed_values::specs::Arms::arm, packed_values::specs::Arms::last_arm, packed_values::specs::Plain::byte_encoding))]
+    fn encode(value: &Out, out: &mut Vec<u8>) -> Result<(), WantOfMemory> {
         match value {
             Out::Dec(document) => {
-                put_byte(0, out)?;
-                <Shared<DecDocForm>>::put(document, out)
+                encode_byte(0, out)?;
+                <Shared<DecDocEncoding>>::encode(document, out)
             }
             Out::Inf(document) => {
-                put_byte(1, out)?;
-                <Shared<InfDocForm>>::put(document, out)
+                encode_byte(1, out)?;
+                <Shared<InfDocEncoding>>::encode(document, out)
             }
             Out::Platform(document) => {
-                put_byte(2, out)?;
-                <Shared<PlatformDocForm>>::put(document, out)
+                encode_byte(2, out)?;
+                <Shared<PlatformDocEncoding>>::encode(document, out)
             }
             Out::Flash(document) => {
-                put_byte(3, out)?;
-                <Shared<FlashDocForm>>::put(document, out)
+                encode_byte(3, out)?;
+                <Shared<FlashDocEncoding>>::encode(document, out)
             }
             Out::Choice(choice) => {
-                put_byte(4, out)?;
-                ChoiceForm::put(choice, out)
+                encode_byte(4, out)?;
+                ChoiceEncoding::encode(choice, out)
             }
             Out::Values(values) => {
-                put_byte(5, out)?;
-                <Shared<ValuesForm>>::put(values, out)
+                encode_byte(5, out)?;
+                <Shared<ValuesEncoding>>::encode(values, out)
             }
             Out::Code(texts) => {
-                put_byte(6, out)?;
-                <Option<TextsForm> as Packed>::put(texts, out)
+                encode_byte(6, out)?;
+                <Option<TextsEncoding> as Encode>::encode(texts, out)
             }
             Out::Depex(bytes) => {
-                put_byte(7, out)?;
-                Text::put(bytes, out)
+                encode_byte(7, out)?;
+                Text::encode(bytes, out)
             }
             Out::File(file) => {
-                put_byte(8, out)?;
-                FileImageForm::put(file, out)
+                encode_byte(8, out)?;
+                FileImageEncoding::encode(file, out)
             }
             Out::Volume(image) => {
-                put_byte(9, out)?;
-                Image::put(image, out)
+                encode_byte(9, out)?;
+                Image::encode(image, out)
             }
             Out::Device(image) => {
-                put_byte(10, out)?;
-                Image::put(image, out)
+                encode_byte(10, out)?;
+                Image::encode(image, out)
             }
             Out::Report(text) => {
-                put_byte(11, out)?;
-                Text::put(text, out)
+                encode_byte(11, out)?;
+                Text::encode(text, out)
             }
             Out::All(outputs) => {
-                put_byte(12, out)?;
-                <Rows<OutputForm>>::put(outputs, out)
+                encode_byte(12, out)?;
+                <Rows<OutputEncoding>>::encode(outputs, out)
             }
             Out::Vpd(image) => {
-                put_byte(13, out)?;
-                VpdForm::put(image, out)
+                encode_byte(13, out)?;
+                VpdEncoding::encode(image, out)
             }
         }
     }
 
-    #[tactic(auto, unfolding(crate::specs::Out::out_form, packed_values::specs::Arms::tagged_form, packed_values::specs::Arms::arm, packed_values::specs::Arms::last_arm, packed_values::specs::Plain::byte_form))]
-    fn take(alloc: Global, input: &mut Input) -> Result<Option<Out>, WantOfMemory> {
+    #[tactic(auto, unfolding(crate::specs::Out::out_encoding, packed_values::specs::Arms::tagged_encoding, packed_values::specs::Arms::arm, packed_values::specs::Arms::last_arm, packed_values::specs::Plain::byte_encoding))]
+    fn decode(alloc: Global, input: &mut Input) -> Result<Option<Out>, WantOfMemory> {
         match input.byte() {
             None => Ok(None),
-            Some(tag) if tag < 7 => take_told(alloc, input, tag),
-            Some(tag) => take_made(alloc, input, tag),
+            Some(tag) if tag < 7 => decode_told(alloc, input, tag),
+            Some(tag) => decode_made(alloc, input, tag),
         }
     }
 }

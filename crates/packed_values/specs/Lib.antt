@@ -1,4 +1,4 @@
-pub mod Form
+pub mod Encoding
 pub mod Plain
 pub mod Parts
 pub mod Arms

@@ -1,4 +1,4 @@
--- The spelling of bytes, numbers, truth values, texts, paths and GUIDs: the rule is this project's
+-- The encoding of bytes, numbers, truth values, texts, paths and GUIDs: the rule is this project's
 -- own. A number has its bytes lowest first.
 use Rattle.std.specs.Prelude.{◌≡◌, ◌++◌, ◌^◌, ℕ, Bool, true, false, List, [], ◌∷◌, length, nat_lt, ◌&&◌, ◌==◌}
 use Rattle.std.specs.Int.{bytes_low_first}
@@ -10,7 +10,7 @@ use borrow.Author.Tests.{ltb-true}
 use Rattle.std.proofs.lemmas.Bool.{eqb-true}
 use Rattle.build_base.specs.Path.{is_path}
 use Rattle.build_base.specs.declared.guid.Guid.{Guid}
-use Rattle.packed_values.specs.Form.{Form}
+use Rattle.packed_values.specs.Encoding.{Encoding}
 
 pub append_split : (x y r s : List ℕ) → length x ≡ length y → x ++ r ≡ y ++ s → (x ≡ y) × (r ≡ s)
 append_split [] [] r s len e = (refl, e)
@@ -26,9 +26,9 @@ pub and_left : (a b : Bool) → (a && b) ≡ true → a ≡ true
 and_left true b e = refl
 and_left false b e = e
 
-unfoldable pub byte_form : Form ℕ
-byte_form = record {
-  spelling = λ x. x ∷ [];
+unfoldable pub byte_encoding : Encoding ℕ
+byte_encoding = record {
+  encode = λ x. x ∷ [];
   is_value = λ x. nat_lt x 256;
   unique = λ x y r s vx vy e. (cc, cc);
 }
@@ -43,9 +43,9 @@ number_unique k x y r s vx vy e =
     let P : ℕ → Type 0 = λ z. bytes_low_first 0 k x ++ r ≡ bytes_low_first 0 k z ++ s in
     (same, append_cancel_left (bytes_low_first 0 k x) r s (subst P (sym same) e))
 
-unfoldable pub number_form : ℕ → Form ℕ
-number_form k = record {
-  spelling = λ x. bytes_low_first 0 k x;
+unfoldable pub number_encoding : ℕ → Encoding ℕ
+number_encoding k = record {
+  encode = λ x. bytes_low_first 0 k x;
   is_value = λ x. nat_lt x (256 ^ k);
   unique = number_unique k;
 }
@@ -61,9 +61,9 @@ bool_unique false false r s e = (refl, cc)
 bool_unique true false r s e = cc
 bool_unique false true r s e = cc
 
-unfoldable pub bool_form : Form Bool
-bool_form = record {
-  spelling = λ b. bool_byte b ∷ [];
+unfoldable pub bool_encoding : Encoding Bool
+bool_encoding = record {
+  encode = λ b. bool_byte b ∷ [];
   is_value = λ _. true;
   unique = λ x y r s vx vy e. bool_unique x y r s e;
 }
@@ -79,28 +79,28 @@ text_unique x y r s vx vy e =
     ∙ append_assoc (bytes_low_first 0 8 (length y)) y s) in
     append_split x y r s both.0 both.1
 
-unfoldable pub text_form : Form (List ℕ)
-text_form = record {
-  spelling = λ x. bytes_low_first 0 8 (length x) ++ x;
+unfoldable pub text_encoding : Encoding (List ℕ)
+text_encoding = record {
+  encode = λ x. bytes_low_first 0 8 (length x) ++ x;
   is_value = λ x. nat_lt (length x) (256 ^ 8);
   unique = text_unique;
 }
 
 -- the same, of the members that pass a test
-abbrev pub form_where : {A : Type 0} → (A → Bool) → Form A → Form A
-form_where test form = record {
-  spelling = form.spelling;
-  is_value = λ x. form.is_value x && test x;
-  unique = λ x y r s vx vy e. form.unique x y r s (and_left _ _ vx) (and_left _ _ vy) e;
+abbrev pub encoding_where : {A : Type 0} → (A → Bool) → Encoding A → Encoding A
+encoding_where test encoding = record {
+  encode = encoding.encode;
+  is_value = λ x. encoding.is_value x && test x;
+  unique = λ x y r s vx vy e. encoding.unique x y r s (and_left _ _ vx) (and_left _ _ vy) e;
 }
 
-unfoldable pub path_form : Form (List ℕ)
-path_form = form_where is_path text_form
+unfoldable pub path_encoding : Encoding (List ℕ)
+path_encoding = encoding_where is_path text_encoding
 
 -- a GUID: its sixteen bytes
-unfoldable pub guid_form : Form Guid
-guid_form = record {
-  spelling = λ x. x.0;
+unfoldable pub guid_encoding : Encoding Guid
+guid_encoding = record {
+  encode = λ x. x.0;
   is_value = λ x. length x.0 == 16;
   unique = λ x y r s vx vy e.
       let both = append_split x.0 y.0 r s (eqb-true _ _ vx ∙ sym (eqb-true _ _ vy)) e in

@@ -1,11 +1,11 @@
-//! Images, which are spelled as texts.
+//! Images, which are encoded as texts.
 ghost use Rattle.std.specs.Prelude.{◌≡◌, ◌++◌, ◌<◌, ◌^◌, length, OnOk, IfOk};
-ghost use Rattle.packed_values.specs.Form.{IsPut, IsRead, IsUnread};
-ghost use Rattle.packed_values.specs.Plain.{text_form};
+ghost use Rattle.packed_values.specs.Encoding.{IsAppended, IsRead, IsUnread};
+ghost use Rattle.packed_values.specs.Plain.{text_encoding};
 
-use crate::bytes::take_text;
+use crate::bytes::decode_text;
+use crate::encode::Encode;
 use crate::input::Input;
-use crate::packed::Packed;
 use build_base::{Image, Rows, Run, Text, WantOfMemory};
 use std::alloc::Global;
 
@@ -31,19 +31,19 @@ fn image_of(alloc: Global, text: Text) -> Result<Image, WantOfMemory>
     Ok(Image::of_runs(runs))
 }
 
-impl Packed for Image {
+impl Encode for Image {
     type Value = Image;
 
-    ghost form = { text_form };
+    ghost encoding = { text_encoding };
 
-    #[tactic(auto, unfolding(crate::specs::Plain::text_form, crate::specs::Plain::number_form))]
-    fn put(value: &Image, out: &mut Vec<u8>) -> Result<(), WantOfMemory> {
-        u64::put(&value.length(), out)?;
+    #[tactic(auto, unfolding(crate::specs::Plain::text_encoding, crate::specs::Plain::number_encoding))]
+    fn encode(value: &Image, out: &mut Vec<u8>) -> Result<(), WantOfMemory> {
+        u64::encode(&value.length(), out)?;
         put_pieces(value, out)
     }
 
-    fn take(alloc: Global, input: &mut Input) -> Result<Option<Image>, WantOfMemory> {
-        match take_text(alloc, input)? {
+    fn decode(alloc: Global, input: &mut Input) -> Result<Option<Image>, WantOfMemory> {
+        match decode_text(alloc, input)? {
             None => Ok(None),
             Some(text) => Ok(Some(image_of(alloc, text)?)),
         }

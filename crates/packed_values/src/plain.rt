@@ -1,18 +1,18 @@
 //! Numbers and truth values.
 ghost use Rattle.std.specs.Prelude.{◌≡◌, length, OnOk, ◌++◌};
 ghost use Rattle.std.specs.Int.{bytes_low_first};
-ghost use Rattle.packed_values.specs.Form.{IsPut, IsRead, IsUnread};
-ghost use Rattle.packed_values.specs.Plain.{byte_form, number_form, bool_form};
+ghost use Rattle.packed_values.specs.Encoding.{IsAppended, IsRead, IsUnread};
+ghost use Rattle.packed_values.specs.Plain.{byte_encoding, number_encoding, bool_encoding};
 
+use crate::encode::Encode;
 use crate::input::Input;
-use crate::packed::Packed;
 use build_base::WantOfMemory;
 use std::alloc::Global;
 
-/// Adds the spelling of a byte.
-#[tactic(auto, unfolding(crate::specs::Plain::byte_form))]
-pub fn put_byte(byte: u8, out: &mut Vec<u8>) -> Result<(), WantOfMemory>
-    ensures { OnOk result (IsPut byte_form out.old.items byte out.new.items) }
+/// Adds the encoding of a byte.
+#[tactic(auto, unfolding(crate::specs::Plain::byte_encoding))]
+pub fn encode_byte(byte: u8, out: &mut Vec<u8>) -> Result<(), WantOfMemory>
+    ensures { OnOk result (IsAppended byte_encoding out.old.items byte out.new.items) }
 {
     if out.push(byte).is_err() {
         return Err(WantOfMemory);
@@ -20,32 +20,32 @@ pub fn put_byte(byte: u8, out: &mut Vec<u8>) -> Result<(), WantOfMemory>
     Ok(())
 }
 
-#[tactic(auto, unfolding(crate::specs::Plain::byte_form))]
-impl Packed for u8 {
+#[tactic(auto, unfolding(crate::specs::Plain::byte_encoding))]
+impl Encode for u8 {
     type Value = u8;
 
-    ghost form = { byte_form };
+    ghost encoding = { byte_encoding };
 
-    fn put(value: &u8, out: &mut Vec<u8>) -> Result<(), WantOfMemory> {
-        put_byte(*value, out)
+    fn encode(value: &u8, out: &mut Vec<u8>) -> Result<(), WantOfMemory> {
+        encode_byte(*value, out)
     }
 
-    fn take(_alloc: Global, input: &mut Input) -> Result<Option<u8>, WantOfMemory> {
+    fn decode(_alloc: Global, input: &mut Input) -> Result<Option<u8>, WantOfMemory> {
         Ok(input.byte())
     }
 }
 
-#[tactic(auto, unfolding(crate::specs::Plain::bool_form, crate::specs::Plain::byte_form))]
-impl Packed for bool {
+#[tactic(auto, unfolding(crate::specs::Plain::bool_encoding, crate::specs::Plain::byte_encoding))]
+impl Encode for bool {
     type Value = bool;
 
-    ghost form = { bool_form };
+    ghost encoding = { bool_encoding };
 
-    fn put(value: &bool, out: &mut Vec<u8>) -> Result<(), WantOfMemory> {
-        put_byte(if *value { 1 } else { 0 }, out)
+    fn encode(value: &bool, out: &mut Vec<u8>) -> Result<(), WantOfMemory> {
+        encode_byte(if *value { 1 } else { 0 }, out)
     }
 
-    fn take(_alloc: Global, input: &mut Input) -> Result<Option<bool>, WantOfMemory> {
+    fn decode(_alloc: Global, input: &mut Input) -> Result<Option<bool>, WantOfMemory> {
         match input.byte() {
             Some(0) => Ok(Some(false)),
             Some(1) => Ok(Some(true)),
@@ -72,18 +72,18 @@ fn u64_of(own: [u8; 8]) -> u64
     u64::from_le_bytes(own)
 }
 
-#[tactic(auto, unfolding(crate::specs::Plain::number_form))]
-impl Packed for u16 {
+#[tactic(auto, unfolding(crate::specs::Plain::number_encoding))]
+impl Encode for u16 {
     type Value = u16;
 
-    ghost form = { number_form 2 };
+    ghost encoding = { number_encoding 2 };
 
-    fn put(value: &u16, out: &mut Vec<u8>) -> Result<(), WantOfMemory> {
+    fn encode(value: &u16, out: &mut Vec<u8>) -> Result<(), WantOfMemory> {
         out.extend_from_slice(value.to_le_bytes().as_slice())?;
         Ok(())
     }
 
-    fn take(_alloc: Global, input: &mut Input) -> Result<Option<u16>, WantOfMemory> {
+    fn decode(_alloc: Global, input: &mut Input) -> Result<Option<u16>, WantOfMemory> {
         match input.bytes(2) {
             None => Ok(None),
             Some(bytes) => {
@@ -95,18 +95,18 @@ impl Packed for u16 {
     }
 }
 
-#[tactic(auto, unfolding(crate::specs::Plain::number_form))]
-impl Packed for u32 {
+#[tactic(auto, unfolding(crate::specs::Plain::number_encoding))]
+impl Encode for u32 {
     type Value = u32;
 
-    ghost form = { number_form 4 };
+    ghost encoding = { number_encoding 4 };
 
-    fn put(value: &u32, out: &mut Vec<u8>) -> Result<(), WantOfMemory> {
+    fn encode(value: &u32, out: &mut Vec<u8>) -> Result<(), WantOfMemory> {
         out.extend_from_slice(value.to_le_bytes().as_slice())?;
         Ok(())
     }
 
-    fn take(_alloc: Global, input: &mut Input) -> Result<Option<u32>, WantOfMemory> {
+    fn decode(_alloc: Global, input: &mut Input) -> Result<Option<u32>, WantOfMemory> {
         match input.bytes(4) {
             None => Ok(None),
             Some(bytes) => {
@@ -118,18 +118,18 @@ impl Packed for u32 {
     }
 }
 
-#[tactic(auto, unfolding(crate::specs::Plain::number_form))]
-impl Packed for u64 {
+#[tactic(auto, unfolding(crate::specs::Plain::number_encoding))]
+impl Encode for u64 {
     type Value = u64;
 
-    ghost form = { number_form 8 };
+    ghost encoding = { number_encoding 8 };
 
-    fn put(value: &u64, out: &mut Vec<u8>) -> Result<(), WantOfMemory> {
+    fn encode(value: &u64, out: &mut Vec<u8>) -> Result<(), WantOfMemory> {
         out.extend_from_slice(value.to_le_bytes().as_slice())?;
         Ok(())
     }
 
-    fn take(_alloc: Global, input: &mut Input) -> Result<Option<u64>, WantOfMemory> {
+    fn decode(_alloc: Global, input: &mut Input) -> Result<Option<u64>, WantOfMemory> {
         match input.bytes(8) {
             None => Ok(None),
             Some(bytes) => {

@@ -2,11 +2,11 @@
 use Rattle.std.proofs.Common.{◌≡◌, ◌∙◌, ℕ, List, [], ◌∷◌, Bool, true, drop, map, sym, ap, ap₂, refl, Some, subst}
 use Rattle.std.specs.Prelude.{slice_get}
 use Rattle.std.specs.List.{list_all, flat_map}
-use Rattle.packed_values.specs.Form.{Form}
+use Rattle.packed_values.specs.Encoding.{Encoding}
 use Rattle.packed_values.specs.Plain.{and_left}
 use Rattle.packed_values.specs.Parts.{and_right}
-use Rattle.packed_values.proofs.WholeLemmas.{spelled_once}
-use Rattle.packed_outcomes.specs.Talk.{answer_form, outcome_form}
+use Rattle.packed_values.proofs.WholeLemmas.{encoded_once}
+use Rattle.packed_outcomes.specs.Talk.{answer_encoding, outcome_encoding}
 use Rattle.step_engine.specs.declared.talk.Answer.{Answer}
 use Rattle.step_engine.specs.declared.talk.Ask.{Ask}
 use Rattle.step_engine.specs.declared.talk.Batch.{Batch}
@@ -17,13 +17,13 @@ use Rattle.step_pack.specs.declared.key.Key.{Key}
 use Rattle.step_pack.specs.declared.out.Out.{Out}
 use Rattle.step_cache.specs.CacheText.{pair_texts, batch_texts, entry_texts, cache_texts, numbered_pair, numbered_batch, numbered, pooled, pair_is_value, batch_is_value, entry_is_value, IsTextOf}
 use Rattle.step_cache.specs.Decoding.{HasTexts}
-use Rattle.step_cache.specs.Numbered.{pooled_form}
+use Rattle.step_cache.specs.Numbered.{pooled_encoding}
 use Rattle.step_cache.specs.Pools.{has_text, number_in, pool_of}
 use Rattle.step_cache.specs.declared.numbered.Asked.{Asked}
 use Rattle.step_cache.specs.declared.numbered.Numbered.{Numbered}
 use Rattle.step_cache.specs.declared.numbered.Pooled.{Pooled}
 use Rattle.step_cache.proofs.PoolLemmas.{found_by_number, has_left, has_right, all_there}
-use Rattle.step_cache.proofs.TextLemmas.{body_spelled}
+use Rattle.step_cache.proofs.TextLemmas.{body_encoded}
 
 -- items with one number are the same
 abbrev pub TellsApart : {A B : Type 0} → List (List ℕ) → (A → B) → (A → Bool) → (A → List (List ℕ)) → Type 0
@@ -44,20 +44,20 @@ apart_list {A} {B} pool number value texts apart (x ∷ xs) (y ∷ ys) vx vy hx 
     (apart_list pool number value texts apart xs ys (and_right (value x) (list_all value xs) vx) (and_right (value y) (list_all value ys) vy)
     (has_right pool (texts x) (flat_map texts xs) hx) (has_right pool (texts y) (flat_map texts ys) hy) tails)
 
-apart_value : {A : Type 0} (form : Form A) (pool : List (List ℕ)) (x y : A) → form.is_value x ≡ true → form.is_value y ≡ true
-    → has_text pool (form.spelling x) ≡ true → has_text pool (form.spelling y) ≡ true
-    → number_in pool (form.spelling x) ≡ number_in pool (form.spelling y) → x ≡ y
-apart_value form pool x y vx vy hx hy e =
-    let same : Some (form.spelling x) ≡ Some (form.spelling y) =
-    sym (found_by_number pool (form.spelling x) hx) ∙ ap (slice_get pool) e ∙ found_by_number pool (form.spelling y) hy in
-    let texts : form.spelling x ≡ form.spelling y = cc in
-    spelled_once form (form.spelling y) x y (record { value = vx; text = sym texts }) (record { value = vy; text = refl })
+apart_value : {A : Type 0} (encoding : Encoding A) (pool : List (List ℕ)) (x y : A) → encoding.is_value x ≡ true → encoding.is_value y ≡ true
+    → has_text pool (encoding.encode x) ≡ true → has_text pool (encoding.encode y) ≡ true
+    → number_in pool (encoding.encode x) ≡ number_in pool (encoding.encode y) → x ≡ y
+apart_value encoding pool x y vx vy hx hy e =
+    let same : Some (encoding.encode x) ≡ Some (encoding.encode y) =
+    sym (found_by_number pool (encoding.encode x) hx) ∙ ap (slice_get pool) e ∙ found_by_number pool (encoding.encode y) hy in
+    let texts : encoding.encode x ≡ encoding.encode y = cc in
+    encoded_once encoding (encoding.encode y) x y (record { value = vx; text = sym texts }) (record { value = vy; text = refl })
 
 module _ (pool : List (List ℕ)) where
   apart_pair : TellsApart pool (numbered_pair pool) pair_is_value pair_texts
   apart_pair p q vx vy hx hy e =
       let pair : Ask Key → Answer Out → Pair Key Out = λ a b. record { ask = a; answer = b } in
-      ap₂ pair (ap (λ (a : Asked). a.ask) e) (apart_value answer_form pool p.answer q.answer vx vy hx.0 hy.0 (ap (λ (a : Asked). a.number) e))
+      ap₂ pair (ap (λ (a : Asked). a.ask) e) (apart_value answer_encoding pool p.answer q.answer vx vy hx.0 hy.0 (ap (λ (a : Asked). a.number) e))
 
   apart_batch : TellsApart pool (numbered_batch pool) batch_is_value batch_texts
   apart_batch a b vx vy hx hy e =
@@ -67,13 +67,13 @@ module _ (pool : List (List ℕ)) where
   apart_entry a b vx vy hx hy e =
       let first = flat_map batch_texts a.talk.batches in
       let second = flat_map batch_texts b.talk.batches in
-      let one = outcome_form.spelling a.result ∷ [] in
-      let two = outcome_form.spelling b.result ∷ [] in
+      let one = outcome_encoding.encode a.result ∷ [] in
+      let two = outcome_encoding.encode b.result ∷ [] in
       let talks = apart_list pool (numbered_batch pool) batch_is_value batch_texts apart_batch a.talk.batches b.talk.batches
-      (and_left (list_all batch_is_value a.talk.batches) (outcome_form.is_value a.result) vx) (and_left (list_all batch_is_value b.talk.batches) (outcome_form.is_value b.result) vy)
+      (and_left (list_all batch_is_value a.talk.batches) (outcome_encoding.is_value a.result) vx) (and_left (list_all batch_is_value b.talk.batches) (outcome_encoding.is_value b.result) vy)
       (has_left pool first one hx) (has_left pool second two hy) (ap (λ (n : Numbered). n.batches) e) in
-      let results = apart_value outcome_form pool a.result b.result
-      (and_right (list_all batch_is_value a.talk.batches) (outcome_form.is_value a.result) vx) (and_right (list_all batch_is_value b.talk.batches) (outcome_form.is_value b.result) vy)
+      let results = apart_value outcome_encoding pool a.result b.result
+      (and_right (list_all batch_is_value a.talk.batches) (outcome_encoding.is_value a.result) vx) (and_right (list_all batch_is_value b.talk.batches) (outcome_encoding.is_value b.result) vy)
       (has_right pool first one hx).0 (has_right pool second two hy).0 (ap (λ (n : Numbered). n.result) e) in
       let keys : a.key ≡ b.key = ap (λ (n : Numbered). n.key) e in
       let entry : Key → List (Batch Key Out) → Outcome Out → Entry Key Out = λ k talk r. record { key = k; talk = record { batches = talk }; result = r } in
@@ -92,4 +92,4 @@ same_parts a b e va vb =
 
 pub same_cache : (d e : ℕ) (a b : List (Entry Key Out)) (text : List ℕ) → IsTextOf d a text → IsTextOf e b text → a ≡ b
 same_cache d e a b text s t =
-    same_parts a b (spelled_once pooled_form (drop 20 text) (pooled a) (pooled b) (body_spelled d a text s) (body_spelled e b text t)) s.answers t.answers
+    same_parts a b (encoded_once pooled_encoding (drop 20 text) (pooled a) (pooled b) (body_encoded d a text s) (body_encoded e b text t)) s.answers t.answers

@@ -3,52 +3,52 @@ use Rattle.std.proofs.Common.{◌≡◌, ◌∙◌, ◌++◌, ℕ, Bool, true, L
 use Rattle.std.specs.Prelude.{slice_get}
 use Rattle.std.specs.List.{AllZip, list_all, flat_map}
 use Rattle.std.specs.Option.{option_flatten}
-use Rattle.packed_values.specs.Form.{Form, IsSpelling}
+use Rattle.packed_values.specs.Encoding.{Encoding, IsEncoding}
 use Rattle.packed_values.specs.Plain.{and_left}
 use Rattle.packed_values.specs.Parts.{and_right}
-use Rattle.packed_values.proofs.WholeLemmas.{spelled_once}
+use Rattle.packed_values.proofs.WholeLemmas.{encoded_once}
 use Rattle.step_cache.specs.Decoding.{IsDecoded, HasTexts, value_at, consed, all_some}
 use Rattle.step_cache.specs.Pools.{has_text, number_in}
 use Rattle.step_cache.proofs.PoolLemmas.{found_by_number, has_left, has_right}
 
 -- a text of a value stands for that value
-decoded_value : {A : Type 0} (form : Form A) (x : A) (given : Option A) → form.is_value x ≡ true → IsDecoded form (form.spelling x) given → given ≡ Some x
-decoded_value form x None v d = absurd (d x (record { value = v; text = refl }))
-decoded_value form x (Some y) v d = ap Some (spelled_once form (form.spelling x) y x d (record { value = v; text = refl }))
+decoded_value : {A : Type 0} (encoding : Encoding A) (x : A) (given : Option A) → encoding.is_value x ≡ true → IsDecoded encoding (encoding.encode x) given → given ≡ Some x
+decoded_value encoding x None v d = absurd (d x (record { value = v; text = refl }))
+decoded_value encoding x (Some y) v d = ap Some (encoded_once encoding (encoding.encode x) y x d (record { value = v; text = refl }))
 
-decoded_at : {A : Type 0} (form : Form A) (pool : List (List ℕ)) (rows : List (Option A)) (n : ℕ) (text : List ℕ)
-    → AllZip (IsDecoded form) pool rows → slice_get pool n ≡ Some text → (given : Option A) × (slice_get rows n ≡ Some given) × IsDecoded form text given
-decoded_at form [] [] n text z e = absurd (cc)
-decoded_at form [] (r ∷ rows) n text z e = absurd z
-decoded_at form (p ∷ pool) [] n text z e = absurd z
-decoded_at form (p ∷ pool) (r ∷ rows) zero text z e =
-    let same : p ≡ text = cc in (r, refl, subst (λ (t : List ℕ). IsDecoded form t r) same z.0)
-decoded_at form (p ∷ pool) (r ∷ rows) (suc n) text z e = decoded_at form pool rows n text z.1 e
+decoded_at : {A : Type 0} (encoding : Encoding A) (pool : List (List ℕ)) (rows : List (Option A)) (n : ℕ) (text : List ℕ)
+    → AllZip (IsDecoded encoding) pool rows → slice_get pool n ≡ Some text → (given : Option A) × (slice_get rows n ≡ Some given) × IsDecoded encoding text given
+decoded_at encoding [] [] n text z e = absurd (cc)
+decoded_at encoding [] (r ∷ rows) n text z e = absurd z
+decoded_at encoding (p ∷ pool) [] n text z e = absurd z
+decoded_at encoding (p ∷ pool) (r ∷ rows) zero text z e =
+    let same : p ≡ text = cc in (r, refl, subst (λ (t : List ℕ). IsDecoded encoding t r) same z.0)
+decoded_at encoding (p ∷ pool) (r ∷ rows) (suc n) text z e = decoded_at encoding pool rows n text z.1 e
 
 -- a value that a pool has is found by its number
-pub value_back : {A : Type 0} (form : Form A) (pool : List (List ℕ)) (rows : List (Option A)) (x : A) → AllZip (IsDecoded form) pool rows
-    → form.is_value x ≡ true → has_text pool (form.spelling x) ≡ true → value_at rows (number_in pool (form.spelling x)) ≡ Some x
-value_back form pool rows x z v h =
-    let at = decoded_at form pool rows (number_in pool (form.spelling x)) (form.spelling x) z (found_by_number pool (form.spelling x) h) in
-    ap option_flatten at.1 ∙ decoded_value form x at.0 v at.2
+pub value_back : {A : Type 0} (encoding : Encoding A) (pool : List (List ℕ)) (rows : List (Option A)) (x : A) → AllZip (IsDecoded encoding) pool rows
+    → encoding.is_value x ≡ true → has_text pool (encoding.encode x) ≡ true → value_at rows (number_in pool (encoding.encode x)) ≡ Some x
+value_back encoding pool rows x z v h =
+    let at = decoded_at encoding pool rows (number_in pool (encoding.encode x)) (encoding.encode x) z (found_by_number pool (encoding.encode x) h) in
+    ap option_flatten at.1 ∙ decoded_value encoding x at.0 v at.2
 
 -- a value that is found by a number is that of the text there
-pub value_from : {A : Type 0} (form : Form A) (pool : List (List ℕ)) (rows : List (Option A)) (n : ℕ) (x : A) → AllZip (IsDecoded form) pool rows
-    → value_at rows n ≡ Some x → (form.is_value x ≡ true) × (slice_get pool n ≡ Some (form.spelling x))
-value_from form [] [] n x z e = absurd (cc)
-value_from form [] (r ∷ rows) n x z e = absurd z
-value_from form (p ∷ pool) [] n x z e = absurd z
-value_from {A} form (p ∷ pool) (r ∷ rows) zero x z e =
-    let spelled : IsSpelling form x p = subst (λ (given : Option A). IsDecoded form p given) e z.0 in
-    (spelled.value, ap Some spelled.text)
-value_from form (p ∷ pool) (r ∷ rows) (suc n) x z e = value_from form pool rows n x z.1 e
+pub value_from : {A : Type 0} (encoding : Encoding A) (pool : List (List ℕ)) (rows : List (Option A)) (n : ℕ) (x : A) → AllZip (IsDecoded encoding) pool rows
+    → value_at rows n ≡ Some x → (encoding.is_value x ≡ true) × (slice_get pool n ≡ Some (encoding.encode x))
+value_from encoding [] [] n x z e = absurd (cc)
+value_from encoding [] (r ∷ rows) n x z e = absurd z
+value_from encoding (p ∷ pool) [] n x z e = absurd z
+value_from {A} encoding (p ∷ pool) (r ∷ rows) zero x z e =
+    let encoded : IsEncoding encoding x p = subst (λ (given : Option A). IsDecoded encoding p given) e z.0 in
+    (encoded.value, ap Some encoded.text)
+value_from encoding (p ∷ pool) (r ∷ rows) (suc n) x z e = value_from encoding pool rows n x z.1 e
 
-pub decoded_push : {A : Type 0} (form : Form A) (pool : List (List ℕ)) (rows : List (Option A)) (text : List ℕ) (given : Option A)
-    → AllZip (IsDecoded form) pool rows → IsDecoded form text given → AllZip (IsDecoded form) (pool ++ text ∷ []) (rows ++ given ∷ [])
-decoded_push form [] [] text given z d = (d, tt)
-decoded_push form [] (r ∷ rows) text given z d = absurd z
-decoded_push form (p ∷ pool) [] text given z d = absurd z
-decoded_push form (p ∷ pool) (r ∷ rows) text given z d = (z.0, decoded_push form pool rows text given z.1 d)
+pub decoded_push : {A : Type 0} (encoding : Encoding A) (pool : List (List ℕ)) (rows : List (Option A)) (text : List ℕ) (given : Option A)
+    → AllZip (IsDecoded encoding) pool rows → IsDecoded encoding text given → AllZip (IsDecoded encoding) (pool ++ text ∷ []) (rows ++ given ∷ [])
+decoded_push encoding [] [] text given z d = (d, tt)
+decoded_push encoding [] (r ∷ rows) text given z d = absurd z
+decoded_push encoding (p ∷ pool) [] text given z d = absurd z
+decoded_push encoding (p ∷ pool) (r ∷ rows) text given z d = (z.0, decoded_push encoding pool rows text given z.1 d)
 
 -- each item whose texts the pool has is read back from its number
 abbrev pub Reads : {A B : Type 0} → List (List ℕ) → (B → Option A) → (A → B) → (A → Bool) → (A → List (List ℕ)) → Type 0

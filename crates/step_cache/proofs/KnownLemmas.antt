@@ -10,7 +10,7 @@ use Rattle.step_engine.specs.declared.talk.Entry.{Entry}
 use Rattle.step_engine.specs.declared.talk.Pair.{Pair}
 use Rattle.step_pack.specs.declared.key.Key.{Key}
 use Rattle.step_pack.specs.declared.out.Out.{Out}
-use Rattle.packed_outcomes.specs.Talk.{answer_form}
+use Rattle.packed_outcomes.specs.Talk.{answer_encoding}
 use Rattle.step_cache.specs.CacheText.{pair_text, pair_is_value, numbered_pair}
 use Rattle.step_cache.specs.Known.{number_at, IsKnown, IsNumbered, AreNoted, Notes, AreAmong, AreAllAmong}
 use Rattle.step_cache.specs.Pools.{has_text, with_text, number_in}
@@ -64,9 +64,9 @@ noted_put entries p part n old new agree asks placed pool h is noted m q hq k =
           let answers : p.answer ≡ q.answer = agree part p q h hq asks same in
           let number : n ≡ m = some_is (sym both.1 ∙ k.2) in
           record {
-            has = ap (λ (a : Answer Out). has_text pool (answer_form.spelling a)) (sym answers) ∙ is.has;
-            number = ap (λ (a : Answer Out). number_in pool (answer_form.spelling a)) (sym answers) ∙ is.number ∙ number;
-            value = ap (λ (a : Answer Out). answer_form.is_value a) (sym answers) ∙ is.value;
+            has = ap (λ (a : Answer Out). has_text pool (answer_encoding.encode a)) (sym answers) ∙ is.has;
+            number = ap (λ (a : Answer Out). number_in pool (answer_encoding.encode a)) (sym answers) ∙ is.number ∙ number;
+            value = ap (λ (a : Answer Out). answer_encoding.is_value a) (sym answers) ∙ is.value;
           }
       | inr other ↦ noted m q hq (k.0, k.1, sym other ∙ k.2)
     ]

@@ -2,7 +2,7 @@
 use Rattle.std.proofs.Common.{◌≡◌, ◌∙◌, ◌++◌, ℕ, List, [], ◌∷◌, map, sym, ap, ap₂, refl, subst, append_assoc, append-nil}
 use Rattle.std.specs.List.{flat_map}
 use Rattle.std.proofs.lemmas.List.{map-append}
-use Rattle.packed_outcomes.specs.Talk.{outcome_form}
+use Rattle.packed_outcomes.specs.Talk.{outcome_encoding}
 use Rattle.step_engine.specs.declared.talk.Batch.{Batch}
 use Rattle.step_engine.specs.declared.talk.Entry.{Entry}
 use Rattle.step_pack.specs.declared.key.Key.{Key}
@@ -54,10 +54,10 @@ batch_stays pool more batch e h = stays_map numbered_pair pair_texts pair_stays 
 pub entry_stays : Stays numbered entry_texts
 entry_stays pool more entry e h =
     let talk = flat_map batch_texts entry.talk.batches in
-    let last = outcome_form.spelling entry.result ∷ [] in
+    let last = outcome_encoding.encode entry.result ∷ [] in
     let numbers : List (List Asked) → ℕ → Numbered = λ batches n. record { key = entry.key; batches = batches; result = n } in
     ap₂ numbers (stays_map numbered_batch batch_texts batch_stays pool more entry.talk.batches e (has_left pool talk last h))
-    (e.number (outcome_form.spelling entry.result) (has_right pool talk last h).0)
+    (e.number (outcome_encoding.encode entry.result) (has_right pool talk last h).0)
 
 -- the batches of an entry keep their numbers when its result is put
 pub batches_kept : (start pool next : List (List ℕ)) (batches : List (Batch Key Out)) (rows : List (List Asked)) (text : List ℕ)
@@ -69,15 +69,15 @@ batches_kept start pool next batches rows text before is put =
     is ∙ sym (stays_map numbered_batch batch_texts batch_stays pool next batches grows there)
 
 pub entry_pool : (start pool next : List (List ℕ)) (entry : Entry Key Out) → pool ≡ with_texts start (flat_map batch_texts entry.talk.batches)
-    → next ≡ with_text pool (outcome_form.spelling entry.result) → next ≡ with_texts start (entry_texts entry)
+    → next ≡ with_text pool (outcome_encoding.encode entry.result) → next ≡ with_texts start (entry_texts entry)
 entry_pool start pool next entry before put =
-    put ∙ ap (λ (p : List (List ℕ)). with_text p (outcome_form.spelling entry.result)) before
-    ∙ sym (with_texts-append start (flat_map batch_texts entry.talk.batches) (outcome_form.spelling entry.result ∷ []))
+    put ∙ ap (λ (p : List (List ℕ)). with_text p (outcome_encoding.encode entry.result)) before
+    ∙ sym (with_texts-append start (flat_map batch_texts entry.talk.batches) (outcome_encoding.encode entry.result ∷ []))
 
 pub entry_numbered : (start pool next : List (List ℕ)) (entry : Entry Key Out) (key : Key) (rows : List (List Asked)) (n : ℕ)
     → pool ≡ with_texts start (flat_map batch_texts entry.talk.batches) → rows ≡ map (numbered_batch pool) entry.talk.batches
-    → next ≡ with_text pool (outcome_form.spelling entry.result) → n ≡ number_in next (outcome_form.spelling entry.result) → key ≡ entry.key
+    → next ≡ with_text pool (outcome_encoding.encode entry.result) → n ≡ number_in next (outcome_encoding.encode entry.result) → key ≡ entry.key
     → record { key = key; batches = rows; result = n } ≡ numbered next entry
 entry_numbered start pool next entry key rows n before is put number same =
-    let kept = batches_kept start pool next entry.talk.batches rows (outcome_form.spelling entry.result) before is put in
+    let kept = batches_kept start pool next entry.talk.batches rows (outcome_encoding.encode entry.result) before is put in
     rw (kept, number, same) refl

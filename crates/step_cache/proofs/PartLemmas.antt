@@ -4,7 +4,7 @@ use Rattle.std.specs.List.{list_all, flat_map}
 use Rattle.std.proofs.lemmas.Bool.{and_from, eqb-true, eq-eqb, true≢false}
 use Rattle.packed_values.specs.Plain.{and_left}
 use Rattle.packed_values.specs.Parts.{and_right}
-use Rattle.packed_outcomes.specs.Talk.{answer_form, outcome_form}
+use Rattle.packed_outcomes.specs.Talk.{answer_encoding, outcome_encoding}
 use Rattle.step_engine.specs.declared.talk.Answer.{Answer}
 use Rattle.step_engine.specs.declared.talk.Batch.{Batch}
 use Rattle.step_engine.specs.declared.talk.Entry.{Entry}
@@ -39,7 +39,7 @@ module _ (whole : List (List ℕ)) where
   count_entry : Counts whole (entry_uses (length whole)) (numbered whole) entry_texts
   count_entry entry pool w =
       let talk = flat_map batch_texts entry.talk.batches in
-      let last = outcome_form.spelling entry.result in
+      let last = outcome_encoding.encode entry.result in
       let first = with_texts pool talk in
       let joins : with_texts pool (entry_texts entry) ≡ with_texts first (last ∷ []) = with_texts-append pool talk (last ∷ []) in
       let rest : Within (with_texts first (last ∷ [])) whole = subst (λ (p : List (List ℕ)). Within p whole) joins w in
@@ -54,7 +54,7 @@ module _ (whole : List (List ℕ)) where
 -- entries are read from their numbers, and what is read has these numbers
 module _ (pool : List (List ℕ)) (answers : List (Option (Answer Out))) (results : List (Option (Outcome Out))) (decoded : AreDecoded pool answers results) where
   read_pair : Reads pool (pair_at answers) (numbered_pair pool) pair_is_value pair_texts
-  read_pair pair v h = ap (option_map (pair_of (numbered_pair pool pair))) (value_back answer_form pool answers pair.answer decoded.answers v h.0)
+  read_pair pair v h = ap (option_map (pair_of (numbered_pair pool pair))) (value_back answer_encoding pool answers pair.answer decoded.answers v h.0)
 
   read_batch : Reads pool (batch_at answers) (numbered_batch pool) batch_is_value batch_texts
   read_batch batch v h = ap (option_map batch_of) (reads_list pool (pair_at answers) (numbered_pair pool) pair_is_value pair_texts read_pair batch.pairs v h)
@@ -65,10 +65,10 @@ module _ (pool : List (List ℕ)) (answers : List (Option (Answer Out))) (result
   read_entry : Reads pool (entry_at answers results) (numbered pool) entry_is_value entry_texts
   read_entry entry v h =
       let talk = flat_map batch_texts entry.talk.batches in
-      let last = outcome_form.spelling entry.result ∷ [] in
+      let last = outcome_encoding.encode entry.result ∷ [] in
       let join : Option (List (Batch Key Out)) → Option (Outcome Out) → Option (Entry Key Out) = λ a b. entry_with entry.key a b in
-      ap₂ join (read_batches entry.talk.batches (and_left (list_all batch_is_value entry.talk.batches) (outcome_form.is_value entry.result) v) (has_left pool talk last h))
-      (value_back outcome_form pool results entry.result decoded.results (and_right (list_all batch_is_value entry.talk.batches) (outcome_form.is_value entry.result) v) (has_right pool talk last h).0)
+      ap₂ join (read_batches entry.talk.batches (and_left (list_all batch_is_value entry.talk.batches) (outcome_encoding.is_value entry.result) v) (has_left pool talk last h))
+      (value_back outcome_encoding pool results entry.result decoded.results (and_right (list_all batch_is_value entry.talk.batches) (outcome_encoding.is_value entry.result) v) (has_right pool talk last h).0)
 
   pub read_entries : Reads pool (all_some (entry_at answers results)) (map (numbered pool)) (list_all entry_is_value) cache_texts
   read_entries = reads_list pool (entry_at answers results) (numbered pool) entry_is_value entry_texts read_entry
@@ -81,13 +81,13 @@ module _ (pool : List (List ℕ)) (answers : List (Option (Answer Out))) (result
             → IsFound pool (numbered_pair pool) pair_is_value pair_texts asked pair s t
         step None fa e = cc
         step (Some given) fa e =
-            let from = value_from answer_form pool answers asked.number given decoded.answers fa in
-            let here = use_found pool s asked.number t (answer_form.spelling given) once le from.1 u in
+            let from = value_from answer_encoding pool answers asked.number given decoded.answers fa in
+            let here = use_found pool s asked.number t (answer_encoding.encode given) once le from.1 u in
             let is : pair_of asked given ≡ pair = cc in
             subst (λ (p : Pair Key Out). IsFound pool (numbered_pair pool) pair_is_value pair_texts asked p s t) is (record {
               most = here.0;
               puts = here.1;
-              is = ap (λ (n : ℕ). record { ask = asked.ask; number = n }) (sym (once asked.number (answer_form.spelling given) from.1));
+              is = ap (λ (n : ℕ). record { ask = asked.ask; number = n }) (sym (once asked.number (answer_encoding.encode given) from.1));
               passes = from.0;
             })
 
@@ -118,16 +118,16 @@ module _ (pool : List (List ℕ)) (answers : List (Option (Answer Out))) (result
         step (Some batches) (Some given) None fa fb fc e u = cc
         step (Some batches) (Some given) (Some r) fa fb fc e u =
             let talk = find_batches number.batches batches s r le fa fc in
-            let from = value_from outcome_form pool results number.result given decoded.results fb in
-            let last = use_found pool r number.result t (outcome_form.spelling given) once talk.most from.1 u in
+            let from = value_from outcome_encoding pool results number.result given decoded.results fb in
+            let last = use_found pool r number.result t (outcome_encoding.encode given) once talk.most from.1 u in
             let is : record { key = number.key; talk = record { batches = batches }; result = given } ≡ entry = cc in
             let numbers : List (List Asked) → ℕ → Numbered = λ rows n. record { key = number.key; batches = rows; result = n } in
             subst (λ (x : Entry Key Out). IsFound pool (numbered pool) entry_is_value entry_texts number x s t) is (record {
               most = last.0;
-              puts = with_texts-append (take s pool) (flat_map batch_texts batches) (outcome_form.spelling given ∷ [])
-                  ∙ ap (λ (p : List (List ℕ)). with_texts p (outcome_form.spelling given ∷ [])) talk.puts ∙ last.1;
-              is = ap₂ numbers talk.is (sym (once number.result (outcome_form.spelling given) from.1));
-              passes = and_from (list_all batch_is_value batches) (outcome_form.is_value given) talk.passes from.0;
+              puts = with_texts-append (take s pool) (flat_map batch_texts batches) (outcome_encoding.encode given ∷ [])
+                  ∙ ap (λ (p : List (List ℕ)). with_texts p (outcome_encoding.encode given ∷ [])) talk.puts ∙ last.1;
+              is = ap₂ numbers talk.is (sym (once number.result (outcome_encoding.encode given) from.1));
+              passes = and_from (list_all batch_is_value batches) (outcome_encoding.is_value given) talk.passes from.0;
             })
 
     find_entries : Finds pool (all_some (entry_at answers results)) (entries_use (length pool)) (map (numbered pool)) (list_all entry_is_value) cache_texts

@@ -5,9 +5,9 @@ use Rattle.std.specs.List.{list_all}
 use Rattle.std.specs.HashMap.{HashMap}
 use Rattle.std.proofs.lemmas.List.{take-append-le, drop-append-le, take_all, drop_all, length-take-le, length-drop}
 use Rattle.std.proofs.Math.Seq.{drop-append_seam, take-append_seam}
-use Rattle.packed_values.specs.Plain.{text_form, number_form}
-use Rattle.packed_values.specs.Parts.{spellings, rows_form}
-use Rattle.packed_values.proofs.RowsLemmas.{spellings-push, all-push}
+use Rattle.packed_values.specs.Plain.{text_encoding, number_encoding}
+use Rattle.packed_values.specs.Parts.{encodings, rows_encoding}
+use Rattle.packed_values.proofs.RowsLemmas.{encodings-push, all-push}
 use Rattle.step_cache.specs.Places.{span_text, texts_at, AreIn, first_at, found_in, IsPlaced, IsPool, IsTextAt}
 use Rattle.step_cache.specs.Pools.{has_text, with_text, number_in}
 use Rattle.step_cache.specs.declared.places.Span.{Span}
@@ -52,20 +52,20 @@ no_texts table empty = record {
   placed = λ text more. rw empty refl;
 }
 
-spelled : (text : List ℕ) → length (text_form.spelling text) ≡ 8 + length text
-unfolding text_form
-spelled text = length-append (bytes_low_first 0 8 (length text)) text
+encoded : (text : List ℕ) → length (text_encoding.encode text) ≡ 8 + length text
+unfolding text_encoding
+encoded text = length-append (bytes_low_first 0 8 (length text)) text
 
-none_spelled : (bytes : List ℕ) (spans : List Span) → spellings text_form (texts_at bytes spans) ≡ [] → spans ≡ []
-none_spelled bytes [] e = refl
-none_spelled bytes (s ∷ spans) e =
-    let all : length (spellings text_form (texts_at bytes (s ∷ spans))) ≡ 0 = ap length e in
-    absurd (omega (arith, all, spelled (span_text bytes s), length-append (text_form.spelling (span_text bytes s)) (spellings text_form (texts_at bytes spans))))
+none_encoded : (bytes : List ℕ) (spans : List Span) → encodings text_encoding (texts_at bytes spans) ≡ [] → spans ≡ []
+none_encoded bytes [] e = refl
+none_encoded bytes (s ∷ spans) e =
+    let all : length (encodings text_encoding (texts_at bytes (s ∷ spans))) ≡ 0 = ap length e in
+    absurd (omega (arith, all, encoded (span_text bytes s), length-append (text_encoding.encode (span_text bytes s)) (encodings text_encoding (texts_at bytes spans))))
 
 -- a pool without room has no texts, and may be given it
 module _ {S : Type 0} (bytes room : List ℕ) (spans : List Span) (table : HashMap ℕ (List ℕ) S) (pool : IsPool bytes spans table) (short : length bytes < 28) where
   none_there : spans ≡ []
-  none_there = none_spelled bytes spans (sym pool.texts ∙ drop_all 28 bytes (omega (arith, short)))
+  none_there = none_encoded bytes spans (sym pool.texts ∙ drop_all 28 bytes (omega (arith, short)))
 
   pub same_texts : texts_at room spans ≡ texts_at bytes spans
   same_texts = ap (texts_at room) none_there ∙ ap (texts_at bytes) (sym none_there)
@@ -73,8 +73,8 @@ module _ {S : Type 0} (bytes room : List ℕ) (spans : List Span) (table : HashM
   pub roomy : drop 28 room ≡ [] → IsPool room spans table
   roomy empty = record {
     inside = subst (AreIn room) (sym none_there) tt;
-    texts = empty ∙ ap (λ (all : List Span). spellings text_form (texts_at room all)) (sym none_there);
-    values = ap (λ (all : List (List ℕ)). list_all text_form.is_value all) same_texts ∙ pool.values;
+    texts = empty ∙ ap (λ (all : List Span). encodings text_encoding (texts_at room all)) (sym none_there);
+    values = ap (λ (all : List (List ℕ)). list_all text_encoding.is_value all) same_texts ∙ pool.values;
     placed = subst (λ (all : List (List ℕ)). IsPlaced all table) (sym same_texts) pool.placed;
   }
 
@@ -120,18 +120,18 @@ module _ {S : Type 0} (start : ℕ) (bytes items : List ℕ) (spans : List Span)
 
   pub added : 28 ≤ start → nat_lt (length bytes) (256 ^ 8) ≡ true → IsPlaced (texts_at (take start bytes) spans ++ drop (start + 8) bytes ∷ []) new
       → IsPool items (spans ++ last_span start bytes ∷ []) new
-  unfolding text_form
+  unfolding text_encoding
   added behind fits placed = record {
     inside = subst (λ (all : List ℕ). AreIn all (spans ++ last_span start bytes ∷ [])) (sym joined)
         (inside_more front (form ++ text) spans (last_span start bytes) pool.inside
         (omega (arith, room, sized, length-append front (form ++ text), length-append form text, length-drop (start + 8) bytes)));
     texts =
         let size : length text ≡ length bytes - (start + 8) = omega (arith, length-drop (start + 8) bytes) in
-        let form_is : form ++ text ≡ text_form.spelling text = ap (λ (n : ℕ). bytes_low_first 0 8 n ++ text) (sym size) in
+        let form_is : form ++ text ≡ text_encoding.encode text = ap (λ (n : ℕ). bytes_low_first 0 8 n ++ text) (sym size) in
         ap (drop 28) joined ∙ drop-append-le 28 front (form ++ text) (omega (arith, behind, sized))
-        ∙ ap₂ (λ (a b : List ℕ). a ++ b) pool.texts form_is ∙ sym (spellings-push text_form (texts_at front spans) text)
-        ∙ ap (spellings text_form) (sym texts_added);
-    values = ap (λ (all : List (List ℕ)). list_all text_form.is_value all) texts_added ∙ all-push text_form.is_value (texts_at front spans) text pool.values (lower (length bytes) (length text) (omega (arith, length-drop (start + 8) bytes)) fits);
+        ∙ ap₂ (λ (a b : List ℕ). a ++ b) pool.texts form_is ∙ sym (encodings-push text_encoding (texts_at front spans) text)
+        ∙ ap (encodings text_encoding) (sym texts_added);
+    values = ap (λ (all : List (List ℕ)). list_all text_encoding.is_value all) texts_added ∙ all-push text_encoding.is_value (texts_at front spans) text pool.values (lower (length bytes) (length text) (omega (arith, length-drop (start + 8) bytes)) fits);
     placed = subst (λ (all : List (List ℕ)). IsPlaced all new) (sym texts_added) placed;
   }
 
@@ -168,8 +168,8 @@ module _ (texts : List (List ℕ)) (text : List ℕ) where
   pub grown_number : (n : ℕ) → has_text texts text ≡ false → n ≡ length texts → n ≡ number_in (texts ++ text ∷ []) text
   grown_number n none at = at ∙ sym (number_last texts text none ∙ number_end texts text none)
 
-pub length_form : (n : ℕ) → length ((number_form 8).spelling n) ≡ 8
-unfolding number_form
+pub length_form : (n : ℕ) → length ((number_encoding 8).encode n) ≡ 8
+unfolding number_encoding
 length_form n = refl
 
 -- a text that is put behind a length's room
@@ -185,8 +185,8 @@ module _ (bytes form text items : List ℕ) (is : items ≡ (bytes ++ form) ++ t
 -- a pool with its count
 module _ {S : Type 0} (bytes items : List ℕ) (spans : List Span) (table : HashMap ℕ (List ℕ) S) (pool : IsPool bytes spans table) (room : 28 ≤ length bytes)
     (is : items ≡ take 20 bytes ++ bytes_low_first 0 8 (length spans) ++ drop 28 bytes) where
-  pub counted : drop 20 items ≡ (rows_form text_form).spelling (texts_at bytes spans)
-  unfolding rows_form
+  pub counted : drop 20 items ≡ (rows_encoding text_encoding).encode (texts_at bytes spans)
+  unfolding rows_encoding
   counted =
       let size : length (take 20 bytes) ≡ 20 = length-take-le 20 bytes (omega (arith, room)) in
       ap (drop 20) (is ∙ append_assoc (take 20 bytes) (bytes_low_first 0 8 (length spans)) (drop 28 bytes))
@@ -199,7 +199,7 @@ module _ {S : Type 0} (bytes items : List ℕ) (spans : List Span) (table : Hash
       let size : length (take 20 bytes) ≡ 20 = length-take-le 20 bytes (omega (arith, room)) in
       omega (arith, ap length is, size, length-append (take 20 bytes ++ bytes_low_first 0 8 (length spans)) (drop 28 bytes), length-append (take 20 bytes) (bytes_low_first 0 8 (length spans)))
 
-  pub counted_values : nat_lt (length spans) (256 ^ 8) ≡ true → (rows_form text_form).is_value (texts_at bytes spans) ≡ true
-  unfolding rows_form
+  pub counted_values : nat_lt (length spans) (256 ^ 8) ≡ true → (rows_encoding text_encoding).is_value (texts_at bytes spans) ≡ true
+  unfolding rows_encoding
   counted_values fits =
       ap₂ (λ (a b : Bool). a && b) (ap (λ (n : ℕ). nat_lt n (256 ^ 8)) (length_texts bytes spans) ∙ fits) pool.values

@@ -4,35 +4,35 @@ use Rattle.std.specs.Int.{bytes_low_first}
 use Rattle.std.proofs.lemmas.Bool.{leb-true}
 use Rattle.std.proofs.lemmas.List.{take-append-drop, drop-append-le}
 use Rattle.cache_heads.proofs.HeadLemmas.{length_head}
-use Rattle.packed_values.specs.Form.{IsSpelling}
-use Rattle.packed_values.specs.Parts.{and_right, pair_form, rows_form}
-use Rattle.packed_values.specs.Plain.{number_form, number_unique, text_form}
-use Rattle.packed_values.proofs.WholeLemmas.{spelled_once}
+use Rattle.packed_values.specs.Encoding.{IsEncoding}
+use Rattle.packed_values.specs.Parts.{and_right, pair_encoding, rows_encoding}
+use Rattle.packed_values.specs.Plain.{number_encoding, number_unique, text_encoding}
+use Rattle.packed_values.proofs.WholeLemmas.{encoded_once}
 use Rattle.step_engine.specs.declared.talk.Entry.{Entry}
 use Rattle.step_pack.specs.declared.key.Key.{Key}
 use Rattle.step_pack.specs.declared.out.Out.{Out}
 use Rattle.step_cache.specs.CacheText.{pooled, body_of, head_of, is_edition, newest, edition_in, cache_text, IsTextOf, IsNoTextOf, IsNoText}
 use Rattle.step_cache.specs.Checking.{IsCacheOf}
-use Rattle.step_cache.specs.Numbered.{numbered_form, pooled_form, pooled_with}
+use Rattle.step_cache.specs.Numbered.{numbered_encoding, pooled_encoding, pooled_with}
 use Rattle.step_cache.specs.declared.numbered.Numbered.{Numbered}
 use Rattle.step_cache.specs.declared.numbered.Pooled.{Pooled}
 
 -- what is written behind a pool and room for a head
-module _ (before items : List ℕ) (pool : List (List ℕ)) (entries : List Numbered) (behind : drop 20 before ≡ (rows_form text_form).spelling pool)
-    (is : items ≡ before ++ (rows_form numbered_form).spelling entries) where
-  body_behind : 28 ≤ length before → drop 20 items ≡ pooled_form.spelling (pooled_with pool entries)
-  unfolding pooled_form pair_form
+module _ (before items : List ℕ) (pool : List (List ℕ)) (entries : List Numbered) (behind : drop 20 before ≡ (rows_encoding text_encoding).encode pool)
+    (is : items ≡ before ++ (rows_encoding numbered_encoding).encode entries) where
+  body_behind : 28 ≤ length before → drop 20 items ≡ pooled_encoding.encode (pooled_with pool entries)
+  unfolding pooled_encoding pair_encoding
   body_behind room =
-      ap (drop 20) is ∙ drop-append-le 20 before ((rows_form numbered_form).spelling entries) (omega (arith, room))
-      ∙ ap (λ (b : List ℕ). b ++ (rows_form numbered_form).spelling entries) behind
+      ap (drop 20) is ∙ drop-append-le 20 before ((rows_encoding numbered_encoding).encode entries) (omega (arith, room))
+      ∙ ap (λ (b : List ℕ). b ++ (rows_encoding numbered_encoding).encode entries) behind
 
   pub text_behind : (text : List ℕ) → 28 ≤ length before → text ≡ head_of newest (length (drop 20 items)) ++ drop 20 items
-      → text ≡ head_of newest (length (pooled_form.spelling (pooled_with pool entries))) ++ pooled_form.spelling (pooled_with pool entries)
+      → text ≡ head_of newest (length (pooled_encoding.encode (pooled_with pool entries))) ++ pooled_encoding.encode (pooled_with pool entries)
   text_behind text room whole = whole ∙ ap (λ (b : List ℕ). head_of newest (length b) ++ b) (body_behind room)
 
-pub both_values : (pool : List (List ℕ)) (entries : List Numbered) → (rows_form text_form).is_value pool ≡ true → (rows_form numbered_form).is_value entries ≡ true
-    → pooled_form.is_value (pooled_with pool entries) ≡ true
-unfolding pooled_form pair_form
+pub both_values : (pool : List (List ℕ)) (entries : List Numbered) → (rows_encoding text_encoding).is_value pool ≡ true → (rows_encoding numbered_encoding).is_value entries ≡ true
+    → pooled_encoding.is_value (pooled_with pool entries) ≡ true
+unfolding pooled_encoding pair_encoding
 both_values pool entries p e = ap₂ (λ (a b : Bool). a && b) p e
 
 body_at : (e : ℕ) (es : List (Entry Key Out)) (bytes : List ℕ) → IsTextOf e es bytes → drop 20 bytes ≡ body_of es
@@ -55,28 +55,28 @@ too_short bytes less e es t =
     let q : length bytes ≡ length head + length (body_of es) = ap length t.text ∙ length-append head (body_of es) in
     let h = length_head e (length (body_of es)) in omega (arith, q, h)
 
--- the body is the spelling of the parts
-pub body_spelled : (e : ℕ) (es : List (Entry Key Out)) (bytes : List ℕ) → IsTextOf e es bytes → IsSpelling pooled_form (pooled es) (drop 20 bytes)
-body_spelled e es bytes t = record { value = t.parts; text = body_at e es bytes t }
+-- the body is the encoding of the parts
+pub body_encoded : (e : ℕ) (es : List (Entry Key Out)) (bytes : List ℕ) → IsTextOf e es bytes → IsEncoding pooled_encoding (pooled es) (drop 20 bytes)
+body_encoded e es bytes t = record { value = t.parts; text = body_at e es bytes t }
 
-pub parts_of_text : (bytes : List ℕ) (parts : Pooled) → IsSpelling pooled_form parts (drop 20 bytes) → (e : ℕ) (es : List (Entry Key Out)) → IsTextOf e es bytes → IsCacheOf parts es
+pub parts_of_text : (bytes : List ℕ) (parts : Pooled) → IsEncoding pooled_encoding parts (drop 20 bytes) → (e : ℕ) (es : List (Entry Key Out)) → IsTextOf e es bytes → IsCacheOf parts es
 parts_of_text bytes parts s e es t = record {
   order = t.order;
   answers = t.answers;
-  is = spelled_once pooled_form (drop 20 bytes) parts (pooled es) s (body_spelled e es bytes t);
+  is = encoded_once pooled_encoding (drop 20 bytes) parts (pooled es) s (body_encoded e es bytes t);
 }
 
 -- bytes whose head and body are right
 pub text_made : (e : ℕ) (bytes : List ℕ) (parts : Pooled) (es : List (Entry Key Out)) → is_edition e ≡ true → take 20 bytes ≡ head_of e (length (drop 20 bytes))
-    → IsSpelling pooled_form parts (drop 20 bytes) → IsCacheOf parts es → nat_lt (length bytes) (256 ^ 8) ≡ true → IsTextOf e es bytes
+    → IsEncoding pooled_encoding parts (drop 20 bytes) → IsCacheOf parts es → nat_lt (length bytes) (256 ^ 8) ≡ true → IsTextOf e es bytes
 unfolding cache_text
 text_made e bytes parts es known head s c fits =
-    let body : drop 20 bytes ≡ body_of es = s.text ∙ ap (λ (p : Pooled). pooled_form.spelling p) c.is in
+    let body : drop 20 bytes ≡ body_of es = s.text ∙ ap (λ (p : Pooled). pooled_encoding.encode p) c.is in
     record {
       known = known;
       order = c.order;
       answers = c.answers;
-      parts = ap (λ (p : Pooled). pooled_form.is_value p) (sym c.is) ∙ s.value;
+      parts = ap (λ (p : Pooled). pooled_encoding.is_value p) (sym c.is) ∙ s.value;
       fits = fits;
       text = sym (take-append-drop 20 bytes) ∙ ap (λ (front : List ℕ). front ++ drop 20 bytes) head
           ∙ ap (λ (b : List ℕ). head_of e (length b) ++ b) body;
@@ -95,7 +95,7 @@ first_byte (suc (suc (suc (suc (suc (suc n)))))) h =
     let most : e ≤ 5 = leb-true e 5 (and_right (nat_le 2 e) (nat_le e 5) h) in absurd (omega (arith, most))
 
 pub edition_is : (e : ℕ) (es : List (Entry Key Out)) (bytes : List ℕ) → IsTextOf e es bytes → edition_in bytes ≡ e
-unfolding cache_text number_form
+unfolding cache_text number_encoding
 edition_is e es bytes t =
     ap edition_in t.text ∙ ap (λ (front : List ℕ). slice_index_or front 0 0) (first_byte e t.known)
 
@@ -112,20 +112,20 @@ other_head bytes other e es t =
 pub none_at_all : (bytes : List ℕ) → IsNoTextOf (edition_in bytes) bytes → IsNoText bytes
 none_at_all bytes none e es t = none es (subst (λ (n : ℕ). IsTextOf n es bytes) (sym (edition_is e es bytes t)) t)
 
-pub no_parts : (e : ℕ) (bytes : List ℕ) → ((parts : Pooled) → IsSpelling pooled_form parts (drop 20 bytes) → ⊥) → IsNoTextOf e bytes
-no_parts e bytes none es t = none (pooled es) (body_spelled e es bytes t)
+pub no_parts : (e : ℕ) (bytes : List ℕ) → ((parts : Pooled) → IsEncoding pooled_encoding parts (drop 20 bytes) → ⊥) → IsNoTextOf e bytes
+no_parts e bytes none es t = none (pooled es) (body_encoded e es bytes t)
 
-pub no_cache : (bytes : List ℕ) (parts : Pooled) → IsSpelling pooled_form parts (drop 20 bytes) → ((es : List (Entry Key Out)) → IsCacheOf parts es → ⊥)
+pub no_cache : (bytes : List ℕ) (parts : Pooled) → IsEncoding pooled_encoding parts (drop 20 bytes) → ((es : List (Entry Key Out)) → IsCacheOf parts es → ⊥)
     → (e : ℕ) → IsNoTextOf e bytes
 no_cache bytes parts s none e es t = none es (parts_of_text bytes parts s e es t)
 
 -- what is read of a body, and of parts
-pub spelled_at : (bytes body : List ℕ) (r : Option Pooled) (parts : Pooled) → MatchOption r ((p : Pooled) → IsSpelling pooled_form p body → ⊥) (λ p. IsSpelling pooled_form p body)
-    → r ≡ Some parts → body ≡ drop 20 bytes → IsSpelling pooled_form parts (drop 20 bytes)
-spelled_at bytes body None parts m e b = cc
-spelled_at bytes body (Some p) parts m e b =
+pub encoded_at : (bytes body : List ℕ) (r : Option Pooled) (parts : Pooled) → MatchOption r ((p : Pooled) → IsEncoding pooled_encoding p body → ⊥) (λ p. IsEncoding pooled_encoding p body)
+    → r ≡ Some parts → body ≡ drop 20 bytes → IsEncoding pooled_encoding parts (drop 20 bytes)
+encoded_at bytes body None parts m e b = cc
+encoded_at bytes body (Some p) parts m e b =
     let same : p ≡ parts = cc in
-    subst (λ (x : Pooled). IsSpelling pooled_form x (drop 20 bytes)) same (subst (λ (t : List ℕ). IsSpelling pooled_form p t) b m)
+    subst (λ (x : Pooled). IsEncoding pooled_encoding x (drop 20 bytes)) same (subst (λ (t : List ℕ). IsEncoding pooled_encoding p t) b m)
 
 pub none_of : (parts : Pooled) (r : Option (List (Entry Key Out))) → MatchOption r ((es : List (Entry Key Out)) → IsCacheOf parts es → ⊥) (λ es. IsCacheOf parts es)
     → r ≡ None → (es : List (Entry Key Out)) → IsCacheOf parts es → ⊥
@@ -144,12 +144,12 @@ pub same_edition : (d e : ℕ) (a b : List (Entry Key Out)) (text : List ℕ) �
 same_edition d e a b text s t = sym (edition_is d a text s) ∙ edition_is e b text t
 
 pub edition_stands : (e : ℕ) (es : List (Entry Key Out)) (text : List ℕ) → IsTextOf e es text → take 4 (drop 8 text) ≡ e ∷ 0 ∷ 0 ∷ 0 ∷ []
-unfolding cache_text number_form
+unfolding cache_text number_encoding
 edition_stands e es text t = ap (λ (b : List ℕ). take 4 (drop 8 b)) t.text ∙ first_byte e t.known
 
 -- the text of another edition
 pub other_text : (d e : ℕ) (es : List (Entry Key Out)) (text : List ℕ) → IsTextOf d es text → is_edition e ≡ true → IsTextOf e es (take 8 text ++ e ∷ drop 9 text)
-unfolding cache_text number_form
+unfolding cache_text number_encoding
 other_text d e es text t known =
     let count : List ℕ = bytes_low_first 0 8 (20 + length (body_of es)) in
     let made : (n : ℕ) → is_edition n ≡ true → cache_text n es ≡ codes "EDKSTEPS" ++ (n ∷ 0 ∷ 0 ∷ 0 ∷ count ++ body_of es)
@@ -169,7 +169,7 @@ other_text d e es text t known =
 
 -- a text's length stands in its head, so what begins a text and is one is the whole of it
 pub cut_text : (d e : ℕ) (es more : List (Entry Key Out)) (start rest : List ℕ) → IsTextOf d es start → IsTextOf e more (start ++ rest) → rest ≡ []
-unfolding cache_text number_form
+unfolding cache_text number_encoding
 cut_text d e es more start rest small whole =
     let n : ℕ = 20 + length (body_of es) in
     let m : ℕ = 20 + length (body_of more) in

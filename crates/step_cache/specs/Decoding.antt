@@ -2,8 +2,8 @@
 use Rattle.std.specs.Prelude.{◌≡◌, ℕ, true, List, [], ◌∷◌, Option, Some, None, MatchOption, slice_get, option_map}
 use Rattle.std.specs.List.{AllZip}
 use Rattle.std.specs.Option.{option_flatten}
-use Rattle.packed_values.specs.Form.{Form, IsSpelling}
-use Rattle.packed_outcomes.specs.Talk.{answer_form, outcome_form}
+use Rattle.packed_values.specs.Encoding.{Encoding, IsEncoding}
+use Rattle.packed_outcomes.specs.Talk.{answer_encoding, outcome_encoding}
 use Rattle.step_engine.specs.declared.talk.Answer.{Answer}
 use Rattle.step_engine.specs.declared.talk.Batch.{Batch}
 use Rattle.step_engine.specs.declared.talk.Entry.{Entry}
@@ -15,16 +15,16 @@ use Rattle.step_cache.specs.Pools.{has_text}
 use Rattle.step_cache.specs.declared.numbered.Asked.{Asked}
 use Rattle.step_cache.specs.declared.numbered.Numbered.{Numbered}
 
--- the value that a text is the spelling of, where it is of one
-abbrev pub IsDecoded : {A : Type 0} → Form A → List ℕ → Option A → Type 0
-IsDecoded {A} form text given =
-    MatchOption given ((x : A) → IsSpelling form x text → ⊥) (λ x. IsSpelling form x text)
+-- the value that a text is the encoding of, where it is of one
+abbrev pub IsDecoded : {A : Type 0} → Encoding A → List ℕ → Option A → Type 0
+IsDecoded {A} encoding text given =
+    MatchOption given ((x : A) → IsEncoding encoding x text → ⊥) (λ x. IsEncoding encoding x text)
 
 -- what each text of a pool stands for as an answer, and as a result
 pub record AreDecoded (pool : List (List ℕ)) (as_answers : List (Option (Answer Out)))
     (as_results : List (Option (Outcome Out))) : Type 0 where
-  pub answers : AllZip (IsDecoded answer_form) pool as_answers
-  pub results : AllZip (IsDecoded outcome_form) pool as_results
+  pub answers : AllZip (IsDecoded answer_encoding) pool as_answers
+  pub results : AllZip (IsDecoded outcome_encoding) pool as_results
 
 -- the pool has each of the texts
 abbrev pub HasTexts : List (List ℕ) → List (List ℕ) → Type 0

@@ -8,8 +8,8 @@ use Rattle.std.specs.Hash.FoldHasher.{initial, write, finish}
 use Rattle.std.proofs.Common.{rules, ap}
 use Rattle.build_base.specs.Digest.{digest as whole_digest}
 use Rattle.std.specs.HashMap.{HashMap, get}
-use Rattle.packed_values.specs.Plain.{text_form}
-use Rattle.packed_values.specs.Parts.{spellings}
+use Rattle.packed_values.specs.Plain.{text_encoding}
+use Rattle.packed_values.specs.Parts.{encodings}
 use Rattle.step_cache.specs.Pools.{text_is, has_text, with_text, number_in}
 use Rattle.step_cache.specs.declared.places.Span.{Span}
 
@@ -77,6 +77,6 @@ IsPlaced texts table = (text : List ℕ) (more : List (List ℕ))
 pub record IsPool {S : Type 0} (bytes : List ℕ) (spans : List Span) (table : HashMap ℕ (List ℕ) S)
     : Type 0 where
   pub inside : AreIn bytes spans
-  pub texts : drop 28 bytes ≡ spellings text_form (texts_at bytes spans)
-  pub values : list_all text_form.is_value (texts_at bytes spans) ≡ true
+  pub texts : drop 28 bytes ≡ encodings text_encoding (texts_at bytes spans)
+  pub values : list_all text_encoding.is_value (texts_at bytes spans) ≡ true
   pub placed : IsPlaced (texts_at bytes spans) table

@@ -1,12 +1,12 @@
 //! Entries from their numbers.
 ghost use Rattle.std.specs.Prelude.{◌≡◌, Some, IfOk};
 ghost use Rattle.std.specs.List.{AllZip};
-ghost use Rattle.packed_outcomes.specs.Talk.{answer_form, outcome_form};
+ghost use Rattle.packed_outcomes.specs.Talk.{answer_encoding, outcome_encoding};
 ghost use Rattle.step_cache.specs.Decoding.{IsDecoded, AreDecoded, value_at, all_some, pair_at, batch_at, entry_with, entry_at};
 
 use crate::numbered::{Asked, Numbered, Pooled};
 use build_base::{Rows, Same, Text, WantOfMemory};
-use packed_outcomes::talk::{AnswerForm, OutcomeForm};
+use packed_outcomes::talk::{AnswerEncoding, OutcomeEncoding};
 use packed_values::unpack_behind;
 use shared_value::Shared;
 use std::alloc::Global;
@@ -21,22 +21,22 @@ pub(crate) struct Decoded {
 }
 
 fn answers_of(alloc: Global, pool: &[Text]) -> Result<Rows<Option<Answer<Out>>>, WantOfMemory>
-    ensures { IfOk result (λ rows. AllZip (IsDecoded answer_form) pool.now rows) }
+    ensures { IfOk result (λ rows. AllZip (IsDecoded answer_encoding) pool.now rows) }
 {
     let mut rows = Rows::new(alloc);
     for text in pool {
-        let answer = unpack_behind::<AnswerForm>(alloc, 0, text)?;
+        let answer = unpack_behind::<AnswerEncoding>(alloc, 0, text)?;
         rows.push(answer)?;
     }
     Ok(rows)
 }
 
 fn outcomes_of(alloc: Global, pool: &[Text]) -> Result<Rows<Option<Outcome<Out>>>, WantOfMemory>
-    ensures { IfOk result (λ rows. AllZip (IsDecoded outcome_form) pool.now rows) }
+    ensures { IfOk result (λ rows. AllZip (IsDecoded outcome_encoding) pool.now rows) }
 {
     let mut rows = Rows::new(alloc);
     for text in pool {
-        let outcome = unpack_behind::<OutcomeForm>(alloc, 0, text)?;
+        let outcome = unpack_behind::<OutcomeEncoding>(alloc, 0, text)?;
         rows.push(outcome)?;
     }
     Ok(rows)

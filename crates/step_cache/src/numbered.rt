@@ -1,12 +1,12 @@
 //! Entries with numbers in place of answers.
 ghost use Rattle.std.specs.Prelude.{◌≡◌, ◌++◌};
-ghost use Rattle.packed_values.specs.Form.{IsPut, IsRead, IsUnread};
-ghost use Rattle.step_cache.specs.Numbered.{asked_form, numbered_form, pooled_form};
+ghost use Rattle.packed_values.specs.Encoding.{IsAppended, IsRead, IsUnread};
+ghost use Rattle.step_cache.specs.Numbered.{asked_encoding, numbered_encoding, pooled_encoding};
 
 use build_base::{Rows, Text, WantOfMemory};
-use packed_outcomes::key::KeyForm;
-use packed_outcomes::talk::AskForm;
-use packed_values::{Input, Packed, all_put, all_taken};
+use packed_outcomes::key::KeyEncoding;
+use packed_outcomes::talk::AskEncoding;
+use packed_values::{Encode, Input, decode_fields, encode_fields};
 use std::alloc::Global;
 use step_engine::Ask;
 use step_pack::Key;
@@ -33,50 +33,50 @@ pub struct Pooled {
     pub entries: Rows<Numbered>,
 }
 
-impl Packed for Asked {
+impl Encode for Asked {
     type Value = Asked;
 
-    ghost form = { asked_form };
+    ghost encoding = { asked_encoding };
 
-    #[tactic(auto, unfolding(crate::specs::Numbered::asked_form, packed_values::specs::Parts::pair_form))]
-    fn put(value: &Asked, out: &mut Vec<u8>) -> Result<(), WantOfMemory> {
-        all_put!(value, out; ask: AskForm, number: u64)
+    #[tactic(auto, unfolding(crate::specs::Numbered::asked_encoding, packed_values::specs::Parts::pair_encoding))]
+    fn encode(value: &Asked, out: &mut Vec<u8>) -> Result<(), WantOfMemory> {
+        encode_fields!(value, out; ask: AskEncoding, number: u64)
     }
 
-    #[tactic(auto, unfolding(crate::specs::Numbered::asked_form), using(packed_values::proofs::WhereLemmas::unread_by))]
-    fn take(alloc: Global, input: &mut Input) -> Result<Option<Asked>, WantOfMemory> {
-        all_taken!(Asked, alloc, input; ask: AskForm, number: u64)
+    #[tactic(auto, unfolding(crate::specs::Numbered::asked_encoding), using(packed_values::proofs::WhereLemmas::unread_by))]
+    fn decode(alloc: Global, input: &mut Input) -> Result<Option<Asked>, WantOfMemory> {
+        decode_fields!(Asked, alloc, input; ask: AskEncoding, number: u64)
     }
 }
 
-impl Packed for Numbered {
+impl Encode for Numbered {
     type Value = Numbered;
 
-    ghost form = { numbered_form };
+    ghost encoding = { numbered_encoding };
 
-    #[tactic(auto, unfolding(crate::specs::Numbered::numbered_form, packed_values::specs::Parts::pair_form))]
-    fn put(value: &Numbered, out: &mut Vec<u8>) -> Result<(), WantOfMemory> {
-        all_put!(value, out; key: KeyForm, batches: Rows<Rows<Asked>>, result: u64)
+    #[tactic(auto, unfolding(crate::specs::Numbered::numbered_encoding, packed_values::specs::Parts::pair_encoding))]
+    fn encode(value: &Numbered, out: &mut Vec<u8>) -> Result<(), WantOfMemory> {
+        encode_fields!(value, out; key: KeyEncoding, batches: Rows<Rows<Asked>>, result: u64)
     }
 
-    #[tactic(auto, unfolding(crate::specs::Numbered::numbered_form), using(packed_values::proofs::WhereLemmas::unread_by))]
-    fn take(alloc: Global, input: &mut Input) -> Result<Option<Numbered>, WantOfMemory> {
-        all_taken!(Numbered, alloc, input; key: KeyForm, batches: Rows<Rows<Asked>>, result: u64)
+    #[tactic(auto, unfolding(crate::specs::Numbered::numbered_encoding), using(packed_values::proofs::WhereLemmas::unread_by))]
+    fn decode(alloc: Global, input: &mut Input) -> Result<Option<Numbered>, WantOfMemory> {
+        decode_fields!(Numbered, alloc, input; key: KeyEncoding, batches: Rows<Rows<Asked>>, result: u64)
     }
 }
 
-impl Packed for Pooled {
+impl Encode for Pooled {
     type Value = Pooled;
 
-    ghost form = { pooled_form };
+    ghost encoding = { pooled_encoding };
 
-    #[tactic(auto, unfolding(crate::specs::Numbered::pooled_form, packed_values::specs::Parts::pair_form))]
-    fn put(value: &Pooled, out: &mut Vec<u8>) -> Result<(), WantOfMemory> {
-        all_put!(value, out; pool: Rows<Text>, entries: Rows<Numbered>)
+    #[tactic(auto, unfolding(crate::specs::Numbered::pooled_encoding, packed_values::specs::Parts::pair_encoding))]
+    fn encode(value: &Pooled, out: &mut Vec<u8>) -> Result<(), WantOfMemory> {
+        encode_fields!(value, out; pool: Rows<Text>, entries: Rows<Numbered>)
     }
 
-    #[tactic(auto, unfolding(crate::specs::Numbered::pooled_form), using(packed_values::proofs::WhereLemmas::unread_by))]
-    fn take(alloc: Global, input: &mut Input) -> Result<Option<Pooled>, WantOfMemory> {
-        all_taken!(Pooled, alloc, input; pool: Rows<Text>, entries: Rows<Numbered>)
+    #[tactic(auto, unfolding(crate::specs::Numbered::pooled_encoding), using(packed_values::proofs::WhereLemmas::unread_by))]
+    fn decode(alloc: Global, input: &mut Input) -> Result<Option<Pooled>, WantOfMemory> {
+        decode_fields!(Pooled, alloc, input; pool: Rows<Text>, entries: Rows<Numbered>)
     }
 }

@@ -1,8 +1,8 @@
 //! A pool of texts, each once, as it is written.
 ghost use Rattle.std.specs.Prelude.{◌≡◌, ◌++◌, ◌≤◌, ◌+◌, [], ◌∷◌, true, false, List, ℕ, length, take, drop, IfOk, OnOk, MatchOption};
 ghost use Rattle.std.specs.Int.{bytes_low_first};
-ghost use Rattle.packed_values.specs.Plain.{text_form};
-ghost use Rattle.packed_values.specs.Parts.{rows_form};
+ghost use Rattle.packed_values.specs.Plain.{text_encoding};
+ghost use Rattle.packed_values.specs.Parts.{rows_encoding};
 ghost use Rattle.step_cache.specs.Places.{digest, texts_at, IsPlaced, IsPool, IsTextAt};
 ghost use Rattle.step_cache.specs.Pools.{has_text, with_text, number_in};
 
@@ -10,7 +10,7 @@ use crate::places::{Span, digest, find, note};
 use build_base::{Rows, WantOfMemory};
 use cache_heads::{HEAD, before, behind};
 use indexmap::IndexMap;
-use packed_values::Packed;
+use packed_values::Encode;
 use std::alloc::Global;
 use std::marker::Model;
 
@@ -166,8 +166,8 @@ fn close(
     }
 }
 
-// Puts the spelling of a value, unless it is there.
-fn put_value<P: Packed>(
+// Puts the encoding of a value, unless it is there.
+fn put_value<P: Encode>(
     alloc: Global,
     value: &P::Value,
     bytes: &mut Vec<u8>,
@@ -177,15 +177,15 @@ fn put_value<P: Packed>(
     requires pool { IsPool bytes.old.items spans.old.items table.old }
     ensures pool { OnOk result (IsPool bytes.new.items spans.new.items table.new) }
     ensures texts { OnOk result (texts_at bytes.new.items spans.new.items
-        ≡ with_text (texts_at bytes.old.items spans.old.items) (P.form.spelling value.now)) }
+        ≡ with_text (texts_at bytes.old.items spans.old.items) (P.encoding.encode value.now)) }
     ensures number { IfOk result (λ n. n ≡ number_in (texts_at bytes.new.items spans.new.items)
-        (P.form.spelling value.now)) }
-    ensures value { OnOk result (P.form.is_value value.now ≡ true) }
+        (P.encoding.encode value.now)) }
+    ensures value { OnOk result (P.encoding.is_value value.now ≡ true) }
 {
     make_room(bytes, spans.as_slice(), table)?;
     let start = bytes.len();
-    u64::put(&0, bytes)?;
-    P::put(value, bytes)?;
+    u64::encode(&0, bytes)?;
+    P::encode(value, bytes)?;
     let number = close(alloc, start, bytes, spans, table)?;
     Ok(number)
 }
@@ -206,14 +206,14 @@ impl Pool {
     /// The number of the packed form of a value, which is put where it isn't there. Where memory is
     /// wanting, the pool is left empty.
     #[tactic(auto, using(crate::proofs::PoolTextLemmas::no_texts))]
-    pub(crate) fn put<P: Packed>(
+    pub(crate) fn put<P: Encode>(
         &mut self,
         alloc: Global,
         value: &P::Value,
     ) -> Result<u64, WantOfMemory>
-        ensures pool { OnOk result (self.new ≡ with_text self.old (P.form.spelling value.now)) }
-        ensures number { IfOk result (λ n. n ≡ number_in self.new (P.form.spelling value.now)) }
-        ensures value { OnOk result (P.form.is_value value.now ≡ true) }
+        ensures pool { OnOk result (self.new ≡ with_text self.old (P.encoding.encode value.now)) }
+        ensures number { IfOk result (λ n. n ≡ number_in self.new (P.encoding.encode value.now)) }
+        ensures value { OnOk result (P.encoding.is_value value.now ≡ true) }
     {
         match put_value::<P>(
             alloc,
@@ -232,12 +232,12 @@ impl Pool {
         }
     }
 
-    /// The spelling of the texts, behind room for a head.
+    /// The encoding of the texts, behind room for a head.
     pub(crate) fn into_bytes(self) -> Result<Vec<u8>, WantOfMemory>
         ensures room { IfOk result (λ bytes. 28 ≤ length bytes.items) }
         ensures texts { IfOk result (λ bytes. drop 20 bytes.items
-            ≡ (rows_form text_form).spelling self) }
-        ensures value { OnOk result ((rows_form text_form).is_value self ≡ true) }
+            ≡ (rows_encoding text_encoding).encode self) }
+        ensures value { OnOk result ((rows_encoding text_encoding).is_value self ≡ true) }
     {
         let Pool {
             mut bytes,

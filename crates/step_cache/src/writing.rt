@@ -1,8 +1,8 @@
 //! The text of a cache from its entries.
 ghost use Rattle.std.specs.Prelude.{◌≡◌, true, List, ℕ, IfOk, OnOk, map, Contains};
 ghost use Rattle.std.specs.List.{list_all, flat_map};
-ghost use Rattle.packed_outcomes.specs.Talk.{answer_form, outcome_form};
-ghost use Rattle.packed_values.specs.Form.{IsSpelling};
+ghost use Rattle.packed_outcomes.specs.Talk.{answer_encoding, outcome_encoding};
+ghost use Rattle.packed_values.specs.Encoding.{IsEncoding};
 ghost use Rattle.step_cache.specs.CacheText.{IsCacheText, pair_text, batch_texts, entry_texts, cache_texts, numbered_pair, numbered_batch, numbered, pooled, pair_is_value, batch_is_value, entry_is_value};
 ghost use Rattle.step_cache.specs.Numbered.{pooled_with};
 ghost use Rattle.step_cache.specs.Known.{IsNumbered, AreNoted, AreAmong, AreAllAmong};
@@ -16,18 +16,18 @@ use crate::numbered::{Asked, Numbered};
 use crate::pool::Pool;
 use crate::text::{fits, text_of};
 use build_base::{Rows, Same, Text, WantOfMemory};
-use packed_outcomes::talk::{AnswerForm, OutcomeForm};
+use packed_outcomes::talk::{AnswerEncoding, OutcomeEncoding};
 use std::alloc::Global;
 use step_engine::{Answer, Batch, Cache, Entry, Outcome, Pair};
 use step_pack::{Key, Out};
 
 // The number of an answer's packed form, which is put into the pool where it isn't there.
 fn answer_number(alloc: Global, pool: &mut Pool, answer: &Answer<Out>) -> Result<u64, WantOfMemory>
-    ensures pool { OnOk result (pool.new ≡ with_text pool.old (answer_form.spelling answer.now)) }
-    ensures number { IfOk result (λ n. n ≡ number_in pool.new (answer_form.spelling answer.now)) }
-    ensures value { OnOk result (answer_form.is_value answer.now ≡ true) }
+    ensures pool { OnOk result (pool.new ≡ with_text pool.old (answer_encoding.encode answer.now)) }
+    ensures number { IfOk result (λ n. n ≡ number_in pool.new (answer_encoding.encode answer.now)) }
+    ensures value { OnOk result (answer_encoding.is_value answer.now ≡ true) }
 {
-    pool.put::<AnswerForm>(alloc, answer)
+    pool.put::<AnswerEncoding>(alloc, answer)
 }
 
 // The number of a result's packed form, which is put into the pool where it isn't there.
@@ -36,11 +36,13 @@ fn result_number(
     pool: &mut Pool,
     outcome: &Outcome<Out>,
 ) -> Result<u64, WantOfMemory>
-    ensures pool { OnOk result (pool.new ≡ with_text pool.old (outcome_form.spelling outcome.now)) }
-    ensures number { IfOk result (λ n. n ≡ number_in pool.new (outcome_form.spelling outcome.now)) }
-    ensures value { OnOk result (outcome_form.is_value outcome.now ≡ true) }
+    ensures pool { OnOk result (pool.new
+        ≡ with_text pool.old (outcome_encoding.encode outcome.now)) }
+    ensures number { IfOk result (λ n. n
+        ≡ number_in pool.new (outcome_encoding.encode outcome.now)) }
+    ensures value { OnOk result (outcome_encoding.is_value outcome.now ≡ true) }
 {
-    pool.put::<OutcomeForm>(alloc, outcome)
+    pool.put::<OutcomeEncoding>(alloc, outcome)
 }
 
 // The number of a pair's answer, which is packed. It is noted where all answers to its part are the

@@ -1,6 +1,6 @@
 use Rattle.std.proofs.Common.{arith, take, ◌+◌, ◌≡◌, ◌++◌, ◌∷◌, []}
 use Rattle.std.proofs.lemmas.Grind.{common_steps}
-use Rattle.packed_outcomes.specs.Talk.{answer_form}
+use Rattle.packed_outcomes.specs.Talk.{answer_encoding}
 use Rattle.step_cache.specs.Decoding.{IsDecoded}
 use Rattle.step_cache.proofs.GivenLemmas.{decoded_push}
 use Rattle.step_cache.proofs.decoding.answers_of.Goals as goal
@@ -11,5 +11,5 @@ loop-text-preserved c =
     let x = c.text-item.result in
     let done = take c.loop-text.text-index xs in
     let more : take (c.loop-text.text-index + 1) xs ≡ done ++ x ∷ [] = grind (arith, common_steps) in
-    let spelled : IsDecoded answer_form x c.in_ok-answer.answer = c.in_ok-answer.ensures in
-    rw (more, c.in_ok-push.ensures.ok) (decoded_push answer_form done c.loop-text.rows x c.in_ok-answer.answer c.loop-text.invariant spelled)
+    let encoded : IsDecoded answer_encoding x c.in_ok-answer.answer = c.in_ok-answer.ensures in
+    rw (more, c.in_ok-push.ensures.ok) (decoded_push answer_encoding done c.loop-text.rows x c.in_ok-answer.answer c.loop-text.invariant encoded)

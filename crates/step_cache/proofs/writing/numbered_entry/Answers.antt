@@ -1,7 +1,7 @@
 use Rattle.std.proofs.Common.{rules}
 use Rattle.step_cache.proofs.KnownLemmas.{talk_among, noted_with}
 use Rattle.step_cache.proofs.NumberLemmas.{entry_pool, entry_numbered}
-use Rattle.packed_outcomes.specs.Talk.{outcome_form}
+use Rattle.packed_outcomes.specs.Talk.{outcome_encoding}
 use Rattle.step_cache.proofs.writing.numbered_entry.Goals as goal
 
 pub returns-clause-pool : goal.returns-clause-pool
@@ -18,5 +18,5 @@ numbered_batches-requires-clause-among c = talk_among c.args.cache.now c.args.en
 
 pub returns-clause-noted : goal.returns-clause-noted
 returns-clause-noted c =
-    noted_with c.args.cache.now c.numbered_batches.new.pool c.result_number.new.pool (outcome_form.spelling c.args.entry.now.result) c.numbered_batches.new.known
+    noted_with c.args.cache.now c.numbered_batches.new.pool c.result_number.new.pool (outcome_encoding.encode c.args.entry.now.result) c.numbered_batches.new.known
     (search rules) (search rules)

@@ -1,7 +1,7 @@
 use Rattle.std.proofs.Common.{rules, ◌≡◌, ◌∙◌, ◌++◌, ◌^◌, true, length, take, drop, nat_lt, ap, sym}
 use Rattle.std.specs.Int.{bytes_low_first}
-use Rattle.packed_values.specs.Plain.{text_form}
-use Rattle.packed_values.specs.Parts.{rows_form}
+use Rattle.packed_values.specs.Plain.{text_encoding}
+use Rattle.packed_values.specs.Parts.{rows_encoding}
 use Rattle.step_cache.specs.Places.{texts_at, IsPool}
 use Rattle.step_cache.proofs.PoolTextLemmas.{counted, counted_values}
 use Rattle.step_cache.proofs.pool.Pool.into_bytes.Goals as goal
@@ -15,7 +15,7 @@ returns-clause-texts c =
     let same : texts_at bytes spans ≡ c.args.self = search rules in
     let pool : IsPool bytes spans c.self.inside.table = rw c.as_slice.ensures.value at c.in_ok-make_room.ensures.pool in
     counted bytes items spans c.self.inside.table pool c.in_ok-make_room.ensures.room is
-    ∙ ap (rows_form text_form).spelling same
+    ∙ ap (rows_encoding text_encoding).encode same
 
 pub returns-clause-value : goal.returns-clause-value
 returns-clause-value c =
@@ -24,5 +24,5 @@ returns-clause-value c =
     let same : texts_at bytes spans ≡ c.args.self = search rules in
     let fits : nat_lt (length spans) (256 ^ 8) ≡ true = search rules in
     let pool : IsPool bytes spans c.self.inside.table = rw c.as_slice.ensures.value at c.in_ok-make_room.ensures.pool in
-    sym (ap (rows_form text_form).is_value same)
+    sym (ap (rows_encoding text_encoding).is_value same)
     ∙ counted_values bytes c.put_number.new.bytes.items spans c.self.inside.table pool c.in_ok-make_room.ensures.room (search rules) fits
