@@ -27,6 +27,11 @@ is_key BlockSize BlockSize = true
 is_key NumBlocks NumBlocks = true
 is_key key other = false
 
+-- the number of a row
+abbrev pub number_in : Option Row → Option DeviceNumber
+number_in (Some (row.Number n)) = Some n
+number_in row = None
+
 -- the number that a row gives to a key
 abbrev pub numbers : DeviceKey → Row → List ℕ
 numbers key (row.Number n) = if is_key n.key key then n.number ∷ [] else []

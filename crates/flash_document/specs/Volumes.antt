@@ -24,6 +24,11 @@ use Rattle.flash_document.specs.declared.stated.FdfSection.{FdfSection}
 use Rattle.flash_document.specs.declared.stated.FdfSection.TheVariants as stated
 use Rattle.flash_document.specs.Columns.{row_at, column}
 
+-- the setting of a row
+abbrev pub setting_of : Option Row → Option VolumeSetting
+setting_of (Some (row.Setting setting)) = Some setting
+setting_of row = None
+
 abbrev pub settings_in : {T : Type 0} → (VolumeSetting → List T) → Row → List T
 settings_in says (row.Setting setting) = says setting
 settings_in says row = []

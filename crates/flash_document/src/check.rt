@@ -353,7 +353,7 @@ fn part_sizes(
 
 /// A test of a part by the sizes of the regions that hold it.
 #[derive(Clone, Copy)]
-pub enum RegionTest {
+pub(crate) enum RegionTest {
     TooLarge,
     Blocks,
     TwoSizes,

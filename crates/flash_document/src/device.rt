@@ -1,7 +1,8 @@
 //! A device as its section states it.
-ghost use Rattle.std.specs.Prelude.{◌≡◌, ◌++◌, ◌∷◌, [], IfOk, OnOk, List};
+ghost use Rattle.std.specs.Prelude.{◌≡◌, ◌++◌, ◌∷◌, [], IfOk, OnOk, IfSome, IfNone, Some, None, List};
+ghost use Rattle.fdf_words.specs.declared.rows.Row.TheVariants as row;
 ghost use Rattle.flash_document.specs.Columns.{row_at, column};
-ghost use Rattle.flash_document.specs.Devices.{is_key, number_of, sum_counted, sum_with, block_pairs, first_size, total_of, content_in, region_at, regions_of, device_of};
+ghost use Rattle.flash_document.specs.Devices.{is_key, number_in, number_of, sum_counted, sum_with, block_pairs, first_size, total_of, content_in, region_at, regions_of, device_of};
 
 use crate::column::row_at;
 use crate::stated::{StatedDevice, StatedRegion, region_content_copy};
@@ -23,6 +24,17 @@ pub fn is_key(key: DeviceKey, other: DeviceKey) -> bool
     }
 }
 
+/// The number that a line states below the head of a number.
+pub(crate) fn number_at(line: &LineRead, k: usize) -> Option<&DeviceNumber>
+    ensures some { IfSome result (λ n. row_at k line.now ≡ Some (row.Number n.now)) }
+    ensures none { IfNone result (number_in (row_at k line.now) ≡ None) }
+{
+    match row_at(line, k) {
+        Some(Row::Number(n)) => Some(n),
+        _ => None,
+    }
+}
+
 /// The number that the last line of a key gives it.
 pub fn number_of(key: DeviceKey, k: usize, lines: &[LineRead]) -> Option<u64>
     ensures { result ≡ number_of key k lines.now }
@@ -30,7 +42,7 @@ pub fn number_of(key: DeviceKey, k: usize, lines: &[LineRead]) -> Option<u64>
     let mut found = None;
     let mut left = lines;
     while let [line, rest @ ..] = left {
-        if let Some(Row::Number(n)) = row_at(line, k) {
+        if let Some(n) = number_at(line, k) {
             if is_key(n.key, key) {
                 found = Some(n.number);
             }
@@ -84,7 +96,7 @@ fn block_sum(k: usize, lines: &[LineRead]) -> BlockSum
     };
     let mut left = lines;
     while let [line, rest @ ..] = left {
-        if let Some(Row::Number(n)) = row_at(line, k) {
+        if let Some(n) = number_at(line, k) {
             sum.take(n);
         }
         left = rest;

@@ -1,7 +1,7 @@
 //! A rule as its section states it.
-ghost use Rattle.std.specs.Prelude.{◌≡◌, IfOk, OnOk, IfSome, IfNone, Some, None, List};
+ghost use Rattle.std.specs.Prelude.{◌≡◌, ◌++◌, IfOk, OnOk, IfSome, IfNone, Some, None, List};
 ghost use Rattle.doc_types.specs.declared.volume.SectionPlan.{SectionPlan as PlannedSection};
-ghost use Rattle.flash_document.specs.Columns.{row_at, column};
+ghost use Rattle.flash_document.specs.Columns.{row_at, in_row, column};
 ghost use Rattle.flash_document.specs.Volumes.{rule_sections, rule_head, plan_of, rule_with, rule_of_lines};
 
 use crate::column::row_at;
@@ -10,6 +10,21 @@ use build_base::{Place, Rows, Same, WantOfMemory};
 use doc_types::volume::{FilePlan, RuleDoc, SectionPlan};
 use fdf_words::rows::{FileHead, LineRead, Row, RuleScope};
 use std::alloc::Global;
+
+// Adds the section that a line states.
+fn push_section(
+    alloc: Global,
+    sections: &mut Rows<SectionPlan>,
+    k: usize,
+    line: &LineRead,
+) -> Result<(), WantOfMemory>
+    ensures { OnOk result (sections.new ≡ sections.old ++ in_row rule_sections (row_at k line.now)) }
+{
+    match row_at(line, k) {
+        Some(Row::RuleSection(section)) => sections.push(section.copy(alloc)?),
+        _ => Ok(()),
+    }
+}
 
 fn sections_of(
     alloc: Global,
@@ -21,9 +36,7 @@ fn sections_of(
     let mut sections = Rows::new(alloc);
     let mut left = lines;
     while let [line, rest @ ..] = left {
-        if let Some(Row::RuleSection(section)) = row_at(line, k) {
-            sections.push(section.copy(alloc)?)?;
-        }
+        push_section(alloc, &mut sections, k, line)?;
         left = rest;
     }
     Ok(sections)

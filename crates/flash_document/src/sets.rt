@@ -6,7 +6,7 @@ ghost use Rattle.flash_document.specs.Columns.{row_at};
 ghost use Rattle.flash_document.specs.Sets.{is_heads, section_lines, automatic, pcd_set, has_key, region_above, region_sets, sets_at, line_sets, section_sets, bases_from, sets_below, all_sets};
 
 use crate::column::row_at;
-use crate::device::{is_key, number_of};
+use crate::device::{is_key, number_at, number_of};
 use build_base::{Place, Rows, Same, Text, WantOfMemory};
 use doc_types::pcd::{PcdName, PcdSet};
 use fdf_words::rows::{DeviceKey, DeviceNumber, LineRead, RegionPcds, RegionStart, Row, Scope};
@@ -76,7 +76,7 @@ fn has_key(key: DeviceKey, k: usize, lines: &[LineRead]) -> bool
 {
     let mut left = lines;
     while let [line, rest @ ..] = left {
-        if let Some(Row::Number(n)) = row_at(line, k) {
+        if let Some(n) = number_at(line, k) {
             if is_key(n.key, key) {
                 return true;
             }

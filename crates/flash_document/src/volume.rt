@@ -1,8 +1,9 @@
 //! A volume as its section states it.
 ghost use Rattle.std.specs.Prelude.{◌≡◌, ◌++◌, ◌∷◌, [], IfOk, OnOk, IfSome, IfNone, Some, None, List};
 ghost use Rattle.flash_document.specs.Columns.{row_at};
+ghost use Rattle.fdf_words.specs.declared.rows.Row.TheVariants as row;
 ghost use Rattle.flash_document.specs.declared.stated.FdfStatement.TheVariants as item;
-ghost use Rattle.flash_document.specs.Volumes.{is_key, settings_in, last_setting, numbers, switches, rebases, names, systems, is_on, flags_of, members_in, sections_in, whole_in, file_with, item_at, items_of, volume_of};
+ghost use Rattle.flash_document.specs.Volumes.{is_key, setting_of, settings_in, last_setting, numbers, switches, rebases, names, systems, is_on, flags_of, members_in, sections_in, whole_in, file_with, item_at, items_of, volume_of};
 
 use crate::column::row_at;
 use crate::stated::{FdfStatement, StatedFile, StatedVolume, head_copy, section_copy};
@@ -26,13 +27,24 @@ fn is_key(key: VolumeKey, other: VolumeKey) -> bool
     }
 }
 
+// What a line sets below the head of a number.
+fn setting_at(line: &LineRead, k: usize) -> Option<&VolumeSetting>
+    ensures some { IfSome result (λ s. row_at k line.now ≡ Some (row.Setting s.now)) }
+    ensures none { IfNone result (setting_of (row_at k line.now) ≡ None) }
+{
+    match row_at(line, k) {
+        Some(Row::Setting(setting)) => Some(setting),
+        _ => None,
+    }
+}
+
 fn number_of(key: VolumeKey, k: usize, lines: &[LineRead]) -> Option<u64>
     ensures { result ≡ last_setting (numbers key) k lines.now }
 {
     let mut found = None;
     let mut left = lines;
     while let [line, rest @ ..] = left {
-        if let Some(Row::Setting(VolumeSetting::Number { key: other, number })) = row_at(line, k) {
+        if let Some(VolumeSetting::Number { key: other, number }) = setting_at(line, k) {
             if is_key(*other, key) {
                 found = Some(*number);
             }
@@ -48,7 +60,7 @@ fn is_on(k: usize, lines: &[LineRead], bits: u32) -> bool
     let mut found = None;
     let mut left = lines;
     while let [line, rest @ ..] = left {
-        if let Some(Row::Setting(VolumeSetting::Attribute { bits: other, on })) = row_at(line, k) {
+        if let Some(VolumeSetting::Attribute { bits: other, on }) = setting_at(line, k) {
             if *other == bits {
                 found = Some(*on);
             }
@@ -98,7 +110,7 @@ fn force_of(k: usize, lines: &[LineRead]) -> Option<bool>
     let mut found = None;
     let mut left = lines;
     while let [line, rest @ ..] = left {
-        if let Some(Row::Setting(VolumeSetting::ForceRebase(on))) = row_at(line, k) {
+        if let Some(VolumeSetting::ForceRebase(on)) = setting_at(line, k) {
             found = Some(*on);
         }
         left = rest;
@@ -112,7 +124,7 @@ fn name_of(k: usize, lines: &[LineRead]) -> Option<Guid>
     let mut found = None;
     let mut left = lines;
     while let [line, rest @ ..] = left {
-        if let Some(Row::Setting(VolumeSetting::NameGuid(guid))) = row_at(line, k) {
+        if let Some(VolumeSetting::NameGuid(guid)) = setting_at(line, k) {
             found = Some(*guid);
         }
         left = rest;
@@ -126,7 +138,7 @@ fn system_of(k: usize, lines: &[LineRead]) -> Option<bool>
     let mut found = None;
     let mut left = lines;
     while let [line, rest @ ..] = left {
-        if let Some(Row::Setting(VolumeSetting::FileSystem { ffs3 })) = row_at(line, k) {
+        if let Some(VolumeSetting::FileSystem { ffs3 }) = setting_at(line, k) {
             found = Some(*ffs3);
         }
         left = rest;
@@ -134,20 +146,52 @@ fn system_of(k: usize, lines: &[LineRead]) -> Option<bool>
     found
 }
 
-fn members_in(alloc: Global, k: usize, lines: &[LineRead]) -> Result<Rows<Member>, WantOfMemory>
-    ensures { IfOk result (λ rows. rows ≡ members_in k lines.now) }
+fn push_members(
+    alloc: Global,
+    members: &mut Rows<Member>,
+    k: usize,
+    lines: &[LineRead],
+) -> Result<(), WantOfMemory>
+    ensures { OnOk result (members.new ≡ members.old ++ members_in k lines.now) }
 {
-    let mut members = Rows::new(alloc);
     let mut left = lines;
     while let [line, rest @ ..] = left {
         match row_at(line, k) {
-            Some(Row::Closes) => return Ok(members),
+            Some(Row::Closes) => return Ok(()),
             Some(Row::Member(member)) => members.push(member.copy(alloc)?)?,
             _ => {}
         }
         left = rest;
     }
+    Ok(())
+}
+
+fn members_in(alloc: Global, k: usize, lines: &[LineRead]) -> Result<Rows<Member>, WantOfMemory>
+    ensures { IfOk result (λ rows. rows ≡ members_in k lines.now) }
+{
+    let mut members = Rows::new(alloc);
+    push_members(alloc, &mut members, k, lines)?;
     Ok(members)
+}
+
+fn push_sections(
+    alloc: Global,
+    sections: &mut Rows<SectionLine>,
+    k: usize,
+    lines: &[LineRead],
+) -> Result<(), WantOfMemory>
+    ensures { OnOk result (sections.new ≡ sections.old ++ sections_in k lines.now) }
+{
+    let mut left = lines;
+    while let [line, rest @ ..] = left {
+        match row_at(line, k) {
+            Some(Row::Closes) => return Ok(()),
+            Some(Row::Section(section)) => sections.push(section_copy(section, alloc)?)?,
+            _ => {}
+        }
+        left = rest;
+    }
+    Ok(())
 }
 
 fn sections_in(
@@ -158,15 +202,7 @@ fn sections_in(
     ensures { IfOk result (λ rows. rows ≡ sections_in k lines.now) }
 {
     let mut sections = Rows::new(alloc);
-    let mut left = lines;
-    while let [line, rest @ ..] = left {
-        match row_at(line, k) {
-            Some(Row::Closes) => return Ok(sections),
-            Some(Row::Section(section)) => sections.push(section_copy(section, alloc)?)?,
-            _ => {}
-        }
-        left = rest;
-    }
+    push_sections(alloc, &mut sections, k, lines)?;
     Ok(sections)
 }
 

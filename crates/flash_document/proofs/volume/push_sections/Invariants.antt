@@ -1,9 +1,9 @@
 use Rattle.std.proofs.Common.{length, ◌≡◌, ◌++◌}
 use Rattle.flash_document.specs.Volumes.{sections_in}
-use Rattle.flash_document.proofs.volume.sections_in.Given as goal
+use Rattle.flash_document.proofs.volume.push_sections.Given as goal
 
 abbrev pub invariant-loop-left : goal.invariant-loop-left
-invariant-loop-left l = l.sections ++ sections_in l.k l.left ≡ sections_in l.k l.lines
+invariant-loop-left l = l.sections ++ sections_in l.k l.left ≡ l.fn.sections ++ sections_in l.k l.lines
 
 abbrev pub decreases-loop-left : goal.decreases-loop-left
 decreases-loop-left l = length l.left
