@@ -6,6 +6,7 @@ ghost use Rattle.flash_document.specs.Volumes.{rule_sections, rule_head, plan_of
 
 use crate::column::row_at;
 use crate::stated::{FdfSection, StatedRule, head_copy};
+use build_base::together::three;
 use build_base::{Place, Rows, Same, WantOfMemory};
 use doc_types::volume::{FilePlan, RuleDoc, SectionPlan};
 use fdf_words::rows::{FileHead, LineRead, Row, RuleScope};
@@ -91,9 +92,7 @@ fn rule_with(
     let Some(head) = head else {
         return Ok(FdfSection::Settings);
     };
-    let at = at.copy(alloc)?;
-    let template = scope.template.copy(alloc)?;
-    let name = scope.name.copy(alloc)?;
+    let (at, template, name) = three(at, &scope.template, &scope.name, alloc)?;
     let rule = RuleDoc {
         at,
         arch: scope.arch,

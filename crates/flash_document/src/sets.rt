@@ -7,6 +7,7 @@ ghost use Rattle.flash_document.specs.Sets.{is_heads, section_lines, automatic, 
 
 use crate::column::row_at;
 use crate::device::{is_key, number_at, number_of};
+use build_base::together::two;
 use build_base::{Place, Rows, Same, Text, WantOfMemory};
 use doc_types::pcd::{PcdName, PcdSet};
 use fdf_words::rows::{DeviceKey, DeviceNumber, LineRead, RegionPcds, RegionStart, Row, Scope};
@@ -47,11 +48,13 @@ fn automatic(alloc: Global, at: &Place, pcd: &PcdName, number: u128) -> Result<P
     ensures { IfOk result (λ set. set ≡ automatic at.now pcd.now number) }
 {
     let mut digits = Buffer::new();
+    let value = Text::of(alloc, digits.format(number).as_bytes())?;
+    let (at, pcd) = two(at, pcd, alloc)?;
     Ok(PcdSet {
-        at: at.copy(alloc)?,
+        at,
         rank: 3,
-        pcd: pcd.copy(alloc)?,
-        value: Text::of(alloc, digits.format(number).as_bytes())?,
+        pcd,
+        value,
     })
 }
 
