@@ -17,7 +17,7 @@ use Rattle.image_rules.specs.ImageTrees.{file_stages, volume_stages, device_stag
 use Rattle.module_rules.specs.ModuleTrees.{most_rounds, choice_stages, pcds_stages, values_stages}
 use Rattle.module_rules.specs.TextTrees.{code_stages, depex_stages, report_stages}
 use Rattle.image_rules.specs.VpdTree.{vpd_stages}
-pub use Rattle.document_rules.specs.Trees.{Comes}
+pub use Rattle.document_rules.specs.Trees.{AdvancesTo}
 use Rattle.document_rules.specs.Trees.{EdkStages, dec_stages, inf_stages, platform_stages, flash_stages}
 
 abbrev pub stages_of : Key → EdkStages

@@ -26,8 +26,8 @@ found_at cmp t (ask.Field i) = lookup (is_at (nat_cmp i)) t.1
 found_at cmp t (ask.Part k) = lookup (is_at (cmp k)) t.2
 
 -- what the first has, and else the second
-abbrev pub over : {K V : Type 0} → (Ask K → Option V) → (Ask K → Option V) → Ask K → Option V
-over first second a = or_else (first a) (second a)
+abbrev pub or_from : {K V : Type 0} → (Ask K → Option V) → (Ask K → Option V) → Ask K → Option V
+or_from first second a = or_else (first a) (second a)
 
 -- one ask has a value
 abbrev pub one : {K V : Type 0} → (Ask K → Ask K → Bool) → Ask K → V → Ask K → Option V
@@ -36,4 +36,4 @@ one same b x a = if same a b then Some x else None
 -- the ask has the value where it had none, and all else is as before
 abbrev pub Notes : {K V : Type 0} → (K → K → Ordering) → Ask K → V → Tables K V → Tables K V
     → Type 0
-Notes cmp a x old new = found_at cmp new ≡ over (found_at cmp old) (one (same_ask cmp) a x)
+Notes cmp a x old new = found_at cmp new ≡ or_from (found_at cmp old) (one (same_ask cmp) a x)

@@ -8,7 +8,7 @@ use Rattle.step_engine.specs.declared.talk.Ask.{Ask}
 use Rattle.step_engine.specs.declared.talk.Answer.{Answer}
 use Rattle.step_engine.specs.declared.talk.Batch.{Batch}
 use Rattle.step_engine.specs.declared.talk.Pair.{Pair}
-use Rattle.build_stages.specs.Asks.{same_ask, Tables, found_at, over}
+use Rattle.build_stages.specs.Asks.{same_ask, Tables, found_at, or_from}
 use Rattle.build_stages.specs.Stages.{Known, Staged, Stages, Fits, Halt, either, known_pairs, known_in, answered, missing, gather, advance}
 
 -- a table of answers
@@ -35,7 +35,7 @@ seen_in known wanted a = either (is_some (wanted a)) (is_some (known a))
 abbrev pub NotesAll : {K O : Type 0} → (K → K → Ordering) → List (Pair K O) → Table K O → Table K O
     → Type 0
 NotesAll cmp pairs old new =
-    known_at cmp new ≡ over (known_at cmp old) (known_pairs (same_ask cmp) pairs)
+    known_at cmp new ≡ or_from (known_at cmp old) (known_pairs (same_ask cmp) pairs)
 
 -- the table is that of a talk
 abbrev pub IsOf : {K O : Type 0} → (K → K → Ordering) → List (Batch K O) → Table K O → Type 0

@@ -7,7 +7,7 @@ use case_player::{Output, Page, Stop};
 use doc_types::platform::{Component, LibraryLine, PcdLine, PlatformDoc, Sku, Store};
 
 // A word that isn't empty.
-fn given(page: &mut Page, text: &Text) {
+fn put_given_word(page: &mut Page, text: &Text) {
     if !text.bytes().is_empty() {
         page.word(text.bytes());
     }
@@ -17,7 +17,7 @@ fn tell_sku(page: &mut Page, sku: &Sku) {
     page.put(b"sku");
     page.number(sku.id);
     page.word(sku.name.bytes());
-    given(page, &sku.parent);
+    put_given_word(page, &sku.parent);
     page.end();
 }
 
@@ -50,7 +50,7 @@ fn store(page: &mut Page, found: &Store) {
             page.pair(b"in", variable.bytes());
             page.word(guid.bytes());
             page.number(u64::from(*offset));
-            given(page, attributes);
+            put_given_word(page, attributes);
         }
         Store::Vpd { offset: at, rest } => {
             offset(page, *at);

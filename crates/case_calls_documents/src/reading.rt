@@ -4,7 +4,7 @@ ghost use Rattle.std.specs.Prelude.{IfOk};
 ghost use Rattle.dsc_platform.specs.Shape.{HasShape};
 
 use build_base::{Book, Lines, Path};
-use case_calls_texts::{copied, lines_of, path_of};
+use case_calls_texts::{checked_copy, lines_of, path_of};
 use case_player::{Output, Stop};
 use dec_docs::read_dec;
 use doc_types::flash::FlashDoc;
@@ -25,7 +25,7 @@ fn package_in(alloc: Global, lines: &Lines) -> Result<DecDoc, Stop> {
 pub fn package_of(alloc: Global, files: &[Output], root: &Path) -> Result<DecDoc, Stop> {
     let lines = lines_of(alloc, files, root)?;
     let package = package_in(alloc, &lines)?;
-    copied(alloc, &package)
+    checked_copy(alloc, &package)
 }
 
 fn module_in(alloc: Global, lines: &Lines) -> Result<InfDoc, Stop> {
@@ -37,7 +37,7 @@ fn module_in(alloc: Global, lines: &Lines) -> Result<InfDoc, Stop> {
 pub fn module_of(alloc: Global, files: &[Output], root: &Path) -> Result<InfDoc, Stop> {
     let lines = lines_of(alloc, files, root)?;
     let module = module_in(alloc, &lines)?;
-    copied(alloc, &module)
+    checked_copy(alloc, &module)
 }
 
 fn platform_in(alloc: Global, lines: &Lines) -> Result<PlatformDoc, Stop>
@@ -53,7 +53,7 @@ pub fn platform_of(alloc: Global, files: &[Output], root: &Path) -> Result<Platf
 {
     let lines = lines_of(alloc, files, root)?;
     let platform = platform_in(alloc, &lines)?;
-    copied(alloc, &platform)
+    checked_copy(alloc, &platform)
 }
 
 fn flash_in(alloc: Global, lines: &Lines) -> Result<FlashDoc, Stop> {
@@ -65,7 +65,7 @@ fn flash_in(alloc: Global, lines: &Lines) -> Result<FlashDoc, Stop> {
 pub fn flash_of(alloc: Global, files: &[Output], root: &Path) -> Result<FlashDoc, Stop> {
     let lines = lines_of(alloc, files, root)?;
     let flash = flash_in(alloc, &lines)?;
-    copied(alloc, &flash)
+    checked_copy(alloc, &flash)
 }
 
 pub fn package_at(alloc: Global, files: &[Output], word: &str) -> Result<DecDoc, Stop> {

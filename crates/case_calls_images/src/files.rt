@@ -4,7 +4,7 @@
 
 use crate::words::{bytes_of, guid_of, middle, other_form, small};
 use build_base::{Book, Guid, Rows};
-use case_calls_texts::{copied, place_of};
+use case_calls_texts::{checked_copy, place_of};
 use case_player::{Output, Page, Stop, Wrong, first_word, text_of};
 use doc_types::image::{Body, ImagePlan, Part};
 use ffs_sections::{file_of, have_guids};
@@ -96,7 +96,7 @@ fn plan_of(alloc: Global, files: &[Output], path: &str) -> Result<ImagePlan, Sto
     for line in text_of(files, path)?.lines() {
         set_plan(alloc, files, &mut plan, line)?;
     }
-    copied(alloc, &plan)
+    checked_copy(alloc, &plan)
 }
 
 /// The file `file`, or its fault, of the plan that the file of this path has.
@@ -108,7 +108,7 @@ pub(crate) fn call_file_of(page: &mut Page, files: &[Output], path: &str) -> Res
     }
     let mut book: Book<u8> = Book::new(alloc);
     let file = file_of(alloc, book.grant(1)?, &plan)?;
-    let file = copied(alloc, &file)?;
+    let file = checked_copy(alloc, &file)?;
     page.file(b"file", file.bytes.bytes());
     Ok(())
 }

@@ -4,7 +4,7 @@
 use crate::words::{bytes_of, count, guid_of, middle, other_form};
 use build_base::bytes::fill;
 use build_base::{Book, Rows, Run, Text};
-use case_calls_texts::{copied, place_of};
+use case_calls_texts::{checked_copy, place_of};
 use case_player::{Output, Page, Stop, Wrong, first_word, text_of};
 use doc_types::image::FileImage;
 use doc_types::volume_head::VolumeHead;
@@ -75,7 +75,7 @@ fn push_run(out: &mut Vec<u8>, run: &Run) -> Result<(), Stop> {
 }
 
 // The bytes that runs stand for.
-fn joined(alloc: Global, runs: &[Run]) -> Result<Vec<u8>, Stop> {
+fn bytes_of_runs(alloc: Global, runs: &[Run]) -> Result<Vec<u8>, Stop> {
     let mut out = Vec::new(alloc);
     for run in runs {
         push_run(&mut out, run)?;
@@ -107,7 +107,11 @@ pub(crate) fn call_compose(page: &mut Page, files: &[Output], path: &str) -> Res
     let alloc = page.alloc();
     let mut images = Rows::new(alloc);
     let head = plan_of(alloc, files, path, &mut images)?;
-    composed(page, &copied(alloc, &head)?, &copied(alloc, &images)?)
+    tell_composed(
+        page,
+        &checked_copy(alloc, &head)?,
+        &checked_copy(alloc, &images)?,
+    )
 }
 
 /// The same with its modules moved; `base NUMBER` says where the volume lies.
@@ -119,10 +123,14 @@ pub(crate) fn call_rebase_volume(
     let alloc = page.alloc();
     let mut images = Rows::new(alloc);
     let head = plan_of(alloc, files, path, &mut images)?;
-    rebased(page, &copied(alloc, &head)?, &copied(alloc, &images)?)
+    tell_rebased(
+        page,
+        &checked_copy(alloc, &head)?,
+        &checked_copy(alloc, &images)?,
+    )
 }
 
-fn composed(page: &mut Page, head: &VolumeHead, images: &Rows<FileImage>) -> Result<(), Stop> {
+fn tell_composed(page: &mut Page, head: &VolumeHead, images: &Rows<FileImage>) -> Result<(), Stop> {
     if !has_shape(head) {
         return Err(no_blocks());
     }
@@ -132,12 +140,12 @@ fn composed(page: &mut Page, head: &VolumeHead, images: &Rows<FileImage>) -> Res
     let alloc = page.alloc();
     let mut book: Book<u8> = Book::new(alloc);
     let runs = compose(alloc, book.grant(1)?, head, images)?;
-    let bytes = joined(alloc, copied(alloc, &runs)?.items())?;
+    let bytes = bytes_of_runs(alloc, checked_copy(alloc, &runs)?.items())?;
     page.file(b"volume", bytes.as_slice());
     Ok(())
 }
 
-fn rebased(page: &mut Page, head: &VolumeHead, images: &Rows<FileImage>) -> Result<(), Stop> {
+fn tell_rebased(page: &mut Page, head: &VolumeHead, images: &Rows<FileImage>) -> Result<(), Stop> {
     if !is_based(head) {
         return Err(Stop::Wrong(Wrong::Line("the volume has no base")));
     }
@@ -150,7 +158,7 @@ fn rebased(page: &mut Page, head: &VolumeHead, images: &Rows<FileImage>) -> Resu
     let alloc = page.alloc();
     let mut book: Book<u8> = Book::new(alloc);
     let runs = rebase_volume(alloc, book.grant(1)?, head, images)?;
-    let bytes = joined(alloc, copied(alloc, &runs)?.items())?;
+    let bytes = bytes_of_runs(alloc, checked_copy(alloc, &runs)?.items())?;
     page.file(b"volume", bytes.as_slice());
     Ok(())
 }

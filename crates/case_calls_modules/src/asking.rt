@@ -6,7 +6,7 @@ ghost use Rattle.pcd_resolve.specs.Platform.{SkusEnd};
 use crate::plans::{Plan, plan_of};
 use build_base::{Place, Rows, Same, WantOfMemory};
 use case_calls_documents::platform_of;
-use case_calls_texts::copied;
+use case_calls_texts::checked_copy;
 use case_player::{Output, Stop, Wrong};
 use doc_types::asks::PlatformAsk;
 use doc_types::flash::FlashDoc;
@@ -34,7 +34,7 @@ fn shared_flash(
     Shared::new(alloc, flash_of(alloc, at, sets))
 }
 
-fn asked(alloc: Global, plan: Plan, platform: PlatformDoc) -> Result<PlatformAsk, WantOfMemory>
+fn ask_with(alloc: Global, plan: Plan, platform: PlatformDoc) -> Result<PlatformAsk, WantOfMemory>
     ensures { IfOk result (λ ask. ask.platform ≡ platform) }
 {
     let mut plan = plan;
@@ -58,6 +58,6 @@ pub fn ask_of(alloc: Global, files: &[Output], path: &str) -> Result<PlatformAsk
 {
     let plan = plan_of(alloc, files, path)?;
     let platform = platform_named(alloc, files, &plan)?;
-    let ask = asked(alloc, plan, platform)?;
-    copied(alloc, &ask)
+    let ask = ask_with(alloc, plan, platform)?;
+    checked_copy(alloc, &ask)
 }

@@ -3,7 +3,7 @@
 use crate::words::module_named;
 use build_base::{Book, Path, Rows};
 use case_calls_documents::{module_of, platform_at};
-use case_calls_texts::copied;
+use case_calls_texts::checked_copy;
 use case_player::{Output, Page, Stop, Wrong, first_word};
 use doc_types::choice::{Call, Choice, Module};
 use doc_types::module::InfDoc;
@@ -81,7 +81,7 @@ fn tell_rounds(
         if wanted.items().is_empty() {
             let mut book = Book::new(alloc);
             let choice = choose(alloc, book.grant(())?, module, platform, &infs)?;
-            tell_choice(page, &copied(alloc, &choice)?);
+            tell_choice(page, &checked_copy(alloc, &choice)?);
             return Ok(());
         }
         tell_round(page, wanted.items());

@@ -7,7 +7,7 @@
 use crate::words::{guid_of, other_form, text_of_word, texts_of, type_of};
 use build_base::{Book, Path, Place, Rows, Same, Text};
 use case_calls_documents::{module_at, package_of};
-use case_calls_texts::{copied, place_of};
+use case_calls_texts::{checked_copy, place_of};
 use case_player::{Output, Page, Stop, Wrong, file_of, first_word, text_of};
 use depex_code::{compile, compiled_reads_back, read_back};
 use doc_types::arch::Arch;
@@ -39,7 +39,7 @@ pub(crate) fn call_read_back(page: &mut Page, files: &[Output], path: &str) -> R
     Ok(())
 }
 
-fn named(alloc: Global, at: Place, words: &str) -> Result<NamedGuid, Stop> {
+fn named_guid_of(alloc: Global, at: Place, words: &str) -> Result<NamedGuid, Stop> {
     let (name, guid) = first_word(words);
     let guid = guid_of(guid)?;
     Ok(NamedGuid {
@@ -66,7 +66,7 @@ fn add_guid(
     at: Place,
     words: &str,
 ) -> Result<(), Stop> {
-    guids.push(named(alloc, at, words)?)?;
+    guids.push(named_guid_of(alloc, at, words)?)?;
     Ok(())
 }
 
@@ -147,7 +147,7 @@ fn code_of(alloc: Global, found: ModuleType, groups: &Rows<DepexGroup>) -> Resul
 
 fn tell_code(page: &mut Page, found: ModuleType, groups: &Rows<DepexGroup>) -> Result<(), Stop> {
     let alloc = page.alloc();
-    let groups = copied(alloc, groups)?;
+    let groups = checked_copy(alloc, groups)?;
     compiled_reads_back(found, &groups);
     let code = code_of(alloc, found, &groups)?;
     page.file(b"code", code.bytes());

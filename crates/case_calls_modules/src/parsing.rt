@@ -28,7 +28,7 @@ fn tell_parsed(page: &mut Page, datum: Datum, found: &Text) -> Result<(), Stop> 
     Ok(())
 }
 
-fn parted(line: &[u8]) -> (&[u8], &[u8]) {
+fn split_at_bar(line: &[u8]) -> (&[u8], &[u8]) {
     match line.iter().position(|byte| *byte == b'|') {
         Some(at) => {
             if at < line.len() {
@@ -43,7 +43,7 @@ fn parted(line: &[u8]) -> (&[u8], &[u8]) {
 
 fn tell_line(page: &mut Page, path: &str, number: u64, line: &[u8]) -> Result<(), Stop> {
     let alloc = page.alloc();
-    let (word, text) = parted(line);
+    let (word, text) = split_at_bar(line);
     let datum = datum_of(word)?;
     let at = place_of(alloc, path, number)?;
     let text = Text::of(alloc, text)?;

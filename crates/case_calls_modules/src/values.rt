@@ -7,7 +7,7 @@ use crate::parsing::value;
 use build_base::together::three;
 use build_base::{Book, Rows, Same, WantOfMemory};
 use case_calls_documents::rows::pcd;
-use case_calls_texts::copied;
+use case_calls_texts::checked_copy;
 use case_player::{Output, Page, Stop};
 use doc_types::asks::{ModuleAsk, PlatformAsk};
 use doc_types::parts::ModuleParts;
@@ -54,7 +54,7 @@ pub(crate) fn call_resolve_platform(
     let alloc = page.alloc();
     let ask = ask_of(alloc, files, path)?;
     let values = values_of(alloc, &ask)?;
-    tell_values(page, &copied(alloc, &values)?)
+    tell_values(page, &checked_copy(alloc, &values)?)
 }
 
 // The rows of the dynamic PCDs; none where one is at fault.
@@ -120,7 +120,7 @@ fn tell_values_of(page: &mut Page, ask: &ModuleAsk) -> Result<(), Stop> {
 }
 
 fn tell_module(page: &mut Page, ask: &ModuleAsk) -> Result<(), Stop> {
-    let ask = copied(page.alloc(), ask)?;
+    let ask = checked_copy(page.alloc(), ask)?;
     page.put(b"module");
     page.word(ask.parts.module.inf.bytes());
     page.end();

@@ -4,7 +4,7 @@ use crate::asking::ask_of;
 use crate::values::values_of;
 use build_base::{Book, Same, WantOfMemory};
 use case_calls_documents::rows::pcd;
-use case_calls_texts::copied;
+use case_calls_texts::checked_copy;
 use case_player::{Output, Page, Stop};
 use doc_types::asks::PlatformAsk;
 use doc_types::values::Values;
@@ -13,7 +13,7 @@ use shared_value::Shared;
 use std::alloc::Global;
 use vpd_image::{VpdAsk, vpd_of};
 
-fn asked(alloc: Global, ask: &PlatformAsk, values: Values) -> Result<VpdAsk, WantOfMemory> {
+fn vpd_ask_of(alloc: Global, ask: &PlatformAsk, values: Values) -> Result<VpdAsk, WantOfMemory> {
     let values = Shared::new(alloc, values)?;
     let platform = ask.platform.copy(alloc)?;
     let arches = ask.arches.copy(alloc)?;
@@ -41,14 +41,14 @@ fn tell_vpd(page: &mut Page, vpd: &Vpd) {
     page.file(b"VPD.map", vpd.map.bytes());
 }
 
-fn laid_out(alloc: Global, ask: &VpdAsk) -> Result<Vpd, Stop> {
+fn make_vpd(alloc: Global, ask: &VpdAsk) -> Result<Vpd, Stop> {
     let mut book = Book::new(alloc);
     Ok(vpd_of(alloc, book.grant(())?, ask)?)
 }
 
-fn made(alloc: Global, ask: &VpdAsk) -> Result<Vpd, Stop> {
-    let vpd = laid_out(alloc, ask)?;
-    copied(alloc, &vpd)
+fn vpd_copy(alloc: Global, ask: &VpdAsk) -> Result<Vpd, Stop> {
+    let vpd = make_vpd(alloc, ask)?;
+    checked_copy(alloc, &vpd)
 }
 
 /// The places of a platform's VPD lines, their image and its map, from the values of its dynamic
@@ -57,7 +57,7 @@ pub(crate) fn call_vpd(page: &mut Page, files: &[Output], path: &str) -> Result<
     let alloc = page.alloc();
     let ask = ask_of(alloc, files, path)?;
     let values = values_of(alloc, &ask)?;
-    let ask = asked(alloc, &ask, values)?;
-    tell_vpd(page, &made(alloc, &ask)?);
+    let ask = vpd_ask_of(alloc, &ask, values)?;
+    tell_vpd(page, &vpd_copy(alloc, &ask)?);
     Ok(())
 }

@@ -8,7 +8,7 @@ use case_player::{Stop, Wrong};
 use std::alloc::Global;
 
 /// The same value once more.
-pub fn copied<T: Same + Drop>(alloc: Global, value: &T) -> Result<T, Stop>
+pub fn checked_copy<T: Same + Drop>(alloc: Global, value: &T) -> Result<T, Stop>
     ensures { IfOk result (λ copy. copy ≡ value.now) }
 {
     let copy = value.copy(alloc)?;

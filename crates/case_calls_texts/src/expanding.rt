@@ -19,7 +19,7 @@ pub(crate) fn call_expand(page: &mut Page, files: &[Output], root: &str) -> Resu
     Ok(())
 }
 
-fn known(alloc: Global, file: &Output) -> Result<Known, Stop> {
+fn known_file(alloc: Global, file: &Output) -> Result<Known, Stop> {
     let path = Path::new(alloc, file.path.as_slice())?;
     let bytes = Text::of(alloc, file.bytes.as_slice())?;
     let got = Got::File(bytes);
@@ -29,7 +29,7 @@ fn known(alloc: Global, file: &Output) -> Result<Known, Stop> {
 fn known_files(alloc: Global, files: &[Output]) -> Result<Rows<Known>, Stop> {
     let mut all = Rows::new(alloc);
     for file in files {
-        all.push(known(alloc, file)?)?;
+        all.push(known_file(alloc, file)?)?;
     }
     Ok(all)
 }

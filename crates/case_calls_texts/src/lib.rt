@@ -9,7 +9,7 @@ mod lines;
 mod texts;
 
 use case_player::{Output, Page, Stop};
-pub use copies::copied;
+pub use copies::checked_copy;
 pub use lines::{lines_of, path_of, place_of};
 
 /// Makes the call of this name, and says whether there is one here.

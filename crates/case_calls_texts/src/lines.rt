@@ -1,6 +1,6 @@
 //! The lines of a document.
 
-use crate::copies::copied;
+use crate::copies::checked_copy;
 use build_base::{Got, Lines, Path, Place, Rows, Same, Text};
 use case_player::{Output, Stop, Wrong};
 use macro_conditions::{Known, Turned, expand};
@@ -17,7 +17,7 @@ pub fn place_of(alloc: Global, path: &str, line: u64) -> Result<Place, Stop> {
     Ok(Place { path, line })
 }
 
-fn got(alloc: Global, files: &[Output], path: &Path) -> Result<Got, Stop> {
+fn content_of(alloc: Global, files: &[Output], path: &Path) -> Result<Got, Stop> {
     for file in files {
         if file.path.as_slice() == path.bytes() {
             return Ok(Got::File(Text::of(alloc, file.bytes.as_slice())?));
@@ -27,7 +27,7 @@ fn got(alloc: Global, files: &[Output], path: &Path) -> Result<Got, Stop> {
 }
 
 fn known_at(alloc: Global, files: &[Output], path: &Path) -> Result<Known, Stop> {
-    let got = got(alloc, files, path)?;
+    let got = content_of(alloc, files, path)?;
     let path = path.copy(alloc)?;
     Ok(Known { path, got })
 }
@@ -44,7 +44,7 @@ fn answer(
     Ok(())
 }
 
-fn turned(alloc: Global, root: &Path, known: &Rows<Known>) -> Result<Turned, Stop> {
+fn expand_known(alloc: Global, root: &Path, known: &Rows<Known>) -> Result<Turned, Stop> {
     let none = Rows::new(alloc);
     Ok(expand(alloc, root, &none, &none, known)?)
 }
@@ -53,8 +53,8 @@ fn turned(alloc: Global, root: &Path, known: &Rows<Known>) -> Result<Turned, Sto
 pub fn lines_of(alloc: Global, files: &[Output], root: &Path) -> Result<Lines, Stop> {
     let mut known = Rows::new(alloc);
     for _ in 0..200 {
-        match turned(alloc, root, &known)? {
-            Turned::Whole(lines) => return copied(alloc, &lines),
+        match expand_known(alloc, root, &known)? {
+            Turned::Whole(lines) => return checked_copy(alloc, &lines),
             Turned::Need(paths) => answer(alloc, files, &mut known, paths.items())?,
         }
     }

@@ -133,7 +133,7 @@ impl Page {
     }
 
     /// All that was told, for a call that ended so.
-    pub fn told(self, ended: Result<(), Stop>) -> Result<Told, Wrong> {
+    pub fn into_told(self, ended: Result<(), Stop>) -> Result<Told, Wrong> {
         let mut page = self;
         match ended {
             Ok(()) => {}

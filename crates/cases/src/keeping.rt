@@ -71,14 +71,14 @@ fn keeper_of(
     Ok(MemoryKeeper::new(alloc, text, ROOM, Rows::from_vec(fails))?)
 }
 
-fn copied(alloc: Global, bytes: Option<&[u8]>) -> Result<Option<Vec<u8>>, Wrong> {
+fn copy_kept(alloc: Global, bytes: Option<&[u8]>) -> Result<Option<Vec<u8>>, Wrong> {
     match bytes {
         Some(bytes) => Ok(Some(Vec::from_slice(alloc, bytes)?)),
         None => Ok(None),
     }
 }
 
-fn copied_files(alloc: Global, files: &[Output]) -> Result<Vec<Output>, Wrong> {
+fn copy_files(alloc: Global, files: &[Output]) -> Result<Vec<Output>, Wrong> {
     let mut copies = Vec::new(alloc);
     for file in files {
         copies.push(Output::new(alloc, file.path.as_slice(), file.bytes.as_slice())?)?;
@@ -101,7 +101,7 @@ fn run_with<H: AllocGlobal + Threads + Sync>(
     keeper: &mut MemoryKeeper,
 ) -> Result<Ran, Wrong> {
     let told = build_with(rt, scene.files.as_slice(), &scene.objects, words, keeper)?;
-    let left = copied(scene.alloc, keeper.kept())?;
+    let left = copy_kept(scene.alloc, keeper.kept())?;
     Ok(Ran { told, left })
 }
 
@@ -182,7 +182,7 @@ fn run_cut<H: AllocGlobal + Threads + Sync>(
     let ran = run_once(rt, scene, Some(front), words)?;
     let mut page = Page::new(scene.alloc);
     tell_run(&mut page, bytes_in(&scene.kept), &ran);
-    page.told(Ok(()))
+    page.into_told(Ok(()))
 }
 
 // A run from each strict prefix of what is kept: what differs from the run before is told.
@@ -276,7 +276,7 @@ fn follow<H: AllocGlobal + Threads + Sync>(
 fn scene_of(alloc: Global, files: &[Output]) -> Result<Scene, Wrong> {
     Ok(Scene {
         alloc,
-        files: copied_files(alloc, files)?,
+        files: copy_files(alloc, files)?,
         kept: None,
         objects: Objects::new(alloc),
         fails: Vec::new(alloc),
@@ -298,7 +298,7 @@ fn follow_all<H: AllocGlobal + Threads + Sync>(
 
 // What was told, with the steps and the files of the last run.
 fn told_of(page: Page, scene: &mut Scene) -> Result<Told, Wrong> {
-    let mut told = page.told(Ok(()))?;
+    let mut told = page.into_told(Ok(()))?;
     told.steps = scene.last.steps;
     told.files = std::mem::replace(&mut scene.last.files, Vec::new(scene.alloc));
     Ok(told)

@@ -52,7 +52,7 @@ dec_grammar =
     record {
       head_faults = λ line head. meaning_faults DEC_UNKNOWN_SECTION line head (head_meaning head);
       scope_of = λ head. meaning_scope (head_meaning head);
-      stray = DEC_UNKNOWN_SECTION;
+      stray_code = DEC_UNKNOWN_SECTION;
       faults = λ above line entry. line_faults line entry;
       row_of = λ above line entry. line_row line entry;
       at_heads = λ above line heads. None;

@@ -3,7 +3,7 @@ use Rattle.std.specs.Prelude.{ℕ, List, [], ◌∷◌, Option, Some, None, code
 use Rattle.meta_lexer.specs.declared.head.Head.{Head}
 use Rattle.meta_lexer.specs.Lookup.{lookup}
 use Rattle.doc_reading.specs.declared.meaning.Meaning.{Meaning}
-use Rattle.doc_reading.specs.declared.meaning.Meaning.TheVariants.{Enters, Passed, BadQualifier, Unknown}
+use Rattle.doc_reading.specs.declared.meaning.Meaning.TheVariants.{Section, Ignored, BadQualifier, Unknown}
 use Rattle.doc_types.specs.Arches.{arch_named}
 use Rattle.doc_types.specs.declared.arch.Arch.{Arch}
 use Rattle.doc_types.specs.declared.arch.Arch.TheVariants.{Common}
@@ -30,11 +30,11 @@ section_named name = lookup sections name
 
 -- without a qualifier
 abbrev pub for_all : DecSection → Meaning Entry
-for_all section = Enters (record { section = section; arch = Common })
+for_all section = Section (record { section = section; arch = Common })
 
 -- a qualifier is an architecture
 abbrev pub with_arch : DecSection → Option Arch → Meaning Entry
-with_arch section (Some arch) = Enters (record { section = section; arch = arch })
+with_arch section (Some arch) = Section (record { section = section; arch = arch })
 with_arch section None = BadQualifier
 
 -- at most one qualifier, and in [Defines] none
@@ -48,7 +48,7 @@ qualified_section section (word ∷ other ∷ words) = BadQualifier
 -- a section that is read past takes any
 abbrev pub meaning_of : Option (Option DecSection) → List (List ℕ) → Meaning Entry
 meaning_of (Some (Some section)) qualifiers = qualified_section section qualifiers
-meaning_of (Some None) qualifiers = Passed
+meaning_of (Some None) qualifiers = Ignored
 meaning_of None qualifiers = Unknown
 
 abbrev pub parts_meaning : List (List ℕ) → Meaning Entry

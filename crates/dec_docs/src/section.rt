@@ -62,7 +62,7 @@ pub fn section_named(name: &[u8]) -> Option<Option<DecSection>>
 fn for_all(section: DecSection) -> Meaning<Entry>
     ensures { result ≡ for_all section }
 {
-    Meaning::Enters(Entry {
+    Meaning::Section(Entry {
         section,
         arch: Arch::Common,
     })
@@ -72,7 +72,7 @@ fn with_arch(section: DecSection, arch: Option<Arch>) -> Meaning<Entry>
     ensures { result ≡ with_arch section arch }
 {
     match arch {
-        Some(arch) => Meaning::Enters(Entry { section, arch }),
+        Some(arch) => Meaning::Section(Entry { section, arch }),
         None => Meaning::BadQualifier,
     }
 }
@@ -93,7 +93,7 @@ fn meaning_of(section: Option<Option<DecSection>>, qualifiers: &[Text]) -> Meani
 {
     match section {
         Some(Some(section)) => qualified_section(section, qualifiers),
-        Some(None) => Meaning::Passed,
+        Some(None) => Meaning::Ignored,
         None => Meaning::Unknown,
     }
 }

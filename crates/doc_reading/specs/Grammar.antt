@@ -28,7 +28,7 @@ pub record Grammar (S R : Type 0) : Type 0 where
   -- the scope that it enters, none where its section is read past
   pub scope_of : Head → Option S
   -- the code of a line before the first head
-  pub stray : ℕ
+  pub stray_code : ℕ
   -- the faults of a line below a head, one for each code whose condition holds
   pub faults : List (Read S R) → Taken → S → List (Option Fault)
   -- its row, none where it says nothing
@@ -76,7 +76,7 @@ rows_given g above line scopes = gathered (map (outcome_of g above line) scopes)
 -- a line before the first head stands nowhere
 abbrev pub body_given : {S R : Type 0} → Grammar S R → List (Read S R) → Taken → Option (List S)
     → Result (List R) Fault
-body_given g above line None = Err (fault_of g.stray line.at line.text)
+body_given g above line None = Err (fault_of g.stray_code line.at line.text)
 body_given g above line (Some scopes) = rows_given g above line scopes
 
 abbrev pub entry_read : {S R : Type 0} → Taken → Result (List S) Fault → List (Read S R)

@@ -64,7 +64,7 @@ fn rows_below<F: Format>(
 {
     let mut gathered = LineResult::new(alloc);
     for scope in scopes {
-        gathered.add(format.below(line, scope))?;
+        gathered.add(format.read_line(line, scope))?;
     }
     gathered.finish()
 }
@@ -77,7 +77,12 @@ impl<F: Format> Document<F::Scope, F> {
             (body_given F.grammar above line.now self.now.scopes) }
     {
         match &self.scopes {
-            None => Err(refuse(self.alloc, self.format.stray(), &line.at, line.text.bytes())),
+            None => Err(refuse(
+                self.alloc,
+                self.format.stray_code(),
+                &line.at,
+                line.text.bytes(),
+            )),
             Some(scopes) => rows_below(self.alloc, &self.format, line, scopes.items()),
         }
     }
@@ -103,7 +108,7 @@ impl<F: Format> Document<F::Scope, F> {
     {
         match self.body_rows(line) {
             Ok(rows) => {
-                self.format.keep(rows)?;
+                self.format.add_rows(rows)?;
                 self.check_end(line, last)
             }
             Err(Refusal::WantOfMemory) => Err(Refusal::WantOfMemory),

@@ -71,8 +71,8 @@ plain_line line marks full s x h e =
 pub read_line : (line : Taken) (faults : List (Option Fault)) (o : Option Row) (x : Result (Option Row) Fault) → IsPlain line → unless_faulty faults o ≡ x → unless_faulty (of_read_line line faults) o ≡ x
 read_line line faults o x h e = ap (λ fs. unless_faulty fs o) (closed_line line faults h.closed) ∙ e
 
-pub passed_says : (line : Taken) (marks : Marks) (full : Bool) → IsPlain line → Says line marks full scope.Settings row.Passed
-passed_says line marks full h = plain_line line marks full scope.Settings (Ok (Some row.Passed)) h refl
+pub passed_says : (line : Taken) (marks : Marks) (full : Bool) → IsPlain line → Says line marks full scope.Settings row.Ignored
+passed_says line marks full h = plain_line line marks full scope.Settings (Ok (Some row.Ignored)) h refl
 
 device_line : (line : Taken) (marks : Marks) (full : Bool) (name : List ℕ) (r : Row) → IsPlain line → unless_faulty (devices.device_faults line marks) (devices.device_row line) ≡ Ok (Some r) → Says line marks full (scope.Device name) r
 device_line line marks full name r h e = plain_line line marks full (scope.Device name) (Ok (Some r)) h (read_line line (devices.device_faults line marks) (devices.device_row line) (Ok (Some r)) h e)

@@ -50,7 +50,7 @@ pub fn set_lines_say()
         (value : List ℕ) → IsSet line pcd value → Says line marks full section
         (row.Set (record { at = line.at; rank = rank_of section; pcd = pcd; value = value })) }
     ensures passed { (line : Line) (marks : Marks) (full : Bool) → IsPlain line
-        → Says line marks full scope.Settings row.Passed }
+        → Says line marks full scope.Settings row.Ignored }
 {}
 
 /// What the lines of a device say.

@@ -34,8 +34,8 @@ abbrev pub EdkStages : Type 0
 EdkStages = Stages Key Out Out
 
 -- a step's function answers what its stages give by what is known, unless memory was wanting
-abbrev pub Comes : Table Key Out → EdkStages → Result Out (Stop Key) → Type 0
-Comes known stages r = Gives (λ out. out) r (advance_at key_cmp fits known stages)
+abbrev pub AdvancesTo : Table Key Out → EdkStages → Result Out (Stop Key) → Type 0
+AdvancesTo known stages r = Gives (λ out. out) r (advance_at key_cmp fits known stages)
 
 -- a result as what a step gives
 abbrev pub given_as : {A : Type 0} → (A → Out) → Result A Fault → Result Out Fault

@@ -6,7 +6,7 @@ ghost use Rattle.dsc_platform.specs.Platform.{platform_of};
 ghost use Rattle.flash_document.specs.Flash.{flash_of};
 ghost use Rattle.inf_docs.specs.Modules.{module_of};
 ghost use Rattle.step_pack.specs.declared.out.Out.TheVariants as out;
-ghost use Rattle.document_rules.specs.Trees.{Comes, document_stages, dec_stages, inf_stages, platform_given, platform_stages, root_in, macros_in, platform_of_out, platform_in, flash_of_out, flash_in, flash_named, flash_root, empty_flash, flash_from, flash_given, flash_stages};
+ghost use Rattle.document_rules.specs.Trees.{AdvancesTo, document_stages, dec_stages, inf_stages, platform_given, platform_stages, root_in, macros_in, platform_of_out, platform_in, flash_of_out, flash_in, flash_named, flash_root, empty_flash, flash_from, flash_given, flash_stages};
 ghost use Rattle.build_stages.specs.Gives.{GivesIn};
 
 use crate::answers::EdkAnswers;
@@ -64,7 +64,7 @@ pub fn dec(
     path: &Path,
     permit: Permit,
 ) -> Result<Out, Stop<Key>>
-    ensures { Comes known.now (dec_stages path.now) result }
+    ensures { AdvancesTo known.now (dec_stages path.now) result }
 {
     let none = Rows::new(alloc);
     let (lines, permit) = lines_of(alloc, &EdkAnswers, known, path, &none, &none, permit)?;
@@ -79,7 +79,7 @@ pub fn inf(
     path: &Path,
     permit: Permit,
 ) -> Result<Out, Stop<Key>>
-    ensures { Comes known.now (inf_stages path.now) result }
+    ensures { AdvancesTo known.now (inf_stages path.now) result }
 {
     let none = Rows::new(alloc);
     let (lines, permit) = lines_of(alloc, &EdkAnswers, known, path, &none, &none, permit)?;
@@ -116,7 +116,7 @@ fn platform_from(
     fixed: &Rows<Macro>,
     permit: Permit,
 ) -> Result<Out, Stop<Key>>
-    ensures { Comes known.now (document_stages out.Platform platform_of [] fixed.now path.now)
+    ensures { AdvancesTo known.now (document_stages out.Platform platform_of [] fixed.now path.now)
         result }
 {
     let none = Rows::new(alloc);
@@ -131,7 +131,7 @@ fn platform_given(
     given: &Given<'_, Out>,
     permit: Permit,
 ) -> Result<Out, Stop<Key>>
-    ensures { Comes known.now (platform_given given.now) result }
+    ensures { AdvancesTo known.now (platform_given given.now) result }
 {
     let path = root(alloc, given)?;
     let fixed = job_macros(alloc, given)?;
@@ -144,7 +144,7 @@ pub fn platform(
     known: &Known<'_, Key, Out>,
     permit: Permit,
 ) -> Result<Out, Stop<Key>>
-    ensures { Comes known.now platform_stages result }
+    ensures { AdvancesTo known.now platform_stages result }
 {
     let asks = [Ask::Field(0), Ask::Field(2), Ask::Field(3), Ask::Field(5)];
     let (given, permit) = gather(alloc, &EdkAnswers, known, &asks, permit)?;
@@ -265,7 +265,7 @@ fn flash_at(
     path: &Path,
     permit: Permit,
 ) -> Result<Out, Stop<Key>>
-    ensures { Comes known.now (document_stages out.Flash flash_of macros.now fixed.now path.now)
+    ensures { AdvancesTo known.now (document_stages out.Flash flash_of macros.now fixed.now path.now)
         result }
 {
     let (lines, permit) = lines_of(alloc, &EdkAnswers, known, path, macros, fixed, permit)?;
@@ -281,7 +281,7 @@ fn flash_from(
     root: &Option<Path>,
     permit: Permit,
 ) -> Result<Out, Stop<Key>>
-    ensures { Comes known.now (flash_from platform.now fixed.now root.now) result }
+    ensures { AdvancesTo known.now (flash_from platform.now fixed.now root.now) result }
 {
     match root {
         Some(path) => flash_at(alloc, known, &platform.macros, fixed, path, permit),
@@ -296,7 +296,7 @@ fn flash_given(
     given: &Given<'_, Out>,
     permit: Permit,
 ) -> Result<Out, Stop<Key>>
-    ensures { Comes known.now (flash_given given.now) result }
+    ensures { AdvancesTo known.now (flash_given given.now) result }
 {
     let platform = platform_in(given, 0)?;
     let fixed = job_macros(alloc, given)?;
@@ -306,7 +306,7 @@ fn flash_given(
 
 /// The flash description.
 pub fn flash(alloc: Global, known: &Known<'_, Key, Out>, permit: Permit) -> Result<Out, Stop<Key>>
-    ensures { Comes known.now flash_stages result }
+    ensures { AdvancesTo known.now flash_stages result }
 {
     let asks = [
         Ask::Part(Key::Platform),

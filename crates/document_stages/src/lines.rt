@@ -11,7 +11,7 @@ use std::alloc::Global;
 use step_engine::{Answer, Ask};
 
 // What was got of a file.
-fn got<K, O>(alloc: Global, answer: &Answer<O>) -> Result<Got, Stop<K>>
+fn content_of<K, O>(alloc: Global, answer: &Answer<O>) -> Result<Got, Stop<K>>
     ensures { GivesIn (λ got. got) result (got_in answer.now) }
 {
     match answer {
@@ -45,7 +45,7 @@ fn told_file<S: StepTypes>(
     if !rules.fits(&ask, answer) {
         return Ok(None);
     }
-    let outcome: Result<Got, Stop<S::Key>> = got(alloc, answer);
+    let outcome: Result<Got, Stop<S::Key>> = content_of(alloc, answer);
     match outcome {
         Ok(got) => Ok(Some(got)),
         Err(Stop::WantOfMemory) => Err(WantOfMemory),
@@ -98,7 +98,7 @@ fn learn<S: StepTypes>(
     let mut asks = Rows::new(alloc);
     asks.push(Ask::File(path.copy(alloc)?))?;
     let (given, permit) = gather(alloc, rules, known, asks.items(), permit)?;
-    let got = got(alloc, given.file(0)?)?;
+    let got = content_of(alloc, given.file(0)?)?;
     let path = shared_path(alloc, path)?;
     files.push(Known { path, got })?;
     Ok(permit)

@@ -162,13 +162,13 @@ tagged_given : (line : Taken) (arch : Arch) (t : Tag) → components.Tells (stat
 tagged_given line arch tag.Libraries l e = mapped _ (libraries.library_of line arch None) (library_given line arch None e)
 tagged_given line arch tag.Defines l e = absurd l
 tagged_given line arch (tag.Pcds kind stored) l e = mapped _ (pcds.pcd_of line kind stored arch (codes "DEFAULT")) (pcd_given line kind stored arch (codes "DEFAULT") e)
-tagged_given line arch tag.Passed l e = absurd l
+tagged_given line arch tag.Ignored l e = absurd l
 
 misplaced : {X : Type 0} (line : Taken) (t : Tag) → components.Tells (state.Tagged t) → least_of (components.misplaced_faults line t) ≡ None → X
 misplaced line tag.Libraries l e = placed line e
 misplaced line tag.Defines l e = absurd l
 misplaced line (tag.Pcds kind stored) l e = placed line e
-misplaced line tag.Passed l e = absurd l
+misplaced line tag.Ignored l e = absurd l
 
 below_given : (line : Taken) (arch : Arch) (t : Tag) (f : Form) → components.Tells (state.Tagged t) → least_of (components.below_faults line t f) ≡ None → IsSome (components.below_part line arch t f)
 below_given line arch t form.Plain l e = tagged_given line arch t l e

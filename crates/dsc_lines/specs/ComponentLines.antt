@@ -24,7 +24,7 @@ use Rattle.dsc_lines.specs.declared.open_mark.Open.TheVariants as state
 use Rattle.dsc_lines.specs.declared.rows.Part.{Part}
 use Rattle.dsc_lines.specs.declared.rows.Part.TheVariants as part
 use Rattle.dsc_lines.specs.declared.rows.Tag.{Tag}
-use Rattle.dsc_lines.specs.declared.rows.Tag.TheVariants.{Libraries, Defines, Pcds, Passed}
+use Rattle.dsc_lines.specs.declared.rows.Tag.TheVariants.{Libraries, Defines, Pcds, Ignored}
 use Rattle.dsc_lines.specs.Forms.{formless}
 use Rattle.dsc_lines.specs.LibraryLines.{library_faults, library_of}
 use Rattle.dsc_lines.specs.PcdLines.{pcd_faults, pcd_of}
@@ -33,7 +33,7 @@ use Rattle.build_base.specs.FaultCodes.{BAD_COMPONENT, BAD_PATH, DSC_BAD_GUID}
 abbrev pub tags : List (List ℕ × Tag)
 tags =
     (codes "<LibraryClasses>", Libraries) ∷ (codes "<Defines>", Defines)
-    ∷ (codes "<BuildOptions>", Passed) ∷
+    ∷ (codes "<BuildOptions>", Ignored) ∷
     (codes "<PcdsFeatureFlag>", Pcds FeatureFlag Plain)
     ∷ (codes "<PcdsFixedAtBuild>", Pcds FixedAtBuild Plain) ∷
     (codes "<PcdsPatchableInModule>", Pcds PatchableInModule Plain) ∷
@@ -106,14 +106,14 @@ abbrev pub tagged_faults : Taken → Tag → List (Option Fault)
 tagged_faults line Libraries = library_faults line
 tagged_faults line Defines = define_faults line (split_once 61 line.text)
 tagged_faults line (Pcds kind stored) = pcd_faults line stored
-tagged_faults line Passed = []
+tagged_faults line Ignored = []
 
 abbrev pub tagged_part : Taken → Arch → Tag → Option Part
 tagged_part line arch Libraries = option_map part.Library (library_of line arch None)
 tagged_part line arch Defines = define_part arch (split_once 61 line.text)
 tagged_part line arch (Pcds kind stored) =
     option_map part.Pcd (pcd_of line kind stored arch (codes "DEFAULT"))
-tagged_part line arch Passed = None
+tagged_part line arch Ignored = None
 
 abbrev pub found_faults : Taken → Option Tag → List (Option Fault)
 found_faults line (Some tag) = []
@@ -123,7 +123,7 @@ abbrev pub misplaced_faults : Taken → Tag → List (Option Fault)
 misplaced_faults line Libraries = out_of_place line
 misplaced_faults line Defines = out_of_place line
 misplaced_faults line (Pcds kind stored) = out_of_place line
-misplaced_faults line Passed = []
+misplaced_faults line Ignored = []
 
 -- where no brace is open
 abbrev pub shut_faults : Taken → Form → List (Option Fault)
@@ -190,5 +190,5 @@ component_part line arch standing = standing_part line arch standing (form_of li
 -- below `<Defines>` and `<BuildOptions>` lines are read past; elsewhere each line gives a row
 abbrev pub Tells : Open → Type 0
 Tells (state.Tagged Defines) = ⊥
-Tells (state.Tagged Passed) = ⊥
+Tells (state.Tagged Ignored) = ⊥
 Tells standing = Unit {0}

@@ -43,7 +43,7 @@ pub enum Form {
 const TAGS: [(&[u8], Tag); 12] = [
     (b"<LibraryClasses>", Tag::Libraries),
     (b"<Defines>", Tag::Defines),
-    (b"<BuildOptions>", Tag::Passed),
+    (b"<BuildOptions>", Tag::Ignored),
     (
         b"<PcdsFeatureFlag>",
         Tag::Pcds(Kind::FeatureFlag, StoreKind::Plain),
@@ -204,7 +204,7 @@ fn tagged_part(alloc: Global, line: &Taken, arch: Arch, tag: Tag) -> Result<Opti
             let pcd = pcd_line(alloc, line, kind, stored, arch, b"DEFAULT".as_slice())?;
             Ok(pcd.map(|pcd| Part::Pcd(pcd)))
         }
-        Tag::Passed => Ok(None),
+        Tag::Ignored => Ok(None),
     }
 }
 
@@ -254,7 +254,7 @@ fn misplaced_below(alloc: Global, line: &Taken, tag: Tag) -> Result<Option<Part>
         Tag::Libraries => refuse_misplaced(alloc, line),
         Tag::Defines => refuse_misplaced(alloc, line),
         Tag::Pcds(_, _) => refuse_misplaced(alloc, line),
-        Tag::Passed => Ok(None),
+        Tag::Ignored => Ok(None),
     }
 }
 

@@ -40,7 +40,7 @@ pub enum Tag {
     Libraries,
     Defines,
     Pcds(Kind, StoreKind),
-    Passed,
+    Ignored,
 }
 
 /// What a line of [Components] says.

@@ -146,16 +146,16 @@ parent_is skus name up d e =
     front true = e
     front false = ap (λ t. if t then Some [] else stated_parent (map sku_in_line skus) name) (unnamed name d) ∙ e
 
-record Comes (skus : List SkuLine) (name : List ℕ) (most : ℕ) : Type 0 where
+record ReachesDefault (skus : List SkuLine) (name : List ℕ) (most : ℕ) : Type 0 where
   steps : ℕ
   few : steps ≤ most
   there : after (skus_of skus) name steps ≡ Some (codes "DEFAULT")
 
-at_default : (skus : List SkuLine) (name : List ℕ) (most : ℕ) → is_default name ≡ true → Comes skus name most
+at_default : (skus : List SkuLine) (name : List ℕ) (most : ℕ) → is_default name ≡ true → ReachesDefault skus name most
 unfolding is_default after
 at_default skus name most e = record { steps = 0; few = omega arith; there = ap (λ n. Some n) (bytes_same name (codes "DEFAULT") e) }
 
-step_up : (skus : List SkuLine) (name up : List ℕ) (most : ℕ) → parent (skus_of skus) name ≡ Some up → Comes skus up most → Comes skus name (suc most)
+step_up : (skus : List SkuLine) (name up : List ℕ) (most : ℕ) → parent (skus_of skus) name ≡ Some up → ReachesDefault skus up most → ReachesDefault skus name (suc most)
 unfolding after
 step_up skus name up most p c =
     let few = c.few in
@@ -165,19 +165,19 @@ step_up skus name up most p c =
       there = ap (option_and_then (λ next. after (skus_of skus) next c.steps)) p ∙ c.there;
     }
 
-by_default : (skus : List SkuLine) (name : List ℕ) (most : ℕ) (t : Bool) → is_default name ≡ t → (is_default name ≡ false → Comes skus name most) → Comes skus name most
+by_default : (skus : List SkuLine) (name : List ℕ) (most : ℕ) (t : Bool) → is_default name ≡ t → (is_default name ≡ false → ReachesDefault skus name most) → ReachesDefault skus name most
 by_default skus name most true d rest = at_default skus name most d
 by_default skus name most false d rest = rest d
 
 by_place : (skus : List SkuLine) (name : List ℕ) (most : ℕ) (o : Option ℕ) → place_of name (names_of skus) ≡ o → is_known (names_of skus) name ≡ true → is_default name ≡ false
-    → ((place : ℕ) → place_of name (names_of skus) ≡ Some place → Comes skus name most) → Comes skus name most
+    → ((place : ℕ) → place_of name (names_of skus) ≡ Some place → ReachesDefault skus name most) → ReachesDefault skus name most
 by_place skus name most (Some place) p k d rest = rest place p
 by_place skus name most None p k d rest =
     absurd (true_false (sym k ∙ ap (λ t. t || is_there (place_of name (names_of skus))) d ∙ ap is_there p))
 
 -- a SKU whose walk by places ends so soon comes to DEFAULT as soon
 comes : (skus : List SkuLine) → ParentsKnown skus → (most : ℕ) (name : List ℕ) → is_known (names_of skus) name ≡ true
-    → walked (parents_of skus) most (place_of name (names_of skus)) ≡ None → Comes skus name most
+    → walked (parents_of skus) most (place_of name (names_of skus)) ≡ None → ReachesDefault skus name most
 comes skus known zero name k w =
     by_default skus name zero (is_default name) refl (λ d. by_place skus name zero (place_of name (names_of skus)) refl k d (λ place p. absurd (none_some place (sym w ∙ p))))
 comes skus known (suc most) name k w =
@@ -219,7 +219,7 @@ whole_count skus =
     let own = length-map skus sku_in_line in
     omega (arith, both, own)
 
-ends : (skus : List SkuLine) (name : List ℕ) → Comes skus name (length skus) → EndsAtDefault (skus_of skus) name
+ends : (skus : List SkuLine) (name : List ℕ) → ReachesDefault skus name (length skus) → EndsAtDefault (skus_of skus) name
 ends skus name c = let few = c.few in let all = whole_count skus in record { steps = c.steps; few = omega (arith, few, all); there = c.there }
 
 -- the walk of each SKU that is named

@@ -45,7 +45,7 @@ dsc_grammar =
     record {
       head_faults = λ line head. head_faults line head;
       scope_of = λ head. scope_of head;
-      stray = DSC_UNKNOWN_SECTION;
+      stray_code = DSC_UNKNOWN_SECTION;
       faults = λ above line scope. line_faults (names_in (rows_of above))
           (open_below (rows_of above)) line scope;
       row_of = λ above line scope. line_row (open_below (rows_of above)) line scope;

@@ -137,7 +137,7 @@ impl Format for DscFormat {
 
     ghost holds = { Holds };
 
-    fn stray(&self) -> u16 {
+    fn stray_code(&self) -> u16 {
         DSC_UNKNOWN_SECTION
     }
 
@@ -145,7 +145,7 @@ impl Format for DscFormat {
         enter_head(self.alloc, line, head)
     }
 
-    fn below(&self, line: &Taken, scope: &Scope) -> Result<Option<DscRow>, Refusal> {
+    fn read_line(&self, line: &Taken, scope: &Scope) -> Result<Option<DscRow>, Refusal> {
         line_row(self.alloc, line, &self.names, self.standing, scope)
     }
 
@@ -162,7 +162,7 @@ impl Format for DscFormat {
         Ok(())
     }
 
-    fn keep(&mut self, rows: Vec<DscRow>) -> Result<(), WantOfMemory>
+    fn add_rows(&mut self, rows: Vec<DscRow>) -> Result<(), WantOfMemory>
         ensures { (above : List (Read Scope DscRow)) → Holds above self.old
             → OnOk result (Holds (above ++ gave rows.items ∷ []) self.new) }
     {

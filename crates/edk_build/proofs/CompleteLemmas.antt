@@ -8,7 +8,7 @@ use Rattle.build_base.specs.declared.outside.Got.TheVariants.{File, Absent, TooL
 use Rattle.build_base.specs.Spelling.{Output}
 use Rattle.step_pack.specs.declared.key.Key.{Key}
 use Rattle.edk_build.specs.Commands.{IfReplay}
-use Rattle.edk_build.specs.History.{fault_outputs, EndsAt, Follows, Comes, IsReplayed, script_in, HasNoFault, IsReplayComplete}
+use Rattle.edk_build.specs.History.{fault_outputs, EndsAt, Follows, ReplayEnds, IsReplayed, script_in, HasNoFault, IsReplayComplete}
 use Rattle.edk_build.specs.Script.{script_of}
 use Rattle.edk_build.specs.Statuses.{Causes}
 use Rattle.edk_build.specs.declared.command.Command.{Command}
@@ -55,13 +55,13 @@ follows_misspelt files at (Some lines) a b old new T F x = λ n t f.
     absurd (ended_misspelt (Some files) at h.left h.stand h.now h.back b h.ends)
 
 comes_faulty : (files : Files) (at : List ℕ) (g : Got) (a b : List Key) (old new : Option (List Emission)) (T F : Type 0)
-    → Comes (Some files) at g answer.FileFault a b old new → IfSome (script_in g) (AreWell files at T F answer.FileFault)
+    → ReplayEnds (Some files) at g answer.FileFault a b old new → IfSome (script_in g) (AreWell files at T F answer.FileFault)
 comes_faulty files at (File bytes) a b old new T F x = follows_faulty files at (script_of bytes) a b old new T F x
 comes_faulty files at Absent a b old new T F x = tt
 comes_faulty files at TooLong a b old new T F x = tt
 
 comes_misspelt : (files : Files) (at : List ℕ) (g : Got) (a b : List Key) (old new : Option (List Emission)) (T F : Type 0)
-    → Comes (Some files) at g answer.Usage a b old new → IfSome (script_in g) (AreWell files at T F answer.Usage)
+    → ReplayEnds (Some files) at g answer.Usage a b old new → IfSome (script_in g) (AreWell files at T F answer.Usage)
 comes_misspelt files at (File bytes) a b old new T F x = follows_misspelt files at (script_of bytes) a b old new T F x
 comes_misspelt files at Absent a b old new T F x = tt
 comes_misspelt files at TooLong a b old new T F x = tt

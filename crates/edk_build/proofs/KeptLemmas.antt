@@ -40,7 +40,7 @@ use Rattle.edk_build.specs.Building.{means, IsBrought, IsBuilt, IsCutShort, IsOw
 use Rattle.edk_build.specs.Emitting.{emitted, outputs_of, status_of, summary}
 use Rattle.edk_build.specs.FilePair.{FilePair}
 use Rattle.edk_build.specs.Kept.{HasText, IsOfText, IsSoundKept, OfKept, StandsFor, StaysSound}
-use Rattle.edk_build.specs.KeptBuild.{Told, told, AsMade, Makes, WroteAll, HasBuilt, EndsAtFailure, HasEnded, HasStopped, Comes}
+use Rattle.edk_build.specs.KeptBuild.{Told, told, AsMade, Makes, WroteAll, HasBuilt, EndsAtFailure, HasEnded, HasStopped, FollowsWorld}
 use Rattle.edk_build.specs.Outcome.{outcome, files_by}
 use Rattle.edk_build.specs.Run.{IsComplete, plain, world_of}
 use Rattle.edk_build.specs.Statuses.{OnEnd, OnReadFault, OnUsage, OnWriteFault}
@@ -117,7 +117,7 @@ failed_cut outputs line stored old new (inr (inr f)) =
     )
 
 comes : (w : World) (cache left : List (Entry Key Out)) (given : Outcome Out) (steps reused : ℕ) (outputs : List Output) (line stored : List ℕ)
-    → Makes given left steps reused outputs line stored → IsBrought w cache given left steps reused → Comes w cache outputs line left
+    → Makes given left steps reused outputs line stored → IsBrought w cache given left steps reused → FollowsWorld w cache outputs line left
 comes w cache left given steps reused outputs line stored m b = record {
   steps = steps;
   needed = b.needed;
@@ -144,7 +144,7 @@ stopped held job cache left given steps reused old new m entry sound b = record 
   sound = sound;
   comes =
       some_then held (λ files. AreSound means cache → IsBrought (world_of files job) cache given left steps reused)
-      (λ files. AreSound means cache → Comes (world_of files job) cache m.0 m.1 left) b
+      (λ files. AreSound means cache → FollowsWorld (world_of files job) cache m.0 m.1 left) b
       (λ files f s. comes (world_of files job) cache left given steps reused m.0 m.1 m.2 m.3 (f s));
   cut =
       some_then held (λ files. AreSound means cache → IsBrought (world_of files job) cache given left steps reused)

@@ -22,7 +22,7 @@ use Rattle.build_rules.specs.Rules.{is_job}
 use Rattle.edk_build.proofs.RunLemmas.{same_ran, same_all}
 use Rattle.edk_build.specs.Building.{means, IsBuilt, IsCutShort, Leaves}
 use Rattle.edk_build.specs.Emitting.{emitted}
-use Rattle.edk_build.specs.History.{start, label_of, after_edit, after_build, world_at, IsDone, AreDone, from_fault, order_fault, fault_outputs, IsFaulty, HasBegun, WasDone, Written, WrittenBehind, HasStopped, IsTold, Follows}
+use Rattle.edk_build.specs.History.{start, label_of, after_edit, after_build, world_at, IsCarriedOut, AreCarriedOut, from_fault, order_fault, fault_outputs, IsFaulty, HasBegun, WasCarriedOut, Written, WrittenBehind, HasStoppedAtLine, IsTold, Follows}
 use Rattle.edk_build.specs.Outcome.{outcome}
 use Rattle.edk_build.specs.Script.{HaveJobs, HasJob, script_line}
 use Rattle.edk_build.specs.Stops.{IfWriteFault, IfUnwritten, stop_status}
@@ -53,15 +53,15 @@ always (Some files) P p = p files
 
 -- one line more was carried out
 done_more : (held : Option Files) (above : List ScriptLine) (line : ScriptLine) (s : ReplayState) (a : List Key) (front : List Output) (mid : ReplayState) (now : List Key)
-    (more : List Output) (next : ReplayState) (b : List Key) → AreDone held above s a front mid now → IsDone held line.order mid now more next b
-    → AreDone held (above ++ line ∷ []) s a (front ++ more) next b
-unfolding AreDone
+    (more : List Output) (next : ReplayState) (b : List Key) → AreCarriedOut held above s a front mid now → IsCarriedOut held line.order mid now more next b
+    → AreCarriedOut held (above ++ line ∷ []) s a (front ++ more) next b
+unfolding AreCarriedOut
 done_more held [] line s a front mid now more next b d one = (
   more,
   next,
   b,
   [],
-  subst (λ z. IsDone held line.order z a more next b) d.0 (subst (λ z. IsDone held line.order mid z more next b) d.2 one),
+  subst (λ z. IsCarriedOut held line.order z a more next b) d.0 (subst (λ z. IsCarriedOut held line.order mid z more next b) d.2 one),
   (refl, refl, refl),
   ap (λ z. z ++ more) d.1 ∙ sym (append-nil more),
 )
@@ -80,7 +80,7 @@ pub record SoFar (held : Option Files) (lines left : List ScriptLine) (stand : R
   pub above : List ScriptLine
   pub whole : lines ≡ above ++ left
   pub front : List Output
-  pub done : AreDone held above start a front stand now
+  pub done : AreCarriedOut held above start a front stand now
   pub written : IfSome held (λ files. Spelled old new front)
   pub jobs : HaveJobs left
   pub sound : AreSound means stand.cache
@@ -90,7 +90,7 @@ none_sound cache e = subst (AreSound means) (sym e) (λ k x h. absurd (omega ari
 
 pub so_far_begun : (held : Option Files) (lines : List ScriptLine) (stand : ReplayState) (a : List Key) (old : Option (List Emission)) → stand ≡ start → HaveJobs lines
     → SoFar held lines lines stand a a old old
-unfolding AreDone
+unfolding AreCarriedOut
 so_far_begun held lines stand a old e jobs = record {
   above = [];
   whole = refl;
@@ -102,7 +102,7 @@ so_far_begun held lines stand a old e jobs = record {
 }
 
 pub so_far_more : (held : Option Files) (lines : List ScriptLine) (line : ScriptLine) (left : List ScriptLine) (stand : ReplayState) (a now : List Key) (next : ReplayState) (b : List Key) (old mid new : Option (List Emission))
-    → SoFar held lines (line ∷ left) stand a now old mid → WasDone held line.order stand now next b mid new → AreSound means next.cache → SoFar held lines left next a b old new
+    → SoFar held lines (line ∷ left) stand a now old mid → WasCarriedOut held line.order stand now next b mid new → AreSound means next.cache → SoFar held lines left next a b old new
 so_far_more held lines line left stand a now next b old mid new f w sound = record {
   above = f.above ++ line ∷ [];
   whole = f.whole ∙ sym (append_assoc f.above (line ∷ []) left);
@@ -116,7 +116,7 @@ so_far_more held lines line left stand a now next b old mid new f w sound = reco
 }
 
 pub so_far_stopped : (held : Option Files) (at : List ℕ) (lines : List ScriptLine) (line : ScriptLine) (left : List ScriptLine) (stand : ReplayState) (a now : List Key) (st : Status) (b : List Key) (old mid new : Option (List Emission))
-    → SoFar held lines (line ∷ left) stand a now old mid → HasStopped held at line st stand now b mid new → Follows held at (Some lines) st a b old new
+    → SoFar held lines (line ∷ left) stand a now old mid → HasStoppedAtLine held at line st stand now b mid new → Follows held at (Some lines) st a b old new
 so_far_stopped held at lines line left stand a now st b old mid new f h = (
   f.front ++ h.outputs,
   record {
@@ -145,21 +145,21 @@ behind : (line : ScriptLine) (left : List ScriptLine) → take (length (line ∷
 behind line left = take_all (length (line ∷ left) - 1) left (omega arith)
 
 pub so_far_next : (held held' : Option Files) (lines left : List ScriptLine) (line d : ScriptLine) (stand : ReplayState) (a now : List Key) (next : ReplayState) (b : List Key) (old mid new : Option (List Emission))
-    → 1 ≤ length left → line ≡ get_or left 0 d → held' ≡ held → SoFar held lines left stand a now old mid → WasDone held' line.order stand now next b mid new → AreSound means next.cache
+    → 1 ≤ length left → line ≡ get_or left 0 d → held' ≡ held → SoFar held lines left stand a now old mid → WasCarriedOut held' line.order stand now next b mid new → AreSound means next.cache
     → SoFar held lines (take (length left - 1) (drop 1 left)) next a b old new
 so_far_next held held' lines [] line d stand a now next b old mid new l e h f w sound = absurd (omega (arith, l))
 so_far_next held held' lines (x ∷ left) line d stand a now next b old mid new l e h f w sound =
     subst (λ z. SoFar held lines z next a b old new) (sym (behind x left))
     (so_far_more held lines x left stand a now next b old mid new f
-    (subst (λ z. WasDone held z.order stand now next b mid new) e (subst (λ z. WasDone z line.order stand now next b mid new) h w)) sound)
+    (subst (λ z. WasCarriedOut held z.order stand now next b mid new) e (subst (λ z. WasCarriedOut z line.order stand now next b mid new) h w)) sound)
 
 pub so_far_halted : (held held' : Option Files) (at : List ℕ) (lines left : List ScriptLine) (line d : ScriptLine) (stand : ReplayState) (a now : List Key) (st : Status) (b : List Key) (old mid new : Option (List Emission))
-    → 1 ≤ length left → line ≡ get_or left 0 d → held' ≡ held → SoFar held lines left stand a now old mid → HasStopped held' at line st stand now b mid new
+    → 1 ≤ length left → line ≡ get_or left 0 d → held' ≡ held → SoFar held lines left stand a now old mid → HasStoppedAtLine held' at line st stand now b mid new
     → Follows held at (Some lines) st a b old new
 so_far_halted held held' at lines [] line d stand a now st b old mid new l e h f s = absurd (omega (arith, l))
 so_far_halted held held' at lines (x ∷ left) line d stand a now st b old mid new l e h f s =
     so_far_stopped held at lines x left stand a now st b old mid new f
-    (subst (λ z. HasStopped held at z st stand now b mid new) e (subst (λ z. HasStopped z at line st stand now b mid new) h s))
+    (subst (λ z. HasStoppedAtLine held at z st stand now b mid new) e (subst (λ z. HasStoppedAtLine z at line st stand now b mid new) h s))
 
 none_left : (left : List ScriptLine) → length left < 1 → left ≡ []
 none_left [] l = refl
@@ -186,18 +186,18 @@ so_far_ended held at lines left stand a now old new l f = (
 )
 
 pub was_dropped : (held : Option Files) (path : List ℕ) (s next : ReplayState) (a : List Key) (old new : Option (List Emission)) → next ≡ after_edit s path None → new ≡ old
-    → WasDone held (order.Drop path) s a next a old new
+    → WasCarriedOut held (order.Drop path) s a next a old new
 was_dropped held path s next a old new n w = record { outputs = []; done = (n, refl, refl); written = nothing_spelled held old new w }
 
 -- the fault of a line that puts was told
 pub put_told : (held : Option Files) (at : List ℕ) (number : ℕ) (path from : List ℕ) (s : ReplayState) (st : Status) (a : List Key) (g : Got) (fault : Fault) (old new : Option (List Emission))
     → IfSome held (λ files. g ≡ got_of file_limit (files from)) → from_fault at number from g ≡ Some fault → IsTold fault st old new
-    → HasStopped held at (script_line number (order.Put path from)) st s a a old new
+    → HasStoppedAtLine held at (script_line number (order.Put path from)) st s a a old new
 put_told held at number path from s st a g fault old new got e t =
     let faulty : IsFaulty held at number (order.Put path from) (fault_outputs fault) =
     some_then held (λ files. g ≡ got_of file_limit (files from)) (λ files. IsSomeAnd (order_fault files at number (order.Put path from)) (λ f. fault_outputs fault ≡ fault_outputs f)) got
     (λ files h. subst (λ z. IsSomeAnd z (λ f. fault_outputs fault ≡ fault_outputs f)) (sym e ∙ ap (from_fault at number from) h) refl) in
-    elim st as (λ st. IsTold fault st old new → HasStopped held at (script_line number (order.Put path from)) st s a a old new) [
+    elim st as (λ st. IsTold fault st old new → HasStoppedAtLine held at (script_line number (order.Put path from)) st s a a old new) [
       | status.FileFault ↦ λ t. record { outputs = fault_outputs fault; stopped = (faulty, refl); written = always held (λ files. Spelled old new (fault_outputs fault)) (λ files. t) }
       | status.WriteFault ↦ λ t. record { outputs = fault_outputs fault; stopped = (faulty, refl); written = always held (λ files. SpelledCut old new (fault_outputs fault)) (λ files. t) }
       | status.WantOfMemory ↦ λ t. record { outputs = []; stopped = (refl, refl); written = nothing_spelled held old new t }
@@ -216,7 +216,7 @@ begun_nothing held (order.Build job) s a = ran_nothing (over s.edits held) (job_
 
 -- memory was wanting before a line had done anything
 pub stopped_early : (held : Option Files) (at : List ℕ) (line : ScriptLine) (s : ReplayState) (a : List Key) (old new : Option (List Emission)) → new ≡ old
-    → HasStopped held at line status.WantOfMemory s a a old new
+    → HasStoppedAtLine held at line status.WantOfMemory s a a old new
 stopped_early held at line s a old new e = record {
   outputs = [];
   stopped = (refl, begun_nothing held line.order s a);
@@ -238,7 +238,7 @@ pub record Ended (held : Option Files) (s : ReplayState) (f : List (List ℕ)) (
 
 pub was_built : (held : Option Files) (job : Job) (s : ReplayState) (f : List (List ℕ)) (label : Label) (st : Status) (cache : List (Entry Key Out)) (next : ReplayState) (a b : List Key) (old new : Option (List Emission))
     → is_job (job_fields job) ≡ true → f ≡ job_fields job → label ≡ label_of (s.builds + 1) → AreSound means s.cache → next ≡ after_build s cache
-    → Ended held s f label st cache a b old new → WasDone held (order.Build job) s a next b old new
+    → Ended held s f label st cache a b old new → WasCarriedOut held (order.Build job) s a next b old new
 was_built None job s f label st cache next a b old new j e l sound n x = record {
   outputs = [];
   done = record {
@@ -279,7 +279,7 @@ cut_at : (held : Option Files) (at : List ℕ) (number : ℕ) (job : Job) (s : R
     → is_job (job_fields job) ≡ true → f ≡ job_fields job → label ≡ label_of (s.builds + 1) → AreSound means s.cache
     → ((w : World) → IsHere (setting means (over s.edits held) f s.cache) w → IsCutShort w s.cache label old new)
     → Ran (setting means (over s.edits held) (job_fields job) s.cache) key.All a b
-    → HasStopped held at (script_line number (order.Build job)) status.WriteFault s a b old new
+    → HasStoppedAtLine held at (script_line number (order.Build job)) status.WriteFault s a b old new
 cut_at None at number job s f label a b old new j e l sound x r = record { outputs = []; stopped = (tt, r); written = tt }
 cut_at (Some files) at number job s f label a b old new j e l sound x r =
     let w : World = world_at files s job in
@@ -292,7 +292,7 @@ cut_at (Some files) at number job s f label a b old new j e l sound x r =
 
 pub was_halted : (held : Option Files) (at : List ℕ) (number : ℕ) (job : Job) (s : ReplayState) (f : List (List ℕ)) (label : Label) (e : Stop) (a b : List Key) (old new : Option (List Emission))
     → is_job (job_fields job) ≡ true → f ≡ job_fields job → label ≡ label_of (s.builds + 1) → AreSound means s.cache → Halted held s f label e a b old new
-    → HasStopped held at (script_line number (order.Build job)) (stop_status e) s a b old new
+    → HasStoppedAtLine held at (script_line number (order.Build job)) (stop_status e) s a b old new
 was_halted held at number job s f label stop.ReadFault a b old new j q l sound x = record {
   outputs = [];
   stopped = (refl, same_ran (over s.edits held) f (job_fields job) s.cache s.cache a b q refl x.ran);
@@ -308,15 +308,15 @@ was_halted held at number job s f label stop.WriteFault a b old new j q l sound 
 
 -- a refusal that is handed on
 pub stop_as : {A : Type 0} (r : Result A Status) (held : Option Files) (at : List ℕ) (line : ScriptLine) (st : Status) (s : ReplayState) (a b : List Key) (old new : Option (List Emission))
-    → IsErrAnd r (λ x. x ≡ st) → HasStopped held at line st s a b old new → IfErr r (λ x. HasStopped held at line x s a b old new)
+    → IsErrAnd r (λ x. x ≡ st) → HasStoppedAtLine held at line st s a b old new → IfErr r (λ x. HasStoppedAtLine held at line x s a b old new)
 stop_as (Ok x) held at line st s a b old new e h = tt
-stop_as (Err x) held at line st s a b old new e h = subst (λ z. HasStopped held at line z s a b old new) (sym e) h
+stop_as (Err x) held at line st s a b old new e h = subst (λ z. HasStoppedAtLine held at line z s a b old new) (sym e) h
 
 -- what is said of an order is said of its line
 pub line_stopped : {A : Type 0} (r : Result A Status) (held : Option Files) (at : List ℕ) (line : ScriptLine) (o : ScriptCommand) (s : ReplayState) (a b : List Key) (old new : Option (List Emission))
-    → line.order ≡ o → IfErr r (λ x. HasStopped held at (script_line line.number o) x s a b old new) → IfErr r (λ x. HasStopped held at line x s a b old new)
-line_stopped r held at line o s a b old new e h = subst (λ z. IfErr r (λ x. HasStopped held at (script_line line.number z) x s a b old new)) (sym e) h
+    → line.order ≡ o → IfErr r (λ x. HasStoppedAtLine held at (script_line line.number o) x s a b old new) → IfErr r (λ x. HasStoppedAtLine held at line x s a b old new)
+line_stopped r held at line o s a b old new e h = subst (λ z. IfErr r (λ x. HasStoppedAtLine held at (script_line line.number z) x s a b old new)) (sym e) h
 
 pub line_dropped : (held : Option Files) (o : ScriptCommand) (path : List ℕ) (s next : ReplayState) (a : List Key) (old : Option (List Emission)) → o ≡ order.Drop path
-    → next ≡ after_edit s path None → WasDone held o s a next a old old
-line_dropped held o path s next a old e n = subst (λ z. WasDone held z s a next a old old) (sym e) (was_dropped held path s next a old old n refl)
+    → next ≡ after_edit s path None → WasCarriedOut held o s a next a old old
+line_dropped held o path s next a old e n = subst (λ z. WasCarriedOut held z s a next a old old) (sym e) (was_dropped held path s next a old old n refl)

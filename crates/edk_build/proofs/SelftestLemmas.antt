@@ -23,7 +23,7 @@ use Rattle.edk_build.specs.Commands.{IfSelftest}
 use Rattle.edk_build.specs.Emitting.{emitted}
 use Rattle.edk_build.specs.Outcome.{outcome}
 use Rattle.edk_build.specs.Run.{world_of}
-use Rattle.edk_build.specs.Selftest.{selftest_job, label_named, Turn, first_turn, second_turn, third_turn, WasDone, StopsAt, HasStopped, AreBuilt, WereBuilt, IsSelftest, IsSelftestStatus, IsSelftestComplete}
+use Rattle.edk_build.specs.Selftest.{selftest_job, label_named, Turn, first_turn, second_turn, third_turn, TurnEnded, StopsAt, TurnStopped, AreBuilt, WereBuilt, IsSelftest, IsSelftestStatus, IsSelftestComplete}
 use Rattle.edk_build.specs.Statuses.{OnUsage, OnReadFault, OnWriteFault}
 use Rattle.edk_build.specs.Stops.{IfReadFault, IfWriteFault, IfUnwritten, stop_status}
 use Rattle.edk_build.specs.declared.build.Built.{Built}
@@ -56,7 +56,7 @@ pub record Ended (h : Option Files) (f : List (List ℕ)) (old : List (Entry Key
   pub sound : AreSound means old → AreSound means next
 
 turn_done : (t : Turn) (f : List (List ℕ)) (old : List (Entry Key Out)) (label : Label) (st : Status) (next : List (Entry Key Out)) (a b : List Key) (before now : Option (List Emission))
-    → f ≡ job_fields selftest_job → label ≡ label_named t.name → AreSound means old → Ended (Some t.files) f old label st next a b before now → WasDone t old a next b before now
+    → f ≡ job_fields selftest_job → label ≡ label_named t.name → AreSound means old → Ended (Some t.files) f old label st next a b before now → TurnEnded t old a next b before now
 turn_done t f old label st next a b before now e l sound x =
     let w : World = world_of t.files selftest_job in
     let h : IsHere (setting means (Some t.files) f old) w = here_at t f old e sound in
@@ -79,7 +79,7 @@ told_turn t held es h n = told_over held es n ∙ h
 
 pub was_done : (t : Turn) (held : Option Files) (es : List Edit) (f : List (List ℕ)) (old : List (Entry Key Out)) (label : Label) (st : Status) (next : List (Entry Key Out)) (a b : List Key) (before now : Option (List Emission))
     → held ≡ Some t.files → es ≡ [] → f ≡ job_fields selftest_job → label ≡ label_named t.name → AreSound means old → Ended (over es held) f old label st next a b before now
-    → WasDone t old a next b before now
+    → TurnEnded t old a next b before now
 was_done t held es f old label st next a b before now h n e l sound x =
     turn_done t f old label st next a b before now e l sound (subst (λ z. Ended z f old label st next a b before now) (told_turn t held es h n) x)
 
@@ -91,7 +91,7 @@ pub record Halted (h : Option Files) (f : List (List ℕ)) (old : List (Entry Ke
   pub ran : Ran (setting means h f old) key.All a b
 
 turn_stopped : (t : Turn) (f : List (List ℕ)) (old : List (Entry Key Out)) (label : Label) (e : Stop) (a b : List Key) (before now : Option (List Emission))
-    → f ≡ job_fields selftest_job → label ≡ label_named t.name → AreSound means old → Halted (Some t.files) f old label e a b before now → HasStopped t (stop_status e) old a b before now
+    → f ≡ job_fields selftest_job → label ≡ label_named t.name → AreSound means old → Halted (Some t.files) f old label e a b before now → TurnStopped t (stop_status e) old a b before now
 turn_stopped t f old label stop.ReadFault a b before now q l sound x = absurd (omega (arith, x.read_fault.rose))
 turn_stopped t f old label stop.WantOfMemory a b before now q l sound x = record {
   outputs = [];
@@ -112,12 +112,12 @@ turn_stopped t f old label stop.WriteFault a b before now q l sound x =
 
 pub has_stopped : (t : Turn) (held : Option Files) (es : List Edit) (f : List (List ℕ)) (old : List (Entry Key Out)) (label : Label) (e : Stop) (a b : List Key) (before now : Option (List Emission))
     → held ≡ Some t.files → es ≡ [] → f ≡ job_fields selftest_job → label ≡ label_named t.name → AreSound means old → Halted (over es held) f old label e a b before now
-    → HasStopped t (stop_status e) old a b before now
+    → TurnStopped t (stop_status e) old a b before now
 has_stopped t held es f old label e a b before now h n q l sound x =
     turn_stopped t f old label e a b before now q l sound (subst (λ z. Halted z f old label e a b before now) (told_turn t held es h n) x)
 
 -- memory was wanting before a build had done anything
-pub stopped_early : (t : Turn) (old : List (Entry Key Out)) (a : List Key) (w : Option (List Emission)) → HasStopped t status.WantOfMemory old a a w w
+pub stopped_early : (t : Turn) (old : List (Entry Key Out)) (a : List Key) (w : Option (List Emission)) → TurnStopped t status.WantOfMemory old a a w w
 stopped_early t old a w = record {
   outputs = [];
   stopped = (refl, ([], sym (append-nil a), tt, λ w h k c. absurd (omega (arith, c.1))));
@@ -126,7 +126,7 @@ stopped_early t old a w = record {
 
 -- a build that stopped ends the series
 pub series_stopped : (t : Turn) (turns : List Turn) (st : Status) (old : List (Entry Key Out)) (a b : List Key) (before now : Option (List Emission))
-    → HasStopped t st old a b before now → WereBuilt (t ∷ turns) st old a b before now
+    → TurnStopped t st old a b before now → WereBuilt (t ∷ turns) st old a b before now
 unfolding AreBuilt
 series_stopped t turns st old a b before now h = record {
   front = [];
@@ -137,7 +137,7 @@ series_stopped t turns st old a b before now h = record {
 
 -- one build more in front of the others
 pub series_more : (t : Turn) (turns : List Turn) (st : Status) (old : List (Entry Key Out)) (a : List Key) (mid : List (Entry Key Out)) (m b : List Key) (before w now : Option (List Emission))
-    → WasDone t old a mid m before w → WereBuilt turns st mid m b w now → WereBuilt (t ∷ turns) st old a b before now
+    → TurnEnded t old a mid m before w → WereBuilt turns st mid m b w now → WereBuilt (t ∷ turns) st old a b before now
 unfolding AreBuilt
 series_more t turns st old a mid m b before w now d x = record {
   front = d.outputs ++ x.front;

@@ -62,23 +62,23 @@ abbrev pub world_at : Files → ReplayState → Job → World
 world_at files s job = world_of (edited s.edits files) job
 
 -- what the next build emits in a world
-pub record Gives (w : World) (s : ReplayState) (outputs : List Output) : Type 0 where
+pub record BuildEmits (w : World) (s : ReplayState) (outputs : List Output) : Type 0 where
   pub steps : ℕ
   pub needed : ℕ
   pub counted : IsCounted w s.cache steps needed
   pub list : outputs ≡ emitted (label_of (s.builds + 1)) (outcome w) steps (needed - steps)
 
 -- and which cache it leaves
-pub record GivesAndLeaves (w : World) (s : ReplayState) (outputs : List Output)
+pub record EmitsAndLeaves (w : World) (s : ReplayState) (outputs : List Output)
     (cache : List (Entry Key Out)) : Type 0 where
-  pub gives : Gives w s outputs
+  pub gives : BuildEmits w s outputs
   pub leaves : Leaves w s.cache cache
 
 -- a build came to its end: what it gave, where the tree tells what it holds, and the steps that it
 -- ran
 pub record IsBuild (held : Option Files) (job : Job) (s : ReplayState) (a : List Key)
     (outputs : List Output) (next : ReplayState) (b : List Key) : Type 0 where
-  pub told : IfSome held (λ files. GivesAndLeaves (world_at files s job) s outputs next.cache)
+  pub told : IfSome held (λ files. EmitsAndLeaves (world_at files s job) s outputs next.cache)
   pub ran : Ran (setting means (over s.edits held) (job_fields job) s.cache) key.All a b
   pub all : RanAll (setting means (over s.edits held) (job_fields job) s.cache) key.All a b
   pub sound : AreSound means next.cache
@@ -91,21 +91,21 @@ IsPut held path from s next =
     × (next ≡ after_edit s path (Some bytes))
 
 -- an order was carried out at a stand: what it emitted, the next stand, and what the book became
-abbrev pub IsDone : Option Files → ScriptCommand → ReplayState → List Key → List Output → ReplayState → List Key
+abbrev pub IsCarriedOut : Option Files → ScriptCommand → ReplayState → List Key → List Output → ReplayState → List Key
     → Type 0
-IsDone held (Put path from) s a outputs next b = IsPut held path from s next × (outputs ≡ [])
+IsCarriedOut held (Put path from) s a outputs next b = IsPut held path from s next × (outputs ≡ [])
     × (b ≡ a)
-IsDone held (Drop path) s a outputs next b = (next ≡ after_edit s path None) × (outputs ≡ [])
+IsCarriedOut held (Drop path) s a outputs next b = (next ≡ after_edit s path None) × (outputs ≡ [])
     × (b ≡ a)
-IsDone held (Build job) s a outputs next b = IsBuild held job s a outputs next b
+IsCarriedOut held (Build job) s a outputs next b = IsBuild held job s a outputs next b
 
 -- lines were carried out, one after the other
-unfoldable pub AreDone : Option Files → List ScriptLine → ReplayState → List Key → List Output → ReplayState
+unfoldable pub AreCarriedOut : Option Files → List ScriptLine → ReplayState → List Key → List Output → ReplayState
     → List Key → Type 0
-AreDone held [] s a outputs next b = (next ≡ s) × (outputs ≡ []) × (b ≡ a)
-AreDone held (line ∷ lines) s a outputs next b =
+AreCarriedOut held [] s a outputs next b = (next ≡ s) × (outputs ≡ []) × (b ≡ a)
+AreCarriedOut held (line ∷ lines) s a outputs next b =
     (front : List Output) × (mid : ReplayState) × (now : List Key) × (back : List Output)
-    × IsDone held line.order s a front mid now × AreDone held lines mid now back next b
+    × IsCarriedOut held line.order s a front mid now × AreCarriedOut held lines mid now back next b
     × (outputs ≡ front ++ back)
 
 abbrev pub too_long : List ℕ → Fault
@@ -140,7 +140,7 @@ IsFaulty held at number order outputs =
 -- what an order emits, where the last emission of a run failed
 abbrev pub IsLast : Option Files → List ℕ → ℕ → ScriptCommand → ReplayState → List Output → Type 0
 IsLast held at number (Build job) s outputs =
-    IfSome held (λ files. Gives (world_at files s job) s outputs)
+    IfSome held (λ files. BuildEmits (world_at files s job) s outputs)
 IsLast held at number order s outputs = IsFaulty held at number order outputs
 
 -- of an order that wasn't carried out, the book has steps of its build
@@ -163,10 +163,10 @@ StopsAt held at line answer.WantOfMemory s a outputs b = (outputs ≡ [])
 StopsAt held at line _ s a outputs b = ⊥
 
 -- an order was carried out, and what it emitted is written
-pub record WasDone (held : Option Files) (order : ScriptCommand) (s : ReplayState) (a : List Key) (next : ReplayState)
+pub record WasCarriedOut (held : Option Files) (order : ScriptCommand) (s : ReplayState) (a : List Key) (next : ReplayState)
     (b : List Key) (old new : Option (List Emission)) : Type 0 where
   pub outputs : List Output
-  pub done : IsDone held order s a outputs next b
+  pub done : IsCarriedOut held order s a outputs next b
   pub written : IfSome held (λ files. Spelled old new outputs)
 
 -- what is told grew by a spelling of the list, or of a cut of it where the sink failed
@@ -181,7 +181,7 @@ WrittenBehind status old new front back =
     (mid : Option (List Emission)) × Spelled old mid front × Written status mid new back
 
 -- a replay stopped at a line, and what that emitted is written
-pub record HasStopped (held : Option Files) (at : List ℕ) (line : ScriptLine) (status : Status)
+pub record HasStoppedAtLine (held : Option Files) (at : List ℕ) (line : ScriptLine) (status : Status)
     (s : ReplayState) (a b : List Key) (old new : Option (List Emission)) : Type 0 where
   pub outputs : List Output
   pub stopped : StopsAt held at line status s a outputs b
@@ -204,7 +204,7 @@ pub record History (held : Option Files) (at : List ℕ) (lines : List ScriptLin
   pub now : List Key
   pub front : List Output
   pub back : List Output
-  pub done : AreDone held above start a front stand now
+  pub done : AreCarriedOut held above start a front stand now
   pub ends : EndsAt held at left status stand now back b
   pub list : outputs ≡ front ++ back
 
@@ -230,11 +230,11 @@ Follows held at (Some lines) status a b old new =
 Follows held at None status a b old new = (status ≡ answer.Usage) × (b ≡ a)
 
 -- what comes of what was got as the script
-abbrev pub Comes : Option Files → List ℕ → Got → Status → List Key → List Key
+abbrev pub ReplayEnds : Option Files → List ℕ → Got → Status → List Key → List Key
     → Option (List Emission) → Option (List Emission) → Type 0
-Comes held at (File bytes) status a b old new = Follows held at (script_of bytes) status a b old new
-Comes held at Absent status a b old new = IsTold (script_absent at) status old new × (b ≡ a)
-Comes held at TooLong status a b old new = IsTold (too_long at) status old new × (b ≡ a)
+ReplayEnds held at (File bytes) status a b old new = Follows held at (script_of bytes) status a b old new
+ReplayEnds held at Absent status a b old new = IsTold (script_absent at) status old new × (b ≡ a)
+ReplayEnds held at TooLong status a b old new = IsTold (too_long at) status old new × (b ≡ a)
 
 abbrev pub IsUntouched : Status → List Key → List Key → Option (List Emission)
     → Option (List Emission) → Type 0
@@ -246,7 +246,7 @@ abbrev pub IsReplayed : Option Files → List ℕ → Status → List Key → Li
 IsReplayed held at status a b old new =
     IsUntouched status a b old new
     ⊎ ((script : Got) × IfSome held (λ files. script ≡ got_of file_limit (files at))
-    × Comes held at script status a b old new)
+    × ReplayEnds held at script status a b old new)
 
 abbrev pub script_in : Got → Option (List ScriptLine)
 script_in (File bytes) = script_of bytes

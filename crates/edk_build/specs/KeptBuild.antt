@@ -123,7 +123,7 @@ pub record HasEnded (held : Option Files) (job : Job) (cache : List (Entry Key O
   pub leaves : IfSome held (λ files. AreSound means cache → Leaves (world_of files job) cache left)
 
 -- what a build was to write and store in a world
-pub record Comes (w : World) (cache : List (Entry Key Out)) (outputs : List Output) (line : List ℕ)
+pub record FollowsWorld (w : World) (cache : List (Entry Key Out)) (outputs : List Output) (line : List ℕ)
     (left : List (Entry Key Out)) : Type 0 where
   pub steps : ℕ
   pub needed : ℕ
@@ -144,7 +144,7 @@ pub record HasStopped (held : Option Files) (job : Job) (cache : List (Entry Key
   pub made : MadeOf left (λ given outputs line stored. EndsAtFailure outputs line stored old new)
   pub sound : AreSound means cache → AreSound means left
   pub comes : IfSome held (λ files. AreSound means cache
-      → Comes (world_of files job) cache outputs line left)
+      → FollowsWorld (world_of files job) cache outputs line left)
   pub cut : IfSome held (λ files. AreSound means cache
       → IsCutShort (world_of files job) cache plain old.written new.written)
 

@@ -51,7 +51,7 @@ abbrev pub third_turn : ℕ → Turn
 third_turn n = record { name = codes "third"; files = edited_workspace n }
 
 -- what a build emits that begins with a cache
-pub record Gives (t : Turn) (cache : List (Entry Key Out)) (outputs : List Output) : Type 0 where
+pub record TurnEmits (t : Turn) (cache : List (Entry Key Out)) (outputs : List Output) : Type 0 where
   pub steps : ℕ
   pub needed : ℕ
   pub counted : IsCounted (world_of t.files selftest_job) cache steps needed
@@ -67,29 +67,29 @@ RanEach t cache a b = RanAll (setting means (Some t.files) (job_fields selftest_
     a b
 
 -- a build came to its end: what it emitted, the cache that it left, and what the book became
-pub record IsDone (t : Turn) (cache : List (Entry Key Out)) (a : List Key) (outputs : List Output)
+pub record TurnEnds (t : Turn) (cache : List (Entry Key Out)) (a : List Key) (outputs : List Output)
     (next : List (Entry Key Out)) (b : List Key) : Type 0 where
-  pub gives : Gives t cache outputs
+  pub gives : TurnEmits t cache outputs
   pub leaves : Leaves (world_of t.files selftest_job) cache next
   pub ran : RanSome t cache a b
   pub all : RanEach t cache a b
   pub sound : AreSound means next
 
 -- and it is written
-pub record WasDone (t : Turn) (cache : List (Entry Key Out)) (a : List Key)
+pub record TurnEnded (t : Turn) (cache : List (Entry Key Out)) (a : List Key)
     (next : List (Entry Key Out)) (b : List Key) (old new : Option (List Emission)) : Type 0 where
   pub outputs : List Output
-  pub done : IsDone t cache a outputs next b
+  pub done : TurnEnds t cache a outputs next b
   pub written : Spelled old new outputs
 
 -- a build stopped: the sink failed in what it emits, or memory was wanting before that
 abbrev pub StopsAt : Turn → Status → List (Entry Key Out) → List Key → List Output → List Key
     → Type 0
-StopsAt t answer.WriteFault cache a outputs b = Gives t cache outputs × RanSome t cache a b
+StopsAt t answer.WriteFault cache a outputs b = TurnEmits t cache outputs × RanSome t cache a b
 StopsAt t answer.WantOfMemory cache a outputs b = (outputs ≡ []) × RanSome t cache a b
 StopsAt t _ cache a outputs b = ⊥
 
-pub record HasStopped (t : Turn) (status : Status) (cache : List (Entry Key Out)) (a b : List Key)
+pub record TurnStopped (t : Turn) (status : Status) (cache : List (Entry Key Out)) (a b : List Key)
     (old new : Option (List Emission)) : Type 0 where
   pub outputs : List Output
   pub stopped : StopsAt t status cache a outputs b
@@ -105,7 +105,7 @@ AreBuilt (t ∷ turns) status cache a front back b =
     (StopsAt t status cache a back b × (front ≡ []))
     ⊎ ((first : List Output) × (mid : List (Entry Key Out)) × (now : List Key)
     × (more : List Output)
-    × IsDone t cache a first mid now × AreBuilt turns status mid now more back b
+    × TurnEnds t cache a first mid now × AreBuilt turns status mid now more back b
     × (front ≡ first ++ more))
 
 -- What the builds in front emitted is written whole, and what the one that stopped emitted, or a cut

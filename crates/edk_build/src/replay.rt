@@ -5,7 +5,7 @@ ghost use Rattle.build_base.specs.FaultText.{fault_of, fault_text};
 ghost use Rattle.step_engine.specs.Entries.{AreSound};
 ghost use Rattle.build_rules.specs.Rules.{is_job};
 ghost use Rattle.edk_build.specs.Building.{means};
-ghost use Rattle.edk_build.specs.History.{after_edit, WasDone, HasStopped, IsTold, Follows, IsReplayed, IsUntouched};
+ghost use Rattle.edk_build.specs.History.{after_edit, WasCarriedOut, HasStoppedAtLine, IsTold, Follows, IsReplayed, IsUntouched};
 ghost use Rattle.edk_build.specs.Script.{HasJob, HaveJobs, script_line, script_of};
 ghost use Rattle.edk_build.specs.Statuses.{OnEnd, OnWriteFault, OnUsage, IsUsageTold, Causes};
 ghost use Rattle.build_words.specs.Fields.{job_fields};
@@ -114,11 +114,11 @@ fn put<T: Tree, S: Sink>(
     sink: &mut S,
 ) -> Result<ReplayState, Status>
     ensures done { (a : List Key) → IfOk result
-        (λ next. WasDone (T.held tree.old) (order.Put path.now from.now) stand a next a
+        (λ next. WasCarriedOut (T.held tree.old) (order.Put path.now from.now) stand a next a
         (S.written sink.old) (S.written sink.new)) }
     ensures cache { IfOk result (λ next. next.cache ≡ stand.cache) }
     ensures stopped { (a : List Key) → IfErr result (λ status.
-        HasStopped (T.held tree.old) script.now (script_line number (order.Put path.now from.now))
+        HasStoppedAtLine (T.held tree.old) script.now (script_line number (order.Put path.now from.now))
         status stand a a (S.written sink.old) (S.written sink.new)) }
     ensures held { T.held tree.new ≡ T.held tree.old }
     ensures counts { OnOk result
@@ -151,10 +151,10 @@ fn build_next<H: Threads + Sync, T: Tree, S: Sink, G: Gate>(
     requires job { is_job (job_fields job.now) ≡ true }
     requires sound { AreSound means stand.cache }
     ensures done { IfOk result
-        (λ next. WasDone (T.held tree.old) (order.Build job.now) stand book.old next book.new
+        (λ next. WasCarriedOut (T.held tree.old) (order.Build job.now) stand book.old next book.new
         (S.written sink.old) (S.written sink.new)) }
     ensures stopped { (at : List ℕ) (number : ℕ) → IfErr result (λ status.
-        HasStopped (T.held tree.old) at (script_line number (order.Build job.now)) status stand
+        HasStoppedAtLine (T.held tree.old) at (script_line number (order.Build job.now)) status stand
         book.old book.new (S.written sink.old) (S.written sink.new)) }
     ensures held { T.held tree.new ≡ T.held tree.old }
     ensures counts { OnOk result
@@ -200,11 +200,11 @@ fn carry_out<H: Threads + Sync, T: Tree, S: Sink, G: Gate>(
     requires job { HasJob line.now.order }
     requires sound { AreSound means stand.cache }
     ensures done { IfOk result
-        (λ next. WasDone (T.held tree.old) line.now.order stand book.old next book.new
+        (λ next. WasCarriedOut (T.held tree.old) line.now.order stand book.old next book.new
         (S.written sink.old) (S.written sink.new)) }
     ensures sound { IfOk result (λ next. AreSound means next.cache) }
     ensures stopped { IfErr result (λ status.
-        HasStopped (T.held tree.old) script.now line.now status stand book.old book.new
+        HasStoppedAtLine (T.held tree.old) script.now line.now status stand book.old book.new
         (S.written sink.old) (S.written sink.new)) }
     ensures held { T.held tree.new ≡ T.held tree.old }
     ensures counts { OnOk result

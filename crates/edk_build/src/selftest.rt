@@ -5,7 +5,7 @@ ghost use Rattle.step_engine.specs.Entries.{AreSound};
 ghost use Rattle.build_words.specs.Fields.{job_fields};
 ghost use Rattle.selftest_tree.specs.Tree.{workspace, edited_workspace};
 ghost use Rattle.edk_build.specs.Building.{means};
-ghost use Rattle.edk_build.specs.Selftest.{selftest_job, label_named, second_turn, third_turn, WasDone, HasStopped, WereBuilt, IsSelftest, IsSelftestStatus, IsSelftestComplete};
+ghost use Rattle.edk_build.specs.Selftest.{selftest_job, label_named, second_turn, third_turn, TurnEnded, TurnStopped, WereBuilt, IsSelftest, IsSelftestStatus, IsSelftestComplete};
 ghost use Rattle.edk_build.specs.Statuses.{OnUsage, OnReadFault, Causes};
 
 use crate::build::build;
@@ -93,11 +93,11 @@ fn build_named<H: Threads + Sync, S: Sink, G: Gate>(
     requires fields { fields.now ≡ job_fields selftest_job }
     ensures done { (files : Files) → ⟦<SureTree as Tree>⟧.held tree.old ≡ Some files
         → AreSound means cache → IfOk result (λ next.
-        WasDone (record { name = name.now; files = files }) cache book.old next book.new
+        TurnEnded (record { name = name.now; files = files }) cache book.old next book.new
         (S.written sink.old) (S.written sink.new)) }
     ensures stopped { (files : Files) → ⟦<SureTree as Tree>⟧.held tree.old ≡ Some files
         → AreSound means cache → IfErr result (λ status.
-        HasStopped (record { name = name.now; files = files }) status cache book.old book.new
+        TurnStopped (record { name = name.now; files = files }) status cache book.old book.new
         (S.written sink.old) (S.written sink.new)) }
     ensures held { ⟦<SureTree as Tree>⟧.held tree.new ≡ ⟦<SureTree as Tree>⟧.held tree.old }
     ensures counts { OnOk result (Causes Status.Done 0 0 (S.faults sink.old) (S.faults sink.new)) }

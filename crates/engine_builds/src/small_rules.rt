@@ -91,7 +91,7 @@ fn absent(alloc: Global, key: u32) -> Result<Outcome<Text>, WantOfMemory>
     Ok(Outcome::Bad(Shared::new(alloc, fault)?))
 }
 
-fn joined(alloc: Global, first: &Text, second: &Text) -> Result<Outcome<Text>, WantOfMemory>
+fn join_files(alloc: Global, first: &Text, second: &Text) -> Result<Outcome<Text>, WantOfMemory>
     ensures { IfOk result (λ outcome. outcome ≡ Good (first.now ++ second.now)) }
 {
     let mut bytes = Vec::from_slice(alloc, first.bytes())?;
@@ -108,7 +108,11 @@ fn whole_file(
     ensures { IfOk result (λ outcome. outcome ≡ whole_file key first.now second.now) }
 {
     match (first, second) {
-        (Answer::Bytes(bytes), Answer::Field(more)) => joined(alloc, bytes.value(), more.value()),
+        (Answer::Bytes(bytes), Answer::Field(more)) => join_files(
+            alloc,
+            bytes.value(),
+            more.value(),
+        ),
         _ => absent(alloc, key),
     }
 }
@@ -127,7 +131,7 @@ fn together(
             Ok(Outcome::Bad(fault.copy(alloc)?))
         }
         (Answer::Part(Outcome::Good(bytes)), Answer::Part(Outcome::Good(more))) => {
-            joined(alloc, bytes.value(), more.value())
+            join_files(alloc, bytes.value(), more.value())
         }
         _ => absent(alloc, key),
     }

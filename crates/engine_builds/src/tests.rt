@@ -36,12 +36,12 @@ fn job(alloc: Global) -> Result<Rows<Text>, WantOfMemory> {
 }
 
 // A text that may be held by many.
-fn shared(alloc: Global, bytes: &[u8]) -> Result<Shared<Text>, WantOfMemory> {
+fn shared_text(alloc: Global, bytes: &[u8]) -> Result<Shared<Text>, WantOfMemory> {
     Shared::new(alloc, Text::of(alloc, bytes)?)
 }
 
 // The keys that ran, in ascending order.
-fn sorted(alloc: Global, book: &Book<u32>) -> Result<Vec<u32>, Fail> {
+fn sorted_keys(alloc: Global, book: &Book<u32>) -> Result<Vec<u32>, Fail> {
     let mut keys = Vec::from_slice(alloc, book.ran())?;
     keys.sort()?;
     Ok(keys)
@@ -138,7 +138,7 @@ fn build_both<H: Threads + Sync + Abort>(
         }
     }
     assert_eq!(rt; brought.needed, 3);
-    assert_eq!(rt; sorted(alloc, &book)?.as_slice(), ran);
+    assert_eq!(rt; sorted_keys(alloc, &book)?.as_slice(), ran);
     Ok(brought.cache)
 }
 
@@ -176,7 +176,7 @@ fn entry(
     Ok(Entry {
         key,
         talk: Shared::new(alloc, Talk { batches })?,
-        result: Outcome::Good(shared(alloc, b"lie")?),
+        result: Outcome::Good(shared_text(alloc, b"lie")?),
     })
 }
 
@@ -185,9 +185,9 @@ fn an_entry_that_lies_counts_as_none(rt: HostRuntime) -> Result<(), Fail> {
     let alloc = rt.alloc();
     let mut cache = Cache::new(alloc);
     let file = Ask::File(Path::new(alloc, b"b")?);
-    let bytes = Answer::Bytes(shared(alloc, b"Z")?);
+    let bytes = Answer::Bytes(shared_text(alloc, b"Z")?);
     cache.put(entry(alloc, 1, file, bytes)?)?;
-    let itself = Answer::Part(Outcome::Good(shared(alloc, b"lie")?));
+    let itself = Answer::Part(Outcome::Good(shared_text(alloc, b"lie")?));
     cache.put(entry(alloc, 2, Ask::Part(2), itself)?)?;
     assert_eq!(rt; cache.entries().len(), 2);
     build_both(&rt, alloc, cache, b"A", b"B", b"AxBy", &[0, 1, 2])?;
@@ -227,7 +227,7 @@ fn old_entries_of_other_keys_stay_after_a_fault_alone(rt: HostRuntime) -> Result
     let alloc = rt.alloc();
     for (b, left) in [(b"B".as_slice(), 1), (b"".as_slice(), 2)] {
         let mut cache = Cache::new(alloc);
-        let field = Answer::Field(shared(alloc, b"x")?);
+        let field = Answer::Field(shared_text(alloc, b"x")?);
         cache.put(entry(alloc, 9, Ask::Field(0), field)?)?;
         let mut book = Book::new(alloc);
         let files = tree(alloc, b"A", b, Rows::new(alloc))?;
@@ -245,7 +245,7 @@ fn an_edit_stands_in_place_of_the_file(rt: HostRuntime) -> Result<(), Fail> {
     let alloc = rt.alloc();
     let mut edits = Edits::new(alloc);
     edits.drop_file(Path::new(alloc, b"b")?)?;
-    edits.put(Path::new(alloc, b"b")?, shared(alloc, b"C")?)?;
+    edits.put(Path::new(alloc, b"b")?, shared_text(alloc, b"C")?)?;
     let mut files = tree(alloc, b"A", b"B", Rows::new(alloc))?;
     let mut book = Book::new(alloc);
     let fields = job(alloc)?;

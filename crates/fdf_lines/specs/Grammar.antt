@@ -43,7 +43,7 @@ scope_faults line marks full (scope.Volume name) =
 scope_faults line marks full (scope.Rule rule) = of_read_line line (rule_faults line marks)
 
 abbrev pub scope_row : Taken → Marks → Scope → Option Row
-scope_row line marks scope.Settings = Some row.Passed
+scope_row line marks scope.Settings = Some row.Ignored
 scope_row line marks (scope.Device name) = device_row line
 scope_row line marks (scope.Volume name) = volume_row line marks.braces
 scope_row line marks (scope.Rule rule) = rule_row line marks.braces
@@ -108,7 +108,7 @@ flash_grammar =
     record {
       head_faults = λ line head. meaning_faults line head (head_meaning head);
       scope_of = λ head. meaning_scope (head_meaning head);
-      stray = BAD_KEY;
+      stray_code = BAD_KEY;
       faults = λ above line scope. line_faults line (marks_below above)
           (is_full (statements_here above)) scope;
       row_of = λ above line scope. line_row line (marks_below above) scope;

@@ -17,7 +17,7 @@ use Rattle.fdf_words.specs.declared.rows.Scope.TheVariants as scope
 use Rattle.fdf_lines.specs.declared.section.FlashSection.{FlashSection}
 use Rattle.fdf_lines.specs.declared.section.FlashSection.TheVariants.{Defines, Device, Volume, Rule}
 use Rattle.fdf_lines.specs.declared.section.HeadMeaning.{HeadMeaning}
-use Rattle.fdf_lines.specs.declared.section.HeadMeaning.TheVariants.{Enters, Passed, BadQualifier, BadRule, Unknown}
+use Rattle.fdf_lines.specs.declared.section.HeadMeaning.TheVariants.{Section, Ignored, BadQualifier, BadRule, Unknown}
 use Rattle.build_base.specs.FaultCodes.{BAD_KEY, BAD_RULE, BAD_SECTION}
 
 -- the sections that there are, without regard to case; those with None are read past
@@ -42,22 +42,22 @@ unfoldable pub is_image_name : List ℕ → Bool
 is_image_name text = nat_lt 0 (length text) && nat_le (length text) 64 && list_all is_name_byte text
 
 abbrev pub plain_meaning : List (List ℕ) → HeadMeaning
-plain_meaning [] = Enters scope.Settings
+plain_meaning [] = Section scope.Settings
 plain_meaning (qualifier ∷ qualifiers) = BadQualifier
 
 -- one qualifier, which is a name
 abbrev pub device_meaning : List (List ℕ) → HeadMeaning
-device_meaning (name ∷ []) = if is_image_name name then Enters (scope.Device name) else BadQualifier
+device_meaning (name ∷ []) = if is_image_name name then Section (scope.Device name) else BadQualifier
 device_meaning qualifiers = BadQualifier
 
 abbrev pub volume_meaning : List (List ℕ) → HeadMeaning
-volume_meaning (name ∷ []) = if is_image_name name then Enters (scope.Volume name) else BadQualifier
+volume_meaning (name ∷ []) = if is_image_name name then Section (scope.Volume name) else BadQualifier
 volume_meaning qualifiers = BadQualifier
 
 abbrev pub rule_scope : Option Arch → Option ModuleType → Bool → List ℕ → List ℕ → HeadMeaning
 rule_scope (Some arch) (Some kind) named template name =
     if named
-    then Enters
+    then Section
     (scope.Rule (record { arch = arch; module_type = kind; template = template; name = name }))
     else BadRule
 rule_scope (Some arch) None named template name = BadRule
@@ -77,7 +77,7 @@ meaning_of (Some (Some Defines)) qualifiers = plain_meaning qualifiers
 meaning_of (Some (Some Device)) qualifiers = device_meaning qualifiers
 meaning_of (Some (Some Volume)) qualifiers = volume_meaning qualifiers
 meaning_of (Some (Some Rule)) qualifiers = rule_meaning qualifiers
-meaning_of (Some None) qualifiers = Passed
+meaning_of (Some None) qualifiers = Ignored
 meaning_of None qualifiers = Unknown
 
 abbrev pub parts_meaning : List (List ℕ) → HeadMeaning
@@ -92,12 +92,12 @@ abbrev pub meaning_faults : Taken → Head → HeadMeaning → List (Option Faul
 meaning_faults line head BadQualifier = Some (fault_of BAD_SECTION line.at line.text) ∷ []
 meaning_faults line head BadRule = Some (fault_of BAD_RULE line.at line.text) ∷ []
 meaning_faults line head Unknown = Some (fault_of BAD_KEY line.at (first_text head.parts)) ∷ []
-meaning_faults line head (Enters scope) = []
-meaning_faults line head Passed = []
+meaning_faults line head (Section scope) = []
+meaning_faults line head Ignored = []
 
 abbrev pub meaning_scope : HeadMeaning → Option Scope
-meaning_scope (Enters scope) = Some scope
-meaning_scope Passed = None
+meaning_scope (Section scope) = Some scope
+meaning_scope Ignored = None
 meaning_scope BadQualifier = None
 meaning_scope BadRule = None
 meaning_scope Unknown = None

@@ -66,7 +66,7 @@ fn scope_line(
         (scope_row line.now marks scope.now)) }
 {
     match scope {
-        Scope::Settings => Ok(Some(Row::Passed)),
+        Scope::Settings => Ok(Some(Row::Ignored)),
         Scope::Device(_) => {
             open_quote(alloc, &line.at, line.text.bytes())?;
             device_line(alloc, line, marks)
@@ -236,7 +236,7 @@ impl Format for FlashLines {
 
     ghost holds = { Holds };
 
-    fn stray(&self) -> u16 {
+    fn stray_code(&self) -> u16 {
         BAD_KEY
     }
 
@@ -244,7 +244,7 @@ impl Format for FlashLines {
         enter(self.alloc, line, head)
     }
 
-    fn below(&self, line: &Taken, scope: &Scope) -> Result<Option<Row>, Refusal> {
+    fn read_line(&self, line: &Taken, scope: &Scope) -> Result<Option<Row>, Refusal> {
         line_row(
             self.alloc,
             line,
@@ -284,7 +284,7 @@ impl Format for FlashLines {
         Ok(())
     }
 
-    fn keep(&mut self, rows: Vec<Row>) -> Result<(), WantOfMemory>
+    fn add_rows(&mut self, rows: Vec<Row>) -> Result<(), WantOfMemory>
         ensures { (above : List (Read Scope Row)) → Holds above self.old
             → OnOk result (Holds (above ++ gave rows.items ∷ []) self.new) }
     {

@@ -29,8 +29,8 @@ pub enum FlashSection {
 /// qualifiers that may not stand there, such a rule, or no section that there is.
 #[derive(Drop)]
 pub enum HeadMeaning {
-    Enters(Scope),
-    Passed,
+    Section(Scope),
+    Ignored,
     BadQualifier,
     BadRule,
     Unknown,
@@ -81,7 +81,7 @@ fn plain_meaning(qualifiers: &[Text]) -> HeadMeaning
     ensures { result ≡ plain_meaning qualifiers.now }
 {
     match qualifiers {
-        [] => HeadMeaning::Enters(Scope::Settings),
+        [] => HeadMeaning::Section(Scope::Settings),
         _ => HeadMeaning::BadQualifier,
     }
 }
@@ -92,7 +92,7 @@ fn device_meaning(alloc: Global, qualifiers: &[Text]) -> Result<HeadMeaning, Wan
     match qualifiers {
         [name] => {
             if is_image_name(name.bytes()) {
-                return Ok(HeadMeaning::Enters(Scope::Device(Text::of(alloc, name.bytes())?)));
+                return Ok(HeadMeaning::Section(Scope::Device(Text::of(alloc, name.bytes())?)));
             }
             Ok(HeadMeaning::BadQualifier)
         }
@@ -106,7 +106,7 @@ fn volume_meaning(alloc: Global, qualifiers: &[Text]) -> Result<HeadMeaning, Wan
     match qualifiers {
         [name] => {
             if is_image_name(name.bytes()) {
-                return Ok(HeadMeaning::Enters(Scope::Volume(Text::of(alloc, name.bytes())?)));
+                return Ok(HeadMeaning::Section(Scope::Volume(Text::of(alloc, name.bytes())?)));
             }
             Ok(HeadMeaning::BadQualifier)
         }
@@ -127,7 +127,7 @@ fn rule_scope(
     match (arch, module_type) {
         (Some(arch), Some(module_type)) => {
             if named {
-                return Ok(HeadMeaning::Enters(Scope::Rule(RuleScope {
+                return Ok(HeadMeaning::Section(Scope::Rule(RuleScope {
                     arch,
                     module_type,
                     template: Text::of(alloc, template)?,
@@ -208,7 +208,7 @@ fn meaning_of(
         Some(Some(FlashSection::Device)) => device_meaning(alloc, qualifiers),
         Some(Some(FlashSection::Volume)) => volume_meaning(alloc, qualifiers),
         Some(Some(FlashSection::Rule)) => rule_meaning(alloc, qualifiers),
-        Some(None) => Ok(HeadMeaning::Passed),
+        Some(None) => Ok(HeadMeaning::Ignored),
         None => Ok(HeadMeaning::Unknown),
     }
 }
@@ -233,8 +233,8 @@ fn enter_as(
         (unless_faulty (meaning_faults line.now head.now meaning) (meaning_scope meaning)) }
 {
     match meaning {
-        HeadMeaning::Enters(scope) => Ok(Some(scope)),
-        HeadMeaning::Passed => Ok(None),
+        HeadMeaning::Section(scope) => Ok(Some(scope)),
+        HeadMeaning::Ignored => Ok(None),
         HeadMeaning::BadQualifier => Err(refuse(alloc, BAD_SECTION, &line.at, line.text.bytes())),
         HeadMeaning::BadRule => Err(refuse(alloc, BAD_RULE, &line.at, line.text.bytes())),
         HeadMeaning::Unknown => Err(refuse(

@@ -136,7 +136,7 @@ pub struct SectionLine {
 /// and a whole body in those of a file.
 #[derive(Drop)]
 pub enum Row {
-    Passed,
+    Ignored,
     Set(PcdSet),
     Number(DeviceNumber),
     Region(RegionStart),

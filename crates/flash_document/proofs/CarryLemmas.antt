@@ -89,7 +89,7 @@ module _ (P : Row → Type 0) (Q : Scope → Type 0) where
   section_has None later h all = all
   section_has (Some row.Closes) later h all = All-nil (λ s. P (row.Section s))
   section_has (Some (row.Section s)) later h all = All-cons (λ s. P (row.Section s)) s later h all
-  section_has (Some row.Passed) later h all = all
+  section_has (Some row.Ignored) later h all = all
   section_has (Some (row.Set x)) later h all = all
   section_has (Some (row.Number x)) later h all = all
   section_has (Some (row.Region x)) later h all = all
@@ -114,7 +114,7 @@ module _ (P : Row → Type 0) (Q : Scope → Type 0) where
   item_has (Some (row.Apriori head)) k lines all = All-cons (ItemHas P) _ [] tt (All-nil (ItemHas P))
   item_has (Some (row.File head)) k lines all = All-cons (ItemHas P) _ [] (sections_have k lines all) (All-nil (ItemHas P))
   item_has (Some (row.Inf line)) k lines all = All-cons (ItemHas P) _ [] tt (All-nil (ItemHas P))
-  item_has (Some row.Passed) k lines all = All-nil (ItemHas P)
+  item_has (Some row.Ignored) k lines all = All-nil (ItemHas P)
   item_has (Some (row.Set x)) k lines all = All-nil (ItemHas P)
   item_has (Some (row.Number x)) k lines all = All-nil (ItemHas P)
   item_has (Some (row.Region x)) k lines all = All-nil (ItemHas P)
@@ -140,7 +140,7 @@ module _ (P : Row → Type 0) (Q : Scope → Type 0) where
   rule_row_has (Some (row.Apriori x)) h = All-nil (λ s. P (row.RuleSection s))
   rule_row_has (Some (row.File x)) h = All-nil (λ s. P (row.RuleSection s))
   rule_row_has (Some (row.Inf x)) h = All-nil (λ s. P (row.RuleSection s))
-  rule_row_has (Some row.Passed) h = All-nil (λ s. P (row.RuleSection s))
+  rule_row_has (Some row.Ignored) h = All-nil (λ s. P (row.RuleSection s))
   rule_row_has (Some (row.Set x)) h = All-nil (λ s. P (row.RuleSection s))
   rule_row_has (Some (row.Number x)) h = All-nil (λ s. P (row.RuleSection s))
   rule_row_has (Some (row.Region x)) h = All-nil (λ s. P (row.RuleSection s))

@@ -152,7 +152,7 @@ row_items : (r : Row) (k : ℕ) (lines : List LineRead) → length (item_at (Som
 row_items (row.Apriori head) k lines = as_many 1
 row_items (row.File head) k lines = as_many 1
 row_items (row.Inf line) k lines = as_many 1
-row_items row.Passed k lines = none_more 0
+row_items row.Ignored k lines = none_more 0
 row_items (row.Set x) k lines = none_more 0
 row_items (row.Number x) k lines = none_more 0
 row_items (row.Region x) k lines = none_more 0

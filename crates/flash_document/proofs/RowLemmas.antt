@@ -76,7 +76,7 @@ use Rattle.flash_document.proofs.CarryLemmas.{LineHas}
 abbrev pub RowFits : Row → Type 0
 RowFits (row.Section s) = is_some s.guid ≡ (s.kind == EFI_SECTION_FREEFORM_SUBTYPE_GUID)
 RowFits (row.RuleSection s) = GuidFits s s.source × SourceFits 0 s.source
-RowFits row.Passed = Unit {0}
+RowFits row.Ignored = Unit {0}
 RowFits (row.Set x) = Unit {0}
 RowFits (row.Number x) = Unit {0}
 RowFits (row.Region x) = Unit {0}
@@ -448,9 +448,9 @@ line_row_fits line marks s =
     ]
 
 -- heads
-named_scope : (text : List ℕ) (s : Scope) → (is_image_name text ≡ true → ScopeFits s) → IfSome (meaning_scope (if is_image_name text then meaning.Enters s else meaning.BadQualifier)) ScopeFits
+named_scope : (text : List ℕ) (s : Scope) → (is_image_name text ≡ true → ScopeFits s) → IfSome (meaning_scope (if is_image_name text then meaning.Section s else meaning.BadQualifier)) ScopeFits
 named_scope text s h =
-    elim (is_image_name text) as (λ b. (b ≡ true → ScopeFits s) → IfSome (meaning_scope (if b then meaning.Enters s else meaning.BadQualifier)) ScopeFits) [
+    elim (is_image_name text) as (λ b. (b ≡ true → ScopeFits s) → IfSome (meaning_scope (if b then meaning.Section s else meaning.BadQualifier)) ScopeFits) [
       | true ↦ λ f. f refl
       | false ↦ λ f. tt
     ] h

@@ -3,7 +3,7 @@ ghost use Rattle.std.specs.Prelude.{◌≡◌, true, false, Err, length, slice_g
 ghost use Rattle.std.specs.Option.{option_copied};
 ghost use Rattle.build_base.specs.FaultText.{fault_of};
 ghost use Rattle.build_stages.specs.Gives.{GivesIn};
-ghost use Rattle.document_rules.specs.Trees.{Comes};
+ghost use Rattle.document_rules.specs.Trees.{AdvancesTo};
 ghost use Rattle.image_rules.specs.ImageTrees.{item_of_number, volume_at, item_at, device_at, sections_stages, module_from, module_stages, apriori_stages, item_stages, file_from, file_stages, image_by, plan_stages, volume_from, volume_stages, vpd_where, vpd_path, vpd_in, regions_stages, device_from, device_stages};
 
 use crate::based::based_given;
@@ -85,7 +85,7 @@ fn statement(
     plan: &FilePlan,
     permit: Permit,
 ) -> Result<Out, Stop<Key>>
-    ensures { Comes known.now (item_stages volume flash.now head.now (Item.File plan.now)) result }
+    ensures { AdvancesTo known.now (item_stages volume flash.now head.now (Item.File plan.now)) result }
 {
     if !sections_below(volume, plan.sections.items()) {
         return Err(Stop::ImpossibleAnswer);
@@ -103,7 +103,7 @@ fn module_sections(
     plan: &ModulePlan,
     permit: Permit,
 ) -> Result<Out, Stop<Key>>
-    ensures { Comes known.now (sections_stages head.now plan.now) result }
+    ensures { AdvancesTo known.now (sections_stages head.now plan.now) result }
 {
     let asks = plan_asks(alloc, plan)?;
     let (given, permit) = answers_to(alloc, known, asks, permit)?;
@@ -120,7 +120,7 @@ fn module_from(
     given: &Given<'_, Out>,
     permit: Permit,
 ) -> Result<Out, Stop<Key>>
-    ensures { Comes known.now (module_from flash.now head.now line.now given.now) result }
+    ensures { AdvancesTo known.now (module_from flash.now head.now line.now given.now) result }
 {
     let plan = plan_given(alloc, flash, line, given)?;
     module_sections(alloc, known, head, &plan, permit)
@@ -135,7 +135,7 @@ fn module_file(
     line: &InfLine,
     permit: Permit,
 ) -> Result<Out, Stop<Key>>
-    ensures { Comes known.now (module_stages flash.now head.now line.now) result }
+    ensures { AdvancesTo known.now (module_stages flash.now head.now line.now) result }
 {
     let asks = line_asks(alloc, line)?;
     let (given, permit) = answers_to(alloc, known, asks, permit)?;
@@ -152,7 +152,7 @@ fn apriori_file(
     members: &[Member],
     permit: Permit,
 ) -> Result<Out, Stop<Key>>
-    ensures { Comes known.now (apriori_stages head.now at.now pei members.now) result }
+    ensures { AdvancesTo known.now (apriori_stages head.now at.now pei members.now) result }
 {
     let asks = members_asks(alloc, members)?;
     let (given, permit) = answers_to(alloc, known, asks, permit)?;
@@ -169,7 +169,7 @@ fn item_file(
     item: &Item,
     permit: Permit,
 ) -> Result<Out, Stop<Key>>
-    ensures { Comes known.now (item_stages volume flash.now head.now item.now) result }
+    ensures { AdvancesTo known.now (item_stages volume flash.now head.now item.now) result }
 {
     match item {
         Item::File(plan) => statement(alloc, known, volume, flash, head, plan, permit),
@@ -189,7 +189,7 @@ fn file_from(
     given: &Given<'_, Out>,
     permit: Permit,
 ) -> Result<Out, Stop<Key>>
-    ensures { Comes known.now (file_from volume item given.now) result }
+    ensures { AdvancesTo known.now (file_from volume item given.now) result }
 {
     let flash = flash_in(given, 0)?;
     let plan = volume_at(alloc, flash, volume)?;
@@ -205,7 +205,7 @@ pub fn file(
     item: u32,
     permit: Permit,
 ) -> Result<Out, Stop<Key>>
-    ensures { Comes known.now (file_stages volume item) result }
+    ensures { AdvancesTo known.now (file_stages volume item) result }
 {
     let asks = [Ask::Part(Key::Flash)];
     let (given, permit) = gather(alloc, &EdkAnswers, known, &asks, permit)?;
@@ -237,7 +237,7 @@ fn volume_of_plan(
     plan: &VolumePlan,
     permit: Permit,
 ) -> Result<Out, Stop<Key>>
-    ensures { Comes known.now (plan_stages moved number plan.now) result }
+    ensures { AdvancesTo known.now (plan_stages moved number plan.now) result }
 {
     let items = plan.items.items();
     if !fits_u16(items.len()) {
@@ -257,7 +257,7 @@ fn volume_from(
     given: &Given<'_, Out>,
     permit: Permit,
 ) -> Result<Out, Stop<Key>>
-    ensures { Comes known.now (volume_from moved number given.now) result }
+    ensures { AdvancesTo known.now (volume_from moved number given.now) result }
 {
     let flash = flash_in(given, 0)?;
     let plan = volume_at(alloc, flash, number)?;
@@ -271,7 +271,7 @@ fn numbered_volume(
     number: u32,
     permit: Permit,
 ) -> Result<Out, Stop<Key>>
-    ensures { Comes known.now (volume_stages moved number) result }
+    ensures { AdvancesTo known.now (volume_stages moved number) result }
 {
     let asks = [Ask::Part(Key::Flash)];
     let (given, permit) = gather(alloc, &EdkAnswers, known, &asks, permit)?;
@@ -285,7 +285,7 @@ pub fn volume(
     number: u32,
     permit: Permit,
 ) -> Result<Out, Stop<Key>>
-    ensures { Comes known.now (volume_stages false number) result }
+    ensures { AdvancesTo known.now (volume_stages false number) result }
 {
     numbered_volume(alloc, known, false, number, permit)
 }
@@ -297,7 +297,7 @@ pub fn rebased_volume(
     number: u32,
     permit: Permit,
 ) -> Result<Out, Stop<Key>>
-    ensures { Comes known.now (volume_stages true number) result }
+    ensures { AdvancesTo known.now (volume_stages true number) result }
 {
     numbered_volume(alloc, known, true, number, permit)
 }
@@ -339,7 +339,7 @@ fn with_regions(
     plan: &DevicePlan,
     permit: Permit,
 ) -> Result<Out, Stop<Key>>
-    ensures { Comes known.now (regions_stages volumes.now vpd.now plan.now) result }
+    ensures { AdvancesTo known.now (regions_stages volumes.now vpd.now plan.now) result }
 {
     let regions = plan.regions.items();
     if !regions_below(regions) {
@@ -358,7 +358,7 @@ fn device_from(
     given: &Given<'_, Out>,
     permit: Permit,
 ) -> Result<Out, Stop<Key>>
-    ensures { Comes known.now (device_from number given.now) result }
+    ensures { AdvancesTo known.now (device_from number given.now) result }
 {
     let flash = flash_in(given, 0)?;
     let platform = platform_in(given, 1)?;
@@ -374,7 +374,7 @@ pub fn device(
     number: u32,
     permit: Permit,
 ) -> Result<Out, Stop<Key>>
-    ensures { Comes known.now (device_stages number) result }
+    ensures { AdvancesTo known.now (device_stages number) result }
 {
     let asks = [
         Ask::Part(Key::Flash),

@@ -2,7 +2,7 @@
 ghost use Rattle.build_stages.specs.Gives.{Gives, GivesIn};
 ghost use Rattle.build_stages.specs.Known.{gathered_at};
 ghost use Rattle.document_rules.specs.Fits.{fits};
-ghost use Rattle.document_rules.specs.Trees.{Comes};
+ghost use Rattle.document_rules.specs.Trees.{AdvancesTo};
 ghost use Rattle.step_pack.specs.Keys.{key_cmp};
 ghost use Rattle.image_rules.specs.VpdTree.{arches_at, placed_vpd, vpd_asks, vpd_stages};
 
@@ -69,7 +69,7 @@ fn vpd_answers<'a>(
 
 /// The image of vital product data, its map and its places.
 pub fn vpd(alloc: Global, known: &Known<'_, Key, Out>, permit: Permit) -> Result<Out, Stop<Key>>
-    ensures { Comes known.now vpd_stages result }
+    ensures { AdvancesTo known.now vpd_stages result }
 {
     let (given, permit) = vpd_answers(alloc, known, permit)?;
     let platform = shared_platform(&given, 0)?;

@@ -29,7 +29,7 @@ inf_grammar =
     record {
       head_faults = λ line head. meaning_faults INF_UNKNOWN_SECTION line head (head_meaning head);
       scope_of = λ head. meaning_scope (head_meaning head);
-      stray = INF_UNKNOWN_SECTION;
+      stray_code = INF_UNKNOWN_SECTION;
       faults = λ above line scope. line_faults line scope;
       row_of = λ above line scope. line_row line scope;
       at_heads = λ above line heads. None;

@@ -2,7 +2,7 @@
 -- heads).
 use Rattle.std.specs.Prelude.{ℕ, List, [], ◌∷◌, Option, Some, None, codes}
 use Rattle.doc_reading.specs.declared.meaning.Meaning.{Meaning}
-use Rattle.doc_reading.specs.declared.meaning.Meaning.TheVariants.{Enters, Passed, BadQualifier, Unknown}
+use Rattle.doc_reading.specs.declared.meaning.Meaning.TheVariants.{Section, Ignored, BadQualifier, Unknown}
 use Rattle.doc_types.specs.Arches.{arch_named}
 use Rattle.doc_types.specs.ModuleTypes.{module_type_named}
 use Rattle.doc_types.specs.declared.arch.Arch.{Arch}
@@ -32,7 +32,7 @@ unfoldable pub section_named : List ℕ → Option (Option SectionKind)
 section_named name = lookup sections name
 
 abbrev pub scope_for : SectionKind → Arch → Option ModuleType → Meaning Scope
-scope_for kind arch for_type = Enters (record { kind = kind; arch = arch; for_type = for_type })
+scope_for kind arch for_type = Section (record { kind = kind; arch = arch; for_type = for_type })
 
 -- without a qualifier
 abbrev pub for_all : SectionKind → Meaning Scope
@@ -64,7 +64,7 @@ qualified_section kind (word ∷ next ∷ words) = BadQualifier
 -- a section that is read past takes any
 abbrev pub meaning_of : Option (Option SectionKind) → List (List ℕ) → Meaning Scope
 meaning_of (Some (Some kind)) qualifiers = qualified_section kind qualifiers
-meaning_of (Some None) qualifiers = Passed
+meaning_of (Some None) qualifiers = Ignored
 meaning_of None qualifiers = Unknown
 
 abbrev pub parts_meaning : List (List ℕ) → Meaning Scope

@@ -88,7 +88,7 @@ impl Format for ModuleFormat {
 
     ghost holds = { Holds };
 
-    fn stray(&self) -> u16 {
+    fn stray_code(&self) -> u16 {
         INF_UNKNOWN_SECTION
     }
 
@@ -102,7 +102,7 @@ impl Format for ModuleFormat {
         )
     }
 
-    fn below(&self, line: &Taken, scope: &Scope) -> Result<Option<Row>, Refusal> {
+    fn read_line(&self, line: &Taken, scope: &Scope) -> Result<Option<Row>, Refusal> {
         line_row(self.alloc, line, *scope)
     }
 
@@ -122,7 +122,7 @@ impl Format for ModuleFormat {
         Ok(())
     }
 
-    fn keep(&mut self, rows: Vec<Row>) -> Result<(), WantOfMemory>
+    fn add_rows(&mut self, rows: Vec<Row>) -> Result<(), WantOfMemory>
         ensures { (above : List (Read Entered Said)) → Holds above self.old →
             OnOk result (Holds (above ++ gave rows.items ∷ []) self.new) }
     {

@@ -64,7 +64,7 @@ fn section_named(name: &[u8]) -> Option<Option<SectionKind>>
 fn scope_for(kind: SectionKind, arch: Arch, for_type: Option<ModuleType>) -> Meaning<Scope>
     ensures { result ≡ scope_for kind arch for_type }
 {
-    Meaning::Enters(Scope {
+    Meaning::Section(Scope {
         kind,
         arch,
         for_type,
@@ -108,7 +108,7 @@ fn meaning_of(section: Option<Option<SectionKind>>, qualifiers: &[Text]) -> Mean
 {
     match section {
         Some(Some(kind)) => qualified_section(kind, qualifiers),
-        Some(None) => Meaning::Passed,
+        Some(None) => Meaning::Ignored,
         None => Meaning::Unknown,
     }
 }

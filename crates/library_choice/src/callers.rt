@@ -84,7 +84,7 @@ fn push_caller(
 ) -> Result<(), WantOfMemory>
     ensures { OnOk result (rows.new ≡ rows.old ++ callers tables.now.infs (path.now ∷ [])) }
 {
-    let inf = tables.known(path);
+    let inf = tables.inf_at(path);
     match caller_in(alloc, inf)? {
         Some(caller) => rows.push(caller),
         None => Ok(()),

@@ -64,7 +64,7 @@ fn known_at<'a>(tables: &'a Tables<'_>, found: &Found, at: usize) -> Option<&'a 
         ≡ known tables.now.infs (slice_index_or found.now at []) }
 {
     match found.get(at) {
-        Some(path) => tables.known(path),
+        Some(path) => tables.inf_at(path),
         None => None,
     }
 }
@@ -157,5 +157,5 @@ pub(crate) fn nulls_found(alloc: Global, tables: &Tables<'_>) -> Result<Found, W
 pub(crate) fn is_unknown(tables: &Tables<'_>, path: &Path) -> bool
     ensures { result ≡ is_unknown tables.now.infs path.now }
 {
-    tables.known(path).is_none()
+    tables.inf_at(path).is_none()
 }

@@ -24,7 +24,7 @@ fn put_onward(
 ) -> Result<(), WantOfMemory>
     ensures { OnOk result (found.new ≡ add same_path found.old (next tables.now path.now)) }
 {
-    match tables.known(path) {
+    match tables.inf_at(path) {
         Some(inf) => put_classes(alloc, tables, inf.classes.items(), found),
         None => Ok(()),
     }

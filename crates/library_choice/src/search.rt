@@ -117,7 +117,10 @@ impl<'a> InstanceSearch<'a> {
 
     /// The INF files that are wanted next, and the search that goes on behind them.
     #[tactic(auto, unfolding(crate::specs::Closure::wanted))]
-    pub fn wanted(self, alloc: Global) -> Result<(Rows<Path>, InstanceSearch<'a>), WantOfMemory>
+    pub fn wanted_infs(
+        self,
+        alloc: Global,
+    ) -> Result<(Rows<Path>, InstanceSearch<'a>), WantOfMemory>
         ensures wanted { IfOk result
             (λ x. x.0 ≡ wanted self.entry.user self.entry.platform self.entry.infs) }
         ensures search { IfOk result (λ x. x.1 ≡ self.entry) }

@@ -103,7 +103,7 @@ fn check_line(
     match line {
         None => Err(refuse(alloc, CLASS_UNRESOLVED, &class.at, class.name.bytes())),
         Some(line) => {
-            let inf = tables.known(&line.instance);
+            let inf = tables.inf_at(&line.instance);
             check_instance(alloc, tables.user(), line, class.name.bytes(), inf)
         }
     }
@@ -132,7 +132,7 @@ fn check_classes(alloc: Global, tables: &Tables<'_>, classes: &[Named]) -> Resul
 fn check_path(alloc: Global, tables: &Tables<'_>, path: &Path) -> Result<(), Refusal>
     ensures { Checks result (path_fault tables.now path.now) }
 {
-    match tables.known(path) {
+    match tables.inf_at(path) {
         None => Ok(()),
         Some(inf) => check_classes(alloc, tables, inf.classes.items()),
     }

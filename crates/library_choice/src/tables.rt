@@ -215,7 +215,7 @@ impl<'a> Tables<'a> {
     }
 
     /// The INF file of a path, where it is known.
-    pub fn known(&self, path: &Path) -> Option<&InfDoc>
+    pub fn inf_at(&self, path: &Path) -> Option<&InfDoc>
         ensures { option_copied result ≡ known self.now.infs path.now }
     {
         match self.infs.get(path) {

@@ -44,7 +44,7 @@ pub(crate) fn own_lines<'a>(user: &Module, components: &'a [Component]) -> &'a [
 
 /// The INF file of a path, where it is known.
 #[tactic(auto, unfolding(crate::specs::Closure::known))]
-pub fn known<'a>(infs: &'a [Shared<InfDoc>], path: &Path) -> Option<&'a InfDoc>
+pub fn inf_of_path<'a>(infs: &'a [Shared<InfDoc>], path: &Path) -> Option<&'a InfDoc>
     ensures { option_copied result ≡ known infs.now path.now }
 {
     for inf in infs {
@@ -60,7 +60,7 @@ pub fn known<'a>(infs: &'a [Shared<InfDoc>], path: &Path) -> Option<&'a InfDoc>
 pub fn is_known(infs: &Rows<Shared<InfDoc>>, path: &Path) -> bool
     ensures { result ≡ is_known infs.now path.now }
 {
-    known(infs.items(), path).is_some()
+    inf_of_path(infs.items(), path).is_some()
 }
 
 /// The INF files that the choice for a module needs next: those of the instances found so far that
@@ -78,6 +78,6 @@ pub fn next_wanted(
     ensures falls { Falls «module».now platform.now infs.now }
 {
     let search = InstanceSearch::new(alloc, module, platform, infs.copy(alloc)?)?;
-    let (wanted, _search) = search.wanted(alloc)?;
+    let (wanted, _search) = search.wanted_infs(alloc)?;
     Ok(wanted)
 }

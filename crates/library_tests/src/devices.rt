@@ -27,7 +27,7 @@ fn is_one_fill(runs: &[Run]) -> bool {
 }
 
 // Whether the device is one run, and in how many pieces it is given.
-fn seen(alloc: Global, plan: &DevicePlan) -> Option<(bool, u64)> {
+fn shape_of(alloc: Global, plan: &DevicePlan) -> Option<(bool, u64)> {
     if !plan.regions.items().is_empty() {
         return None;
     }
@@ -52,7 +52,7 @@ fn seen(alloc: Global, plan: &DevicePlan) -> Option<(bool, u64)> {
 fn an_empty_device_is_one_run_given_in_pieces(rt: HostRuntime) {
     let alloc = rt.alloc();
     let plan = plan(alloc).expect(&rt, "memory");
-    let (one, pieces) = seen(alloc, &plan).expect(&rt, "memory");
+    let (one, pieces) = shape_of(alloc, &plan).expect(&rt, "memory");
     assert!(rt; one);
     assert_eq!(rt; pieces, 256);
 }

@@ -23,7 +23,7 @@ enum Given {
     Failed,
 }
 
-fn seen<T: Tree>(tree: &mut T, path: &Path, limit: u64) -> Given {
+fn outcome_of_read<T: Tree>(tree: &mut T, path: &Path, limit: u64) -> Given {
     match tree.read(path, limit) {
         Ok(Got::File(_)) => Given::SomeFile,
         Ok(Got::Absent) => Given::Absent,
@@ -89,11 +89,11 @@ fn files_are_read(rt: HostRuntime) -> Result<(), Fail> {
     let mut tree = DiskTree::new(rt);
     let folder = path(alloc, b"disk_read/made")?;
     let file = path(alloc, b"disk_read/made/file")?;
-    assert!(rt; seen(&mut tree, &file, 4) == Given::Absent);
+    assert!(rt; outcome_of_read(&mut tree, &file, 4) == Given::Absent);
     assert!(rt; starts(alloc, &mut sink, b"disk_read/made/file", b"abcd"));
-    assert!(rt; seen(&mut tree, &file, 4) == Given::SomeFile);
-    assert!(rt; seen(&mut tree, &file, 3) == Given::TooLong);
-    assert!(rt; seen(&mut tree, &folder, 4) == Given::Absent);
+    assert!(rt; outcome_of_read(&mut tree, &file, 4) == Given::SomeFile);
+    assert!(rt; outcome_of_read(&mut tree, &file, 3) == Given::TooLong);
+    assert!(rt; outcome_of_read(&mut tree, &folder, 4) == Given::Absent);
     fs::remove_dir_all(&rt, "disk_read")?;
     Ok(())
 }

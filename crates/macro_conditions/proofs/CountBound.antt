@@ -15,7 +15,7 @@ use Rattle.macro_conditions.specs.Directives.{kind_of, is_include}
 use Rattle.macro_conditions.specs.Sources.{Source, places, in_folder, Located, wanted, missing, over_limit, there, at_place, or_located, located, without_workspace}
 use Rattle.macro_conditions.specs.LineTree.{Items, nothing, plain, stray, choice, Branches, unclosed, closed, further, append, Cut, ended, cut, Gathered, ended_by, gather_last, parted_by, gather, before, with_line, parsed, strayed, tree_of}
 use Rattle.macro_conditions.specs.LineMeaning.{Acts, ◌>>=◌, taken, skipped, passed, chosen, at_end, unclosed_line, file_of}
-use Rattle.macro_conditions.specs.Expansion.{Env, acted, tested, fault_at, include_field, line_at, lines_read, is_open}
+use Rattle.macro_conditions.specs.Expansion.{Env, apply_directive, tested, fault_at, include_field, line_at, lines_read, is_open}
 use Rattle.macro_conditions.specs.Counting.{Counted, Halt, fault, wants, counting, saying, more_asked, asked, counted_acts, counted_inside, counted_outside, counted_opened, counted_found, counted_at, counted, counted_root, most}
 use Rattle.macro_conditions.proofs.CountGrowth.{Include, Enter}
 use Rattle.build_base.specs.FaultCodes.{INCLUDE_LOOP, INCLUDE_TOO_DEEP}
@@ -133,7 +133,7 @@ module _ (fixed : List Macro) (i : Include) (price : ℕ) (bounded : (l : Line) 
   all = counted_acts fixed i
 
   within_act : (l : Line) (c : Counted) → Within c.used price (all.act l c)
-  within_act l c = either (is_include l.text) c.used price (i l c) (counting c.used (acted fixed l c.env)) (bounded l c) (within_count c.used price (acted fixed l c.env))
+  within_act l c = either (is_include l.text) c.used price (i l c) (counting c.used (apply_directive fixed l c.env)) (bounded l c) (within_count c.used price (apply_directive fixed l c.env))
 
   mutual
     taken_within : (t : Items) (c : Counted) → Within c.used (cost price t) (taken all t c)

@@ -10,7 +10,7 @@ use Rattle.macro_conditions.specs.Directives.{is_include}
 use Rattle.macro_conditions.specs.Sources.{Source, places, Located, wanted, missing, over_limit, there, at_place, or_located, located, without_workspace}
 use Rattle.macro_conditions.specs.Worlds.{MoreAnswers}
 use Rattle.macro_conditions.specs.LineMeaning.{◌>>=◌, file_of}
-use Rattle.macro_conditions.specs.Expansion.{Env, acted, tested, fault_at, include_field, line_at, lines_read, is_open}
+use Rattle.macro_conditions.specs.Expansion.{Env, apply_directive, tested, fault_at, include_field, line_at, lines_read, is_open}
 use Rattle.macro_conditions.specs.Counting.{Counted, Halt, fault, wants, counting, saying, more_asked, asked, counted_acts, counted_inside, counted_outside, counted_opened, counted_found, counted_at, counted, counted_root}
 use Rattle.macro_conditions.proofs.TreeKeeps.{IsKept, file_kept}
 use Rattle.macro_conditions.proofs.TreeRelated.{IsRelated, file_related}
@@ -53,7 +53,7 @@ grows_saying u (Err k) f h = tt
 kept : (fixed : List Macro) (i : Include) → ((l : Line) (c : Counted) → Grows c.used (i l c)) → IsKept (counted_acts fixed i) (λ c r. Grows c.used r)
 kept fixed i h = record {
   ok = λ c. omega arith;
-  act = λ l c. grows_either c.used (is_include l.text) (i l c) (counting c.used (acted fixed l c.env)) (h l c) (grows_count c.used (acted fixed l c.env));
+  act = λ l c. grows_either c.used (is_include l.text) (i l c) (counting c.used (apply_directive fixed l c.env)) (h l c) (grows_count c.used (apply_directive fixed l c.env));
   stray = λ l c. tt;
   bind = λ c r f p q. grows_bind c.used r f p q;
   choose = λ l c f p. grows_saying c.used (tested fixed l c.env) f p;
@@ -147,8 +147,8 @@ goes_related : (more : Source) (fixed : List Macro) (i j : Include) → ((l : Li
 goes_related more fixed i j h w = record {
   kept = kept fixed j w;
   ok = λ e d is. ap (λ x. Ok x) is;
-  act = λ l e d is. subst (λ (x : Counted). GoesOn more (cond (is_include l.text) (i l e) (counting e.used (acted fixed l e.env))) Past (cond (is_include l.text) (j l x) (counting x.used (acted fixed l x.env)))) (sym is)
-      (goes_either more (is_include l.text) (i l e) (counting e.used (acted fixed l e.env)) (j l e) (counting e.used (acted fixed l e.env)) (h l e) (goes_count more e.used (acted fixed l e.env)));
+  act = λ l e d is. subst (λ (x : Counted). GoesOn more (cond (is_include l.text) (i l e) (counting e.used (apply_directive fixed l e.env))) Past (cond (is_include l.text) (j l x) (counting x.used (apply_directive fixed l x.env)))) (sym is)
+      (goes_either more (is_include l.text) (i l e) (counting e.used (apply_directive fixed l e.env)) (j l e) (counting e.used (apply_directive fixed l e.env)) (h l e) (goes_count more e.used (apply_directive fixed l e.env)));
   test = λ l e d is. subst (λ (x : Counted). Same (saying (tested fixed l e.env)) (saying (tested fixed l x.env))) (sym is) (same_saying (tested fixed l e.env));
   stray = λ l. refl;
   bind = λ r s f g p q k. goes_bind more r s f g p (λ x. q x x refl) k;

@@ -21,7 +21,7 @@ use Rattle.macro_conditions.specs.Macros.{same_text}
 use Rattle.macro_conditions.specs.Sources.{Source, answer, places, Located, wanted, missing, over_limit, there, located, without_workspace}
 use Rattle.macro_conditions.specs.Worlds.{MoreAnswers}
 use Rattle.macro_conditions.specs.LineMeaning.{◌>>=◌, file_of}
-use Rattle.macro_conditions.specs.Expansion.{Env, Stop, bad, need, settled, acts, acted, tested, fault_at, include_field, line_at, read_by, lines_read, inside, outside, opened, found_at, at_path, is_open, included, begun, document, rooted, expansion}
+use Rattle.macro_conditions.specs.Expansion.{Env, Stop, bad, need, settled, acts, apply_directive, tested, fault_at, include_field, line_at, read_by, lines_read, inside, outside, file_lines, found_at, at_path, is_open, included, begun, document, rooted, expansion}
 use Rattle.macro_conditions.specs.Counting.{Counted, Halt, fault, wants, counting, saying, asked, counted_acts, counted_inside, counted_outside, counted_opened, counted_found, counted_at, counted, counted_root, most, left_by, left, with_answer, AreWithin}
 use Rattle.macro_conditions.proofs.TreeRelated.{IsRelated, file_related}
 use Rattle.macro_conditions.proofs.CountGrowth.{GoesOn, Past, root_goes}
@@ -71,15 +71,15 @@ related : (fixed : List Macro) (i : growth.Include) (j : plainly.Include) → ((
 related fixed i j h = record {
   kept = record { ok = λ e. tt; act = λ l e. tt; stray = λ l e. tt; bind = λ e r f p q. tt; choose = λ l e f p. tt };
   ok = λ c e is. ap (λ x. Ok x) (sym is);
-  act = λ l c e is. subst (λ x. Erases (cond (is_include l.text) (i l c) (counting c.used (acted fixed l c.env))) (cond (is_include l.text) (j l x) (settled (acted fixed l x)))) is
-      (erases_either (is_include l.text) (i l c) (counting c.used (acted fixed l c.env)) (j l c.env) (settled (acted fixed l c.env)) (h l c) (erases_count c.used (acted fixed l c.env)));
+  act = λ l c e is. subst (λ x. Erases (cond (is_include l.text) (i l c) (counting c.used (apply_directive fixed l c.env))) (cond (is_include l.text) (j l x) (settled (apply_directive fixed l x)))) is
+      (erases_either (is_include l.text) (i l c) (counting c.used (apply_directive fixed l c.env)) (j l c.env) (settled (apply_directive fixed l c.env)) (h l c) (erases_count c.used (apply_directive fixed l c.env)));
   test = λ l c e is. subst (λ x. ErasesTest (saying (tested fixed l c.env)) (settled (tested fixed l x))) is (erases_test (tested fixed l c.env));
   stray = λ l. refl;
   bind = λ r s f g p q w. erases_bind r s f g p (λ x. q x x.env refl);
   choose = λ r s f g p q. erases_choose r s f g p q;
 }
 
-erases_opened : (file : List Line → Counted → Result Counted Halt) (plain : List Line → Env → Result Env Stop) → ((ls : List Line) (c : Counted) → Erases (file ls c) (plain ls c.env)) → (path bytes : List ℕ) (u : ℕ) (e : Env) → Erases (counted_opened file path bytes u e) (opened plain path bytes e)
+erases_opened : (file : List Line → Counted → Result Counted Halt) (plain : List Line → Env → Result Env Stop) → ((ls : List Line) (c : Counted) → Erases (file ls c) (plain ls c.env)) → (path bytes : List ℕ) (u : ℕ) (e : Env) → Erases (counted_opened file path bytes u e) (file_lines plain path bytes e)
 erases_opened file plain h path bytes u e =
     let leave : Counted → Result Counted Halt = λ x. Ok (counted_outside e x) in
     let go : Env → Result Env Stop = λ x. Ok (outside e x) in
@@ -105,8 +105,8 @@ erases known fixed zero l c =
 erases known fixed (suc n) l c =
     let file : List Line → Counted → Result Counted Halt = λ ls x. file_of (counted_acts fixed (counted known fixed n)) ls x in
     let plain : List Line → Env → Result Env Stop = λ ls x. file_of (acts fixed (included known fixed n)) ls x in
-    erases_at (λ path v p bytes. cond (is_open p c.env) (Err (fault (fault_at INCLUDE_LOOP l path))) (counted_opened file p bytes v c.env)) (λ path p bytes. cond (is_open p c.env) (Err (bad (fault_at INCLUDE_LOOP l path))) (opened plain p bytes c.env))
-    (λ path v p bytes. erases_either (is_open p c.env) (Err (fault (fault_at INCLUDE_LOOP l path))) (counted_opened file p bytes v c.env) (Err (bad (fault_at INCLUDE_LOOP l path))) (opened plain p bytes c.env) refl
+    erases_at (λ path v p bytes. cond (is_open p c.env) (Err (fault (fault_at INCLUDE_LOOP l path))) (counted_opened file p bytes v c.env)) (λ path p bytes. cond (is_open p c.env) (Err (bad (fault_at INCLUDE_LOOP l path))) (file_lines plain p bytes c.env))
+    (λ path v p bytes. erases_either (is_open p c.env) (Err (fault (fault_at INCLUDE_LOOP l path))) (counted_opened file p bytes v c.env) (Err (bad (fault_at INCLUDE_LOOP l path))) (file_lines plain p bytes c.env) refl
     (erases_opened file plain (λ ls x. file_related (related fixed (counted known fixed n) (included known fixed n) (erases known fixed n)) ls x x.env refl) p bytes v c.env))
     known l (include_field fixed l c.env) c.used (path_field (without_workspace (include_field fixed l c.env)))
 

@@ -15,7 +15,7 @@ use Rattle.macro_conditions.specs.declared.expansion.Turned.TheVariants as turne
 use Rattle.macro_conditions.specs.Work.{Expands}
 use Rattle.macro_conditions.specs.Worlds.{MoreAnswers, Stays, told, AgreesWith, HoldsIn}
 use Rattle.macro_conditions.specs.LineMeaning.{◌>>=◌, file_of}
-use Rattle.macro_conditions.specs.Expansion.{Env, Stop, bad, need, settled, acts, acted, tested, fault_at, include_field, line_at, lines_read, inside, outside, opened, found_at, at_path, is_open, included, begun, document, rooted, expansion}
+use Rattle.macro_conditions.specs.Expansion.{Env, Stop, bad, need, settled, acts, apply_directive, tested, fault_at, include_field, line_at, lines_read, inside, outside, file_lines, found_at, at_path, is_open, included, begun, document, rooted, expansion}
 use Rattle.macro_conditions.proofs.TreeRelated.{IsRelated, file_related}
 use Rattle.build_base.specs.FaultCodes.{INCLUDE_LOOP, INCLUDE_TOO_DEEP}
 
@@ -40,15 +40,15 @@ related : (m : Source) (fixed : List Macro) (i j : Include) → ((l : Line) (e :
 related m fixed i j h = record {
   kept = record { ok = λ e. tt; act = λ l e. tt; stray = λ l e. tt; bind = λ e r f p q. tt; choose = λ l e f p. tt };
   ok = λ e d is. ap (λ x. Ok x) is;
-  act = λ l e d is. subst (λ x. Stays m (cond (is_include l.text) (i l e) (settled (acted fixed l e))) (cond (is_include l.text) (j l x) (settled (acted fixed l x)))) (sym is)
-      (stays_either m (is_include l.text) (i l e) (settled (acted fixed l e)) (j l e) (settled (acted fixed l e)) (h l e) (stays_same m (settled (acted fixed l e))));
+  act = λ l e d is. subst (λ x. Stays m (cond (is_include l.text) (i l e) (settled (apply_directive fixed l e))) (cond (is_include l.text) (j l x) (settled (apply_directive fixed l x)))) (sym is)
+      (stays_either m (is_include l.text) (i l e) (settled (apply_directive fixed l e)) (j l e) (settled (apply_directive fixed l e)) (h l e) (stays_same m (settled (apply_directive fixed l e))));
   test = λ l e d is. subst (λ x. Stays m (settled (tested fixed l e)) (settled (tested fixed l x))) (sym is) (stays_same m (settled (tested fixed l e)));
   stray = λ l. refl;
   bind = λ r s f g p q w. stays_bind m r s f g p (λ x. q x x refl);
   choose = λ r s f g p q. stays_bind m r s f g p q;
 }
 
-opened_stays : (m : Source) (file other : List Line → Env → Result Env Stop) → ((ls : List Line) (e : Env) → Stays m (file ls e) (other ls e)) → (path bytes : List ℕ) (e : Env) → Stays m (opened file path bytes e) (opened other path bytes e)
+opened_stays : (m : Source) (file other : List Line → Env → Result Env Stop) → ((ls : List Line) (e : Env) → Stays m (file ls e) (other ls e)) → (path bytes : List ℕ) (e : Env) → Stays m (file_lines file path bytes e) (file_lines other path bytes e)
 opened_stays m file other h path bytes e =
     let leave : Env → Result Env Stop = λ x. Ok (outside e x) in
     stays_bind m (settled (lines_read path bytes)) (settled (lines_read path bytes)) (λ lines. file (map (line_at path) lines) (inside path e) >>= leave) (λ lines. other (map (line_at path) lines) (inside path e) >>= leave)
@@ -94,8 +94,8 @@ included_stays a b m fixed zero l e =
 included_stays a b m fixed (suc n) l e =
     let file : List Line → Env → Result Env Stop = λ ls x. file_of (acts fixed (included a fixed n)) ls x in
     let other : List Line → Env → Result Env Stop = λ ls x. file_of (acts fixed (included b fixed n)) ls x in
-    at_stays (λ path p bytes. cond (is_open p e) (Err (bad (fault_at INCLUDE_LOOP l path))) (opened file p bytes e)) (λ path p bytes. cond (is_open p e) (Err (bad (fault_at INCLUDE_LOOP l path))) (opened other p bytes e)) a b
-    (λ path p bytes. stays_either b (is_open p e) (Err (bad (fault_at INCLUDE_LOOP l path))) (opened file p bytes e) (Err (bad (fault_at INCLUDE_LOOP l path))) (opened other p bytes e) refl
+    at_stays (λ path p bytes. cond (is_open p e) (Err (bad (fault_at INCLUDE_LOOP l path))) (file_lines file p bytes e)) (λ path p bytes. cond (is_open p e) (Err (bad (fault_at INCLUDE_LOOP l path))) (file_lines other p bytes e)) a b
+    (λ path p bytes. stays_either b (is_open p e) (Err (bad (fault_at INCLUDE_LOOP l path))) (file_lines file p bytes e) (Err (bad (fault_at INCLUDE_LOOP l path))) (file_lines other p bytes e) refl
     (opened_stays b file other (λ ls x. file_related (related b fixed (included a fixed n) (included b fixed n) (included_stays a b m fixed n)) ls x x refl) p bytes e))
     m l (include_field fixed l e) (path_field (without_workspace (include_field fixed l e)))
 
@@ -106,7 +106,7 @@ rooted_stays a b m fixed root e (Some TooLong) h = ap (rooted b fixed root e) (h
 rooted_stays a b m fixed root e (Some (File bytes)) h =
     let file : List Line → Env → Result Env Stop = λ ls x. file_of (acts fixed (included a fixed 31)) ls x in
     let other : List Line → Env → Result Env Stop = λ ls x. file_of (acts fixed (included b fixed 31)) ls x in
-    subst (λ z. Stays b (opened file root bytes e) (rooted b fixed root e z)) (sym (h (File bytes) refl))
+    subst (λ z. Stays b (file_lines file root bytes e) (rooted b fixed root e z)) (sym (h (File bytes) refl))
     (opened_stays b file other (λ ls x. file_related (related b fixed (included a fixed 31) (included b fixed 31) (included_stays a b m fixed 31)) ls x x refl) root bytes e)
 
 -- a document comes to the same with more answers, unless it needs one that is there

@@ -4,9 +4,9 @@ use Rattle.build_base.specs.declared.lines.Taken.{Taken as Line}
 use Rattle.macro_conditions.specs.declared.directive.Directive.{Directive}
 use Rattle.macro_conditions.specs.Directives.{kind_of}
 use Rattle.macro_conditions.specs.declared.directive.Directive.TheVariants.{Act, If, Elseif, Else, Endif}
-use Rattle.macro_conditions.specs.LineTree.{Items, nothing, plain, stray, choice, Branches, unclosed, closed, further, append, Cut, ended, cut, Gathered, whole, ended_by, gather_last, parted_by, gather, before, opened, with_line, parsed, strayed, tree_of}
+use Rattle.macro_conditions.specs.LineTree.{Items, nothing, plain, stray, choice, Branches, unclosed, closed, further, append, Cut, ended, cut, Gathered, whole, ended_by, gather_last, parted_by, gather, before, open_choice, with_line, parsed, strayed, tree_of}
 use Rattle.macro_conditions.specs.LineMeaning.{Acts, ◌>>=◌, taken, skipped, passed, chosen, is_unclosed, unclosed_line, at_end, file_of}
-use Rattle.macro_conditions.specs.LineStack.{Mode, taking, waiting, passing, Frame, State, is_taking, active, mode_by, frame, open_frame, next_mode, turned, shut, step_by, step, outermost, run}
+use Rattle.macro_conditions.specs.LineStack.{Mode, taking, waiting, passing, Frame, State, is_taking, active, mode_by, frame, open_frame, next_mode, turn_frame, shut, step_by, step, outermost, run}
 
 bind_ok : {A F : Type 0} (r : Result A F) → r >>= (λ x. Ok x) ≡ r
 bind_ok (Ok x) = refl
@@ -33,8 +33,8 @@ module _ {E F : Type 0} (a : Acts E F) where
   -- what a directive does that belongs to an `!if` above
   abbrev closes : Directive → List Frame → E → Line → Result (State E) F
   closes Endif fs e k = shut a fs e k
-  closes Else fs e k = turned a true fs e k
-  closes _ fs e k = turned a false fs e k
+  closes Else fs e k = turn_frame a true fs e k
+  closes _ fs e k = turn_frame a false fs e k
 
   -- what is below some open conditionals comes to
   abbrev under : List Frame → Cut → E → Result E F
@@ -215,7 +215,7 @@ module _ {E F : Type 0} (a : Acts E F) where
       not_ended : (t : Items) (k : Line) (r : Cut) → cut t k r ≡ ended nothing → ⊥
       not_ended t k r h = cc
 
-  choice_under : (l : Line) (fs : List Frame) (g : Gathered) (e : E) → Ends g → under fs (opened l g) e ≡ chosen_by (active fs) l g.body g.branches e >>= (λ x. follows (is_unclosed g.branches) l fs g.rest x)
+  choice_under : (l : Line) (fs : List Frame) (g : Gathered) (e : E) → Ends g → under fs (open_choice l g) e ≡ chosen_by (active fs) l g.body g.branches e >>= (λ x. follows (is_unclosed g.branches) l fs g.rest x)
   choice_under l fs g e ends = by_rest (is_unclosed g.branches) l fs g.body g.branches g.rest e refl ends
 
   abbrev go_on : Cut → State E → Result E F

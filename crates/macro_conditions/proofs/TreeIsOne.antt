@@ -4,7 +4,7 @@ use Rattle.build_base.specs.declared.lines.Taken.{Taken as Line}
 use Rattle.macro_conditions.specs.declared.directive.Directive.{Directive}
 use Rattle.macro_conditions.specs.declared.directive.Directive.TheVariants.{Act, If, Elseif, Else, Endif}
 use Rattle.macro_conditions.specs.Directives.{kind_of}
-use Rattle.macro_conditions.specs.LineTree.{Items, nothing, plain, stray, choice, Branches, unclosed, closed, further, append, written, written_branches, Cut, ended, cut, Gathered, whole, ended_by, gather_last, more, parted_by, gather, before, opened, with_line, parsed, strayed, tree_of}
+use Rattle.macro_conditions.specs.LineTree.{Items, nothing, plain, stray, choice, Branches, unclosed, closed, further, append, written, written_branches, Cut, ended, cut, Gathered, whole, ended_by, gather_last, more, parted_by, gather, before, open_choice, with_line, parsed, strayed, tree_of}
 use Rattle.macro_conditions.specs.TreesOfLines.{Standing, outside, branch, last, IsAstray, IsFurther, standing_below, is_open, is_unclosed, Stand, StandBehind, IsTreeOf}
 
 -- what items make of what is behind them
@@ -180,7 +180,7 @@ choice_of : (l : Line) (body : Items) (bs : Branches) (t : Items) (ls : List Lin
 choice_of l body bs t ls e g p =
     ap (λ xs. with_line (kind_of l.text) l (parsed xs)) (append_assoc (written body) (written_branches bs ++ written t) ls ∙ ap (λ xs. written body ++ xs) (append_assoc (written_branches bs) (written t) ls))
     ∙ ap (λ q. with_line q l (parsed (written body ++ (written_branches bs ++ (written t ++ ls))))) e
-    ∙ ap (opened l) g
+    ∙ ap (open_choice l) g
     ∙ ap (before (choice l body bs)) p
 
 mutual

@@ -4,7 +4,7 @@ use Rattle.build_base.specs.declared.lines.Taken.{Taken as Line}
 use Rattle.macro_conditions.specs.declared.directive.Directive.{Directive}
 use Rattle.macro_conditions.specs.declared.directive.Directive.TheVariants.{Act, If, Elseif, Else, Endif}
 use Rattle.macro_conditions.specs.Directives.{kind_of}
-use Rattle.macro_conditions.specs.LineTree.{Items, nothing, plain, stray, choice, Branches, unclosed, closed, further, append, Cut, ended, cut, Gathered, whole, ended_by, gather_last, more, parted_by, gather, before, opened, with_line, parsed, strayed, tree_of}
+use Rattle.macro_conditions.specs.LineTree.{Items, nothing, plain, stray, choice, Branches, unclosed, closed, further, append, Cut, ended, cut, Gathered, whole, ended_by, gather_last, more, parted_by, gather, before, open_choice, with_line, parsed, strayed, tree_of}
 use Rattle.macro_conditions.specs.TreesOfLines.{Standing, outside, branch, last, IsAstray, IsFurther, standing_below, is_open, is_unclosed, Stand, StandBehind, IsTreeOf}
 use Rattle.macro_conditions.proofs.TreeWritten.{written_tree}
 
@@ -136,7 +136,7 @@ good_choice l body bs (ended t) e b o s v h = (e, b, o, s, (λ d. same_items t n
 good_choice l body bs (cut t k r) e b o s v h =
     ((e, b, o, s, (λ d. absurd (never_ended t k r (v d))), h.0), open_behind (is_unclosed bs) (is_open t) false (is_closed t k r (is_unclosed bs) v) h.1, h.2, h.3)
 
-good_opened : (l : Line) (g : Gathered) → kind_of l.text ≡ If → IsGathered branch g → IsGood (opened l g)
+good_opened : (l : Line) (g : Gathered) → kind_of l.text ≡ If → IsGathered branch g → IsGood (open_choice l g)
 good_opened l g e h = good_choice l g.body g.branches g.rest e h.body h.ends h.branches h.over h.rest
 
 good_part : (q : Directive) (l : Line) (c : Cut) → kind_of l.text ≡ q → Parts q → IsGood c → IsGood (cut nothing l c)

@@ -10,7 +10,7 @@ use Rattle.build_base.specs.Path.{path_field}
 use Rattle.macro_conditions.specs.Directives.{is_include}
 use Rattle.macro_conditions.specs.Sources.{Source, places, Located, wanted, missing, over_limit, there, at_place, or_located, located, without_workspace}
 use Rattle.macro_conditions.specs.LineMeaning.{◌>>=◌, file_of}
-use Rattle.macro_conditions.specs.Expansion.{Env, Stop, bad, need, settled, acts, acted, tested, fault_at, include_field, line_at, lines_read, inside, outside, opened, found_at, at_path, is_open, included, begun, document, rooted, expansion}
+use Rattle.macro_conditions.specs.Expansion.{Env, Stop, bad, need, settled, acts, apply_directive, tested, fault_at, include_field, line_at, lines_read, inside, outside, file_lines, found_at, at_path, is_open, included, begun, document, rooted, expansion}
 use Rattle.macro_conditions.proofs.TreeKeeps.{IsKept, file_kept}
 use Rattle.build_base.specs.FaultCodes.{INCLUDE_LOOP, INCLUDE_TOO_DEEP}
 
@@ -36,13 +36,13 @@ wants_settled known (Err f) = tt
 kept : (known : Source) (fixed : List Macro) (i : Line → Env → Result Env Stop) → ((l : Line) (e : Env) → Wants known (i l e)) → IsKept (acts fixed i) (λ e r. Wants known r)
 kept known fixed i h = record {
   ok = λ e. tt;
-  act = λ l e. wants_either known (is_include l.text) (i l e) (settled (acted fixed l e)) (h l e) (wants_settled known (acted fixed l e));
+  act = λ l e. wants_either known (is_include l.text) (i l e) (settled (apply_directive fixed l e)) (h l e) (wants_settled known (apply_directive fixed l e));
   stray = λ l e. tt;
   bind = λ e r f p q. wants_bind known r f p q;
   choose = λ l e f p. wants_bind known (settled (tested fixed l e)) f (wants_settled known (tested fixed l e)) p;
 }
 
-wants_opened : (known : Source) (file : List Line → Env → Result Env Stop) → ((ls : List Line) (e : Env) → Wants known (file ls e)) → (path bytes : List ℕ) (e : Env) → Wants known (opened file path bytes e)
+wants_opened : (known : Source) (file : List Line → Env → Result Env Stop) → ((ls : List Line) (e : Env) → Wants known (file ls e)) → (path bytes : List ℕ) (e : Env) → Wants known (file_lines file path bytes e)
 wants_opened known file h path bytes e =
     let leave : Env → Result Env Stop = λ x. Ok (outside e x) in
     wants_bind known (settled (lines_read path bytes)) (λ lines. file (map (line_at path) lines) (inside path e) >>= leave) (wants_settled known (lines_read path bytes))
@@ -80,8 +80,8 @@ wants_included known fixed zero l e =
     wants_path known (λ path p bytes. Err (bad (fault_at INCLUDE_TOO_DEEP l path))) (λ path p bytes. tt) l (include_field fixed l e) (path_field (without_workspace (include_field fixed l e)))
 wants_included known fixed (suc n) l e =
     let file : List Line → Env → Result Env Stop = λ ls x. file_of (acts fixed (included known fixed n)) ls x in
-    wants_path known (λ path p bytes. cond (is_open p e) (Err (bad (fault_at INCLUDE_LOOP l path))) (opened file p bytes e))
-    (λ path p bytes. wants_either known (is_open p e) (Err (bad (fault_at INCLUDE_LOOP l path))) (opened file p bytes e) tt
+    wants_path known (λ path p bytes. cond (is_open p e) (Err (bad (fault_at INCLUDE_LOOP l path))) (file_lines file p bytes e))
+    (λ path p bytes. wants_either known (is_open p e) (Err (bad (fault_at INCLUDE_LOOP l path))) (file_lines file p bytes e) tt
     (wants_opened known file (λ ls x. file_kept (kept known fixed (included known fixed n) (wants_included known fixed n)) ls x) p bytes e))
     l (include_field fixed l e) (path_field (without_workspace (include_field fixed l e)))
 

@@ -13,7 +13,7 @@ use Rattle.macro_conditions.specs.declared.known.Known.{Known}
 use Rattle.macro_conditions.specs.Directives.{is_include}
 use Rattle.macro_conditions.specs.Sources.{Source, answer, places, Located, wanted, missing, over_limit, there, located, without_workspace}
 use Rattle.macro_conditions.specs.LineMeaning.{Acts, ◌>>=◌, file_of}
-use Rattle.macro_conditions.specs.Expansion.{Env, acted, tested, include_field, unbalanced, fault_at, long_fault, place_of, line_at, lines_read, inside, outside, is_open, begun}
+use Rattle.macro_conditions.specs.Expansion.{Env, apply_directive, tested, include_field, unbalanced, fault_at, long_fault, place_of, line_at, lines_read, inside, outside, is_open, begun}
 use Rattle.build_base.specs.FaultCodes.{BAD_PATH, FILE_ABSENT, INCLUDE_ABSENT, INCLUDE_LOOP, INCLUDE_TOO_DEEP}
 
 -- the answers used so far
@@ -48,7 +48,7 @@ asked known (path ∷ paths) = more_asked (known path) (asked known paths)
 abbrev pub counted_acts : List Macro → (Line → Counted → Result Counted Halt) → Acts Counted Halt
 counted_acts fixed include = record {
   act = λ line c. if is_include line.text then include line c
-      else counting c.used (acted fixed line c.env);
+      else counting c.used (apply_directive fixed line c.env);
   test = λ line c. saying (tested fixed line c.env);
   unbalanced = λ line. fault (unbalanced line);
 }

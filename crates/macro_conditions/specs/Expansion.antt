@@ -104,8 +104,8 @@ module _ (fixed : List Macro) where
 
   -- what a line does that is no include: a directive that there isn't, a definition, or a line with
   -- its macros replaced
-  unfoldable pub acted : Line → Env → Result Env Fault
-  acted line e =
+  unfoldable pub apply_directive : Line → Env → Result Env Fault
+  apply_directive line e =
       if is_directive line.text then Err (fault_at BAD_DIRECTIVE line line.text)
       else if is_definition line.text then defined line e (definition_of line.text)
       else Ok (written line e)
@@ -150,7 +150,7 @@ unbalanced line = fault_at UNBALANCED line (directive_word line.text)
 -- an include is what the parameter says; all other lines act by themselves
 abbrev pub acts : List Macro → (Line → Env → Result Env Stop) → Acts Env Stop
 acts fixed include = record {
-  act = λ line e. if is_include line.text then include line e else settled (acted fixed line e);
+  act = λ line e. if is_include line.text then include line e else settled (apply_directive fixed line e);
   test = λ line e. settled (tested fixed line e);
   unbalanced = λ line. bad (unbalanced line);
 }
@@ -172,8 +172,8 @@ read_by path bytes (Err spot) =
 unfoldable pub lines_read : List ℕ → List ℕ → Result (List TextLine) Fault
 lines_read path bytes = read_by path bytes (lines_of bytes)
 
-abbrev pub opened : (List Line → Env → Result Env Stop) → List ℕ → List ℕ → Env → Result Env Stop
-opened file path bytes e = settled (lines_read path bytes)
+abbrev pub file_lines : (List Line → Env → Result Env Stop) → List ℕ → List ℕ → Env → Result Env Stop
+file_lines file path bytes e = settled (lines_read path bytes)
     >>= (λ lines. file (map (line_at path) lines) (inside path e) >>= (λ x. Ok (outside e x)))
 
 abbrev pub long_fault : List ℕ → Fault
@@ -210,7 +210,7 @@ abbrev pub entered_by : Option (List Line → Env → Result Env Stop) → Line 
     → Env → Result Env Stop
 entered_by None line path p bytes e = Err (bad (fault_at INCLUDE_TOO_DEEP line path))
 entered_by (Some file) line path p bytes e =
-    if is_open p e then Err (bad (fault_at INCLUDE_LOOP line path)) else opened file p bytes e
+    if is_open p e then Err (bad (fault_at INCLUDE_LOOP line path)) else file_lines file p bytes e
 
 -- what an include comes to, where so many files more may be open
 unfoldable pub included : Source → List Macro → ℕ → Line → Env → Result Env Stop
@@ -242,7 +242,7 @@ rooted known fixed root e None = Err (need root)
 rooted known fixed root e (Some Absent) = Err (bad (fault_of FILE_ABSENT (place_of root 0) root))
 rooted known fixed root e (Some TooLong) = Err (too_long root)
 rooted known fixed root e (Some (File bytes)) =
-    opened (λ lines x. file_of (acts fixed (included known fixed 31)) lines x) root bytes e
+    file_lines (λ lines x. file_of (acts fixed (included known fixed 31)) lines x) root bytes e
 
 -- What a document comes to: its lines, its first fault, or the first path that is wanted and of
 -- which nothing is known. At most 32 files are open, the root counted.

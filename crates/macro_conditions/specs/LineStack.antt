@@ -53,9 +53,9 @@ module _ {E F : Type 0} (a : Acts E F) where
   next_mode waiting l e = a.test l e >>= (λ b. Ok (mode_by b))
   next_mode passing l e = Ok passing
 
-  abbrev pub turned : Bool → List Frame → E → Line → Result (State E) F
-  turned last [] e l = Err (a.unbalanced l)
-  turned last (f ∷ fs) e l =
+  abbrev pub turn_frame : Bool → List Frame → E → Line → Result (State E) F
+  turn_frame last [] e l = Err (a.unbalanced l)
+  turn_frame last (f ∷ fs) e l =
       if f.last then Err (a.unbalanced l)
       else next_mode f.mode l e
       >>=
@@ -73,8 +73,8 @@ module _ {E F : Type 0} (a : Acts E F) where
       else Ok (record { frames = fs; found = e })
   step_by If fs e l = open_frame fs l e
       >>= (λ m. Ok (record { frames = frame l m ∷ fs; found = e }))
-  step_by Elseif fs e l = turned false fs e l
-  step_by Else fs e l = turned true fs e l
+  step_by Elseif fs e l = turn_frame false fs e l
+  step_by Else fs e l = turn_frame true fs e l
   step_by Endif fs e l = shut fs e l
 
   abbrev pub step : State E → Line → Result (State E) F

@@ -83,12 +83,12 @@ abbrev pub before : (Items → Items) → Cut → Cut
 before f (ended t) = ended (f t)
 before f (cut t k r) = cut (f t) k r
 
-abbrev pub opened : Line → Gathered → Cut
-opened l g = before (choice l g.body g.branches) g.rest
+abbrev pub open_choice : Line → Gathered → Cut
+open_choice l g = before (choice l g.body g.branches) g.rest
 
 abbrev pub with_line : Directive → Line → Cut → Cut
 with_line Act l c = before (plain l) c
-with_line If l c = opened l (gather c)
+with_line If l c = open_choice l (gather c)
 with_line Elseif l c = cut nothing l c
 with_line Else l c = cut nothing l c
 with_line Endif l c = cut nothing l c

@@ -117,5 +117,5 @@ apply_prefix prefix.Flip (number n) = number (2 ^ 64 - 1 - n)
 abbrev pub view : Operand → Outcome
 view (operand.Word w) = word w.now
 view (operand.Number n) = number n
-view (operand.Faulty c) = faulty c
+view (operand.Error c) = faulty c
 view operand.TypeError = ill

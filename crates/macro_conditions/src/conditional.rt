@@ -2,7 +2,7 @@
 ghost use Rattle.std.specs.Prelude.{◌≡◌, ◌++◌, ◌∷◌, [], None, Some, OnOk, IfErr};
 ghost use Rattle.macro_conditions.specs.declared.directive.Directive.TheVariants.{If, Elseif, Else, Endif};
 ghost use Rattle.macro_conditions.specs.LineMeaning.{at_end};
-ghost use Rattle.macro_conditions.specs.LineStack.{active, mode_by, outermost, open_frame, next_mode, turned, shut, step_by};
+ghost use Rattle.macro_conditions.specs.LineStack.{active, mode_by, outermost, open_frame, next_mode, turn_frame, shut, step_by};
 ghost use Rattle.macro_conditions.specs.Expansion.{Env, acts, unbalanced, bad};
 ghost use Rattle.macro_conditions.specs.Work.{source_view, mode_view, frames_of, env_of, state_of, idle, Halts, Agrees};
 
@@ -43,7 +43,7 @@ fn mode_of_test(
     }
 }
 
-fn opened(
+fn open_frame(
     alloc: Global,
     fixed: &ListedMacros<'_>,
     work: &Work,
@@ -61,7 +61,7 @@ fn opened(
     }
 }
 
-fn turned(
+fn next_mode(
     alloc: Global,
     fixed: &ListedMacros<'_>,
     work: &Work,
@@ -106,7 +106,7 @@ pub(crate) fn open<'a>(
         (step_by (acts fixed.now idle) If (frames_of frames.old.items) (env_of work.now)
         (source_view line.entry)) }
 {
-    match opened(alloc, fixed, work, frames, line) {
+    match open_frame(alloc, fixed, work, frames, line) {
         Ok(mode) => {
             let frame = Frame {
                 opener: line,
@@ -129,7 +129,7 @@ pub(crate) fn turn<'a>(
     line: SourceLine<'a>,
 ) -> Result<(), Stopped>
     ensures { Agrees (λ u. state_of frames.new work.now) result
-        (turned (acts fixed.now idle) last (frames_of frames.old.items) (env_of work.now)
+        (turn_frame (acts fixed.now idle) last (frames_of frames.old.items) (env_of work.now)
         (source_view line.entry)) }
 {
     let Some(frame) = frames.pop() else {
@@ -138,14 +138,14 @@ pub(crate) fn turn<'a>(
     if frame.last {
         return Err(stray(alloc, line));
     }
-    match turned(alloc, fixed, work, frame.mode, line) {
+    match next_mode(alloc, fixed, work, frame.mode, line) {
         Ok(mode) => {
-            let turned = Frame {
+            let next = Frame {
                 opener: frame.opener,
                 mode,
                 last,
             };
-            push(frames, turned)
+            push(frames, next)
         }
         Err(stopped) => Err(stopped),
     }

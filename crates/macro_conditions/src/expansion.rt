@@ -8,7 +8,7 @@ ghost use Rattle.macro_conditions.specs.Macros.{same_text};
 ghost use Rattle.macro_conditions.specs.LineMeaning.{file_of};
 ghost use Rattle.macro_conditions.specs.LineStack.{step};
 ghost use Rattle.macro_conditions.specs.Sources.{answer, without_workspace};
-ghost use Rattle.macro_conditions.specs.Expansion.{bad, settled, hex_digit, spot_detail, lines_read, line_at, place_of, acts, included, entered, include_field, opened, is_open, too_long, inside, rooted, begun, document, expansion, Stop};
+ghost use Rattle.macro_conditions.specs.Expansion.{bad, settled, hex_digit, spot_detail, lines_read, line_at, place_of, acts, included, entered, include_field, file_lines, is_open, too_long, inside, rooted, begun, document, expansion, Stop};
 ghost use Rattle.build_base.specs.declared.outside.Got.{Got as Gotten};
 ghost use Rattle.macro_conditions.specs.Worlds.{told, AgreesWith, HoldsIn};
 ghost use Rattle.macro_conditions.specs.Work.{source_view, located_view, env_of, left_last, state_of, Halts, stop_in, Agrees, Expands};
@@ -211,7 +211,7 @@ fn open_file(
     bytes: &[u8],
 ) -> Result<(), Stopped>
     ensures whole { Agrees (λ u. env_of work.new) result
-        (opened
+        (file_lines
         (λ lines x.
         file_of
         (acts given.entry.fixed.now

@@ -36,7 +36,7 @@ fn numeral<'a>(read: Option<u64>) -> Operand<'a>
     ensures { view result ≡ numeral read }
 {
     match read {
-        None => Operand::Faulty(VALUE_RANGE),
+        None => Operand::Error(VALUE_RANGE),
         Some(n) => Operand::Number(n),
     }
 }
@@ -186,7 +186,7 @@ fn answer(alloc: Global, found: Option<Operand<'_>>) -> Result<Result<Value, u16
 {
     match found {
         None | Some(Operand::TypeError) => Ok(Err(BAD_EXPRESSION)),
-        Some(Operand::Faulty(code)) => Ok(Err(code)),
+        Some(Operand::Error(code)) => Ok(Err(code)),
         Some(Operand::Number(n)) => Ok(Ok(Value::Number(n))),
         Some(Operand::Word(word)) => Ok(Ok(Value::Word(Text::of(alloc, word)?))),
     }

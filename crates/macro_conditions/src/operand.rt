@@ -13,7 +13,7 @@ use build_base::fault_codes::{VALUE_RANGE, ZERO_DIVISOR};
 pub enum Operand<'a> {
     Word(&'a [u8]),
     Number(u64),
-    Faulty(u16),
+    Error(u16),
     TypeError,
 }
 
@@ -57,11 +57,11 @@ fn on_numbers<'a>(op: BinaryOperator, a: u64, b: u64) -> Operand<'a>
         BinaryOperator::Mul => fitting(a.checked_mul(b)),
         BinaryOperator::Div => match a.checked_div(b) {
             Some(n) => Operand::Number(n),
-            None => Operand::Faulty(ZERO_DIVISOR),
+            None => Operand::Error(ZERO_DIVISOR),
         },
         BinaryOperator::Rem => match a.checked_rem(b) {
             Some(n) => Operand::Number(n),
-            None => Operand::Faulty(ZERO_DIVISOR),
+            None => Operand::Error(ZERO_DIVISOR),
         },
     }
 }
@@ -71,7 +71,7 @@ fn fitting<'a>(n: Option<u64>) -> Operand<'a>
 {
     match n {
         Some(n) => Operand::Number(n),
-        None => Operand::Faulty(VALUE_RANGE),
+        None => Operand::Error(VALUE_RANGE),
     }
 }
 
@@ -92,10 +92,10 @@ fn shifted_left<'a>(a: u64, b: u64) -> Operand<'a>
         return Operand::Number(0);
     }
     if b >= 64 {
-        return Operand::Faulty(VALUE_RANGE);
+        return Operand::Error(VALUE_RANGE);
     }
     if a > u64::MAX >> b {
-        return Operand::Faulty(VALUE_RANGE);
+        return Operand::Error(VALUE_RANGE);
     }
     Operand::Number(a << b)
 }
@@ -109,8 +109,8 @@ pub fn apply<'a>(op: BinaryOperator, left: Operand<'a>, right: Operand<'a>) -> O
         return Operand::TypeError;
     }
     match (left, right) {
-        (Operand::Faulty(c), _) => Operand::Faulty(c),
-        (_, Operand::Faulty(c)) => Operand::Faulty(c),
+        (Operand::Error(c), _) => Operand::Error(c),
+        (_, Operand::Error(c)) => Operand::Error(c),
         (Operand::Number(a), Operand::Number(b)) => on_numbers(op, a, b),
         (Operand::Word(v), Operand::Word(w)) => on_texts(op, v == w),
         _ => on_texts(op, false),
@@ -130,7 +130,7 @@ fn on_texts<'a>(op: BinaryOperator, same: bool) -> Operand<'a>
 fn is_number(operand: Operand<'_>) -> bool
     ensures { result ≡ Rattle.macro_conditions.specs.Values.is_number (view operand.entry) }
 {
-    matches!(operand, Operand::Number(_) | Operand::Faulty(_))
+    matches!(operand, Operand::Number(_) | Operand::Error(_))
 }
 
 fn is_ill(operand: Operand<'_>) -> bool
@@ -157,7 +157,7 @@ pub fn apply_prefix<'a>(op: PrefixOperator, operand: Operand<'a>) -> Operand<'a>
     match (op, operand) {
         (PrefixOperator::Not, Operand::Number(n)) => truth(n == 0),
         (PrefixOperator::Flip, Operand::Number(n)) => Operand::Number(!n),
-        (_, Operand::Faulty(c)) => Operand::Faulty(c),
+        (_, Operand::Error(c)) => Operand::Error(c),
         _ => Operand::TypeError,
     }
 }

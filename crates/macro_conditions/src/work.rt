@@ -3,7 +3,7 @@ ghost use Rattle.std.specs.Prelude.{◌≡◌, ◌+◌, ◌≤◌, ◌++◌, ◌
 ghost use Rattle.build_base.specs.FaultText.{fault_of};
 ghost use Rattle.macro_conditions.specs.Scopes.{scope_of};
 ghost use Rattle.macro_conditions.specs.Directives.{macro_named, directive_rest, definition_of};
-ghost use Rattle.macro_conditions.specs.Expansion.{bad, settled, is_full, fault_at, holds, names, tested, defined, written, acted, scope};
+ghost use Rattle.macro_conditions.specs.Expansion.{bad, settled, is_full, fault_at, holds, names, tested, defined, written, apply_directive, scope};
 ghost use Rattle.macro_conditions.specs.Work.{source_view, env_of, Halts, Agrees};
 
 use crate::directive::{
@@ -215,7 +215,7 @@ fn take(
 }
 
 // What a line does that is no include.
-#[tactic(auto, unfolding(crate::specs::Expansion::acted))]
+#[tactic(auto, unfolding(crate::specs::Expansion::apply_directive))]
 pub(crate) fn act(
     alloc: Global,
     fixed: &ListedMacros<'_>,
@@ -223,7 +223,7 @@ pub(crate) fn act(
     line: SourceLine<'_>,
 ) -> Result<(), Stopped>
     ensures outcome { Agrees (λ u. env_of work.new) result
-        (settled (acted fixed.now (source_view line.entry) (env_of work.old))) }
+        (settled (apply_directive fixed.now (source_view line.entry) (env_of work.old))) }
     ensures open_files { OnOk result (work.new.open_files.items ≡ work.old.open_files.items) }
 {
     if is_directive(line.text) {

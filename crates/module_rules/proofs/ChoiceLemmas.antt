@@ -20,7 +20,7 @@ use Rattle.step_pack.specs.declared.out.Out.{Out}
 use Rattle.step_pack.specs.declared.out.Out.TheVariants as out
 use Rattle.document_rules.specs.Fits.{fits}
 use Rattle.module_rules.specs.ModuleTrees.{round_stages, choice_round, choice_after}
-use Rattle.document_rules.specs.Trees.{Comes, EdkStages, given_as}
+use Rattle.document_rules.specs.Trees.{AdvancesTo, EdkStages, given_as}
 
 round_is : (t : Table Key Out) (m : Module) (platform : PlatformDoc) (infs : List InfDoc) (w : List (List ℕ)) (next : List InfDoc → EdkStages) → 0 < length w
     → advance_at key_cmp fits t (choice_round m platform infs w next) ≡ and_then (advance_at key_cmp fits t (round_stages infs w)) (λ more. advance_at key_cmp fits t (next more))
@@ -67,7 +67,7 @@ choice_last m platform infs zero h e = absurd (omega (arith, h))
 choice_last m platform infs (suc n) h e = ap (λ v. choice_round m platform infs v (choice_after n m platform)) e
 
 -- the end comes to what is given there
-at_end : (t : Table Key Out) (g : Result Out Fault) (r : Result Out (Stop Key)) → GivesIn (λ out. out) r g → Comes t (end g) r
+at_end : (t : Table Key Out) (g : Result Out Fault) (r : Result Out (Stop Key)) → GivesIn (λ out. out) r g → AdvancesTo t (end g) r
 at_end t g (Ok x) h = ap ended h
 at_end t g (Err (stop.Wants asks permit)) h = absurd h
 at_end t g (Err (stop.Fails fault)) h = ap ended h
@@ -77,9 +77,9 @@ at_end t g (Err stop.WantOfMemory) h = tt
 -- nothing is wanted
 pub choice_ends : (t : Table Key Out) (m : Module) (platform : PlatformDoc) (infs : List InfDoc) (n : ℕ) (r : Result Out (Stop Key))
     → 0 < n → wanted m platform infs ≡ [] → GivesIn (λ out. out) r (given_as out.Choice (choice m platform infs))
-    → Comes t (choice_after n m platform infs) r
+    → AdvancesTo t (choice_after n m platform infs) r
 choice_ends t m platform infs n r h e g =
-    subst (λ z. Comes t z r) (sym (choice_last m platform infs n h e)) (at_end t (given_as out.Choice (choice m platform infs)) r g)
+    subst (λ z. AdvancesTo t z r) (sym (choice_last m platform infs n h e)) (at_end t (given_as out.Choice (choice m platform infs)) r g)
 
 pub choice_none : (m : Module) (platform : PlatformDoc) (infs : List InfDoc) (n : ℕ) → (0 < n → ⊥) → choice_after n m platform infs ≡ end (Err impossible_answer)
 unfolding choice_after

@@ -13,7 +13,7 @@ ghost use Rattle.pcd_resolve.specs.Platform.{SkusEnd};
 ghost use Rattle.step_pack.specs.Keys.{key_cmp};
 ghost use Rattle.document_rules.specs.Fits.{fits};
 ghost use Rattle.module_rules.specs.ModuleTrees.{round_stages, choice_after, most_rounds, choice_given, choice_stages, linked_stages, described_stages, parts_stages, modules_parts, setting_in, pcds_from, pcds_first, pcds_stages, one_described, one_parts, module_parts, values_from, commands_in, values_first, values_stages};
-ghost use Rattle.document_rules.specs.Trees.{Comes, given_as};
+ghost use Rattle.document_rules.specs.Trees.{AdvancesTo, given_as};
 ghost use Rattle.step_pack.specs.declared.out.Out.TheVariants as out;
 
 use build_base::{Path, Permit, Refusal, Rows, Same};
@@ -117,13 +117,13 @@ fn rounds(
     permit: Permit,
 ) -> Result<Out, Stop<Key>>
     requires { is_known first «module».now.inf ≡ true }
-    ensures { Comes known.now (choice_after most_rounds «module».now platform.now first) result }
+    ensures { AdvancesTo known.now (choice_after most_rounds «module».now platform.now first) result }
 {
     let mut search = InstanceSearch::new(alloc, module, platform, first)?;
     let mut permit = permit;
     let mut left = MOST_ROUNDS;
     while left > 0 {
-        let (wanted, behind) = search.wanted(alloc)?;
+        let (wanted, behind) = search.wanted_infs(alloc)?;
         if wanted.items().is_empty() {
             return chosen_libraries(alloc, behind, permit);
         }
@@ -147,7 +147,7 @@ fn choice_given(
     given: &Given<'_, Out>,
     permit: Permit,
 ) -> Result<Out, Stop<Key>>
-    ensures { Comes known.now (choice_given «module».now given.now) result }
+    ensures { AdvancesTo known.now (choice_given «module».now given.now) result }
 {
     let platform = platform_in(given, 0)?;
     let infs = own_inf(alloc, given, 1, module)?;
@@ -161,7 +161,7 @@ pub fn choice(
     module: &Module,
     permit: Permit,
 ) -> Result<Out, Stop<Key>>
-    ensures { Comes known.now (choice_stages «module».now) result }
+    ensures { AdvancesTo known.now (choice_stages «module».now) result }
 {
     let inf = module.inf.copy(alloc)?;
     let asks = [Ask::Part(Key::Platform), Ask::Part(Key::Inf(inf))];
@@ -265,7 +265,7 @@ fn pcds_from(
     permit: Permit,
 ) -> Result<Out, Stop<Key>>
     requires { SkusEnd platform.now.skus }
-    ensures { Comes known.now (pcds_from platform.now flash.now setting.now) result }
+    ensures { AdvancesTo known.now (pcds_from platform.now flash.now setting.now) result }
 {
     let (modules, permit) = modules_parts(alloc, known, setting.modules.items(), permit)?;
     Ok(Out::Values(pcds_of(alloc, permit, platform, flash, setting, modules)?))
@@ -278,7 +278,7 @@ fn pcds_first(
     given: &Given<'_, Out>,
     permit: Permit,
 ) -> Result<Out, Stop<Key>>
-    ensures { Comes known.now (pcds_first given.now) result }
+    ensures { AdvancesTo known.now (pcds_first given.now) result }
 {
     let platform = shared_platform(given, 0)?;
     if !skus_end(alloc, platform.value().skus.items()) {
@@ -291,7 +291,7 @@ fn pcds_first(
 
 /// The rows of dynamic PCDs.
 pub fn pcds(alloc: Global, known: &Known<'_, Key, Out>, permit: Permit) -> Result<Out, Stop<Key>>
-    ensures { Comes known.now pcds_stages result }
+    ensures { AdvancesTo known.now pcds_stages result }
 {
     let asks = [
         Ask::Part(Key::Platform),
@@ -402,7 +402,7 @@ fn values_from(
     commands: Rows<PcdSet>,
     permit: Permit,
 ) -> Result<Out, Stop<Key>>
-    ensures { Comes known.now
+    ensures { AdvancesTo known.now
         (values_from «module».now platform.now flash.now dynamic.now choice.now commands) result }
 {
     let (parts, permit) = module_parts(alloc, known, module, choice, permit)?;
@@ -418,7 +418,7 @@ fn values_first(
     given: &Given<'_, Out>,
     permit: Permit,
 ) -> Result<Out, Stop<Key>>
-    ensures { Comes known.now (values_first «module».now given.now) result }
+    ensures { AdvancesTo known.now (values_first «module».now given.now) result }
 {
     let platform = shared_platform(given, 0)?;
     let flash = shared_flash(given, 1)?;
@@ -437,7 +437,7 @@ pub fn values(
     module: &Module,
     permit: Permit,
 ) -> Result<Out, Stop<Key>>
-    ensures { Comes known.now (values_stages «module».now) result }
+    ensures { AdvancesTo known.now (values_stages «module».now) result }
 {
     let own = module.copy(alloc)?;
     let asks = [

@@ -1,7 +1,7 @@
 //! The steps of texts, of dependency expressions and of the report.
 ghost use Rattle.std.specs.Prelude.{◌≡◌, IfOk};
 ghost use Rattle.build_stages.specs.Gives.{GivesIn};
-ghost use Rattle.document_rules.specs.Trees.{Comes};
+ghost use Rattle.document_rules.specs.Trees.{AdvancesTo};
 ghost use Rattle.module_rules.specs.TextTrees.{code_from, code_first, code_stages, depex_from, depex_stages, told_modules_in, heading_by, heading_in, told_stages, told_in, report_stages};
 
 use crate::modules::module_parts;
@@ -34,7 +34,7 @@ fn code_from(
     values: &Shared<Values>,
     permit: Permit,
 ) -> Result<Out, Stop<Key>>
-    ensures { Comes known.now (code_from «module».now platform.now choice.now values.now) result }
+    ensures { AdvancesTo known.now (code_from «module».now platform.now choice.now values.now) result }
 {
     let (parts, permit) = module_parts(alloc, known, module, choice, permit)?;
     let texts = code_given(alloc, permit, platform, choice, values, parts)?;
@@ -49,7 +49,7 @@ fn code_first(
     given: &Given<'_, Out>,
     permit: Permit,
 ) -> Result<Out, Stop<Key>>
-    ensures { Comes known.now (code_first «module».now given.now) result }
+    ensures { AdvancesTo known.now (code_first «module».now given.now) result }
 {
     let platform = platform_in(given, 0)?;
     let (choice, _next) = choice_at(given, 1)?;
@@ -64,7 +64,7 @@ pub fn code(
     module: &Module,
     permit: Permit,
 ) -> Result<Out, Stop<Key>>
-    ensures { Comes known.now (code_stages «module».now) result }
+    ensures { AdvancesTo known.now (code_stages «module».now) result }
 {
     let (chosen, valued) = two(module, module, alloc)?;
     let asks = [
@@ -84,7 +84,7 @@ fn depex_from(
     choice: &Choice,
     permit: Permit,
 ) -> Result<Out, Stop<Key>>
-    ensures { Comes known.now (depex_from «module».now choice.now) result }
+    ensures { AdvancesTo known.now (depex_from «module».now choice.now) result }
 {
     let (parts, permit) = module_parts(alloc, known, module, choice, permit)?;
     let bytes = depex_given(alloc, permit, choice, &parts)?;
@@ -98,7 +98,7 @@ pub fn depex(
     module: &Module,
     permit: Permit,
 ) -> Result<Out, Stop<Key>>
-    ensures { Comes known.now (depex_stages «module».now) result }
+    ensures { AdvancesTo known.now (depex_stages «module».now) result }
 {
     let own = module.copy(alloc)?;
     let asks = [Ask::Part(Key::Choice(own))];
@@ -155,7 +155,7 @@ fn modules_and_report(
     modules: &[Module],
     permit: Permit,
 ) -> Result<Out, Stop<Key>>
-    ensures { Comes known.now (told_stages platform.now heading modules.now) result }
+    ensures { AdvancesTo known.now (told_stages platform.now heading modules.now) result }
 {
     let asks = report_asks(alloc, modules)?;
     let (given, _permit) = answers_to(alloc, known, asks, permit)?;
@@ -171,7 +171,7 @@ fn told_in(
     given: &Given<'_, Out>,
     permit: Permit,
 ) -> Result<Out, Stop<Key>>
-    ensures { Comes known.now (told_in platform.now given.now) result }
+    ensures { AdvancesTo known.now (told_in platform.now given.now) result }
 {
     let modules = told_modules_in(alloc, platform.value(), given)?;
     let heading = heading_in(alloc, platform.value(), given)?;
@@ -180,7 +180,7 @@ fn told_in(
 
 /// The report of a build.
 pub fn report(alloc: Global, known: &Known<'_, Key, Out>, permit: Permit) -> Result<Out, Stop<Key>>
-    ensures { Comes known.now report_stages result }
+    ensures { AdvancesTo known.now report_stages result }
 {
     let asks = [
         Ask::Part(Key::Platform),

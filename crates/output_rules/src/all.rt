@@ -2,7 +2,7 @@
 ghost use Rattle.std.specs.Prelude.{◌≡◌, ◌++◌, ◌∷◌, [], ◌<◌, length, IfOk, OnOk};
 ghost use Rattle.build_stages.specs.Gives.{GivesIn};
 ghost use Rattle.build_stages.specs.Writing.{attempt};
-ghost use Rattle.document_rules.specs.Trees.{Comes};
+ghost use Rattle.document_rules.specs.Trees.{AdvancesTo};
 ghost use Rattle.image_steps.specs.Asks.{volume_key};
 ghost use Rattle.text_steps.specs.Asks.{build_module_asks};
 ghost use Rattle.output_rules.specs.AllTree.{image_asks, step_where, steps_from, device_step, report_part, build_asks, folder_in, modules_in, wanted_in, report_in, files_stages, all_given, all_stages};
@@ -215,7 +215,7 @@ fn files(
     report: &Option<Path>,
     permit: Permit,
 ) -> Result<Out, Stop<Key>>
-    ensures { Comes known.now
+    ensures { AdvancesTo known.now
         (files_stages vpd folder.now modules.now flash.now wanted.now report.now) result }
 {
     if !fits_u16(flash.volumes.items().len()) || !fits_u16(flash.devices.items().len()) {
@@ -238,7 +238,7 @@ fn wanted_files(
     given: &Given<'_, Out>,
     permit: Permit,
 ) -> Result<Out, Stop<Key>>
-    ensures { Comes known.now
+    ensures { AdvancesTo known.now
         (attempt (wanted_in flash.now given.now) (λ wanted. attempt (report_in given.now)
         (λ report. files_stages vpd folder.now modules.now flash.now wanted report))) result }
 {
@@ -256,7 +256,7 @@ fn all_given(
     given: &Given<'_, Out>,
     permit: Permit,
 ) -> Result<Out, Stop<Key>>
-    ensures { Comes known.now (all_given given.now) result }
+    ensures { AdvancesTo known.now (all_given given.now) result }
 {
     let platform = platform_in(given, 0)?;
     let flash = flash_in(given, 1)?;
@@ -277,7 +277,7 @@ fn all_given(
 
 /// The files of the whole build.
 pub fn all(alloc: Global, known: &Known<'_, Key, Out>, permit: Permit) -> Result<Out, Stop<Key>>
-    ensures { Comes known.now all_stages result }
+    ensures { AdvancesTo known.now all_stages result }
 {
     let asks = [
         Ask::Part(Key::Platform),

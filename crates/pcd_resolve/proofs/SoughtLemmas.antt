@@ -14,7 +14,7 @@ use Rattle.pcd_resolve.specs.Kinds.{head_of}
 use Rattle.pcd_ranks.specs.Listing.{declared_in}
 use Rattle.pcd_resolve.specs.NameFilter.{is_kept}
 use Rattle.pcd_resolve.specs.Platform.{declaration_among}
-use Rattle.pcd_resolve.specs.Sought.{Quest, begun, found, front_if, is_open, kind_at, look, look_each, misses, of_some, open_names, sought_view}
+use Rattle.pcd_resolve.specs.Sought.{Quest, new_search, found, front_if, is_open, kind_at, look, look_each, misses, of_some, open_names, sought_view}
 use Rattle.pcd_resolve.specs.Tables.{AllKept}
 use Rattle.pcd_resolve.proofs.NameFilterLemmas.{map_twice}
 
@@ -105,15 +105,15 @@ looked_all : (modules : List ModuleParts) (qs : List Quest) → fold look_each q
 looked_all [] qs = looked_none qs
 looked_all (parts ∷ modules) qs = looked_all modules (look_each qs parts) ∙ looked_more parts modules qs
 
-found_all : (ask : PlatformAsk) (names : List (List ℕ)) → map (look_all ask.modules) (map (begun ask) names) ≡ map (found ask) names
+found_all : (ask : PlatformAsk) (names : List (List ℕ)) → map (look_all ask.modules) (map (new_search ask) names) ≡ map (found ask) names
 found_all ask [] = refl
 found_all ask (name ∷ names) = ap (λ xs. found ask name ∷ xs) (found_all ask names)
 
 pub found_each : (ask : PlatformAsk) (names : List (List ℕ)) (start all : List DeclarationSearch)
-    → map sought_view start ≡ map (begun ask) names → map sought_view all ≡ fold look_each (map sought_view start) ask.modules
+    → map sought_view start ≡ map (new_search ask) names → map sought_view all ≡ fold look_each (map sought_view start) ask.modules
     → map sought_view all ≡ map (found ask) names
 found_each ask names start all s e =
-    e ∙ ap (λ qs. fold look_each qs ask.modules) s ∙ looked_all ask.modules (map (begun ask) names) ∙ found_all ask names
+    e ∙ ap (λ qs. fold look_each qs ask.modules) s ∙ looked_all ask.modules (map (new_search ask) names) ∙ found_all ask names
 
 pub names_found : (ask : PlatformAsk) (all : List DeclarationSearch) (names : List (List ℕ)) → map sought_view all ≡ map (found ask) names → map (λ s. s.name.now.items) all ≡ names
 names_found ask all names e =

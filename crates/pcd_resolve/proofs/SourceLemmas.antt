@@ -18,7 +18,7 @@ use Rattle.pcd_values.specs.Skus.{own_value, value_within}
 use Rattle.pcd_ranks.specs.Assignments.{Assignment, by_line, by_set, value_from}
 use Rattle.pcd_ranks.specs.Listing.{Stated}
 use Rattle.pcd_resolve.specs.Groups.{group, Grouped}
-use Rattle.pcd_resolve.specs.Platform.{default_for, named_if, sku_assignments, valued}
+use Rattle.pcd_resolve.specs.Platform.{default_for, named_if, sku_assignments, own_value_rows}
 use Rattle.pcd_resolve.specs.SkuTables.{same_name, sku_at, name_or, name_at, within, held, at_place, stated_sku, AreKnown, AreTables}
 use Rattle.pcd_resolve.specs.declared.sku_tables.SkuTables.{SkuTables}
 use Rattle.pcd_resolve.proofs.SkuLemmas.{placed}
@@ -110,8 +110,8 @@ within_up rows skus name next value n e p h =
 -- a SKU with a value of its own
 pub source_own : (line : DecPcd) (lines : List Stated) (sets : List PcdSet) (skus : List Sku) (place from n : ℕ) (sku : Sku) → slice_get skus place ≡ Some sku
     → is_some (value_from (sku_assignments line lines sets sku.name)) ≡ true → ◌≡◌ {A = Option ℕ} (Some place) (Some from)
-    → value_within (valued line lines sets skus) skus (name_at skus place) (n + 1) ≡ Some (name_at skus from)
-unfolding valued
+    → value_within (own_value_rows line lines sets skus) skus (name_at skus place) (n + 1) ≡ Some (name_at skus from)
+unfolding own_value_rows
 source_own line lines sets skus place from n sku s h e =
     let same : place ≡ from = cc in
     let named : name_at skus place ≡ sku.name = ap name_or s in
@@ -127,9 +127,9 @@ source_own line lines sets skus place from n sku s h e =
 pub source_up : (line : DecPcd) (lines : List Stated) (sets : List PcdSet) (skus : List Sku) (tables : SkuTables) (known ups : List (Option ℕ)) (place from n : ℕ) (sku : Sku)
     → slice_get skus place ≡ Some sku → AreTables skus tables → ups ≡ tables.ups.items
     → is_some (value_from (sku_assignments line lines sets sku.name)) ≡ false
-    → AreKnown (valued line lines sets skus) skus n known → option_and_then (at_place known) (at_place ups place) ≡ Some from
-    → value_within (valued line lines sets skus) skus (name_at skus place) (n + 1) ≡ Some (name_at skus from)
-unfolding valued
+    → AreKnown (own_value_rows line lines sets skus) skus n known → option_and_then (at_place known) (at_place ups place) ≡ Some from
+    → value_within (own_value_rows line lines sets skus) skus (name_at skus place) (n + 1) ≡ Some (name_at skus from)
+unfolding own_value_rows
 source_up line lines sets skus tables known ups place from n sku s are u h k e =
     let named : name_at skus place ≡ sku.name = ap name_or s in
     let V : List ℕ → Option Assignment = λ name. value_from (sku_assignments line lines sets name) in

@@ -7,7 +7,7 @@ use Rattle.doc_types.specs.declared.values.SkuRow.{SkuRow}
 use Rattle.pcd_ranks.specs.Assignments.{Assignment}
 use Rattle.pcd_ranks.specs.Views.{stated_view}
 use Rattle.pcd_resolve.specs.Groups.{Grouped}
-use Rattle.pcd_resolve.specs.Platform.{row_by_source, sku_assignments, source, valued}
+use Rattle.pcd_resolve.specs.Platform.{row_by_source, sku_assignments, source, own_value_rows}
 use Rattle.pcd_resolve.specs.SkuTables.{stated_sku, AreKnown, AreTables}
 use Rattle.pcd_resolve.specs.declared.sku_values.PcdLines.{PcdLines}
 
@@ -22,7 +22,7 @@ assignments_for pcd sku =
 
 abbrev pub own_values : PcdLines → List SkuRow
 own_values pcd =
-    valued pcd.line.now (map stated_view pcd.lines.now) (map (λ s. s.now) pcd.sets.now) pcd.skus.now
+    own_value_rows pcd.line.now (map stated_view pcd.lines.now) (map (λ s. s.now) pcd.sets.now) pcd.skus.now
 
 -- the row of a SKU
 abbrev pub sku_row : Kind → PcdLines → List ℕ → Result (List PcdRow) Fault

@@ -113,14 +113,14 @@ named_if sku None = []
 named_if sku (Some taken) = record { sku = sku; value = sku } ∷ []
 
 -- the SKUs that have a value of their own, each with its name in the place of the value
-unfoldable pub valued : DecPcd → List Stated → List PcdSet → List Sku → List SkuRow
-valued line lines sets skus =
+unfoldable pub own_value_rows : DecPcd → List Stated → List PcdSet → List Sku → List SkuRow
+own_value_rows line lines sets skus =
     flat_map (λ sku. named_if sku.name (value_from (sku_assignments line lines sets sku.name))) skus
 
 -- the SKU whose value a SKU takes
 unfoldable pub source : DecPcd → List Stated → List PcdSet → List Sku → List ℕ → Option (List ℕ)
 source line lines sets skus sku =
-    value_within (valued line lines sets skus) skus sku (length skus + 1)
+    value_within (own_value_rows line lines sets skus) skus sku (length skus + 1)
 
 abbrev pub row_by_source : Kind → DecPcd → List Stated → List PcdSet → List ℕ → Option (List ℕ)
     → Result (List PcdRow) Fault

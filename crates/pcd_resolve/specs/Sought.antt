@@ -70,8 +70,8 @@ abbrev pub kind_at : PlatformAsk → List ℕ → Option Kind
 kind_at ask pcd =
     kind_of (claims (uses_of pcd (uses_in ask.modules)) (stated_for pcd (stated_in ask.platform)))
 
-abbrev pub begun : PlatformAsk → List ℕ → Quest
-begun ask pcd = record { name = pcd; kind = kind_at ask pcd; line = None; first = None }
+abbrev pub new_search : PlatformAsk → List ℕ → Quest
+new_search ask pcd = record { name = pcd; kind = kind_at ask pcd; line = None; first = None }
 
 -- where all modules were looked at
 abbrev pub found : PlatformAsk → List ℕ → Quest

@@ -11,7 +11,7 @@ ghost use Rattle.pcd_resolve.specs.PcdLines.{own_values, sku_row, AreSources, Ha
 ghost use Rattle.pcd_resolve.specs.Rows.{all_rows};
 ghost use Rattle.pcd_resolve.specs.SkuTables.{AreTables};
 ghost use Rattle.pcd_ranks.specs.Assignments.{by_line};
-ghost use Rattle.pcd_resolve.specs.Platform.{too_great, bad_rest, rest_fault, vpd_fault, default_for, sku_assignments, named_if, valued, row_by_source, dynamic_rows};
+ghost use Rattle.pcd_resolve.specs.Platform.{too_great, bad_rest, rest_fault, vpd_fault, default_for, sku_assignments, named_if, own_value_rows, row_by_source, dynamic_rows};
 ghost use Rattle.pcd_ranks.specs.Assignments.{value_from};
 ghost use Rattle.pcd_ranks.specs.Views.{stated_view, given_view};
 
@@ -208,8 +208,8 @@ fn put_valued<'a>(
 }
 
 /// The SKUs that have a value of their own, each with its name in the place of the value.
-#[tactic(auto, unfolding(crate::specs::Platform::valued))]
-pub fn valued<'a>(
+#[tactic(auto, unfolding(crate::specs::Platform::own_value_rows))]
+pub fn own_value_rows<'a>(
     alloc: Global,
     line: &'a DecPcd,
     lines: &[StatedLine<'a>],
@@ -217,7 +217,7 @@ pub fn valued<'a>(
     skus: &[Sku],
 ) -> Result<Rows<SkuRow>, WantOfMemory>
     ensures { IfOk result
-        (λ rows. rows ≡ valued line.now (map stated_view lines.now) (map (λ s. s.now) sets.now)
+        (λ rows. rows ≡ own_value_rows line.now (map stated_view lines.now) (map (λ s. s.now) sets.now)
         skus.now) }
 {
     let mut rows = Rows::new(alloc);
@@ -279,7 +279,7 @@ fn walked_row(
     requires { WalkEnds pcd.now.skus.now sku.now.name }
     ensures { Answers result (sku_row kind pcd.now sku.now.name) }
 {
-    let values = valued(alloc, pcd.line, pcd.lines, pcd.sets, pcd.skus.items())?;
+    let values = own_value_rows(alloc, pcd.line, pcd.lines, pcd.sets, pcd.skus.items())?;
     row_for(alloc, kind, pcd, &values, sku)
 }
 

@@ -101,7 +101,7 @@ fn is_against_one(kind: Kind, datum: Datum, stated: &StatedLine<'_>, uses: &[Use
 }
 
 // The type that the packages of all uses declare, where it is one.
-fn agreed(kind: Kind, uses: &[UseLine<'_>]) -> Option<Datum>
+fn common_datum(kind: Kind, uses: &[UseLine<'_>]) -> Option<Datum>
     ensures { IfSome result (λ d. list_any (is_other kind d) (map use_view uses.now) ≡ false) }
 {
     let [first, ..] = uses else {
@@ -349,7 +349,7 @@ fn kind_faults(
     ensures { Checks result
         (kind_faults pcd.now (map use_view uses.now) (map stated_view lines.now) kind) }
 {
-    datums_fit(alloc, kind, agreed(kind, uses), uses, lines)?;
+    datums_fit(alloc, kind, common_datum(kind, uses), uses, lines)?;
     none_dynamic_inside(alloc, lines)?;
     no_sku_on_fixed(alloc, lines)?;
     kinds_agree(alloc, pcd, kind, uses, lines)?;

@@ -75,7 +75,7 @@ fn counts(arches: &[Arch], stated: &StatedLine<'_>) -> bool
 }
 
 /// The lines that count for the built architectures.
-pub fn counted<'a>(
+pub fn counting_lines<'a>(
     alloc: Global,
     arches: &[Arch],
     lines: &[StatedLine<'a>],
@@ -116,7 +116,7 @@ fn rows_by<'a>(
     let Some(line) = declaration(kind, sought) else {
         return Ok(Rows::new(alloc));
     };
-    let lines = counted(alloc, tables.ask.arches.items(), lines)?;
+    let lines = counting_lines(alloc, tables.ask.arches.items(), lines)?;
     dynamic_rows(
         alloc,
         kind,
@@ -194,9 +194,9 @@ fn chosen_by<'a>(
     match words {
         [] => {
             let names = field_texts(alloc, choice)?;
-            chosen(alloc, names.items(), skus)
+            chosen_skus(alloc, names.items(), skus)
         }
-        [_, ..] => chosen(alloc, words, skus),
+        [_, ..] => chosen_skus(alloc, words, skus),
     }
 }
 

@@ -45,7 +45,7 @@ fn is_chosen(names: &[Text], sku: &Sku) -> bool
 }
 
 /// The chosen ones of some SKUs, in their order.
-pub fn chosen<'a>(
+pub fn chosen_skus<'a>(
     alloc: Global,
     names: &[Text],
     skus: &'a [Sku],

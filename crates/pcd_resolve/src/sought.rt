@@ -1,5 +1,5 @@
 //! The lines that give the PCDs of a platform's modules their types and their tokens. Modules are
-//! looked at one by one, each by tables of its own that are let go again, and only as long as a
+//! look at one by one, each by tables of its own that are let go again, and only as long as a
 //! line isn't found.
 ghost use Rattle.std.specs.Prelude.{◌≡◌, [], true, Some, fold, map, option_copied, IfOk};
 ghost use Rattle.std.specs.List.{All, list_any};
@@ -9,7 +9,7 @@ ghost use Rattle.pcd_resolve.specs.Groups.{Grouped};
 ghost use Rattle.pcd_ranks.specs.Listing.{stated_in, uses_in};
 ghost use Rattle.pcd_resolve.specs.NameFilter.{is_kept, with_marks};
 ghost use Rattle.pcd_resolve.specs.Platform.{declaration_among};
-ghost use Rattle.pcd_resolve.specs.Sought.{begun, found, front_if, is_open, look, look_each, of_some, open_names, sought_view, widen};
+ghost use Rattle.pcd_resolve.specs.Sought.{new_search, found, front_if, is_open, look, look_each, of_some, open_names, sought_view, widen};
 ghost use Rattle.pcd_resolve.specs.Tables.{IsTabled, stated_name, use_name};
 ghost use Rattle.pcd_ranks.specs.Views.{stated_view, use_view};
 
@@ -118,10 +118,7 @@ fn open_marks(alloc: Global, all: &[DeclarationSearch<'_, '_>]) -> Result<Vec<bo
     Ok(marks)
 }
 
-fn widened<'n, 'a>(
-    one: &DeclarationSearch<'n, 'a>,
-    lines: &[&'a DecPcd],
-) -> DeclarationSearch<'n, 'a>
+fn widen<'n, 'a>(one: &DeclarationSearch<'n, 'a>, lines: &[&'a DecPcd]) -> DeclarationSearch<'n, 'a>
     ensures { sought_view result ≡ widen (sought_view one.now) (map (λ l. l.now) lines.now) }
 {
     let line = or_else(one.line, of_some(one.kind, lines));
@@ -134,7 +131,7 @@ fn widened<'n, 'a>(
     }
 }
 
-fn looked<'n, 'a>(
+fn look<'n, 'a>(
     alloc: Global,
     tables: &ModuleTables<'a>,
     one: &DeclarationSearch<'n, 'a>,
@@ -148,10 +145,10 @@ fn looked<'n, 'a>(
         return Ok(*one);
     }
     let lines = declared_in(alloc, tables, one.name)?;
-    Ok(widened(one, lines.as_slice()))
+    Ok(widen(one, lines.as_slice()))
 }
 
-fn looked_by<'n, 'a>(
+fn look_by_tables<'n, 'a>(
     alloc: Global,
     tables: &ModuleTables<'a>,
     all: &[DeclarationSearch<'n, 'a>],
@@ -164,7 +161,7 @@ fn looked_by<'n, 'a>(
 {
     let mut more = Vec::new(alloc);
     for one in all {
-        let s = looked(alloc, tables, one)?;
+        let s = look(alloc, tables, one)?;
         if more.push(s).is_err() {
             return Err(WantOfMemory);
         }
@@ -172,7 +169,7 @@ fn looked_by<'n, 'a>(
     Ok(more)
 }
 
-fn looked_in<'n, 'a>(
+fn look_in<'n, 'a>(
     alloc: Global,
     parts: &'a ModuleParts,
     all: &[DeclarationSearch<'n, 'a>],
@@ -182,11 +179,11 @@ fn looked_in<'n, 'a>(
 {
     let marks = open_marks(alloc, all)?;
     let tables = tables_of(alloc, parts, marks)?;
-    looked_by(alloc, &tables, all)
+    look_by_tables(alloc, &tables, all)
 }
 
 // The same, where nothing may be left to look for.
-fn looked_further<'n, 'a>(
+fn look_further<'n, 'a>(
     alloc: Global,
     parts: &'a ModuleParts,
     all: Vec<DeclarationSearch<'n, 'a>>,
@@ -197,11 +194,11 @@ fn looked_further<'n, 'a>(
     if !any_open(all.as_slice()) {
         return Ok(all);
     }
-    looked_in(alloc, parts, all.as_slice())
+    look_in(alloc, parts, all.as_slice())
 }
 
 // The same of some modules, one by one.
-fn looked_among<'n, 'a>(
+fn look_among<'n, 'a>(
     alloc: Global,
     modules: &'a [ModuleParts],
     start: Vec<DeclarationSearch<'n, 'a>>,
@@ -212,13 +209,13 @@ fn looked_among<'n, 'a>(
     let mut all = start;
     let mut left = modules;
     while let [parts, rest @ ..] = left {
-        all = looked_further(alloc, parts, all)?;
+        all = look_further(alloc, parts, all)?;
         left = rest;
     }
     Ok(all)
 }
 
-fn begun_at<'n, 'a>(
+fn new_search<'n, 'a>(
     ask: &'a PlatformAsk,
     name: &'n Vec<u8>,
     uses: &IndexMap<Vec<u8>, Vec<UseLine<'a>>>,
@@ -226,7 +223,7 @@ fn begun_at<'n, 'a>(
 ) -> DeclarationSearch<'n, 'a>
     requires uses { Grouped use_view use_name (uses_in ask.now.modules) uses.now }
     requires lines { Grouped stated_view stated_name (stated_in ask.now.platform) lines.now }
-    ensures { sought_view result ≡ begun ask.now name.now.items }
+    ensures { sought_view result ≡ new_search ask.now name.now.items }
 {
     let kind = kind_of(group(uses, name), group(lines, name));
     DeclarationSearch {
@@ -237,7 +234,7 @@ fn begun_at<'n, 'a>(
     }
 }
 
-fn begun<'n, 'a>(
+fn new_searches<'n, 'a>(
     alloc: Global,
     ask: &'a PlatformAsk,
     names: &'n [Vec<u8>],
@@ -247,11 +244,11 @@ fn begun<'n, 'a>(
     requires uses { Grouped use_view use_name (uses_in ask.now.modules) uses.now }
     requires lines { Grouped stated_view stated_name (stated_in ask.now.platform) lines.now }
     ensures { IfOk result (λ v. map sought_view v.items
-        ≡ map (begun ask.now) (map (λ n. n.items) names.now)) }
+        ≡ map (new_search ask.now) (map (λ n. n.items) names.now)) }
 {
     let mut all = Vec::new(alloc);
     for name in names {
-        let one = begun_at(ask, name, uses, lines);
+        let one = new_search(ask, name, uses, lines);
         if all.push(one).is_err() {
             return Err(WantOfMemory);
         }
@@ -274,7 +271,7 @@ pub(crate) fn sought_of<'n, 'a>(
     ensures found { IfOk result
         (λ v. All (λ s. sought_view s ≡ found ask.now s.name.now.items) v.items) }
 {
-    let start = begun(alloc, ask, names, uses, lines)?;
-    let all = looked_among(alloc, ask.modules.items(), start)?;
+    let start = new_searches(alloc, ask, names, uses, lines)?;
+    let all = look_among(alloc, ask.modules.items(), start)?;
     Ok(all)
 }

@@ -1,7 +1,7 @@
 use Rattle.std.proofs.Common.{ap, ◌∙◌, sym, subst}
 use Rattle.build_rules.specs.Rules.{is_job}
 use Rattle.edk_build.proofs.SelftestLemmas.{selftest_is_job, was_done, has_stopped}
-use Rattle.edk_build.specs.Selftest.{HasStopped}
+use Rattle.edk_build.specs.Selftest.{TurnStopped}
 use Rattle.edk_build.proofs.selftest.build_named.Goals as goal
 
 pub build-requires-clause-job : goal.build-requires-clause-job
@@ -21,7 +21,7 @@ returns-in-Ok-build-clause-done g c = λ files h s.
 
 pub returns-clause-stopped : goal.returns-clause-stopped
 returns-clause-stopped g c = λ files h s.
-    subst (λ z. HasStopped (record { name = c.args.name.now; files = files }) z c.args.cache c.args.book.now c.build.new.book (g.S.Sink.written c.args.sink.now) (g.S.Sink.written c.build.new.sink)) (sym c.status.ensures)
+    subst (λ z. TurnStopped (record { name = c.args.name.now; files = files }) z c.args.cache c.args.book.now c.build.new.book (g.S.Sink.written c.args.sink.now) (g.S.Sink.written c.build.new.sink)) (sym c.status.ensures)
     (has_stopped (record { name = c.args.name.now; files = files }) _ c.new-edits.result c.args.fields.now c.args.cache c.in-Ok.label c.in-Err.stop c.args.book.now c.build.new.book
     (g.S.Sink.written c.args.sink.now) (g.S.Sink.written c.build.new.sink) h c.new-edits.ensures c.requires.fields c.in-Ok.ensures s
     (record {

@@ -8,7 +8,7 @@ use Rattle.dsc_lines.specs.Standing.{parts_in, said_marks, last_mark, open_below
 use Rattle.dsc_platform.specs.Stating.{nothing, with_rows}
 use Rattle.dsc_platform.proofs.BlockLemmas.{lines_more, open_more}
 use Rattle.dsc_platform.proofs.StatedLemmas.{rows_join, flat_push}
-use Rattle.dsc_platform.proofs.format.DscFormatFormat.keep.Goals as goal
+use Rattle.dsc_platform.proofs.format.DscFormatFormat.add_rows.Goals as goal
 
 pub returns : goal.returns
 returns c = λ above h.

@@ -5,7 +5,7 @@ use Rattle.inf_docs.specs.Depex.{with_terms}
 use Rattle.inf_docs.specs.Modules.{no_tables, with_rows}
 use Rattle.inf_docs.proofs.SectionLemmas.{section_more, parts_same}
 use Rattle.inf_docs.proofs.TableLemmas.{rows_join}
-use Rattle.inf_docs.proofs.module.ModuleFormatFormat.keep.Goals as goal
+use Rattle.inf_docs.proofs.module.ModuleFormatFormat.add_rows.Goals as goal
 
 pub returns : goal.returns
 returns c = λ above h.

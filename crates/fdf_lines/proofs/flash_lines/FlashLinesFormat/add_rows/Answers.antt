@@ -5,7 +5,7 @@ use Rattle.fdf_lines.specs.Counts.{one_if, begins_statement}
 use Rattle.fdf_lines.specs.Standing.{marks_with}
 use Rattle.fdf_lines.proofs.FormatLemmas.{reads_more, heads_kept, statements_kept}
 use Rattle.fdf_lines.proofs.StandingLemmas.{marks_more, volume_more}
-use Rattle.fdf_lines.proofs.flash_lines.FlashLinesFormat.keep.Goals as goal
+use Rattle.fdf_lines.proofs.flash_lines.FlashLinesFormat.add_rows.Goals as goal
 
 pub returns : goal.returns
 returns c = λ above h.

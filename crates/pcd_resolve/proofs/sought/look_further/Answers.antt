@@ -2,7 +2,7 @@ use Rattle.std.proofs.Common.{◌∙◌, map, ap, sym}
 use Rattle.std.specs.List.{list_any}
 use Rattle.pcd_resolve.specs.Sought.{is_open, sought_view}
 use Rattle.pcd_resolve.proofs.SoughtLemmas.{all_closed}
-use Rattle.pcd_resolve.proofs.sought.looked_further.Goals as goal
+use Rattle.pcd_resolve.proofs.sought.look_further.Goals as goal
 
 pub returns-then-not-any_open : goal.returns-then-not-any_open
 returns-then-not-any_open c =

@@ -1,4 +1,4 @@
-use Rattle.library_choice.proofs.search.InstanceSearch.wanted.Goals as goal
+use Rattle.library_choice.proofs.search.InstanceSearch.wanted_infs.Goals as goal
 
 pub invariant_of-search : goal.invariant_of-search
 invariant_of-search c = record {

@@ -5,7 +5,7 @@ use Rattle.doc_reading.specs.Grammar.{rows_of}
 use Rattle.dsc_lines.specs.Lines.{line_faults, line_row}
 use Rattle.dsc_lines.specs.Standing.{open_below}
 use Rattle.dsc_platform.specs.Stating.{names_of}
-use Rattle.dsc_platform.proofs.format.DscFormatFormat.below.Goals as goal
+use Rattle.dsc_platform.proofs.format.DscFormatFormat.read_line.Goals as goal
 
 pub returns : goal.returns
 returns c = λ above h.

@@ -1,6 +1,0 @@
-use Rattle.std.proofs.Common.{◌≡◌, map, take}
-use Rattle.pcd_resolve.specs.Sought.{begun, sought_view}
-use Rattle.pcd_resolve.proofs.sought.begun.Given as goal
-
-abbrev pub invariant-loop-name : goal.invariant-loop-name
-invariant-loop-name l = map sought_view l.all.items ≡ map (begun l.ask) (map (λ n. n.items) (take l.name-index l.names))
