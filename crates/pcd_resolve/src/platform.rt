@@ -19,7 +19,7 @@ use crate::faults::pcd_faults;
 use crate::groups::group;
 use crate::resolve::append;
 use crate::sku_tables::{SkuTables, tables_of};
-use crate::skus::{chosen, is_all, skus_known};
+use crate::skus::{chosen_skus, is_all, skus_known};
 use crate::sorted::names_of_modules;
 use crate::sought::{DeclarationSearch, declaration, sought_of};
 use crate::tables::{all_lines, all_sets};

@@ -18,7 +18,7 @@ use doc_types::values::Values;
 use meta_lexer::parts::field_texts;
 use module_steps::parts::{choice_at, out_at};
 use module_steps::{Setting, setting_of};
-use pcd_resolve::skus::chosen;
+use pcd_resolve::skus::chosen_skus;
 use shared_value::Shared;
 use std::alloc::Global;
 use step_pack::{Key, Out};
@@ -68,10 +68,10 @@ fn each_sku(alloc: Global, skus: &[&Sku]) -> Result<Rows<Sku>, WantOfMemory>
     Ok(rows)
 }
 
-fn chosen_skus(alloc: Global, names: &[Text], skus: &[Sku]) -> Result<Rows<Sku>, WantOfMemory>
+fn copies_of_chosen(alloc: Global, names: &[Text], skus: &[Sku]) -> Result<Rows<Sku>, WantOfMemory>
     ensures { IfOk result (λ rows. rows ≡ filter (is_chosen names.now) skus.now) }
 {
-    let picked = chosen(alloc, names, skus)?;
+    let picked = chosen_skus(alloc, names, skus)?;
     each_sku(alloc, picked.as_slice())
 }
 
@@ -80,7 +80,7 @@ fn report_skus(alloc: Global, platform: &PlatformDoc, sku: &[u8]) -> Result<Rows
     ensures { IfOk result (λ skus. skus ≡ report_skus platform.now sku.now) }
 {
     let names = wanted_names(alloc, sku, platform.sku_choice.bytes())?;
-    chosen_skus(alloc, names.items(), platform.skus.items())
+    copies_of_chosen(alloc, names.items(), platform.skus.items())
 }
 
 /// What stands at the head of a report, by the SKU that the words choose.
