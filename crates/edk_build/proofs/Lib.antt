@@ -1,3 +1,4 @@
+pub mod LabelLemmas
 pub mod WordLemmas
 pub mod BuildLemmas
 pub mod MadeLemmas
@@ -9,3 +10,4 @@ pub mod ReplayLemmas
 pub mod ScriptLemmas
 pub mod SelftestLemmas
 pub mod CompleteLemmas
+pub mod OneLemmas

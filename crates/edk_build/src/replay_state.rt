@@ -33,6 +33,7 @@ impl ReplayState {
 
 /// How the build of this number is told from the others: its outputs go below the folder of that
 /// name.
+#[tactic(auto, using(crate::proofs::LabelLemmas::decimal_is_path))]
 pub(crate) fn label_of(alloc: Global, number: u64) -> Result<Label, WantOfMemory>
     ensures { IfOk result (λ label. label ≡ label_of number) }
 {
@@ -42,6 +43,6 @@ pub(crate) fn label_of(alloc: Global, number: u64) -> Result<Label, WantOfMemory
             folder: Some(folder),
             tells_status: true,
         }),
-        None => Err(WantOfMemory),
+        None => unreachable!(),
     }
 }

@@ -1,6 +1,7 @@
 //! A selftest: three builds of a workspace in memory, the third after an edit.
 ghost use Rattle.std.specs.Prelude.{◌≡◌, ◌∷◌, [], ℕ, Some, true, IfOk, IfErr, OnOk};
 ghost use Rattle.build_base.specs.Outside.{Files, HasFailed};
+ghost use Rattle.build_base.specs.Path.{path_field};
 ghost use Rattle.step_engine.specs.Entries.{AreSound};
 ghost use Rattle.build_words.specs.Fields.{job_fields};
 ghost use Rattle.selftest_tree.specs.Tree.{workspace, edited_workspace};
@@ -22,6 +23,7 @@ use step_engine::{Cache, Edits};
 use step_pack::{Key, Out};
 use sure_objects::SureTree;
 
+#[tactic(auto, using(crate::proofs::LabelLemmas::platform_is_path))]
 fn files_wanted(alloc: Global) -> Result<job::Files, WantOfMemory>
     ensures { IfOk result (λ files. files ≡ selftest_job.files) }
 {
@@ -31,7 +33,7 @@ fn files_wanted(alloc: Global) -> Result<job::Files, WantOfMemory>
             flash: None,
             report: None,
         }),
-        None => Err(WantOfMemory),
+        None => unreachable!(),
     }
 }
 
@@ -67,6 +69,7 @@ fn selftest_fields(alloc: Global) -> Result<Rows<Text>, WantOfMemory>
 }
 
 fn label_named(alloc: Global, name: &[u8]) -> Result<Label, WantOfMemory>
+    requires { path_field name.now ≡ Some name.now }
     ensures { IfOk result (λ label. label ≡ label_named name.now) }
 {
     match path_field(alloc, name)? {
@@ -74,7 +77,7 @@ fn label_named(alloc: Global, name: &[u8]) -> Result<Label, WantOfMemory>
             folder: Some(folder),
             tells_status: false,
         }),
-        None => Err(WantOfMemory),
+        None => unreachable!(),
     }
 }
 
@@ -90,6 +93,7 @@ fn build_named<H: Threads + Sync, S: Sink, G: Gate>(
     gate: &G,
     book: &mut Book<Key>,
 ) -> Result<Cache<Key, Out>, Status>
+    requires name { path_field name.now ≡ Some name.now }
     requires fields { fields.now ≡ job_fields selftest_job }
     ensures done { (files : Files) → ⟦<SureTree as Tree>⟧.held tree.old ≡ Some files
         → AreSound means cache → IfOk result (λ next.

@@ -3,6 +3,7 @@ use Rattle.selftest_tree.specs.Tree.{edited_workspace}
 use Rattle.edk_build.proofs.SelftestLemmas.{stopped_early, series_stopped, series_more, series_ended}
 use Rattle.edk_build.specs.Selftest.{third_turn, WereBuilt}
 use Rattle.edk_build.specs.declared.status.Status.TheVariants as answer
+use Rattle.edk_build.proofs.LabelLemmas.{third_is_path}
 use Rattle.edk_build.proofs.selftest.build_third.Goals as goal
 
 pub returns-in_default-clause-built : goal.returns-in_default-clause-built
@@ -21,3 +22,6 @@ pub returns-in-Err-clause-built : goal.returns-in-Err-clause-built
 returns-in-Err-clause-built g c = λ n h s.
     series_stopped (third_turn n) [] c.in-Err.status c.args.cache c.args.book.now c.build_named.new.book (g.S.Sink.written c.args.sink.now) (g.S.Sink.written c.build_named.new.sink)
     (c.in-Err.ensures.stopped (edited_workspace n) (c.in-Ok.ensures n h) s)
+
+pub build_named-requires-clause-name : goal.build_named-requires-clause-name
+build_named-requires-clause-name g c = third_is_path

@@ -5,6 +5,7 @@ use Rattle.edk_build.proofs.ReplayLemmas.{none_sound}
 use Rattle.edk_build.proofs.SelftestLemmas.{stopped_early, series_stopped, series_more, series_status, status_usage, status_complete}
 use Rattle.edk_build.specs.Selftest.{first_turn, second_turn, third_turn, WereBuilt}
 use Rattle.edk_build.specs.declared.status.Status.TheVariants as answer
+use Rattle.edk_build.proofs.LabelLemmas.{first_is_path}
 use Rattle.edk_build.proofs.selftest.selftest.Goals as goal
 
 pub returns-in_default-clause-built : goal.returns-in_default-clause-built
@@ -60,3 +61,6 @@ returns-clause-complete g c =
 
 pub returns-clause-no_usage : goal.returns-clause-no_usage
 returns-clause-no_usage g c = status_usage c.in-Err.status (returns-clause-status g c)
+
+pub build_named-requires-clause-name : goal.build_named-requires-clause-name
+build_named-requires-clause-name g c = first_is_path
