@@ -28,7 +28,7 @@ use Rattle.fdf_words.specs.declared.rows.Scope.{Scope}
 use Rattle.fdf_words.specs.declared.rows.Scope.TheVariants as scope
 use Rattle.fdf_lines.specs.declared.section.FlashSection.{FlashSection}
 use Rattle.fdf_lines.specs.declared.section.FlashSection.TheVariants.{Defines, Device, Volume, Rule}
-use Rattle.fdf_lines.specs.declared.section.HeadMeaning.TheVariants.{Enters, BadQualifier}
+use Rattle.fdf_lines.specs.declared.section.HeadMeaning.TheVariants.{Section, BadQualifier}
 use Rattle.fdf_lines.specs.Counts.{count_of, one_if, same_section, one_scope, scopes_in, heads_above, is_named, one_head, heads_here, is_statement, begins_statement, statements_in, lines_here, statements_here}
 use Rattle.fdf_lines.specs.Grammar.{line_faults, line_row, is_full, many_fault, open_fault, unfiled_fault, flash_grammar}
 use Rattle.fdf_lines.specs.Holding.{Holds}
@@ -52,9 +52,9 @@ no_more n = omega arith
 same_count : (n : ℕ) → n ≤ n
 same_count n = omega arith
 
-if_enters : (section : FlashSection) (t : Bool) (s : Scope) → scopes_of section (meaning_scope (if t then Enters s else BadQualifier)) ≤ one_scope section s
-if_enters section true s = same_count (one_scope section s)
-if_enters section false s = no_more (one_scope section s)
+if_section : (section : FlashSection) (t : Bool) (s : Scope) → scopes_of section (meaning_scope (if t then Section s else BadQualifier)) ≤ one_scope section s
+if_section section true s = same_count (one_scope section s)
+if_section section false s = no_more (one_scope section s)
 
 plain_scopes : (section : FlashSection) (qualifiers : List (List ℕ)) → scopes_of section (meaning_scope (plain_meaning qualifiers)) ≤ one_if (same_section Defines section)
 plain_scopes section [] = same_count (one_if (same_section Defines section))
@@ -62,12 +62,12 @@ plain_scopes section (q ∷ qualifiers) = no_more (one_if (same_section Defines 
 
 device_scopes : (section : FlashSection) (qualifiers : List (List ℕ)) → scopes_of section (meaning_scope (device_meaning qualifiers)) ≤ one_if (same_section Device section)
 device_scopes section [] = no_more (one_if (same_section Device section))
-device_scopes section (name ∷ []) = if_enters section (is_image_name name) (scope.Device name)
+device_scopes section (name ∷ []) = if_section section (is_image_name name) (scope.Device name)
 device_scopes section (name ∷ q ∷ qualifiers) = no_more (one_if (same_section Device section))
 
 volume_scopes : (section : FlashSection) (qualifiers : List (List ℕ)) → scopes_of section (meaning_scope (volume_meaning qualifiers)) ≤ one_if (same_section Volume section)
 volume_scopes section [] = no_more (one_if (same_section Volume section))
-volume_scopes section (name ∷ []) = if_enters section (is_image_name name) (scope.Volume name)
+volume_scopes section (name ∷ []) = if_section section (is_image_name name) (scope.Volume name)
 volume_scopes section (name ∷ q ∷ qualifiers) = no_more (one_if (same_section Volume section))
 
 rule_made : (section : FlashSection) (arch : Option Arch) (kind : Option ModuleType) (named : Bool) (template name : List ℕ)
