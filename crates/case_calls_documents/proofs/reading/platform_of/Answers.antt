@@ -8,4 +8,4 @@ shaped (Ok q) p shape same = subst (λ x. HasShape x) (sym same) shape
 shaped (Err stop) p shape same = tt
 
 pub returns : goal.returns
-returns c = shaped c.copied.result c.in_ok-platform.platform c.in_ok-platform.ensures c.copied.ensures
+returns c = shaped c.checked_copy.result c.in_ok-platform.platform c.in_ok-platform.ensures c.checked_copy.ensures

@@ -9,4 +9,4 @@ ended (Ok copy) ask platform ends is same = subst (λ a. SkusEnd a.platform.skus
 ended (Err stop) ask platform ends is same = tt
 
 pub returns : goal.returns
-returns c = ended c.copied.result c.in_ok-ask.ask c.in_ok-platform.platform c.in_ok-platform.ensures c.in_ok-ask.ensures c.copied.ensures
+returns c = ended c.checked_copy.result c.in_ok-ask.ask c.in_ok-platform.platform c.in_ok-platform.ensures c.in_ok-ask.ensures c.checked_copy.ensures
