@@ -11,3 +11,4 @@ pub mod ScriptLemmas
 pub mod SelftestLemmas
 pub mod CompleteLemmas
 pub mod OneLemmas
+pub mod PlainLemmas

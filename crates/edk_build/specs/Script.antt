@@ -1,5 +1,5 @@
 -- The script of a replay. The rule is this project's own.
-use Rattle.std.specs.Prelude.{◌≡◌, ℕ, true, nat_le, List, [], ◌∷◌, ◌++◌, All, Option, Some, None, codes, if◌then◌else◌}
+use Rattle.std.specs.Prelude.{◌≡◌, ℕ, Bool, true, nat_le, List, [], ◌∷◌, ◌++◌, All, Option, Some, None, codes, if◌then◌else◌}
 use Rattle.std.specs.List.{list_all}
 use Rattle.std.specs.Option.{option_map}
 use Rattle.build_base.specs.Path.{path_field}
@@ -37,6 +37,10 @@ order_of words = build_of words
 abbrev pub content_of : List (List ℕ) → Option (Option ScriptCommand)
 content_of [] = Some None
 content_of (word ∷ words) = option_map Some (order_of (word ∷ words))
+
+-- words of plain bytes
+abbrev pub are_plain : List (List ℕ) → Bool
+are_plain words = list_all (λ word. list_all is_plain word) words
 
 -- what a line of plain bytes holds, where it is in the grammar
 abbrev pub content_in : List ℕ → Option (Option ScriptCommand)

@@ -1,8 +1,9 @@
 //! The script of a replay.
-ghost use Rattle.std.specs.Prelude.{◌≡◌, ◌≤◌, ◌++◌, ℕ, IfOk, OnOk, IfSome, map, string_bytes};
+ghost use Rattle.std.specs.Prelude.{◌≡◌, ◌≤◌, ◌++◌, ℕ, true, IfOk, OnOk, IfSome, map, string_bytes};
 ghost use Rattle.build_base.specs.Path.{path_field};
-ghost use Rattle.meta_lexer.specs.Lines.{piece_of};
-ghost use Rattle.edk_build.specs.Script.{put_of, drop_of, build_of, order_of, content_of, content_in, line_content, lines_at, script_of};
+ghost use Rattle.std.specs.List.{list_all};
+ghost use Rattle.meta_lexer.specs.Lines.{is_plain, piece_of};
+ghost use Rattle.edk_build.specs.Script.{are_plain, put_of, drop_of, build_of, order_of, content_of, content_in, line_content, lines_at, script_of};
 
 use build_base::path::path_field;
 use build_base::{Path, Rows, Text, WantOfMemory};
@@ -53,16 +54,19 @@ fn drop_of(alloc: Global, path: &[u8]) -> Result<Option<ScriptCommand>, WantOfMe
 }
 
 // A word; its bytes are plain, and so they are UTF-8.
+#[tactic(auto, using(crate::proofs::PlainLemmas::plain_utf8))]
 fn string_of(alloc: Global, word: &Text) -> Result<String, WantOfMemory>
+    requires { list_all is_plain word.now ≡ true }
     ensures { IfOk result (λ string. string_bytes string ≡ word.now) }
 {
     match str::from_utf8(word.bytes()) {
         Ok(text) => Ok(String::from_str(alloc, text)?),
-        Err(_) => Err(WantOfMemory),
+        Err(_) => unreachable!(),
     }
 }
 
 fn strings_of(alloc: Global, words: &[Text]) -> Result<Vec<String>, WantOfMemory>
+    requires { are_plain words.now ≡ true }
     ensures { IfOk result (λ strings. map string_bytes strings.items ≡ words.now) }
 {
     let mut strings = Vec::new(alloc);
@@ -75,6 +79,7 @@ fn strings_of(alloc: Global, words: &[Text]) -> Result<Vec<String>, WantOfMemory
 }
 
 fn build_of(alloc: Global, words: &[Text]) -> Result<Option<ScriptCommand>, WantOfMemory>
+    requires { are_plain words.now ≡ true }
     ensures { IfOk result (λ order. order ≡ build_of words.now) }
 {
     let strings = strings_of(alloc, words)?;
@@ -86,6 +91,7 @@ fn build_of(alloc: Global, words: &[Text]) -> Result<Option<ScriptCommand>, Want
 
 #[tactic(auto, unfolding(crate::specs::Script::order_of))]
 fn order_of(alloc: Global, words: &[Text]) -> Result<Option<ScriptCommand>, WantOfMemory>
+    requires { are_plain words.now ≡ true }
     ensures { IfOk result (λ order. order ≡ order_of words.now) }
 {
     match words {
@@ -106,6 +112,7 @@ fn order_of(alloc: Global, words: &[Text]) -> Result<Option<ScriptCommand>, Want
 }
 
 fn content_of(alloc: Global, words: &[Text]) -> Result<Option<Option<ScriptCommand>>, WantOfMemory>
+    requires { are_plain words.now ≡ true }
     ensures { IfOk result (λ content. content ≡ content_of words.now) }
 {
     if words.is_empty() {
@@ -118,6 +125,7 @@ fn content_of(alloc: Global, words: &[Text]) -> Result<Option<Option<ScriptComma
 }
 
 // What a line holds, or nothing where it isn't in the grammar.
+#[tactic(auto, using(crate::proofs::PlainLemmas::words_plain))]
 fn content_in(alloc: Global, text: &[u8]) -> Result<Option<Option<ScriptCommand>>, WantOfMemory>
     ensures { IfOk result (λ content. content ≡ content_in text.now) }
 {
