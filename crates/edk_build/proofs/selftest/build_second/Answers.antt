@@ -18,4 +18,4 @@ returns-in-Err-clause-built g c = λ n h s.
     (g.S.Sink.written c.build_named.new.sink) (c.in-Err.ensures.stopped (workspace n) h s)
 
 pub build_named-requires-clause-name : goal.build_named-requires-clause-name
-build_named-requires-clause-name g c = second_is_path
+build_named-requires-clause-name g c κs within = second_is_path

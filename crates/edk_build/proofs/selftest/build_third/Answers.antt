@@ -24,4 +24,4 @@ returns-in-Err-clause-built g c = λ n h s.
     (c.in-Err.ensures.stopped (edited_workspace n) (c.in-Ok.ensures n h) s)
 
 pub build_named-requires-clause-name : goal.build_named-requires-clause-name
-build_named-requires-clause-name g c = third_is_path
+build_named-requires-clause-name g c κs within = third_is_path

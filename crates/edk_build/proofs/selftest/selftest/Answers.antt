@@ -63,4 +63,4 @@ pub returns-clause-no_usage : goal.returns-clause-no_usage
 returns-clause-no_usage g c = status_usage c.in-Err.status (returns-clause-status g c)
 
 pub build_named-requires-clause-name : goal.build_named-requires-clause-name
-build_named-requires-clause-name g c = first_is_path
+build_named-requires-clause-name g c κs within = first_is_path
