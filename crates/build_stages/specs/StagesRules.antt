@@ -9,7 +9,7 @@ use Rattle.std.proofs.lemmas.Map.Lookups.{CmpEqualImpliesEq, exact_bytes, exact_
 use Rattle.std.proofs.lemmas.Map.Views.{tells_apart}
 use Rattle.build_base.specs.World.{World}
 use Rattle.build_base.specs.declared.fault.Fault.{Fault}
-use Rattle.step_engine.specs.Meaning.{right, asks_of, Follows, IsRight, IsWorld}
+use Rattle.step_engine.specs.Meaning.{right, asks_of, IsRight, IsWorld}
 use Rattle.step_engine.specs.Turns.{AreLawful, IsTurn}
 use Rattle.step_engine.specs.declared.rules.Turn.TheVariants as turn
 use Rattle.build_base.specs.declared.book.Permit.{Permit}
@@ -54,17 +54,17 @@ wanted_is (Err (wants as_)) asks e = let same : as_ ≡ asks = cc in ap (λ l. E
 pub staged_is_lawful : {K O : Type 0} (cmp : K → K → Ordering) (c : Staged K O) → IsTotalOrder cmp
     → CmpEqualImpliesEq cmp → AreBounded c → AreLawful (meaning_of cmp c)
 staged_is_lawful {K} {O} cmp c total key staged = record {
-  is_new = λ k talk asks b a f n h d g.
+  is_new = λ k talk asks b a n h d g.
       let t : is_some (known_in (same_ask cmp) talk a) ≡ true =
       talk_has (same_ask cmp) (asks_exact cmp total key) talk b a d g in
       let e : is_some (known_in (same_ask cmp) talk a) ≡ false =
       wants_new (same_ask cmp) c.fits (known_in (same_ask cmp) talk) (c.stages k) asks
       (wanted_is (turned cmp c k talk) asks n) a h in
       absurd (cc);
-  lower = λ k part talk asks f n h.
+  lower = λ k part talk asks n h.
       wants_lower (same_ask cmp) c.fits c.rank (c.rank k) (known_in (same_ask cmp) talk)
       (c.stages k) asks (staged.lower k) (wanted_is (turned cmp c k talk) asks n) (ask.Part part) h;
-  falls = λ k talk b f n s. left_falls (same_ask cmp) (asks_exact cmp total key) c.fits
+  falls = λ k talk b n s. left_falls (same_ask cmp) (asks_exact cmp total key) c.fits
       (known_in (same_ask cmp) talk) (known_in (same_ask cmp) (talk ++ b ∷ []))
       (talk_grows (same_ask cmp) talk b) (c.most k) (c.stages k) (asks_of b.pairs)
       (staged.within k) (wanted_is (turned cmp c k talk) (asks_of b.pairs) n)
@@ -76,11 +76,11 @@ pub ends_ok : {K O : Type 0} (cmp : K → K → Ordering) (c : Staged K O) → I
     → CmpEqualImpliesEq cmp → AreBounded c → (k : K) (talk : List (Batch K O)) (r : O)
     → turned cmp c k talk ≡ Ok r
     → ((meaning_of cmp c).next k talk ≡ None)
-    × ((w : World) → IsWorld (meaning_of cmp c) w → Follows (meaning_of cmp c) k talk
-    → IsRight (meaning_of cmp c) w talk → (meaning_of cmp c).value k w ≡ Good r)
+    × ((w : World) → IsWorld (meaning_of cmp c) w → IsRight (meaning_of cmp c) w talk
+    → (meaning_of cmp c).value k w ≡ Good r)
 ends_ok {K} {O} cmp c total key staged k talk r e = (
   ap wanted_in e,
-  λ w i f h. value_is cmp c staged w k
+  λ w i h. value_is cmp c staged w k
       ∙ ap outcome_of (advance_run (same_ask cmp) c.fits (known_in (same_ask cmp) talk)
       (right (meaning_of cmp c) w)
       (talk_agrees (meaning_of cmp c) w (same_ask cmp) (asks_exact cmp total key) talk h)
@@ -91,11 +91,11 @@ pub ends_bad : {K O : Type 0} (cmp : K → K → Ordering) (c : Staged K O) → 
     → CmpEqualImpliesEq cmp → AreBounded c → (k : K) (talk : List (Batch K O)) (fault : Fault)
     → turned cmp c k talk ≡ Err (fails fault)
     → ((meaning_of cmp c).next k talk ≡ None)
-    × ((w : World) → IsWorld (meaning_of cmp c) w → Follows (meaning_of cmp c) k talk
-    → IsRight (meaning_of cmp c) w talk → (meaning_of cmp c).value k w ≡ Bad fault)
+    × ((w : World) → IsWorld (meaning_of cmp c) w → IsRight (meaning_of cmp c) w talk
+    → (meaning_of cmp c).value k w ≡ Bad fault)
 ends_bad {K} {O} cmp c total key staged k talk fault e = (
   ap wanted_in e,
-  λ w i f h. value_is cmp c staged w k
+  λ w i h. value_is cmp c staged w k
       ∙ ap outcome_of (advance_fails (same_ask cmp) c.fits (known_in (same_ask cmp) talk)
       (right (meaning_of cmp c) w)
       (talk_agrees (meaning_of cmp c) w (same_ask cmp) (asks_exact cmp total key) talk h)

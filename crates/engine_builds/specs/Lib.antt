@@ -1,2 +1,2 @@
 pub mod SmallRules
-pub mod SmallLaws
+pub mod SmallBounds

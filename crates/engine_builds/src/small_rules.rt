@@ -1,34 +1,74 @@
 //! The rules of the tests: a step asks for a file and a field, or for the outcomes of step 0 and of
 //! the step before it.
 ghost use Rattle.std.specs.Prelude.{◌≡◌, ◌∷◌, ◌++◌, [], IfOk};
-ghost use Rattle.engine_builds.specs.SmallRules.{first_ask, second_ask, path_of, absent, whole_file, together, finish, finish_pairs, is_file};
-ghost use Rattle.step_engine.specs.declared.talk.Outcome.TheVariants.{Good, Bad};
+ghost use Rattle.build_stages.specs.Gives.{GivesIn};
+ghost use Rattle.engine_builds.specs.SmallRules.{first_ask, second_ask, path_of, absent, with_field, file_given, parts_given, step_given};
 
 use build_base::book::Permit;
 use build_base::fault::{Fault, Place};
 use build_base::fault_codes::FILE_ABSENT;
 use build_base::path::Path;
 use build_base::rows::Rows;
-use build_base::same::Same;
 use build_base::text::{Text, WantOfMemory};
-use shared_value::Shared;
+use build_stages::{Given, Known, StagedRules, StepTypes, Stop, gather, turn_by};
 use std::alloc::Global;
-use step_engine::{Answer, Ask, Outcome, Pair, Rules, Talk, Turn};
+use step_engine::{Answer, Ask, Rules, Talk, Turn};
 
 pub struct SmallRules;
 
-impl Rules for SmallRules {
+impl StepTypes for SmallRules {
     ghost use Rattle.engine_builds.specs.SmallRules.{small};
-    ghost use Rattle.engine_builds.specs.SmallLaws.{small_is_lawful};
 
     type Key = u32;
 
     type Out = Text;
 
-    ghost means = { small };
+    ghost staged = { small };
+
+    fn fits(&self, _ask: &Ask<u32>, _answer: &Answer<Text>) -> bool {
+        true
+    }
+}
+
+impl StagedRules for SmallRules {
+    ghost use Rattle.engine_builds.specs.SmallBounds.{small_is_bounded};
 
     fn rank(&self, key: &u32) -> u64 {
         (*key as u64).saturating_sub(1)
+    }
+
+    fn outcome(
+        &self,
+        alloc: Global,
+        key: &u32,
+        known: &Known<'_, u32, Text>,
+        permit: Permit,
+    ) -> Result<Text, Stop<u32>> {
+        let asks = asks(alloc, *key)?;
+        let (given, _permit) = gather(alloc, self, known, asks.items(), permit)?;
+        step_given(alloc, *key, &given)
+    }
+
+    ghost bounded = { small_is_bounded };
+}
+
+impl Rules for SmallRules {
+    ghost use Rattle.std.specs.Cmp.{nat_cmp_total};
+    ghost use Rattle.std.specs.Ordering.{nat_cmp};
+    ghost use Rattle.std.proofs.lemmas.Map.Lookups.{exact_unsigned};
+    ghost use Rattle.build_stages.specs.Stages.{meaning_of};
+    ghost use Rattle.build_stages.specs.StagesRules.{staged_is_lawful};
+    ghost use Rattle.engine_builds.specs.SmallRules.{small};
+    ghost use Rattle.engine_builds.specs.SmallBounds.{small_is_bounded};
+
+    type Key = u32;
+
+    type Out = Text;
+
+    ghost means = { meaning_of nat_cmp small };
+
+    fn rank(&self, key: &u32) -> u64 {
+        StagedRules::rank(self, key)
     }
 
     fn turn(
@@ -38,13 +78,10 @@ impl Rules for SmallRules {
         talk: &Talk<u32, Text>,
         permit: Permit,
     ) -> Result<Turn<u32, Text>, WantOfMemory> {
-        match talk.batches.items().first() {
-            None => Ok(Turn::Ask(asks(alloc, *key)?, permit)),
-            Some(batch) => Ok(Turn::Done(done(alloc, *key, batch.pairs.items())?)),
-        }
+        turn_by(alloc, self, key, talk, permit)
     }
 
-    ghost lawful = { small_is_lawful };
+    ghost lawful = { staged_is_lawful nat_cmp small nat_cmp_total exact_unsigned small_is_bounded };
 }
 
 fn path(alloc: Global, key: u32) -> Result<Path, WantOfMemory>
@@ -75,87 +112,60 @@ fn asks(alloc: Global, key: u32) -> Result<Rows<Ask<u32>>, WantOfMemory>
     Ok(asks)
 }
 
-fn absent(alloc: Global, key: u32) -> Result<Outcome<Text>, WantOfMemory>
-    ensures { IfOk result (λ outcome. outcome ≡ Bad (absent key)) }
+fn absent(alloc: Global, key: u32) -> Result<Fault, WantOfMemory>
+    ensures { IfOk result (λ fault. fault ≡ absent key) }
 {
     let place = Place {
         path: path(alloc, key)?,
         line: 0,
     };
     let detail = Text::of(alloc, b"")?;
-    let fault = Fault {
+    Ok(Fault {
         code: FILE_ABSENT,
         place,
         detail,
-    };
-    Ok(Outcome::Bad(Shared::new(alloc, fault)?))
+    })
 }
 
-fn join_files(alloc: Global, first: &Text, second: &Text) -> Result<Outcome<Text>, WantOfMemory>
-    ensures { IfOk result (λ outcome. outcome ≡ Good (first.now ++ second.now)) }
+fn join_texts(alloc: Global, first: &Text, second: &Text) -> Result<Text, WantOfMemory>
+    ensures { IfOk result (λ text. text ≡ first.now ++ second.now) }
 {
     let mut bytes = Vec::from_slice(alloc, first.bytes())?;
     bytes.extend_from_slice(second.bytes())?;
-    Ok(Outcome::Good(Shared::new(alloc, Text::from_vec(bytes))?))
+    Ok(Text::from_vec(bytes))
 }
 
-fn whole_file(
-    alloc: Global,
-    key: u32,
-    first: &Answer<Text>,
-    second: &Answer<Text>,
-) -> Result<Outcome<Text>, WantOfMemory>
-    ensures { IfOk result (λ outcome. outcome ≡ whole_file key first.now second.now) }
+fn with_field(alloc: Global, key: u32, file: &Answer<Text>, more: &Text) -> Result<Text, Stop<u32>>
+    ensures { GivesIn (λ text. text) result (with_field key file.now more.now) }
 {
-    match (first, second) {
-        (Answer::Bytes(bytes), Answer::Field(more)) => join_files(
-            alloc,
-            bytes.value(),
-            more.value(),
-        ),
-        _ => absent(alloc, key),
+    match file {
+        Answer::Bytes(bytes) => Ok(join_texts(alloc, bytes.value(), more)?),
+        _ => Err(Stop::Fails(absent(alloc, key)?)),
     }
 }
 
-fn together(
-    alloc: Global,
-    key: u32,
-    first: &Answer<Text>,
-    second: &Answer<Text>,
-) -> Result<Outcome<Text>, WantOfMemory>
-    ensures { IfOk result (λ outcome. outcome ≡ together key first.now second.now) }
+fn file_given(alloc: Global, key: u32, given: &Given<'_, Text>) -> Result<Text, Stop<u32>>
+    ensures { GivesIn (λ text. text) result (file_given key given.now) }
 {
-    match (first, second) {
-        (Answer::Part(Outcome::Bad(fault)), _) => Ok(Outcome::Bad(fault.copy(alloc)?)),
-        (Answer::Part(Outcome::Good(_)), Answer::Part(Outcome::Bad(fault))) => {
-            Ok(Outcome::Bad(fault.copy(alloc)?))
-        }
-        (Answer::Part(Outcome::Good(bytes)), Answer::Part(Outcome::Good(more))) => {
-            join_files(alloc, bytes.value(), more.value())
-        }
-        _ => absent(alloc, key),
-    }
+    let file = given.file(0)?;
+    let more = given.field(1)?;
+    with_field(alloc, key, file, more)
 }
 
-fn finish(
-    alloc: Global,
-    key: u32,
-    first: &Answer<Text>,
-    second: &Answer<Text>,
-) -> Result<Outcome<Text>, WantOfMemory>
-    ensures { IfOk result (λ outcome. outcome ≡ finish key first.now second.now) }
+fn parts_given(alloc: Global, given: &Given<'_, Text>) -> Result<Text, Stop<u32>>
+    ensures { GivesIn (λ text. text) result (parts_given given.now) }
+{
+    let first = given.part(0)?;
+    let second = given.part(1)?;
+    Ok(join_texts(alloc, first, second)?)
+}
+
+fn step_given(alloc: Global, key: u32, given: &Given<'_, Text>) -> Result<Text, Stop<u32>>
+    ensures { GivesIn (λ text. text) result (step_given key given.now) }
 {
     if key < 2 {
-        return whole_file(alloc, key, first, second);
+        file_given(alloc, key, given)
+    } else {
+        parts_given(alloc, given)
     }
-    together(alloc, key, first, second)
-}
-
-fn done(alloc: Global, key: u32, pairs: &[Pair<u32, Text>]) -> Result<Outcome<Text>, WantOfMemory>
-    ensures { IfOk result (λ outcome. outcome ≡ finish_pairs key pairs.now) }
-{
-    if pairs.len() < 2 {
-        return absent(alloc, key);
-    }
-    finish(alloc, key, &pairs[0].answer, &pairs[1].answer)
 }

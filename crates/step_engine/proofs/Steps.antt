@@ -270,7 +270,7 @@ checking_batch_high {K} {O} s law k part h1 c0 c1 x y items pairs i p way e l g 
   wrong = λ f w h a.
       let n = next w h in
       let c : Contains (asks_of pairs) (ask.Part part) = subst (λ (a : Ask K). Contains (asks_of pairs) a) q (asks_have pairs p (item_in items pairs i p e l g)) in
-      absurd (omega (arith, law.lower k part n.talk (asks_of pairs) n.follows n.next c, high));
+      absurd (omega (arith, law.lower k part n.talk (asks_of pairs) n.next c, high));
 }
 
 -- a run

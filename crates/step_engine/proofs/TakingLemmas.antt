@@ -28,7 +28,7 @@ pub adv_taken : {K O : Type 0} (s : Setting K O) (k : K) (talk : Talk K O) (turn
 adv_taken s k talk (turn.Ask asks permit) y t u fresh r q run n h = rw (h.0, h.1, h.2) (record { act = act_none s k y t q; item = (record { running = run; next = n }, refl) })
 adv_taken {K} {O} s k talk (turn.Done result) y t u fresh r q run n h =
     let e : Entry K O = record { key = k; talk = talk; result = result } in
-    let sound : IsSound s.means e = record { follows = run.follows; ends = n.0; value = λ w j v. n.1 w j run.follows v } in
+    let sound : IsSound s.means e = record { follows = run.follows; ends = n.0; value = λ w j v. n.1 w j v } in
     rw h.0 (record { act = act_new s k e y t u fresh refl q sound run.right run.parts h.1; item = tt })
 
 -- one more key, whatever is left of it
