@@ -49,3 +49,10 @@ te_bytes head =
     ++ little_bytes 2 head.stripped
     ++ little_bytes 4 head.entry ++ little_bytes 4 head.code ++ little_bytes 8 head.base
     ++ directory_bytes head.relocation ++ directory_bytes head.debug
+
+-- what stands in front of ImageBase
+unfoldable pub front_bytes : TeHead → List ℕ
+front_bytes head =
+    codes "VZ" ++ little_bytes 2 head.machine ++ (head.sections ∷ head.subsystem ∷ [])
+    ++ little_bytes 2 head.stripped
+    ++ little_bytes 4 head.entry ++ little_bytes 4 head.code

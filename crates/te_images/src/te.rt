@@ -2,7 +2,7 @@
 ghost use Rattle.std.specs.Prelude.{◌≡◌, ◌≤◌, length, drop, IfOk};
 ghost use Rattle.te_images.specs.Headers.{AreHeaders};
 ghost use Rattle.te_images.specs.Pe.{section_table, number_of_sections, subsystem};
-ghost use Rattle.te_images.specs.Te.{te_limits, te_head_of, te_of, te_bytes};
+ghost use Rattle.te_images.specs.Te.{te_limits, te_head_of, te_of, te_bytes, front_bytes, directory_bytes};
 ghost use Rattle.build_base.specs.First.{first_holding, unless};
 
 use crate::fault::PeFault;
@@ -106,11 +106,24 @@ fn head_of(file: &[u8], headers: PeHeaders) -> TeHead
 
 impl TeHead {
     /// The header as it stands at the front of the TE image.
-    #[tactic(auto, unfolding(crate::specs::Te::te_bytes))]
+    #[tactic(auto, unfolding(crate::specs::Te::te_bytes, crate::specs::Te::front_bytes))]
     pub fn bytes(&self) -> [u8; 40]
         ensures { result ≡ te_bytes self.now }
     {
         let mut bytes = [0; 40];
+        bytes[..16].copy_from_slice(&self.front());
+        LittleEndian::write_u64(&mut bytes[16..], self.base);
+        bytes[24..32].copy_from_slice(&directory_bytes(self.relocation));
+        bytes[32..].copy_from_slice(&directory_bytes(self.debug));
+        bytes
+    }
+
+    // What stands in front of ImageBase.
+    #[tactic(auto, unfolding(crate::specs::Te::front_bytes))]
+    fn front(&self) -> [u8; 16]
+        ensures { result ≡ front_bytes self.now }
+    {
+        let mut bytes = [0; 16];
         bytes[0] = b'V';
         bytes[1] = b'Z';
         LittleEndian::write_u16(&mut bytes[2..], self.machine);
@@ -119,11 +132,16 @@ impl TeHead {
         LittleEndian::write_u16(&mut bytes[6..], self.stripped);
         LittleEndian::write_u32(&mut bytes[8..], self.entry);
         LittleEndian::write_u32(&mut bytes[12..], self.code);
-        LittleEndian::write_u64(&mut bytes[16..], self.base);
-        LittleEndian::write_u32(&mut bytes[24..], self.relocation[0]);
-        LittleEndian::write_u32(&mut bytes[28..], self.relocation[1]);
-        LittleEndian::write_u32(&mut bytes[32..], self.debug[0]);
-        LittleEndian::write_u32(&mut bytes[36..], self.debug[1]);
         bytes
     }
+}
+
+// The address and the size of a data directory.
+fn directory_bytes(pair: [u32; 2]) -> [u8; 8]
+    ensures { result ≡ directory_bytes pair }
+{
+    let mut bytes = [0; 8];
+    LittleEndian::write_u32(&mut bytes, pair[0]);
+    LittleEndian::write_u32(&mut bytes[4..], pair[1]);
+    bytes
 }
