@@ -14,6 +14,7 @@ pub mod SourceLemmas
 pub mod TableLemmas
 pub mod FrameEnds
 pub mod FileTurns
+pub mod IncludeLemmas
 pub mod MoreAnswersLaw
 pub mod CountGrowth
 pub mod CountBound

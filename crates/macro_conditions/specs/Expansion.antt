@@ -201,6 +201,21 @@ abbrev pub included_by : (List ℕ → List ℕ → List ℕ → Result Env Stop
 included_by enter known line field =
     at_path enter known line field (path_field (without_workspace field))
 
+-- the path that an include states
+abbrev pub path_stated : Line → List ℕ → Option (List ℕ) → Result (List ℕ) Stop
+path_stated line field None = Err (bad (fault_at BAD_PATH line field))
+path_stated line field (Some path) = Ok path
+
+abbrev pub include_path : Line → List ℕ → Result (List ℕ) Stop
+include_path line field = path_stated line field (path_field (without_workspace field))
+
+-- the place and the bytes of the file that an include of this path finds
+abbrev pub included_file : Line → List ℕ → Located → Result (List ℕ × List ℕ) Stop
+included_file line path (wanted p) = Err (need p)
+included_file line path missing = Err (bad (fault_at INCLUDE_ABSENT line path))
+included_file line path (over_limit p) = Err (too_long p)
+included_file line path (there p bytes) = Ok (p, bytes)
+
 abbrev pub is_open : List ℕ → Env → Bool
 is_open path e = list_any (same_text path) e.open_files
 

@@ -7,8 +7,8 @@ ghost use Rattle.build_base.specs.FaultText.{fault_of};
 ghost use Rattle.macro_conditions.specs.Macros.{same_text};
 ghost use Rattle.macro_conditions.specs.LineMeaning.{file_of};
 ghost use Rattle.macro_conditions.specs.LineStack.{step};
-ghost use Rattle.macro_conditions.specs.Sources.{answer, without_workspace};
-ghost use Rattle.macro_conditions.specs.Expansion.{bad, settled, hex_digit, spot_detail, lines_read, line_at, place_of, acts, included, entered, include_field, file_lines, is_open, too_long, inside, rooted, begun, document, expansion, Stop};
+ghost use Rattle.macro_conditions.specs.Sources.{answer, places, located, without_workspace};
+ghost use Rattle.macro_conditions.specs.Expansion.{bad, settled, hex_digit, spot_detail, lines_read, line_at, place_of, acts, included, entered, include_field, include_path, included_file, file_lines, is_open, too_long, inside, rooted, begun, document, expansion, Stop};
 ghost use Rattle.build_base.specs.declared.outside.Got.{Got as Gotten};
 ghost use Rattle.macro_conditions.specs.Worlds.{told, AgreesWith, HoldsIn};
 ghost use Rattle.macro_conditions.specs.Work.{source_view, located_view, env_of, left_last, state_of, Halts, stop_in, Agrees, Expands};
@@ -247,9 +247,50 @@ fn leave(work: &mut Work)
     let _ = work.open_files.pop();
 }
 
+// The path that an include states.
+fn include_path(
+    alloc: Global,
+    given: Given<'_>,
+    work: &Work,
+    line: SourceLine<'_>,
+) -> Result<Path, Stopped>
+    ensures { Agrees (λ path. path) result
+        (include_path (source_view line.entry)
+        (include_field given.entry.fixed.now (source_view line.entry) (env_of work.now))) }
+{
+    let field = replace(
+        alloc,
+        Undefined::Kept,
+        work.scope(given.fixed),
+        directive_rest(line.text),
+    )?;
+    match path_field(alloc, without_workspace(field.as_slice()))? {
+        Some(path) => Ok(path),
+        None => Err(bad(alloc, BAD_PATH, line, field.as_slice())),
+    }
+}
+
+// The place and the bytes of the file that an include of this path finds.
+fn included_file<'a>(
+    alloc: Global,
+    known: &'a [Known],
+    line: SourceLine<'_>,
+    path: &Path,
+) -> Result<(Path, &'a [u8]), Stopped>
+    ensures { Agrees (λ found. (found.0, found.1.now)) result
+        (included_file (source_view line.entry) path.now
+        (located (answer known.now) (places line.entry.path.now path.now))) }
+{
+    match locate(alloc, known, line.path, path)? {
+        Located::Wanted(place) => Err(Stopped::Need(place)),
+        Located::Missing => Err(bad(alloc, INCLUDE_ABSENT, line, path.bytes())),
+        Located::OverLimit(place) => Err(too_long(alloc, &place)),
+        Located::There(place, bytes) => Ok((place, bytes)),
+    }
+}
+
 // An include, where so many files more may be open.
 #[cycle(files)]
-#[tactic(auto, unfolding(crate::specs::Expansion::included, crate::specs::Expansion::entered))]
 fn include(
     alloc: Global,
     given: Given<'_>,
@@ -262,22 +303,15 @@ fn include(
         (source_view line.entry) (env_of work.old)) }
     ensures open_files { OnOk result (work.new.open_files.items ≡ work.old.open_files.items) }
 {
-    let field = replace(
-        alloc,
-        Undefined::Kept,
-        work.scope(given.fixed),
-        directive_rest(line.text),
-    )?;
-    let Some(path) = path_field(alloc, without_workspace(field.as_slice()))? else {
-        return Err(bad(alloc, BAD_PATH, line, field.as_slice()));
+    let path = match include_path(alloc, given, work, line) {
+        Ok(path) => path,
+        Err(stopped) => return Err(stopped),
     };
-    match locate(alloc, given.known, line.path, &path)? {
-        Located::Wanted(place) => Err(Stopped::Need(place)),
-        Located::Missing => Err(bad(alloc, INCLUDE_ABSENT, line, path.bytes())),
-        Located::OverLimit(place) => Err(too_long(alloc, &place)),
-        Located::There(place, bytes) => {
+    match included_file(alloc, given.known, line, &path) {
+        Ok((place, bytes)) => {
             open_included(alloc, given, work, levels, line, &path, &place, bytes)
         }
+        Err(stopped) => Err(stopped),
     }
 }
 
