@@ -1,6 +1,6 @@
 -- One more turn, and the last draw.
 use Rattle.std.proofs.Common.{rules, arith, sym, ap, ◌∙◌, slice_get}
-use Rattle.drawn_waves.proofs.Turns.{going_start, nearer, goes_on, ends, ends_whole, rises, stays_near, all_at}
+use Rattle.drawn_waves.proofs.Turns.{going_start, nearer, goes_on, more, ends, ends_whole, rises, stays_near, all_at}
 use Rattle.drawn_waves.proofs.pieces.take_pieces.Goals as goal
 
 pub work_on-requires : goal.work_on-requires
@@ -45,3 +45,14 @@ returns-then-is_err-clause-near g c = let was = c.loop-item.invariant.1 in let s
 
 pub loop-item-init : goal.loop-item-init
 loop-item-init g c = (search rules, going_start _ _ _ _ _ (search rules) c.requires.below)
+
+pub returns-in-None-clause-wave : goal.returns-in-None-clause-wave
+returns-in-None-clause-wave g c = let was = c.loop-item.invariant.1 in let same = c.hand_back.ensures in
+    more _ _ _ _ _ _ _ _ was c.hand_back.result.seat.seat.me.0 (ap (λ s. s.me.0) same.0 ∙ c.draw_item-number.ensures.view)
+
+pub returns-then-is_err-clause-wave : goal.returns-then-is_err-clause-wave
+returns-then-is_err-clause-wave g c = let was = c.loop-item.invariant.1 in let same = c.hand_back-then-is_err.ensures in
+    more _ _ _ _ _ _ _ _ was c.hand_back-then-is_err.result.seat.seat.me.0 (ap (λ s. s.me.0) same.0 ∙ c.draw_item-number.ensures.view)
+
+pub returns-in-None-clause-results : goal.returns-in-None-clause-results
+returns-in-None-clause-results g c = let was = c.loop-item.invariant.1 in let same = c.hand_back.ensures in rw same.1 was.results_are
