@@ -1,5 +1,5 @@
 -- What the workers of a wave drew, put together.
-use Rattle.std.proofs.Common.{◌≡◌, ℕ, zero, suc, ◌+◌, ◌-◌, ◌/◌, ◌<◌, ◌≤◌, ltb, leb, cond, List, [], ◌∷◌, ◌++◌, map, filter, length, sym, refl, ap, ◌∙◌, subst, ⊎_elim, arith, Option, Some, None, Result, Ok, Err, All, sum_by, IfOk, append-nil}
+use Rattle.std.proofs.Common.{◌≡◌, ℕ, zero, suc, ◌+◌, ◌-◌, ◌/◌, ◌<◌, ◌≤◌, ltb, leb, cond, List, [], ◌∷◌, ◌++◌, map, filter, length, sym, refl, ap, ◌∙◌, subst, ⊎_elim, arith, Option, Some, None, Result, Ok, Err, All, sum_by, IfOk, append_assoc, append-nil}
 use mathlib.Core.List.{map-append}
 use mathlib.Core.Logic.{dite}
 use native.Mathlib.Decide.{dec_le}
@@ -102,3 +102,21 @@ pub all_in : {R Y E : Type 0} (of : Y → List (Piece R)) (result : Result Y E) 
     → IfOk result (λ x. AreAll n (map number_of (of x)))
 all_in of (Err e) n word numbers h all = tt
 all_in of (Ok x) n word numbers h all = subst (AreAll n) (sym h.pieces_are) (all_below n word numbers all h.ended)
+
+-- none are below every bound
+pub none_below : (n : ℕ) (xs : List ℕ) → xs ≡ [] → All (λ x. x < n) xs
+none_below n [] e k d l = absurd (omega arith)
+none_below n (x ∷ xs) e k d l = absurd cc
+
+-- what two halves took, put together
+pub both_taken : {I : Type 0} (v k g a b r : WorkerView I) → k ≡ kept_half v → g ≡ given_half v → HasTaken k a → HasTaken g b → r ≡ joined_view a b → HasTaken v r
+both_taken {I} v k g a b r kept given first second joined = record {
+  share = let x = ap (λ (w : WorkerView I). w.share) kept in let y = ap (λ (w : WorkerView I). w.share) given in let z = ap (λ (w : WorkerView I). w.share) joined in
+      let s = first.share in let t = second.share in omega arith;
+  items = ap (λ (w : WorkerView I). w.items) joined ∙ (first.items ∙ ap (λ (w : WorkerView I). w.items) kept);
+  workers = ap (λ (w : WorkerView I). w.workers) joined ∙ (first.workers ∙ ap (λ (w : WorkerView I). w.workers) kept);
+  numbers = (
+    first.numbers.0 ++ b.numbers,
+    ap (λ (w : WorkerView I). w.numbers) joined ∙ (ap (λ (xs : List ℕ). xs ++ b.numbers) (first.numbers.1 ∙ ap (λ (w : WorkerView I). w.numbers ++ first.numbers.0) kept) ∙ append_assoc v.numbers first.numbers.0 b.numbers),
+  );
+}
