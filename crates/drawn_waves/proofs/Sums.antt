@@ -84,9 +84,6 @@ unfolding upto
 count_upto zero = refl
 count_upto (suc n) = let a = sum_by_push (λ (x : ℕ). 1) (upto n) n in let b = count_upto n in omega arith
 
-pub length_upto : (n : ℕ) → length (upto n) ≡ n
-length_upto n = sym (count_all (upto n)) ∙ count_upto n
-
 pub none_past : (n : ℕ) (xs : List ℕ) → count_past n xs ≡ 0 → All (λ x. x < n) xs
 none_past n [] e k d l = absurd (omega arith)
 none_past n (x ∷ xs) e zero d l = let a = sum_by-cons (past n) x xs in ⊎_elim (λ t. let b = past_is n x t.1 in absurd (omega arith)) (λ t. t.1) (leb_tells n x)
