@@ -4,12 +4,11 @@ use lib.ListN.{length-replicate, length-map}
 use Rattle.std.specs.Prelude.{slice_get, IsSome}
 use Rattle.std.specs.List.{AllZip}
 use Rattle.std.proofs.lemmas.Bool.Decides.{eqb_tells}
-use Rattle.std.proofs.lemmas.List.Sums.{sum_by-cons, sum_by_push}
+use Rattle.std.proofs.lemmas.List.Sums.{sum_by-cons}
 use Rattle.std.proofs.lemmas.Option.{none-some, same_Some, slice_get_within, get_or_from_slice_get}
 use Rattle.drawn_waves.specs.declared.pieces.Piece.{Piece}
 use Rattle.drawn_waves.specs.Drawing.{upto}
 use Rattle.drawn_waves.specs.Pieces.{number_of, IsPiece, AreAll, put, placed}
-use Rattle.drawn_waves.proofs.Homes.{get_there}
 use Rattle.drawn_waves.proofs.Sums.{upto_more}
 
 -- 1 at k

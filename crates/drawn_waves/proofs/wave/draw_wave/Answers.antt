@@ -1,5 +1,5 @@
 -- The pieces of all workers have each number once, and stand in the order of the items.
-use Rattle.std.proofs.Common.{rules, arith, ◌≡◌, sym, ◌∙◌, ap, subst, length, All}
+use Rattle.std.proofs.Common.{rules, arith, ◌≡◌, sym, ◌∙◌, subst, length, All}
 use Rattle.std.specs.Prelude.{IsSome}
 use Rattle.std.proofs.lemmas.Grind.{common_steps}
 use Rattle.std.proofs.lemmas.Result.{IfOk-at_ok}
