@@ -1,5 +1,5 @@
 -- An include is its path, then the file of that path, and then what the file comes to.
-use Rattle.std.proofs.Common.{◌≡◌, ℕ, zero, suc, List, Option, Some, None, Result, Ok, Err, refl, sym, ap, ◌∙◌, subst}
+use Rattle.std.proofs.Common.{◌≡◌, ℕ, zero, suc, List, Option, Some, None, Result, Ok, refl, sym, ap, ◌∙◌, subst}
 use Rattle.build_base.specs.declared.lines.Macro.{Macro}
 use Rattle.build_base.specs.declared.lines.Taken.{Taken as Line}
 use Rattle.build_base.specs.Path.{path_field}

@@ -1,10 +1,10 @@
 -- Lines have one tree: what is found of a tree that is written out is that tree.
-use Rattle.std.proofs.Common.{◌≡◌, Bool, true, false, cond, List, [], ◌∷◌, ◌++◌, append_assoc, append-nil, refl, sym, ◌∙◌, ap, subst}
+use Rattle.std.proofs.Common.{◌≡◌, Bool, true, false, cond, List, [], ◌++◌, append_assoc, append-nil, refl, sym, ◌∙◌, ap}
 use Rattle.build_base.specs.declared.lines.Taken.{Taken as Line}
 use Rattle.macro_conditions.specs.declared.directive.Directive.{Directive}
 use Rattle.macro_conditions.specs.declared.directive.Directive.TheVariants.{Act, If, Elseif, Else, Endif}
 use Rattle.macro_conditions.specs.Directives.{kind_of}
-use Rattle.macro_conditions.specs.LineTree.{Items, nothing, plain, stray, choice, Branches, unclosed, closed, further, append, written, written_branches, Cut, ended, cut, Gathered, whole, ended_by, gather_last, more, parted_by, gather, before, open_choice, with_line, parsed, strayed, tree_of}
+use Rattle.macro_conditions.specs.LineTree.{Items, nothing, plain, stray, choice, Branches, unclosed, closed, further, written, written_branches, Cut, ended, cut, Gathered, ended_by, gather_last, more, parted_by, gather, before, open_choice, with_line, parsed, strayed, tree_of}
 use Rattle.macro_conditions.specs.TreesOfLines.{Standing, outside, branch, last, IsAstray, IsFurther, standing_below, is_open, is_unclosed, Stand, StandBehind, IsTreeOf}
 
 -- what items make of what is behind them

@@ -1,10 +1,10 @@
 -- In the tree of a file's lines each line stands where its kind may stand.
-use Rattle.std.proofs.Common.{◌≡◌, Bool, true, false, cond, List, [], ◌∷◌, refl, sym, ◌∙◌, ap, subst}
+use Rattle.std.proofs.Common.{◌≡◌, Bool, true, false, cond, List, [], ◌∷◌, refl, sym, ◌∙◌, subst}
 use Rattle.build_base.specs.declared.lines.Taken.{Taken as Line}
 use Rattle.macro_conditions.specs.declared.directive.Directive.{Directive}
 use Rattle.macro_conditions.specs.declared.directive.Directive.TheVariants.{Act, If, Elseif, Else, Endif}
 use Rattle.macro_conditions.specs.Directives.{kind_of}
-use Rattle.macro_conditions.specs.LineTree.{Items, nothing, plain, stray, choice, Branches, unclosed, closed, further, append, Cut, ended, cut, Gathered, whole, ended_by, gather_last, more, parted_by, gather, before, open_choice, with_line, parsed, strayed, tree_of}
+use Rattle.macro_conditions.specs.LineTree.{Items, nothing, plain, stray, choice, Branches, unclosed, closed, append, Cut, ended, cut, Gathered, whole, ended_by, gather_last, more, parted_by, gather, before, open_choice, with_line, parsed, strayed, tree_of}
 use Rattle.macro_conditions.specs.TreesOfLines.{Standing, outside, branch, last, IsAstray, IsFurther, standing_below, is_open, is_unclosed, Stand, StandBehind, IsTreeOf}
 use Rattle.macro_conditions.proofs.TreeWritten.{written_tree}
 
