@@ -1,8 +1,9 @@
 //! What a call tells, row by row. Once memory was wanting, nothing more is told: so what tells a
 //! row has no way out, and is quick to prove.
 
+use crate::notes::Notes;
 use crate::stop::Stop;
-use crate::told::{Output, Told};
+use crate::told::{Told, add_output};
 use crate::wrong::Wrong;
 use build_base::fault::fault_text;
 use build_base::{Fault, Guid};
@@ -15,7 +16,7 @@ use uuid::Uuid;
 pub struct Page {
     alloc: Global,
     told: Told,
-    short: bool,
+    notes: Notes,
 }
 
 impl Page {
@@ -24,7 +25,7 @@ impl Page {
         Page {
             alloc,
             told: Told::new(alloc),
-            short: false,
+            notes: Notes::new(),
         }
     }
 
@@ -35,9 +36,7 @@ impl Page {
 
     /// These bytes on standard output.
     pub fn put(&mut self, bytes: &[u8]) {
-        if !self.short && self.told.out.extend_from_slice(bytes).is_err() {
-            self.short = true;
-        }
+        self.notes.add(&mut self.told.out, bytes);
     }
 
     /// A word behind a blank.
@@ -50,7 +49,7 @@ impl Page {
     pub fn number(&mut self, number: u64) {
         match format!(in self.alloc; "{number}") {
             Ok(text) => self.word(text.as_bytes()),
-            Err(_) => self.short = true,
+            Err(_) => self.notes.short(),
         }
     }
 
@@ -58,7 +57,7 @@ impl Page {
     pub fn name<T: Debug>(&mut self, value: &T) {
         match format!(in self.alloc; "{value:?}") {
             Ok(text) => self.word(text.as_bytes()),
-            Err(_) => self.short = true,
+            Err(_) => self.notes.short(),
         }
     }
 
@@ -98,51 +97,53 @@ impl Page {
     pub fn put_fault(&mut self, fault: &Fault) {
         match fault_text(self.alloc, fault) {
             Ok(text) => self.put(text.bytes()),
-            Err(_) => self.short = true,
+            Err(_) => self.notes.short(),
         }
     }
 
     /// The status 1, and these bytes on standard error.
     pub fn fail(&mut self, bytes: &[u8]) {
         self.told.status = 1;
-        if !self.short && self.told.err.extend_from_slice(bytes).is_err() {
-            self.short = true;
-        }
+        self.notes.add(&mut self.told.err, bytes);
     }
 
     /// The status 1, and a fault's text on standard error.
     pub fn fault(&mut self, fault: &Fault) {
         match fault_text(self.alloc, fault) {
             Ok(text) => self.fail(text.bytes()),
-            Err(_) => self.short = true,
+            Err(_) => self.notes.short(),
         }
     }
 
     /// A file.
     pub fn file(&mut self, path: &[u8], bytes: &[u8]) {
-        match Output::new(self.alloc, path, bytes) {
-            Ok(output) => self.add(output),
-            Err(_) => self.short = true,
-        }
+        add_output(
+            &mut self.notes,
+            self.alloc,
+            &mut self.told.files,
+            path,
+            bytes,
+        );
     }
 
-    fn add(&mut self, output: Output) {
-        if self.told.files.push(output).is_err() {
-            self.short = true;
-        }
+    // What was told, where memory sufficed.
+    fn whole(self) -> Result<Told, Wrong> {
+        self.notes.whole()?;
+        Ok(self.told)
     }
 
     /// All that was told, for a call that ended so.
     pub fn into_told(self, ended: Result<(), Stop>) -> Result<Told, Wrong> {
-        let mut page = self;
         match ended {
-            Ok(()) => {}
-            Err(Stop::Bad(fault)) => page.fault(&fault),
-            Err(Stop::Wrong(wrong)) => return Err(wrong),
+            Ok(()) => self.whole(),
+            Err(Stop::Bad(fault)) => self.with_fault(&fault),
+            Err(Stop::Wrong(wrong)) => Err(wrong),
         }
-        if page.short {
-            return Err(Wrong::WantOfMemory);
-        }
-        Ok(page.told)
+    }
+
+    fn with_fault(self, fault: &Fault) -> Result<Told, Wrong> {
+        let mut page = self;
+        page.fault(fault);
+        page.whole()
     }
 }
