@@ -126,24 +126,22 @@ impl Page {
         );
     }
 
-    // What was told, where memory sufficed.
-    fn whole(self) -> Result<Told, Wrong> {
-        self.notes.whole()?;
-        Ok(self.told)
-    }
-
     /// All that was told, for a call that ended so.
     pub fn into_told(self, ended: Result<(), Stop>) -> Result<Told, Wrong> {
-        match ended {
-            Ok(()) => self.whole(),
-            Err(Stop::Bad(fault)) => self.with_fault(&fault),
-            Err(Stop::Wrong(wrong)) => Err(wrong),
+        let mut page = self;
+        match page.end_by(ended) {
+            Ok(()) => Ok(page.told),
+            Err(wrong) => Err(wrong),
         }
     }
 
-    fn with_fault(self, fault: &Fault) -> Result<Told, Wrong> {
-        let mut page = self;
-        page.fault(fault);
-        page.whole()
+    // Tells the fault by which a call ended, and says what is wrong.
+    fn end_by(&mut self, ended: Result<(), Stop>) -> Result<(), Wrong> {
+        match ended {
+            Ok(()) => {}
+            Err(Stop::Bad(fault)) => self.fault(&fault),
+            Err(Stop::Wrong(wrong)) => return Err(wrong),
+        }
+        self.notes.whole()
     }
 }
