@@ -76,7 +76,7 @@ many-nulls eq s next classes nulls found few g f =
     omega (arith, more-eq eq s next nulls [] found g.0 tt g.1.going g.1.early, subst (λ v. Reason v found g.0) f g.2, added-within eq s (ends next classes 1025) (ends next nulls 1025))
 
 -- a filter by two tests that agree on the list
-filter-same-by : {X : Type 0} (x : X) (ps qs : List X) (v w : Bool) → v ≡ w → ps ≡ qs → cond v (x ∷ ps) ps ≡ cond w (x ∷ qs) qs
+pub filter-same-by : {X : Type 0} (x : X) (ps qs : List X) (v w : Bool) → v ≡ w → ps ≡ qs → cond v (x ∷ ps) ps ≡ cond w (x ∷ qs) qs
 filter-same-by {X} x ps qs v w e f = ap (λ (b : Bool). cond b (x ∷ ps) ps) e ∙ ap (λ (l : List X). cond w (x ∷ l) l) f
 
 filter-same : {X : Type 0} (eq : X → X → Bool) → Same eq → (p q : X → Bool) (xs : List X) → ((x : X) → is_in eq xs x ≡ true → p x ≡ q x) → filter p xs ≡ filter q xs

@@ -21,7 +21,7 @@ use Rattle.library_choice.specs.Found.{is_in, add}
 use Rattle.library_choice.specs.Fronts.{IsFrontOf, LeadsClasses, LeadsNulls, FindsFor, Ends, BothEnd, is_apart}
 use Rattle.library_choice.specs.Lines.{Setting}
 use Rattle.library_choice.specs.Search.{Prefix, Passed}
-use Rattle.library_choice.proofs.BothLemmas.{ended-distinct, both-few, both-many, filter-add}
+use Rattle.library_choice.proofs.BothLemmas.{ended-distinct, both-few, both-many, filter-add, filter-same-by}
 use Rattle.library_choice.proofs.CountLemmas.{Distinct, distinct-add, no-more}
 use Rattle.library_choice.proofs.FallLemmas.{kept, distinct-filter}
 use Rattle.library_choice.proofs.FrontLemmas.{front-within, rest-few, rest-many-nulls, wanted-behind}
@@ -86,6 +86,19 @@ wanted_together s first first_new second second_new first_at second_at p q f g d
     ap (λ (l : List (List ℕ)). l ++ filter (is_apart s first_new) (drop second_at second_new)) (behind_front s (is_unknown s.infs) first first_new first_at (known-found s.infs) p f)
     ∙ ap (λ (l : List (List ℕ)). filter (is_unknown s.infs) first_new ++ l) (behind_front s (is_apart s first_new) second second_new second_at (apart_known s first_new) q g)
     ∙ sym (apart_filter s first_new second_new d)
+
+and-true : (v : Bool) → v && true ≡ v
+and-true true = refl
+and-true false = refl
+
+apart-one : (s : Setting) (path : List ℕ) → is_apart s [] path ≡ is_unknown s.infs path
+unfolding is_apart
+apart-one s path = and-true (is_unknown s.infs path)
+
+-- all that is unknown is apart from nothing
+pub apart_none : (s : Setting) (paths : List (List ℕ)) → filter (is_apart s []) paths ≡ filter (is_unknown s.infs) paths
+apart_none s [] = refl
+apart_none s (x ∷ xs) = filter-same-by x (filter (is_apart s []) xs) (filter (is_unknown s.infs) xs) (is_apart s [] x) (is_unknown s.infs x) (apart-one s x) (apart_none s xs)
 
 other_is : (o : Option InfDoc) → is_none o ≡ not (is_some o)
 other_is None = refl

@@ -1,5 +1,5 @@
 -- With more INF files known.
-use Rattle.std.proofs.Common.{◌≡◌, ◌∙◌, ℕ, nat_eq, true, false, List, [], ◌∷◌, ◌++◌, Option, Some, None, refl, sym, ap, subst, take}
+use Rattle.std.proofs.Common.{◌≡◌, ◌∙◌, ℕ, nat_eq, Bool, true, false, cond, List, [], ◌∷◌, ◌++◌, Option, Some, None, refl, sym, ap, subst, take}
 use Rattle.std.specs.Prelude.{find, is_some}
 use Rattle.std.specs.Option.{option_or}
 use Rattle.std.specs.List.{filter_map, cons_option}
@@ -12,7 +12,7 @@ use Rattle.doc_types.specs.declared.module.Named.{Named}
 use Rattle.doc_types.specs.declared.platform.PlatformDoc.{PlatformDoc}
 use Rattle.library_choice.specs.declared.front.Front.{Front}
 use Rattle.library_choice.specs.declared.front.Fronts.{Fronts}
-use Rattle.library_choice.specs.Closure.{same_path, known, is_known, instance_of, classes_of, next, nulls, setting_of}
+use Rattle.library_choice.specs.Closure.{same_path, known, is_known, instance_of, classes_of, next, nulls, setting_of, is_library, wanted, wanted_by, wanted_for}
 use Rattle.library_choice.specs.Fronts.{IsFrontOf, AreFronts}
 use Rattle.library_choice.specs.Lines.{Setting, chosen_line}
 use Rattle.library_choice.specs.Searches.{IsSearch}
@@ -101,3 +101,9 @@ search-begins user platform inf infs s f own e h =
       setting = e ∙ ap (λ (l : List InfDoc). setting_of user platform l inf) (sym same);
       fronts = h;
     }
+
+-- what is wanted of a module that isn't a library
+pub wanted_of_module : (user : Module) (platform : PlatformDoc) (infs : List InfDoc) (inf : InfDoc) → known infs user.inf ≡ Some inf → is_library inf ≡ false → wanted user platform infs ≡ wanted_by (setting_of user platform infs inf) inf
+unfolding wanted
+wanted_of_module user platform infs inf own other =
+    ap (wanted_for user platform infs) own ∙ ap (λ (b : Bool). cond b [] (wanted_by (setting_of user platform infs inf) inf)) other

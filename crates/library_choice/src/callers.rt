@@ -5,7 +5,8 @@ ghost use Rattle.std.specs.Option.{option_copied};
 ghost use Rattle.library_choice.specs.Choices.{has_call, first_place, call_of, caller_of, caller_in, callers};
 
 use crate::tables::Tables;
-use build_base::{Path, Place, Rows, Same, WantOfMemory};
+use build_base::together::two;
+use build_base::{Path, Place, Rows, WantOfMemory};
 use doc_types::choice::Call;
 use doc_types::module::{InfDoc, Named};
 use library_calls::WithCalls;
@@ -29,33 +30,59 @@ fn first_place(inf: &InfDoc) -> &Place
     }
 }
 
-fn call_of(alloc: Global, inf: &Path, named: &Named) -> Result<Call, WantOfMemory>
-    ensures { IfOk result (λ call. call ≡ call_of inf.now named.now) }
+fn push_call(
+    alloc: Global,
+    inf: &Path,
+    named: &Named,
+    calls: &mut Rows<Call>,
+) -> Result<(), WantOfMemory>
+    ensures { OnOk result (calls.new ≡ calls.old ++ call_of inf.now named.now ∷ []) }
 {
-    Ok(Call {
-        inf: inf.copy(alloc)?,
-        name: named.name.copy(alloc)?,
-    })
+    let (inf, name) = two(inf, &named.name, alloc)?;
+    calls.push(Call { inf, name })
 }
 
-fn calls_of(alloc: Global, inf: &Path, names: &[Named]) -> Result<Rows<Call>, WantOfMemory>
-    ensures { IfOk result (λ calls. calls ≡ map (call_of inf.now) names.now) }
+fn push_calls(
+    alloc: Global,
+    inf: &Path,
+    names: &[Named],
+    calls: &mut Rows<Call>,
+) -> Result<(), WantOfMemory>
+    ensures { OnOk result (calls.new ≡ calls.old ++ map (call_of inf.now) names.now) }
 {
-    let mut calls = Rows::new(alloc);
-    for named in names {
-        calls.push(call_of(alloc, inf, named)?)?;
+    let mut left = names;
+    while let [named, rest @ ..] = left {
+        push_call(alloc, inf, named, calls)?;
+        left = rest;
     }
-    Ok(calls)
+    Ok(())
+}
+
+// Adds the calls of constructors to one list, and those of destructors to another.
+fn push_lists(
+    alloc: Global,
+    inf: &InfDoc,
+    constructors: &mut Rows<Call>,
+    destructors: &mut Rows<Call>,
+) -> Result<(), WantOfMemory>
+    ensures constructors { OnOk result (constructors.new
+        ≡ constructors.old ++ map (call_of inf.now.at.path) inf.now.constructors) }
+    ensures destructors { OnOk result (destructors.new
+        ≡ destructors.old ++ map (call_of inf.now.at.path) inf.now.destructors) }
+{
+    let path = &inf.at.path;
+    push_calls(alloc, path, inf.constructors.items(), constructors)?;
+    push_calls(alloc, path, inf.destructors.items(), destructors)?;
+    Ok(())
 }
 
 #[tactic(auto, unfolding(crate::specs::Choices::caller_of))]
 fn caller_of(alloc: Global, inf: &InfDoc) -> Result<WithCalls, WantOfMemory>
     ensures { IfOk result (λ caller. caller ≡ caller_of inf.now) }
 {
-    let path = inf.at.path.copy(alloc)?;
-    let at = first_place(inf).copy(alloc)?;
-    let constructors = calls_of(alloc, &inf.at.path, inf.constructors.items())?;
-    let destructors = calls_of(alloc, &inf.at.path, inf.destructors.items())?;
+    let (mut constructors, mut destructors) = (Rows::new(alloc), Rows::new(alloc));
+    push_lists(alloc, inf, &mut constructors, &mut destructors)?;
+    let (path, at) = two(&inf.at.path, first_place(inf), alloc)?;
     Ok(WithCalls {
         inf: path,
         at,

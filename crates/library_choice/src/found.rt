@@ -1,5 +1,5 @@
 //! The instances found so far.
-ghost use Rattle.std.specs.Prelude.{◌≡◌, ◌<◌, ◌∷◌, ◌++◌, [], IfOk, OnOk, drop, length, slice_get, slice_index_or, take};
+ghost use Rattle.std.specs.Prelude.{◌≡◌, [], IfOk, OnOk, drop, length, slice_get, take};
 ghost use Rattle.std.specs.Option.{option_copied};
 ghost use Rattle.library_choice.specs.Closure.{same_path};
 ghost use Rattle.library_choice.specs.Found.{is_in, put};
@@ -100,24 +100,9 @@ impl Found {
         ensures { IfOk result (λ rows. rows ≡ self.now) }
     {
         let mut rows = Rows::new(alloc);
-        for place in 0..self.len() {
-            self.push_at(alloc, place, &mut rows)?;
-        }
-        Ok(rows)
-    }
-
-    fn push_at(
-        &self,
-        alloc: Global,
-        place: usize,
-        rows: &mut Rows<Path>,
-    ) -> Result<(), WantOfMemory>
-        requires { place < length self.now }
-        ensures { OnOk result (rows.new ≡ rows.old ++ slice_index_or self.now place [] ∷ []) }
-    {
-        if let Some(path) = self.get(place) {
+        for path in self.items() {
             rows.push(path.copy(alloc)?)?;
         }
-        Ok(())
+        Ok(rows)
     }
 }

@@ -1,5 +1,5 @@
 //! How far the instances of a module are found that more known INF files don't move.
-ghost use Rattle.std.specs.Prelude.{◌≡◌, ◌≤◌, ◌+◌, ◌∷◌, ◌++◌, ℕ, [], List, length, drop, filter, nat_le, IfOk, OnOk};
+ghost use Rattle.std.specs.Prelude.{◌≡◌, ◌≤◌, ◌+◌, ◌∷◌, ◌++◌, ℕ, [], List, cond, length, drop, filter, nat_le, IfOk, OnOk};
 ghost use Rattle.std.specs.List.{filter_map};
 ghost use Rattle.doc_types.specs.declared.module.InfDoc.{InfDoc as InfModel};
 ghost use Rattle.library_choice.specs.Closure.{same_path, is_known, is_unknown, instance_of, next, nulls, wanted_by};
@@ -117,39 +117,6 @@ fn pass_both(
     Ok(few)
 }
 
-fn push_unknown(
-    alloc: Global,
-    tables: &Tables<'_>,
-    path: &Path,
-    paths: &mut Rows<Path>,
-) -> Result<(), WantOfMemory>
-    ensures { OnOk result (paths.new ≡ paths.old
-        ++ filter (is_unknown tables.now.infs) (path.now ∷ [])) }
-{
-    if is_unknown(tables, path) {
-        paths.push(path.copy(alloc)?)?;
-    }
-    Ok(())
-}
-
-// Those of which no INF file is known.
-fn push_unknowns(
-    alloc: Global,
-    tables: &Tables<'_>,
-    found: &[Path],
-    paths: &mut Rows<Path>,
-) -> Result<(), WantOfMemory>
-    ensures { OnOk result (paths.new ≡ paths.old
-        ++ filter (is_unknown tables.now.infs) found.now) }
-{
-    let mut left = found;
-    while let [path, rest @ ..] = left {
-        push_unknown(alloc, tables, path, paths)?;
-        left = rest;
-    }
-    Ok(())
-}
-
 #[tactic(auto, unfolding(crate::specs::Fronts::is_apart))]
 fn is_apart(tables: &Tables<'_>, first: &Found, path: &Path) -> bool
     ensures { result ≡ is_apart tables.now first.now path.now }
@@ -205,31 +172,35 @@ fn unknown_behind(
         ≡ filter (is_unknown tables.now.infs) (drop first_at first.now)
         ++ filter (is_apart tables.now first.now) (drop second_at second.now)) }
 {
+    let none = Found::new(alloc);
     let mut paths = Rows::new(alloc);
-    push_unknowns(alloc, tables, first.behind(first_at), &mut paths)?;
+    push_aparts(alloc, tables, &none, first.behind(first_at), &mut paths)?;
     push_aparts(alloc, tables, first, second.behind(second_at), &mut paths)?;
     Ok(paths)
 }
 
-// Whether both queues have at most 1,024 together, of which so many are unknown. They are put
-// together only where the number of the known ones leaves that open.
-fn are_few(
+// These paths, which are the unknown ones of both queues, or none where both have more than 1,024
+// together. They are put together only where the number of the known ones leaves that open.
+fn unless_many(
     alloc: Global,
     tables: &Tables<'_>,
-    unknown: usize,
+    unknown: Rows<Path>,
     first: &mut Found,
     second: &Found,
-) -> Result<bool, WantOfMemory>
-    ensures few { length (add same_path first.old second.now) ≤ unknown + length tables.now.infs
-        → IfOk result (λ few. few ≡ nat_le (length (add same_path first.old second.now)) 1024) }
+) -> Result<Rows<Path>, WantOfMemory>
+    ensures few { length (add same_path first.old second.now) ≤ length unknown + length tables.now.infs
+        → IfOk result (λ w. w ≡ cond (nat_le (length (add same_path first.old second.now)) 1024) unknown []) }
     ensures grows { OnOk result (Prefix first.old first.new) }
 {
-    let known = tables.count();
-    if known <= MOST_INSTANCES && unknown <= MOST_INSTANCES - known {
-        return Ok(true);
+    let (known, count) = (tables.count(), unknown.items().len());
+    if known <= MOST_INSTANCES && count <= MOST_INSTANCES - known {
+        return Ok(unknown);
     }
     put_paths(alloc, second.items(), first)?;
-    Ok(first.len() <= MOST_INSTANCES)
+    if first.len() > MOST_INSTANCES {
+        return Ok(Rows::new(alloc));
+    }
+    Ok(unknown)
 }
 
 // The INF files that are wanted next. What was found stays in front of what it finds.
@@ -251,11 +222,9 @@ fn wanted_of(
     if !pass_both(alloc, tables, first, first_at, second, second_at)? {
         return Ok(Rows::new(alloc));
     }
-    let wanted = unknown_behind(alloc, tables, first, first_at, second, second_at)?;
-    if are_few(alloc, tables, wanted.items().len(), first, second)? {
-        return Ok(wanted);
-    }
-    Ok(Rows::new(alloc))
+    let unknown = unknown_behind(alloc, tables, first, first_at, second, second_at)?;
+    let wanted = unless_many(alloc, tables, unknown, first, second)?;
+    Ok(wanted)
 }
 
 /// The INF files that are wanted next, and the fronts behind which they were found.

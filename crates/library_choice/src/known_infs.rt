@@ -32,31 +32,29 @@ fn add_inf(
     }
 }
 
+fn push_inf(
+    alloc: Global,
+    inf: &Shared<InfDoc>,
+    list: &mut Rows<Shared<InfDoc>>,
+) -> Result<(), WantOfMemory>
+    ensures { OnOk result (list.new ≡ list.old ++ inf.now ∷ []) }
+{
+    list.push(inf.copy(alloc)?)
+}
+
+// Adds INF files behind those of a list, and to the table over it.
 fn add_infs(
     alloc: Global,
     infs: &[Shared<InfDoc>],
+    list: &mut Rows<Shared<InfDoc>>,
     by_path: &mut IndexMap<Path, Shared<InfDoc>>,
 ) -> Result<(), WantOfMemory>
-    ensures { (above : List InfModel) → Infs above by_path.old
-        → OnOk result (Infs (above ++ infs.now) by_path.new) }
+    ensures list { OnOk result (list.new ≡ list.old ++ infs.now) }
+    ensures table { Infs list.old by_path.old → OnOk result (Infs list.new by_path.new) }
 {
     for inf in infs {
         add_inf(alloc, inf, by_path)?;
-    }
-    Ok(())
-}
-
-fn append(
-    alloc: Global,
-    infs: &[Shared<InfDoc>],
-    list: &mut Rows<Shared<InfDoc>>,
-) -> Result<(), WantOfMemory>
-    ensures { OnOk result (list.new ≡ list.old ++ infs.now) }
-{
-    let mut left = infs;
-    while let [inf, rest @ ..] = left {
-        list.push(inf.copy(alloc)?)?;
-        left = rest;
+        push_inf(alloc, inf, list)?;
     }
     Ok(())
 }
@@ -94,9 +92,11 @@ impl KnownInfs {
     pub fn of(alloc: Global, list: Rows<Shared<InfDoc>>) -> Result<KnownInfs, WantOfMemory>
         ensures { IfOk result (λ t. t ≡ list) }
     {
-        let mut by_path = IndexMap::with_capacity(alloc, list.items().len())?;
-        add_infs(alloc, list.items(), &mut by_path)?;
-        Ok(KnownInfs { list, by_path })
+        let none = KnownInfs {
+            list: Rows::new(alloc),
+            by_path: IndexMap::new(alloc),
+        };
+        none.with_more(alloc, list.items())
     }
 
     /// These files behind the others.
@@ -109,8 +109,7 @@ impl KnownInfs {
     {
         let KnownInfs { list, by_path } = self;
         let (mut list, mut by_path) = (list, by_path);
-        add_infs(alloc, more, &mut by_path)?;
-        append(alloc, more, &mut list)?;
+        add_infs(alloc, more, &mut list, &mut by_path)?;
         Ok(KnownInfs { list, by_path })
     }
 

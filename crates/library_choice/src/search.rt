@@ -1,5 +1,5 @@
 //! The instances of a module, found round by round.
-ghost use Rattle.std.specs.Prelude.{◌≡◌, ◌++◌, [], true, Some, IfOk, OnOk};
+ghost use Rattle.std.specs.Prelude.{◌≡◌, ◌++◌, [], true, false, Some, IfOk, OnOk};
 ghost use Rattle.build_base.specs.Answer.{Answers};
 ghost use Rattle.library_choice.specs.Choices.{choice};
 ghost use Rattle.doc_types.specs.declared.module.InfDoc.{InfDoc as InfModel};
@@ -115,19 +115,16 @@ impl<'a> InstanceSearch<'a> {
         !self.inf.value().serves.items().is_empty()
     }
 
-    /// The INF files that are wanted next, and the search that goes on behind them.
-    #[tactic(auto, unfolding(crate::specs::Closure::wanted))]
-    pub fn wanted_infs(
+    // The INF files that are wanted next by a module that isn't a library.
+    fn wanted_by_module(
         self,
         alloc: Global,
     ) -> Result<(Rows<Path>, InstanceSearch<'a>), WantOfMemory>
+        requires { (inf : InfModel) → known self.infs self.user.inf ≡ Some inf → is_library inf ≡ false }
         ensures wanted { IfOk result
             (λ x. x.0 ≡ wanted self.entry.user self.entry.platform self.entry.infs) }
         ensures search { IfOk result (λ x. x.1 ≡ self.entry) }
     {
-        if self.is_library() {
-            return Ok((Rows::new(alloc), self));
-        }
         let InstanceSearch {
             user,
             platform,
@@ -144,6 +141,22 @@ impl<'a> InstanceSearch<'a> {
             fronts,
         };
         Ok((wanted, search))
+    }
+
+    /// The INF files that are wanted next, and the search that goes on behind them.
+    #[tactic(auto, unfolding(crate::specs::Closure::wanted))]
+    pub fn wanted_infs(
+        self,
+        alloc: Global,
+    ) -> Result<(Rows<Path>, InstanceSearch<'a>), WantOfMemory>
+        ensures wanted { IfOk result
+            (λ x. x.0 ≡ wanted self.entry.user self.entry.platform self.entry.infs) }
+        ensures search { IfOk result (λ x. x.1 ≡ self.entry) }
+    {
+        if self.is_library() {
+            return Ok((Rows::new(alloc), self));
+        }
+        self.wanted_by_module(alloc)
     }
 
     /// The same with these INF files known behind the others.

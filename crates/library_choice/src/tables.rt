@@ -1,10 +1,11 @@
 //! Look-ups of lines by class and of INF files by path.
-ghost use Rattle.std.specs.Prelude.{◌≡◌, ◌∷◌, ◌++◌, [], length, nat_eq, codes, IfOk, OnOk};
+ghost use Rattle.std.specs.Prelude.{◌≡◌, ◌∷◌, ◌++◌, [], true, false, length, nat_eq, codes, IfOk, OnOk};
 ghost use Rattle.std.specs.Cmp.Lexicographic.{pointwise};
 ghost use Rattle.std.specs.List.{filter_map};
 ghost use Rattle.std.specs.Option.{option_copied};
 ghost use Rattle.library_choice.specs.Closure.{known, instance_of, null_of, nulls};
 ghost use Rattle.library_choice.specs.Lines.{chosen_line};
+ghost use Rattle.line_ranks.specs.Places.{Lines};
 
 use crate::known_infs::KnownInfs;
 use build_base::{Path, Rows, Same, Text, WantOfMemory};
@@ -81,6 +82,21 @@ fn nulls(
     Ok(paths)
 }
 
+// For each class the place of the line that holds, of the sections and of the module's own braces.
+fn both_places(
+    alloc: Global,
+    user: Consumer,
+    sections: &[LibraryLine],
+    own: &[LibraryLine],
+) -> Result<(IndexMap<Text, usize>, IndexMap<Text, usize>), WantOfMemory>
+    ensures sections { IfOk result (λ x. Lines user false sections.now sections.now x.0) }
+    ensures own { IfOk result (λ x. Lines user true own.now own.now x.1) }
+{
+    let section_places = line_places(alloc, user, false, sections)?;
+    let own_places = line_places(alloc, user, true, own)?;
+    Ok((section_places, own_places))
+}
+
 /// What a choice is made from, with tables over it.
 pub struct Tables<'a> {
     user: Consumer,
@@ -137,9 +153,8 @@ impl<'a> Tables<'a> {
         ensures { IfOk result
             (λ t. t ≡ record { user = user; sections = sections.now; own = own.now; infs = infs }) }
     {
-        let section_places = line_places(alloc, user, false, sections)?;
-        let own_places = line_places(alloc, user, true, own)?;
         let nulls = nulls(alloc, user, sections, own)?;
+        let (section_places, own_places) = both_places(alloc, user, sections, own)?;
         Ok(Tables {
             user,
             sections,

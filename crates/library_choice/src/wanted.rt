@@ -66,7 +66,6 @@ pub fn is_known(infs: &Rows<Shared<InfDoc>>, path: &Path) -> bool
 /// The INF files that the choice for a module needs next: those of the instances found so far that
 /// aren't among `infs`, in first-found order. None are wanted of a library, where all are known,
 /// and where more than 1,024 instances are found.
-#[tactic(auto, using(crate::proofs::RoundLemmas::falls))]
 pub fn next_wanted(
     alloc: Global,
     module: &Module,

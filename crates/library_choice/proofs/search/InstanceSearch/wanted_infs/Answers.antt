@@ -1,8 +1,5 @@
+use Rattle.std.proofs.Common.{◌∙◌, sym}
 use Rattle.library_choice.proofs.search.InstanceSearch.wanted_infs.Goals as goal
 
-pub invariant_of-search : goal.invariant_of-search
-invariant_of-search c = record {
-  own = c.self.invariant.own;
-  setting = c.self.invariant.setting;
-  fronts = c.in_ok-wanted.ensures.fronts c.self.inside.inf c.self.invariant.fronts;
-}
+pub wanted_by_module-requires : goal.wanted_by_module-requires
+wanted_by_module-requires c = λ inf own. sym (c.is_library.ensures inf own) ∙ c.if-is_library.false
