@@ -11,6 +11,7 @@ use Rattle.build_base.proofs.Steps.{map-passed}
 use Rattle.std.proofs.lemmas.List.{map-append, append-nil, flat_map_more}
 use Rattle.std.proofs.lemmas.List.Elements.{filter-append}
 use Rattle.pcd_resolve.specs.Groups.{same_key, group, Grouped, GroupedAt}
+use Rattle.pcd_resolve.specs.Additions.{named, AddsAt}
 use Rattle.pcd_resolve.specs.NameFilter.{is_kept}
 
 bytes_same : (xs ys : List ℕ) → bytes_eq xs ys ≡ true → xs ≡ ys
@@ -82,6 +83,21 @@ kept_more marks view name xs v k old new named put h = λ q kept.
     (λ t. h k (kept_so marks k.items q.items (bytes_same k.items q.items t) kept) ∙ ap (λ n. filter (λ x. bytes_eq (name x) n) xs) (bytes_same k.items q.items t))
     (λ f. h q kept)
 
+-- an item that a table has more at a key, by the key's name
+pub adds_named : {V S : Type 0} (marks : List Bool) (name : List ℕ) (v : V) (k : Vec ℕ) (old new : HashMap (Vec ℕ) (Vec V) S)
+    → k.items ≡ name
+    → ((q : Vec ℕ) → group new q ≡ cond (same_key k q) (group old k ++ v ∷ []) (group old q))
+    → AddsAt marks name v old new
+adds_named marks name v k old new e put = λ q kept. put q ∙ ap (λ n. cond (bytes_eq n q.items) (named old n ++ v ∷ []) (group old q)) e
+
+pub kept_added : {V X S : Type 0} (marks : List Bool) (view : V → X) (name : X → List ℕ) (xs : List X) (v : V) (old new : HashMap (Vec ℕ) (Vec V) S)
+    → AddsAt marks (name (view v)) v old new → GroupedAt marks view name xs old → GroupedAt marks view name (xs ++ view v ∷ []) new
+kept_added marks view name xs v old new put h = λ q kept.
+    ap (map view) (put q kept)
+    ∙ picked view (group old q) (named old (name (view v))) v (λ x. bytes_eq (name x) q.items) xs (bytes_eq (name (view v)) q.items) refl
+    (λ t. ap (λ n. map view (named old n)) (bytes_same (name (view v)) q.items t) ∙ h q kept)
+    (λ f. h q kept)
+
 unkept : (marks : List Bool) (x y : List ℕ) (b : Bool) → bytes_eq x y ≡ b → is_kept marks x ≡ false → is_kept marks y ≡ true → b ≡ false
 unkept marks x y false e off on = refl
 unkept marks x y true e off on = let same : is_kept marks x ≡ true = kept_so marks x y (bytes_same x y e) on in absurd (true_false (sym same ∙ off))
@@ -97,6 +113,11 @@ kept_passed marks view name xs x table off h = λ q kept.
     h q kept ∙ sym (append-nil (filter (λ y. bytes_eq (name y) q.items) xs))
     ∙ ap (λ ys. filter (λ y. bytes_eq (name y) q.items) xs ++ ys) (sym (one_kept (λ y. bytes_eq (name y) q.items) x false other))
     ∙ sym (filter-append (λ y. bytes_eq (name y) q.items) xs (x ∷ []))
+
+-- an item that nothing asks for is passed by
+pub adds_none : {V S : Type 0} (marks : List Bool) (name : List ℕ) (v : V) (table : HashMap (Vec ℕ) (Vec V) S) → is_kept marks name ≡ false → AddsAt marks name v table table
+adds_none marks name v table off = λ q kept.
+    ap (λ b. cond b (named table name ++ v ∷ []) (group table q)) (sym (unkept marks name q.items (bytes_eq name q.items) refl off kept))
 
 pub kept_none : {V X S : Type 0} (marks : List Bool) (view : V → X) (name : X → List ℕ) (table : HashMap (Vec ℕ) (Vec V) S) → table.entries ≡ [] → GroupedAt marks view name [] table
 kept_none marks view name table e = λ q kept. rw e refl

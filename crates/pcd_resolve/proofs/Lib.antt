@@ -1,6 +1,7 @@
 pub mod DatumLemmas
 pub mod GroupLemmas
 pub mod NameFilterLemmas
+pub mod PassLemmas
 pub mod SkuLemmas
 pub mod SortedLemmas
 pub mod SoughtLemmas

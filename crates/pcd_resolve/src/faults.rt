@@ -1,8 +1,9 @@
 //! The faults of a PCD that are no faults of its value.
-ghost use Rattle.std.specs.Prelude.{◌≡◌, ◌||◌, ◌&&◌, not, map, false, IfSome, Some, codes, option_copied};
+ghost use Rattle.std.specs.Prelude.{◌≡◌, ◌∷◌, [], ◌||◌, ◌&&◌, not, map, false, IfSome, Some, codes, option_copied};
 ghost use Rattle.std.specs.List.{flat_map, list_any};
 ghost use Rattle.build_base.specs.Answer.{Answers, Checks, Finds};
 ghost use Rattle.build_base.specs.FaultText.{fault_of};
+ghost use Rattle.build_base.specs.First.{first_of};
 ghost use Rattle.meta_lexer.specs.Faults.{first_fault};
 ghost use Rattle.pcd_resolve.specs.Kinds.{claims, claim_of, kind_given, declaration};
 ghost use Rattle.pcd_resolve.specs.Faults.{not_declared, datum_text, datum_differs, is_other, is_against, asks_other, datum_conflict, dynamic_in_component, sku_on_fixed, kind_conflict, kind_asked, kind_faults, pcd_fault, checked_kind};
@@ -249,6 +250,19 @@ fn kind_conflict(
     Err(refuse(alloc, KIND_CONFLICT, at, pcd))
 }
 
+fn line_agrees(
+    alloc: Global,
+    pcd: &[u8],
+    kind: Kind,
+    stated: &StatedLine<'_>,
+) -> Result<(), Refusal>
+    ensures { Checks result
+        (kind_conflict pcd.now kind
+        (record { at = (stated_view stated.now).line.at; kind = (stated_view stated.now).line.kind })) }
+{
+    kind_conflict(alloc, pcd, kind, &stated.line.at, stated.line.kind)
+}
+
 fn lines_agree(
     alloc: Global,
     pcd: &[u8],
@@ -260,7 +274,7 @@ fn lines_agree(
         (map (λ s. record { at = s.line.at; kind = s.line.kind }) (map stated_view lines.now))) }
 {
     for stated in lines {
-        kind_conflict(alloc, pcd, kind, &stated.line.at, stated.line.kind)?;
+        line_agrees(alloc, pcd, kind, stated)?;
     }
     Ok(())
 }
@@ -338,6 +352,26 @@ fn kinds_asked(alloc: Global, kind: Kind, uses: &[UseLine<'_>]) -> Result<(), Re
     Ok(())
 }
 
+// The last three of the faults that suppose a kind.
+fn kinds_stand(
+    alloc: Global,
+    pcd: &[u8],
+    kind: Kind,
+    uses: &[UseLine<'_>],
+    lines: &[StatedLine<'_>],
+) -> Result<(), Refusal>
+    ensures { Checks result
+        (first_of
+        (first_fault sku_on_fixed (map stated_view lines.now)
+        ∷ first_fault (kind_conflict pcd.now kind)
+        (claims (map use_view uses.now) (map stated_view lines.now))
+        ∷ first_fault (kind_asked kind) (map use_view uses.now) ∷ [])) }
+{
+    no_sku_on_fixed(alloc, lines)?;
+    kinds_agree(alloc, pcd, kind, uses, lines)?;
+    kinds_asked(alloc, kind, uses)
+}
+
 #[tactic(auto, unfolding(crate::specs::Faults::kind_faults))]
 fn kind_faults(
     alloc: Global,
@@ -351,10 +385,7 @@ fn kind_faults(
 {
     datums_fit(alloc, kind, common_datum(kind, uses), uses, lines)?;
     none_dynamic_inside(alloc, lines)?;
-    no_sku_on_fixed(alloc, lines)?;
-    kinds_agree(alloc, pcd, kind, uses, lines)?;
-    kinds_asked(alloc, kind, uses)?;
-    Ok(())
+    kinds_stand(alloc, pcd, kind, uses, lines)
 }
 
 /// Refuses a PCD by its first fault.

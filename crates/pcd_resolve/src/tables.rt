@@ -1,10 +1,12 @@
 //! Tables of lines by the names of their PCDs, where these are marked.
-ghost use Rattle.std.specs.Prelude.{◌≡◌, ◌++◌, ◌∷◌, [], ℕ, List, Option, Some, None, map, filter, IfOk, OnOk};
+ghost use Rattle.std.specs.Prelude.{◌≡◌, ◌++◌, List, Some, None, map, IfOk, OnOk};
 ghost use Rattle.std.specs.List.{flat_map};
 ghost use Rattle.std.specs.Option.{option_map};
 ghost use Rattle.doc_types.specs.declared.platform.Component.{Component as Home};
 ghost use Rattle.doc_types.specs.declared.pcd.PcdSet.{PcdSet as Set};
 ghost use Rattle.doc_types.specs.declared.values.PcdRow.{PcdRow as Row};
+ghost use Rattle.doc_types.specs.Pcds.{full_name};
+ghost use Rattle.pcd_resolve.specs.Additions.{AddsAt};
 ghost use Rattle.pcd_resolve.specs.Groups.{Grouped, GroupedAt};
 ghost use Rattle.pcd_ranks.specs.Listing.{Declared, Stated, line_from, package_lines, stated_in};
 ghost use Rattle.pcd_resolve.specs.Tables.{declared_name, stated_name, set_name, row_name, at_home};
@@ -15,29 +17,28 @@ use crate::name_filter::is_pcd_kept;
 use build_base::{Path, WantOfMemory};
 use doc_types::package::DecPcd;
 use doc_types::parts::Package;
-use doc_types::pcd::PcdSet;
+use doc_types::pcd::{PcdName, PcdSet};
 use doc_types::platform::{Component, PcdLine, PlatformDoc};
 use doc_types::values::PcdRow;
 use indexmap::IndexMap;
 use pcd_ranks::listing::{DeclaredLine, StatedLine};
 use std::alloc::Global;
 
-fn add_line<'a>(
+// Adds an item behind those of its PCD's name, where this is marked.
+fn add_kept<V: Drop>(
     alloc: Global,
     marks: &[bool],
-    table: &mut IndexMap<Vec<u8>, Vec<StatedLine<'a>>>,
-    home: Option<&'a Component>,
-    line: &'a PcdLine,
+    table: &mut IndexMap<Vec<u8>, Vec<V>>,
+    pcd: &PcdName,
+    item: V,
 ) -> Result<(), WantOfMemory>
-    ensures { (xs : List Stated) → GroupedAt marks.now stated_view stated_name xs table.old
-        → OnOk result (GroupedAt marks.now stated_view stated_name
-        (xs ++ at_home (option_map (λ h. h.now) home.entry) line.now ∷ []) table.new) }
+    ensures { OnOk result (AddsAt marks.now (full_name pcd.now) item table.old table.new) }
 {
-    if !is_pcd_kept(marks, &line.pcd) {
+    if !is_pcd_kept(marks, pcd) {
         return Ok(());
     }
-    let name = line.pcd.full_name(alloc)?;
-    add(alloc, table, name, StatedLine { home, line })?;
+    let name = pcd.full_name(alloc)?;
+    add(alloc, table, name, item)?;
     Ok(())
 }
 
@@ -54,7 +55,7 @@ fn add_lines<'a>(
         (xs ++ map (at_home (option_map (λ h. h.now) home.entry)) lines.now) table.new) }
 {
     for line in lines {
-        add_line(alloc, marks, table, home, line)?;
+        add_kept(alloc, marks, table, &line.pcd, StatedLine { home, line })?;
     }
     Ok(())
 }
@@ -90,23 +91,6 @@ fn add_components<'a>(
     Ok(())
 }
 
-fn add_set<'a>(
-    alloc: Global,
-    marks: &[bool],
-    table: &mut IndexMap<Vec<u8>, Vec<&'a PcdSet>>,
-    set: &'a PcdSet,
-) -> Result<(), WantOfMemory>
-    ensures { (xs : List Set) → GroupedAt marks.now (λ s. s.now) set_name xs table.old
-        → OnOk result (GroupedAt marks.now (λ s. s.now) set_name (xs ++ set.now ∷ []) table.new) }
-{
-    if !is_pcd_kept(marks, &set.pcd) {
-        return Ok(());
-    }
-    let name = set.pcd.full_name(alloc)?;
-    add(alloc, table, name, set)?;
-    Ok(())
-}
-
 fn add_sets<'a>(
     alloc: Global,
     marks: &[bool],
@@ -118,25 +102,8 @@ fn add_sets<'a>(
         table.new) }
 {
     for set in sets {
-        add_set(alloc, marks, table, set)?;
+        add_kept(alloc, marks, table, &set.pcd, set)?;
     }
-    Ok(())
-}
-
-fn add_row<'a>(
-    alloc: Global,
-    marks: &[bool],
-    table: &mut IndexMap<Vec<u8>, Vec<&'a PcdRow>>,
-    row: &'a PcdRow,
-) -> Result<(), WantOfMemory>
-    ensures { (xs : List Row) → GroupedAt marks.now (λ r. r.now) row_name xs table.old
-        → OnOk result (GroupedAt marks.now (λ r. r.now) row_name (xs ++ row.now ∷ []) table.new) }
-{
-    if !is_pcd_kept(marks, &row.pcd) {
-        return Ok(());
-    }
-    let name = row.pcd.full_name(alloc)?;
-    add(alloc, table, name, row)?;
     Ok(())
 }
 
@@ -151,27 +118,8 @@ fn add_rows<'a>(
         table.new) }
 {
     for row in rows {
-        add_row(alloc, marks, table, row)?;
+        add_kept(alloc, marks, table, &row.pcd, row)?;
     }
-    Ok(())
-}
-
-fn add_declared<'a>(
-    alloc: Global,
-    marks: &[bool],
-    table: &mut IndexMap<Vec<u8>, Vec<DeclaredLine<'a>>>,
-    from: &'a Path,
-    line: &'a DecPcd,
-) -> Result<(), WantOfMemory>
-    ensures { (xs : List Declared) → GroupedAt marks.now declared_view declared_name xs table.old
-        → OnOk result (GroupedAt marks.now declared_view declared_name
-        (xs ++ line_from from.now line.now ∷ []) table.new) }
-{
-    if !is_pcd_kept(marks, &line.pcd) {
-        return Ok(());
-    }
-    let name = line.pcd.full_name(alloc)?;
-    add(alloc, table, name, DeclaredLine { from, line })?;
     Ok(())
 }
 
@@ -187,7 +135,7 @@ fn add_declarations<'a>(
         (xs ++ map (line_from from.now) lines.now) table.new) }
 {
     for line in lines {
-        add_declared(alloc, marks, table, from, line)?;
+        add_kept(alloc, marks, table, &line.pcd, DeclaredLine { from, line })?;
     }
     Ok(())
 }
