@@ -20,3 +20,10 @@ pub mod PoolLemmas
 pub mod Ending
 pub mod ScanLemmas
 pub mod EditLemmas
+pub mod QueueLemmas
+pub mod WantedLemmas
+pub mod OpenedLemmas
+pub mod LookLemmas
+pub mod ForwardLemmas
+pub mod ActLemmas
+pub mod VisitLemmas

@@ -20,3 +20,4 @@ pub mod Settling
 pub mod Seeing
 pub mod Edits
 pub mod Ended
+pub mod Forward

@@ -1,5 +1,5 @@
 //! One step forward for a key under way.
-ghost use Rattle.std.specs.Prelude.{◌≡◌, IfOk, OnOk, [], ◌∷◌};
+ghost use Rattle.std.specs.Prelude.{◌≡◌, ◌≤◌, ◌⊎◌, true, IfOk, OnOk, [], ◌∷◌, length};
 ghost use Rattle.step_engine.specs.Build.{setting, Counts};
 ghost use Rattle.step_engine.specs.Edits.{over};
 ghost use Rattle.step_engine.specs.Engine.{state, AreKept, Adds};
@@ -7,6 +7,8 @@ ghost use Rattle.step_engine.specs.Reading.{knowledge};
 ghost use Rattle.step_engine.specs.Table.{place_at, Finds};
 ghost use Rattle.step_engine.specs.Items.{IsAsked, IsCheck, IsResumed, IsCheckedOn, IsReady, IsAdvanced, IsItem, item_key, Notes, AreItems, AreItemsWanted};
 ghost use Rattle.step_engine.specs.Taking.{SortsIn, IsList, ListNotes};
+ghost use Rattle.step_engine.specs.Forward.{Rises, Acts, AllAct, Goes, GoesOn, IsLeftAt, IsRun, HasItem, HasRun, HasOne, Enters, item_place};
+ghost use Rattle.step_engine.specs.declared.places.Place.TheVariants.{Running as AtRun};
 
 use crate::answers::{answers, check_batch};
 use crate::cache::Cache;
@@ -25,7 +27,10 @@ use build_base::text::{Text, WantOfMemory};
 use std::alloc::Global;
 
 /// Counts what a visit did for the keys under way.
-pub fn count_act(acts: &mut u64, done: bool) {
+pub fn count_act(acts: &mut u64, done: bool)
+    ensures grows { acts.old ≤ acts.new }
+    ensures counts { done ≡ true → Rises acts.old acts.new }
+{
     if done {
         *acts = acts.saturating_add(1);
     }
@@ -60,6 +65,9 @@ fn resume<R: Rules, T: Tree>(
         (IsResumed (setting R.means (over edits.now (T.held tree.old)) job.now old.now) asked.key
         (state fresh.now.items (knowledge R.Key.cmp learned.old) [] (T.reads tree.old))
         (state fresh.now.items (knowledge R.Key.cmp learned.new) [] (T.reads tree.new))) }
+    ensures at { IfOk result (λ a. item_place a ≡ AtRun) }
+    ensures acts { OnOk result (Acts R.means.rank (place_at R.Key.cmp places.now) (Item.Asked asked)
+        acts.old acts.new ⊥) }
 {
     let Asked {
         key,
@@ -115,6 +123,8 @@ fn check_next<R: Rules, T: Tree>(
         check.entry.key (state fresh.now.items (knowledge R.Key.cmp learned.old) []
         (T.reads tree.old))
         (state fresh.now.items (knowledge R.Key.cmp learned.new) [] (T.reads tree.new))) }
+    ensures acts { OnOk result (Acts R.means.rank (place_at R.Key.cmp places.now) (Item.Check check)
+        acts.old acts.new ⊥) }
 {
     let Check { entry, batch } = check;
     let talk = entry.talk.value();
@@ -174,6 +184,14 @@ pub fn advance<R: Rules, T: Tree>(
         (T.reads tree.old))
         (state fresh.new.items (knowledge R.Key.cmp learned.new) book.new (T.reads tree.new))
         (place_at R.Key.cmp places.old) (place_at R.Key.cmp places.new)) }
+    ensures goes { IfOk result
+        (λ r. Goes (item_key item) (item_place item) (length fresh.old.items)
+        (length fresh.new.items) (place_at R.Key.cmp places.old) (place_at R.Key.cmp places.new)
+        (IsLeftAt r)) }
+    ensures acts { IfOk result (λ r. Acts R.means.rank (place_at R.Key.cmp places.old) item acts.old
+        acts.new (IsRun r)) }
+    ensures entered { OnOk result (Enters (place_at R.Key.cmp places.old)
+        (place_at R.Key.cmp places.new) fresh.old.items fresh.new.items) }
 {
     match item {
         Item::Run(run) => Ok(Some(Item::Run(run))),
@@ -267,6 +285,14 @@ pub fn advance_all<R: Rules, T: Tree>(
         (place_at R.Key.cmp places.old) (place_at R.Key.cmp places.new)
         (λ top. AreItemsWanted (setting R.means (over edits.now (T.held tree.old)) job.now old.now)
         top items.items) runs.items rest.new.items) }
+    ensures goes { IfOk result
+        (λ runs. GoesOn R.Out R.Key.cmp (length fresh.old.items) (length fresh.new.items)
+        (place_at R.Key.cmp places.old) (place_at R.Key.cmp places.new) (HasItem items.items)
+        (λ k p. HasRun runs.items k p ⊎ HasItem rest.new.items k p)) }
+    ensures acts { IfOk result (λ runs. AllAct R.means.rank (place_at R.Key.cmp places.old)
+        items.items acts.old acts.new (HasOne runs.items)) }
+    ensures entered { OnOk result (Enters (place_at R.Key.cmp places.old)
+        (place_at R.Key.cmp places.new) fresh.old.items fresh.new.items) }
 {
     let mut runs = Vec::new(alloc);
     for item in items {

@@ -1,5 +1,5 @@
 //! The answers to asks, where all their parts are done.
-ghost use Rattle.std.specs.Prelude.{MatchOption, ◌≡◌, ◌⊎◌, ◌<◌, ◌≤◌, true, false, IfOk, OnOk, IfSome, ◌++◌, List, [], ◌∷◌, Contains, slice_index_or};
+ghost use Rattle.std.specs.Prelude.{MatchOption, ◌≡◌, ◌⊎◌, ◌<◌, ◌≤◌, true, false, IfOk, OnOk, IfSome, IfNone, ◌++◌, List, [], ◌∷◌, Contains, slice_index_or};
 ghost use Rattle.build_base.specs.World.{World};
 ghost use Rattle.step_engine.specs.Meaning.{asks_of};
 ghost use Rattle.step_engine.specs.Build.{setting, IsHere, Counts};
@@ -7,8 +7,9 @@ ghost use Rattle.step_engine.specs.Edits.{over};
 ghost use Rattle.step_engine.specs.Engine.{state, AreKept, Adds, IsNext, AreLower, IsAnswered, AreAnswered, IsCheckedPair, IsCheckedBatch};
 ghost use Rattle.step_engine.specs.Agreeing.{HasPair, Agree, IsCompared, AreCompared};
 ghost use Rattle.step_engine.specs.Reading.{knowledge, compared_at};
-ghost use Rattle.step_engine.specs.Table.{place_at, IsPlaced, Finds};
+ghost use Rattle.step_engine.specs.Table.{place_at, IsPlaced, IsDone, Finds};
 ghost use Rattle.step_engine.specs.Items.{IsStill};
+ghost use Rattle.step_engine.specs.Forward.{LacksPart};
 
 use crate::cache::Cache;
 use crate::compared::Compared;
@@ -88,6 +89,8 @@ fn answer<R: Rules, T: Tree>(
         (IsAnswered (setting R.means (over edits.now (T.held tree.old)) job.now old.now) key.now
         ask.now (state fresh.now.items (knowledge R.Key.cmp learned.old) [] (T.reads tree.old))
         (state fresh.now.items (knowledge R.Key.cmp learned.new) [] (T.reads tree.new)))) }
+    ensures none { IfOk result (λ r. IfNone r (LacksPart (place_at R.Key.cmp places.now)
+        (λ part. ask.now ≡ Ask.Part part))) }
 {
     match ask {
         Ask::File(path) => {
@@ -137,6 +140,8 @@ pub fn answers<R: Rules, T: Tree>(
         (AreAnswered (setting R.means (over edits.now (T.held tree.old)) job.now old.now) key.now
         asks.now (state fresh.now.items (knowledge R.Key.cmp learned.old) [] (T.reads tree.old))
         (state fresh.now.items (knowledge R.Key.cmp learned.new) [] (T.reads tree.new)))) }
+    ensures none { IfOk result (λ r. IfNone r (LacksPart (place_at R.Key.cmp places.now)
+        (λ part. Contains asks.now (Ask.Part part)))) }
 {
     let mut pairs = Rows::new(alloc);
     for ask in asks.items() {
@@ -191,6 +196,8 @@ fn check_part<K: StepKey, O: Same + Drop>(
         (λ r. IfSome r (λ same. IsCompared fresh.now.items part.now same pair.now.answer)) }
     ensures compared { OnOk result
         (AreCompared old.now fresh.now.items (compared_at K.cmp compared.new)) }
+    ensures none { IfOk result
+        (λ r. IfNone r (IsDone (place_at K.cmp places.now part.now) → ⊥)) }
 {
     if let Some(same) = compared.get(part) {
         return Ok(Some(same));
@@ -241,6 +248,8 @@ fn check_pair<R: Rules, T: Tree>(
         (IsCheckedPair (setting R.means (over edits.now (T.held tree.old)) job.now old.now) key.now
         pair.now (state fresh.now.items (knowledge R.Key.cmp learned.old) [] (T.reads tree.old))
         (state fresh.now.items (knowledge R.Key.cmp learned.new) [] (T.reads tree.new)))) }
+    ensures none { IfOk result (λ r. IfNone r (LacksPart (place_at R.Key.cmp places.now)
+        (λ part. pair.now.ask ≡ Ask.Part part))) }
 {
     if let Ask::Part(part) = &pair.ask {
         let same = check_part(alloc, old, part, pair, fresh, places, &mut learned.compared)?;
@@ -289,6 +298,9 @@ pub fn check_batch<R: Rules, T: Tree>(
         (IsCheckedBatch (setting R.means (over edits.now (T.held tree.old)) job.now old.now) key.now
         pairs.now (state fresh.now.items (knowledge R.Key.cmp learned.old) [] (T.reads tree.old))
         (state fresh.now.items (knowledge R.Key.cmp learned.new) [] (T.reads tree.new)))) }
+    ensures none { IfOk result (λ r. IfNone r (LacksPart (place_at R.Key.cmp places.now)
+        (λ part. Contains (asks_of pairs.now) (Ask.Part part)
+        × (R.means.rank part < R.means.rank key.now)))) }
 {
     let mut right = true;
     for pair in pairs.items() {

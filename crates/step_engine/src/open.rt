@@ -1,7 +1,8 @@
 //! Keys that are met for the first time.
-ghost use Rattle.std.specs.Prelude.{MatchOption, ◌≡◌, IfOk, OnErr};
+ghost use Rattle.std.specs.Prelude.{MatchOption, ◌≡◌, IfOk, OnOk, OnErr};
 ghost use Rattle.step_engine.specs.Table.{place_at};
 ghost use Rattle.step_engine.specs.Opening.{IsOpened, Opens, OpensNoted};
+ghost use Rattle.step_engine.specs.Forward.{IsMet, AreMet, AreOpened};
 
 use crate::cache::Cache;
 use crate::items::{Check, Item, Run};
@@ -31,6 +32,7 @@ fn open<K: StepKey, O: Same + Drop>(
         (IsOpened key.now old.now book.old book.new (place_at K.cmp places.old)
         (place_at K.cmp places.new))) }
     ensures err { OnErr result (book.new ≡ book.old) }
+    ensures met { OnOk result (IsMet (place_at K.cmp places.new key.now)) }
 {
     let None = places.get(key) else {
         return Ok(None);
@@ -70,6 +72,9 @@ pub fn open_all<K: StepKey, O: Same + Drop>(
         (place_at K.cmp places.new) items.items) }
     ensures noted { OpensNoted keys.now.items old.now book.old (place_at K.cmp places.old)
         book.new }
+    ensures opened { IfOk result (λ items. AreOpened (place_at K.cmp places.old)
+        (place_at K.cmp places.new) items.items) }
+    ensures met { OnOk result (AreMet (place_at K.cmp places.new) keys.now.items) }
 {
     let mut items = Vec::new(alloc);
     for key in keys {

@@ -1,6 +1,8 @@
 //! The keys under way.
-ghost use Rattle.std.specs.Prelude.{◌≡◌, ◌⊎◌, OnOk};
+ghost use Rattle.std.specs.Prelude.{◌≡◌, ◌⊎◌, None, OnOk};
+ghost use Rattle.step_engine.specs.Table.{Sets};
 ghost use Rattle.step_engine.specs.Pooling.{Holds, Parks};
+ghost use Rattle.step_engine.specs.Forward.{queue_at, Queues, Wakes};
 ghost use Rattle.step_engine.specs.declared.items.Item.{Item};
 
 use crate::items::{Item, Queue, Waiting};
@@ -26,6 +28,8 @@ pub fn take_parked<K: StepKey, O: Drop>(
 ) -> Vec<Waiting<K, O>>
     ensures out { (a : Item K O) → Holds result.items a → Parks K.cmp parked.old a }
     ensures less { (a : Item K O) → Parks K.cmp parked.new a → Parks K.cmp parked.old a }
+    ensures all { result.items ≡ queue_at K.cmp parked.old part.now }
+    ensures sets { Sets K.cmp part.now None parked.old parked.new }
 {
     match parked.remove(part) {
         Some(queue) => queue.list,
@@ -40,8 +44,9 @@ pub fn park<K: StepKey, O: Drop>(
     waiting: Waiting<K, O>,
     parked: &mut KeyTable<K, Queue<K, O>>,
 ) -> Result<(), WantOfMemory>
-    ensures { OnOk result ((a : Item K O) → Parks K.cmp parked.new a → (waiting.item ≡ a)
+    ensures among { OnOk result ((a : Item K O) → Parks K.cmp parked.new a → (waiting.item ≡ a)
         ⊎ Parks K.cmp parked.old a) }
+    ensures all { OnOk result (Queues K.cmp part waiting parked.old parked.new) }
 {
     let mut list = take_parked(alloc, &part, parked);
     if list.push(waiting).is_err() {
@@ -58,8 +63,10 @@ pub fn wake<K: StepKey, O: Drop>(
     parked: &mut KeyTable<K, Queue<K, O>>,
     woken: &mut Vec<Waiting<K, O>>,
 ) -> Result<(), WantOfMemory>
-    ensures { OnOk result ((a : Item K O) → Parks K.cmp parked.new a
+    ensures among { OnOk result ((a : Item K O) → Parks K.cmp parked.new a
         ⊎ Holds woken.new.items a → Parks K.cmp parked.old a ⊎ Holds woken.old.items a) }
+    ensures all { OnOk result (Wakes K.cmp (λ k. part.now ≡ k) parked.old parked.new woken.old.items
+        woken.new.items) }
 {
     let mut list = take_parked(alloc, part, parked);
     if woken.append(&mut list).is_err() {

@@ -1,5 +1,5 @@
 //! One round of a list of keys.
-ghost use Rattle.std.specs.Prelude.{◌≡◌, ◌≤◌, IfOk, []};
+ghost use Rattle.std.specs.Prelude.{◌≡◌, ◌≤◌, IfOk, OnOk, [], length};
 ghost use Rattle.step_engine.specs.Build.{setting, Counts};
 ghost use Rattle.step_engine.specs.Edits.{over};
 ghost use Rattle.step_engine.specs.Engine.{state};
@@ -7,6 +7,7 @@ ghost use Rattle.step_engine.specs.Reading.{knowledge};
 ghost use Rattle.step_engine.specs.Table.{place_at};
 ghost use Rattle.step_engine.specs.Items.{IsReady, AreItems, AreItemsWanted};
 ghost use Rattle.step_engine.specs.Taking.{IsList, ListNotes};
+ghost use Rattle.step_engine.specs.Forward.{GoesOn, HasItem, AllAct, Enters};
 
 use crate::advance::{advance_all, count_act};
 use crate::cache::Cache;
@@ -68,6 +69,14 @@ pub fn round<H: Threads + Sync, R: Rules, T: Tree, G: Gate>(
         (place_at R.Key.cmp places.old) (place_at R.Key.cmp places.new)
         (λ top. AreItemsWanted (setting R.means (over edits.now (T.held tree.old)) job.now old.now)
         top items.items) [] left.items) }
+    ensures goes { IfOk result
+        (λ left. GoesOn R.Out R.Key.cmp (length fresh.old.items) (length fresh.new.items)
+        (place_at R.Key.cmp places.old) (place_at R.Key.cmp places.new) (HasItem items.items)
+        (HasItem left.items)) }
+    ensures acts { OnOk result (AllAct R.means.rank (place_at R.Key.cmp places.old) items.items
+        acts.old acts.new ⊥) }
+    ensures entered { OnOk result (Enters (place_at R.Key.cmp places.old)
+        (place_at R.Key.cmp places.new) fresh.old.items fresh.new.items) }
 {
     let mut left = Vec::new(alloc);
     let runs = advance_all(

@@ -1,5 +1,5 @@
 //! A build from visit to visit, until its key is done.
-ghost use Rattle.std.specs.Prelude.{◌≡◌, ◌≤◌, IfOk, [], ◌∷◌};
+ghost use Rattle.std.specs.Prelude.{◌≡◌, ◌≤◌, ℕ, None, IfOk, OnOk, [], ◌∷◌};
 ghost use Rattle.step_engine.specs.Build.{setting, Counts};
 ghost use Rattle.step_engine.specs.Edits.{over};
 ghost use Rattle.step_engine.specs.Engine.{state};
@@ -10,6 +10,7 @@ ghost use Rattle.step_engine.specs.Taking.{ListNotes};
 ghost use Rattle.step_engine.specs.Scanning.{AreUnderWay, AreAllWanted};
 ghost use Rattle.step_engine.specs.Settling.{IsVisited, IsBroughtTo, TopNotes, Begins};
 ghost use Rattle.step_engine.specs.Opening.{OpensNoted};
+ghost use Rattle.step_engine.specs.Forward.{IsMet, IsWhole, IsForward, AreEntered};
 
 use crate::advance::count_act;
 use crate::cache::Cache;
@@ -75,6 +76,11 @@ fn run_ready_keys<H: Threads + Sync, R: Rules, T: Tree, G: Gate>(
         (state fresh.old.items (knowledge R.Key.cmp learned.old) book.old (T.reads tree.old))
         (state fresh.new.items (knowledge R.Key.cmp learned.new) book.new (T.reads tree.new))
         (place_at R.Key.cmp places.old) (place_at R.Key.cmp places.new) pool.old pool.new) }
+    ensures forward { OnOk result
+        (IsWhole R.Key.cmp R.means.rank (place_at R.Key.cmp places.old) pool.old
+        → AreEntered (place_at R.Key.cmp places.old) fresh.old.items
+        → IsForward R.Key.cmp R.means.rank (place_at R.Key.cmp places.old)
+        (place_at R.Key.cmp places.new) pool.new fresh.new.items acts.old acts.new) }
 {
     let able = take_able(alloc, rules, old, pool, places, book)?;
     count_act(acts, !pool.news.is_empty());
@@ -100,6 +106,9 @@ fn begin<K: StepKey, O: Same + Drop>(
     ensures ok { IfOk result
         (λ pool. Begins K.cmp top.now old.now book.old (place_at K.cmp places.old) book.new
         (place_at K.cmp places.new) pool) }
+    ensures whole { IfOk result (λ pool. (rank : K → ℕ) → ((k : K) → place_at K.cmp places.old k ≡ None)
+        → IsWhole K.cmp rank (place_at K.cmp places.new) pool) }
+    ensures met { OnOk result (IsMet (place_at K.cmp places.new top.now)) }
 {
     let key = top.copy(alloc)?;
     let mut keys = Vec::new(alloc);
@@ -117,9 +126,9 @@ fn begin<K: StepKey, O: Same + Drop>(
 /// The outcome of a key, for the sake of which other keys are brought.
 ///
 /// Each visit does something for some key: it opens one, makes its turn, answers or checks a batch
-/// of it, or makes its entry. What is done is counted, up to the greatest number of 64 bits, and a
-/// visit that did nothing is the last one. A key waits only for parts of lower rank, so one of
-/// those under way is always able to go on, and the top key is done before that.
+/// of it, or makes its entry. A key waits only for parts of lower rank that are under way, so one of
+/// those under way is always able to go on. What is done is counted, up to the greatest number of
+/// 64 bits.
 pub fn run_to_end<H: Threads + Sync, R: Rules, T: Tree, G: Gate>(
     rt: &H,
     alloc: Global,
@@ -141,6 +150,8 @@ pub fn run_to_end<H: Threads + Sync, R: Rules, T: Tree, G: Gate>(
     requires ready { IsReady (setting R.means (over edits.now (T.held tree.old)) job.now old.now)
         (state fresh.old.items (knowledge R.Key.cmp learned.old) book.old (T.reads tree.old))
         (place_at R.Key.cmp places.old) }
+    requires new { (k : R.Key) → place_at R.Key.cmp places.old k ≡ None }
+    requires none { fresh.old.items ≡ [] }
     ensures held { T.held tree.new ≡ T.held tree.old }
     ensures count { Counts (T.faults tree.old) (T.faults tree.new) result }
     ensures notes { TopNotes (setting R.means (over edits.now (T.held tree.old)) job.now old.now)
@@ -168,7 +179,7 @@ pub fn run_to_end<H: Threads + Sync, R: Rules, T: Tree, G: Gate>(
             &mut waves, &mut acts, &mut pool,
         )?;
         if acts <= before {
-            return Err(EngineRefusal::WantOfMemory);
+            unreachable!();
         }
     }
     Err(EngineRefusal::WantOfMemory)

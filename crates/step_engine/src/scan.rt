@@ -1,8 +1,10 @@
 //! Keys under way are looked at: parts that they ask for are opened, and they go on or wait.
-ghost use Rattle.std.specs.Prelude.{◌≡◌, ◌⊎◌, ◌++◌, List, OnOk, IfOk, Contains};
+ghost use Rattle.std.specs.Prelude.{◌≡◌, ◌⊎◌, ◌++◌, ℕ, List, [], Some, OnOk, IfOk, Contains, drop};
 ghost use Rattle.step_engine.specs.Table.{place_at};
 ghost use Rattle.step_engine.specs.Pooling.{Holds, Parks, IsIn};
 ghost use Rattle.step_engine.specs.Scanning.{Scans, ScansNoted, ScansAll, ScansAllNoted, Readies, ReadiesNoted};
+ghost use Rattle.step_engine.specs.Caches.{HasKey};
+ghost use Rattle.step_engine.specs.Forward.{IsLeftAt, HasItem, HasWaiting, Waits, AreWaiting, AreOpened, Looks, Sorts, IsWhole, IsParted, Wakes, PutsBack};
 ghost use Rattle.step_engine.specs.declared.items.Item.{Item};
 
 use crate::cache::Cache;
@@ -34,6 +36,12 @@ fn open_parts<R: Rules>(
         × (opened.new.items ≡ opened.old.items ++ more)
         × Scans item.now old.now book.old (place_at R.Key.cmp places.old) book.new
         (place_at R.Key.cmp places.new) more) }
+    ensures opens { OnOk result (AreOpened (place_at R.Key.cmp places.old)
+        (place_at R.Key.cmp places.new) opened.new.items) }
+    ensures grows { OnOk result ((a : Item R.Key R.Out) → Contains opened.old.items a
+        → Contains opened.new.items a) }
+    ensures waits { IfOk result
+        (λ parts. Waits R.means.rank (place_at R.Key.cmp places.new) item.now parts.items) }
 {
     let parts = parts_of(alloc, rules, item, places)?;
     let mut more = open_all(alloc, old, &parts, book, places)?;
@@ -61,6 +69,9 @@ fn scan<R: Rules>(
         (place_at R.Key.cmp places.new) more) }
     ensures held { OnOk result ((a : Item R.Key R.Out) → Holds waiting.new.items a → (item ≡ a)
         ⊎ Holds waiting.old.items a) }
+    ensures looks { OnOk result (Looks R.means.rank (place_at R.Key.cmp places.old)
+        (place_at R.Key.cmp places.new) (IsLeftAt (Some item)) opened.old.items opened.new.items
+        waiting.old.items waiting.new.items) }
 {
     let parts = open_parts(alloc, rules, old, &item, places, book, opened)?;
     if waiting.push(Waiting { item, parts }).is_err() {
@@ -86,6 +97,9 @@ fn scan_all<R: Rules>(
         (place_at R.Key.cmp places.new) opened.items) }
     ensures held { OnOk result ((a : Item R.Key R.Out) → Holds waiting.new.items a
         → Contains items.items a ⊎ Holds waiting.old.items a) }
+    ensures looks { IfOk result (λ opened. Looks R.means.rank (place_at R.Key.cmp places.old)
+        (place_at R.Key.cmp places.new) (HasItem items.items) [] opened.items waiting.old.items
+        waiting.new.items) }
 {
     let mut opened = Vec::new(alloc);
     for item in items {
@@ -102,9 +116,12 @@ fn sort_one<K: StepKey, O: Drop>(
     parked: &mut KeyTable<K, Queue<K, O>>,
     able: &mut Vec<Item<K, O>>,
 ) -> Result<(), WantOfMemory>
-    ensures { OnOk result ((a : Item K O) → Contains able.new.items a
+    ensures among { OnOk result ((a : Item K O) → Contains able.new.items a
         ⊎ Parks K.cmp parked.new a → (one.item ≡ a)
         ⊎ (Contains able.old.items a ⊎ Parks K.cmp parked.old a)) }
+    ensures sorts { OnOk result ((rank : K → ℕ) → Sorts K.cmp rank (place_at K.cmp places.now)
+        (Waits rank (place_at K.cmp places.now) one.item one.parts.items) (IsLeftAt (Some one.item))
+        parked.old parked.new able.old.items able.new.items) }
 {
     let Waiting { item, parts } = one;
     let mut parts = parts;
@@ -125,8 +142,12 @@ fn sort_all<K: StepKey, O: Drop>(
     places: &Places<K>,
     parked: &mut KeyTable<K, Queue<K, O>>,
 ) -> Result<Vec<Item<K, O>>, WantOfMemory>
-    ensures { IfOk result (λ able. (a : Item K O) → Contains able.items a
+    ensures among { IfOk result (λ able. (a : Item K O) → Contains able.items a
         ⊎ Parks K.cmp parked.new a → Holds waiting.items a ⊎ Parks K.cmp parked.old a) }
+    ensures sorts { IfOk result (λ able. (rank : K → ℕ)
+        → Sorts K.cmp rank (place_at K.cmp places.now)
+        (AreWaiting rank (place_at K.cmp places.now) waiting.items) (HasWaiting waiting.items)
+        parked.old parked.new [] able.items) }
 {
     let mut able = Vec::new(alloc);
     for one in waiting {
@@ -152,6 +173,10 @@ pub fn take_able<R: Rules>(
     ensures held { IfOk result (λ able. (a : Item R.Key R.Out) → Contains able.items a
         ⊎ (Holds pool.new.woken.items a ⊎ Parks R.Key.cmp pool.new.parked a)
         → IsIn R.Key.cmp pool.old a) }
+    ensures parts { IfOk result (λ able.
+        IsWhole R.Key.cmp R.means.rank (place_at R.Key.cmp places.old) pool.old
+        → IsParted R.Key.cmp R.means.rank (place_at R.Key.cmp places.old)
+        (place_at R.Key.cmp places.new) pool.new able.items) }
 {
     let news = replace(&mut pool.news, Vec::new(alloc));
     let mut waiting = replace(&mut pool.woken, Vec::new(alloc));
@@ -168,8 +193,10 @@ fn wake_all<K: StepKey, O: Drop>(
     parked: &mut KeyTable<K, Queue<K, O>>,
     woken: &mut Vec<Waiting<K, O>>,
 ) -> Result<(), WantOfMemory>
-    ensures { OnOk result ((a : Item K O) → Parks K.cmp parked.new a
+    ensures among { OnOk result ((a : Item K O) → Parks K.cmp parked.new a
         ⊎ Holds woken.new.items a → Parks K.cmp parked.old a ⊎ Holds woken.old.items a) }
+    ensures all { OnOk result (Wakes K.cmp (HasKey made.now) parked.old parked.new woken.old.items
+        woken.new.items) }
 {
     for entry in made {
         wake(alloc, &entry.key, parked, woken)?;
@@ -186,8 +213,10 @@ pub fn put_back<K: StepKey, O: Drop>(
     first: usize,
     pool: &mut Pool<K, O>,
 ) -> Result<(), WantOfMemory>
-    ensures { OnOk result ((a : Item K O) → IsIn K.cmp pool.new a → Contains left.items a
+    ensures among { OnOk result ((a : Item K O) → IsIn K.cmp pool.new a → Contains left.items a
         ⊎ IsIn K.cmp pool.old a) }
+    ensures all { OnOk result
+        (PutsBack K.cmp left.items (drop first fresh.now.items) pool.old pool.new) }
 {
     let mut left = left;
     if pool.news.append(&mut left).is_err() {

@@ -1,7 +1,7 @@
 //! A key is granted, its entry is made, its outcome is found.
-ghost use Rattle.std.specs.Prelude.{MatchOption, ◌≡◌, ◌++◌, ◌∷◌, [], IfOk, IfSome, OnOk, OnErr, vec_len};
+ghost use Rattle.std.specs.Prelude.{MatchOption, ◌≡◌, ◌++◌, ◌∷◌, [], Some, IfOk, IfSome, IfNone, OnOk, OnErr, vec_len};
 ghost use Rattle.step_engine.specs.Build.{IsEntryOf};
-ghost use Rattle.step_engine.specs.Table.{place_at, IsPlaced, Finds, IsMadeAt};
+ghost use Rattle.step_engine.specs.Table.{place_at, IsPlaced, IsDone, Finds, IsMadeAt};
 ghost use Rattle.step_engine.specs.Items.{IsRerun};
 ghost use Rattle.step_engine.specs.declared.places.Place.TheVariants.{Checking as AtCheck, Running as AtRun, Done as AtDone};
 
@@ -60,9 +60,11 @@ pub fn make_new<K: StepKey, O: Drop>(
     fresh: &mut Vec<Entry<K, O>>,
     places: &mut Places<K>,
 ) -> Result<(), WantOfMemory>
-    ensures { OnOk result
+    ensures made { OnOk result
         (IsMadeAt AtRun entry (place_at K.cmp places.old) (place_at K.cmp places.new)
         fresh.old.items fresh.new.items) }
+    ensures done { OnOk result (place_at K.cmp places.old entry.key ≡ Some AtRun
+        → IsDone (place_at K.cmp places.new entry.key)) }
 {
     let Some(Place::Running) = places.get(&entry.key) else {
         return Ok(());
@@ -78,9 +80,11 @@ pub fn make_old<K: StepKey, O: Drop>(
     fresh: &mut Vec<Entry<K, O>>,
     places: &mut Places<K>,
 ) -> Result<(), WantOfMemory>
-    ensures { OnOk result
+    ensures made { OnOk result
         (IsMadeAt AtCheck entry (place_at K.cmp places.old) (place_at K.cmp places.new)
         fresh.old.items fresh.new.items) }
+    ensures done { OnOk result (place_at K.cmp places.old entry.key ≡ Some AtCheck
+        → IsDone (place_at K.cmp places.new entry.key)) }
 {
     let Some(Place::Checking) = places.get(&entry.key) else {
         return Ok(());
@@ -101,6 +105,7 @@ pub fn rerun<K: StepKey, O: Drop>(
         × (place_at K.cmp places.new ≡ place_at K.cmp places.old))
         (IsRerun key book.old book.new (place_at K.cmp places.old) (place_at K.cmp places.new))) }
     ensures err { OnErr result (book.new ≡ book.old) }
+    ensures runs { IfOk result (λ r. place_at K.cmp places.old key ≡ Some AtCheck → IfNone r ⊥) }
 {
     let Some(Place::Checking) = places.get(&key) else {
         return Ok(None);
@@ -119,7 +124,8 @@ pub fn result_of<'a, K: StepKey, O: Drop>(
     places: &Places<K>,
 ) -> Option<&'a Outcome<O>>
     requires { Finds (place_at K.cmp places.now) fresh.now.items }
-    ensures { IfSome result (λ r. IsEntryOf key.now r.now fresh.now.items) }
+    ensures some { IfSome result (λ r. IsEntryOf key.now r.now fresh.now.items) }
+    ensures none { IfNone result (IsDone (place_at K.cmp places.now key.now) → ⊥) }
 {
     match places.get(key) {
         Some(Place::Done(number)) => match made_at(fresh, number) {

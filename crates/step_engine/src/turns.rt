@@ -1,9 +1,11 @@
 //! A wave of turns, and what each of them leaves.
-ghost use Rattle.std.specs.Prelude.{◌≤◌, IfOk, OnOk};
+ghost use Rattle.std.specs.Prelude.{◌≤◌, ◌⊎◌, IfOk, OnOk, length};
 ghost use Rattle.std.specs.List.{AllZip};
 ghost use Rattle.step_engine.specs.Table.{place_at};
 ghost use Rattle.step_engine.specs.Items.{IsTurned};
 ghost use Rattle.step_engine.specs.Taking.{TakesUp, PutsIn, Takes};
+ghost use Rattle.step_engine.specs.Forward.{HasItem, HasTurned, IsLeftAt, Goes, GoesOn, Enters};
+ghost use Rattle.step_engine.specs.declared.places.Place.TheVariants.{Running as AtRun};
 
 use crate::items::{Asked, Item, Run, Turned};
 use crate::places::Places;
@@ -55,9 +57,14 @@ pub fn take_turn<K: StepKey, O: Drop>(
     fresh: &mut Vec<Entry<K, O>>,
     places: &mut Places<K>,
 ) -> Result<Option<Item<K, O>>, WantOfMemory>
-    ensures { IfOk result
+    ensures takes { IfOk result
         (λ r. TakesUp turned.key turned.talk turned.turn (place_at K.cmp places.old)
         (place_at K.cmp places.new) fresh.old.items fresh.new.items r) }
+    ensures goes { IfOk result
+        (λ r. Goes turned.key AtRun (length fresh.old.items) (length fresh.new.items)
+        (place_at K.cmp places.old) (place_at K.cmp places.new) (IsLeftAt r)) }
+    ensures entered { OnOk result (Enters (place_at K.cmp places.old) (place_at K.cmp places.new)
+        fresh.old.items fresh.new.items) }
 {
     let Turned { key, talk, turn } = turned;
     match turn {
@@ -99,9 +106,15 @@ pub fn take_all<K: StepKey, O: Drop>(
     places: &mut Places<K>,
     rest: &mut Vec<Item<K, O>>,
 ) -> Result<(), WantOfMemory>
-    ensures { OnOk result
+    ensures takes { OnOk result
         (Takes fresh.old.items (place_at K.cmp places.old) done.items rest.old.items fresh.new.items
         (place_at K.cmp places.new) rest.new.items) }
+    ensures goes { OnOk result
+        (GoesOn O K.cmp (length fresh.old.items) (length fresh.new.items)
+        (place_at K.cmp places.old) (place_at K.cmp places.new)
+        (λ k p. HasTurned done.items k p ⊎ HasItem rest.old.items k p) (HasItem rest.new.items)) }
+    ensures entered { OnOk result (Enters (place_at K.cmp places.old) (place_at K.cmp places.new)
+        fresh.old.items fresh.new.items) }
 {
     for turned in done {
         let left = take_turn(alloc, turned, fresh, places)?;

@@ -1,7 +1,10 @@
 //! The parts that a key under way wants.
-ghost use Rattle.std.specs.Prelude.{OnOk, IfOk, Contains};
+ghost use Rattle.std.specs.Prelude.{◌≡◌, MatchOption, true, false, OnOk, IfOk, Contains, []};
 ghost use Rattle.step_engine.specs.Meaning.{asks_of};
+ghost use Rattle.step_engine.specs.Table.{place_at, IsDone};
+ghost use Rattle.step_engine.specs.Items.{item_key};
 ghost use Rattle.step_engine.specs.Wanting.{AddsParts, ArePartsOf, IsAskedBy, WantsItem};
+ghost use Rattle.step_engine.specs.Forward.{Wants, Misses, AreDone};
 
 use crate::answers::is_lower;
 use crate::items::{Item, batch_at};
@@ -22,8 +25,10 @@ fn want<R: Rules>(
     places: &Places<R::Key>,
     wanted: &mut Vec<R::Key>,
 ) -> Result<(), WantOfMemory>
-    ensures { OnOk result ((k : R.Key) → Contains wanted.new.items k
+    ensures among { OnOk result ((k : R.Key) → Contains wanted.new.items k
         → AddsParts ask.now wanted.old.items k) }
+    ensures all { OnOk result (Wants R.means.rank (place_at R.Key.cmp places.now) key.now
+        (λ k. ask.now ≡ Ask.Part k) wanted.old.items wanted.new.items) }
 {
     if !is_lower(rules, key, ask) {
         return Ok(());
@@ -50,8 +55,10 @@ fn want_asks<R: Rules>(
     places: &Places<R::Key>,
     wanted: &mut Vec<R::Key>,
 ) -> Result<(), WantOfMemory>
-    ensures { OnOk result ((k : R.Key) → Contains wanted.new.items k
+    ensures among { OnOk result ((k : R.Key) → Contains wanted.new.items k
         → ArePartsOf asks.now wanted.old.items k) }
+    ensures all { OnOk result (Wants R.means.rank (place_at R.Key.cmp places.now) key.now
+        (λ k. Contains asks.now (Ask.Part k)) wanted.old.items wanted.new.items) }
 {
     for ask in asks.items() {
         want(alloc, rules, key, ask, places, wanted)?;
@@ -68,8 +75,10 @@ fn want_pairs<R: Rules>(
     places: &Places<R::Key>,
     wanted: &mut Vec<R::Key>,
 ) -> Result<(), WantOfMemory>
-    ensures { OnOk result ((k : R.Key) → Contains wanted.new.items k
+    ensures among { OnOk result ((k : R.Key) → Contains wanted.new.items k
         → ArePartsOf (asks_of pairs.now) wanted.old.items k) }
+    ensures all { OnOk result (Wants R.means.rank (place_at R.Key.cmp places.now) key.now
+        (λ k. Contains (asks_of pairs.now) (Ask.Part k)) wanted.old.items wanted.new.items) }
 {
     for pair in pairs.items() {
         want(alloc, rules, key, &pair.ask, places, wanted)?;
@@ -85,8 +94,10 @@ fn want_item<R: Rules>(
     places: &Places<R::Key>,
     wanted: &mut Vec<R::Key>,
 ) -> Result<(), WantOfMemory>
-    ensures { OnOk result ((k : R.Key) → Contains wanted.new.items k
+    ensures among { OnOk result ((k : R.Key) → Contains wanted.new.items k
         → WantsItem item.now wanted.old.items k) }
+    ensures all { OnOk result (Wants R.means.rank (place_at R.Key.cmp places.now)
+        (item_key item.now) (λ k. IsAskedBy k item.now) wanted.old.items wanted.new.items) }
 {
     match item {
         Item::Run(_) => Ok(()),
@@ -111,7 +122,10 @@ pub fn parts_of<R: Rules>(
     item: &Item<R::Key, R::Out>,
     places: &Places<R::Key>,
 ) -> Result<Vec<R::Key>, WantOfMemory>
-    ensures { IfOk result (λ parts. (k : R.Key) → Contains parts.items k → IsAskedBy k item.now) }
+    ensures among { IfOk result (λ parts. (k : R.Key) → Contains parts.items k
+        → IsAskedBy k item.now) }
+    ensures all { IfOk result (λ parts. Wants R.means.rank (place_at R.Key.cmp places.now)
+        (item_key item.now) (λ k. IsAskedBy k item.now) [] parts.items) }
 {
     let mut parts = Vec::new(alloc);
     want_item(alloc, rules, item, places, &mut parts)?;
@@ -119,12 +133,18 @@ pub fn parts_of<R: Rules>(
 }
 
 /// Whether an entry of the key was made.
-pub fn is_done<K: StepKey>(key: &K, places: &Places<K>) -> bool {
+pub fn is_done<K: StepKey>(key: &K, places: &Places<K>) -> bool
+    ensures yes { result ≡ true → IsDone (place_at K.cmp places.now key.now) }
+    ensures no { result ≡ false → IsDone (place_at K.cmp places.now key.now) → ⊥ }
+{
     matches!(places.get(key), Some(Place::Done(_)))
 }
 
 /// The last of the parts that isn't done; those behind it are dropped.
-pub fn missing<K: StepKey>(parts: &mut Vec<K>, places: &Places<K>) -> Option<K> {
+pub fn missing<K: StepKey>(parts: &mut Vec<K>, places: &Places<K>) -> Option<K>
+    ensures { MatchOption result (AreDone (place_at K.cmp places.now) parts.old.items)
+        (Misses (place_at K.cmp places.now) parts.old.items parts.new.items) }
+{
     while let Some(part) = parts.pop() {
         if !is_done(&part, places) {
             return Some(part);

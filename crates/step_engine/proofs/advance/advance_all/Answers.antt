@@ -1,15 +1,22 @@
 -- One more step.
-use Rattle.std.proofs.Common.{refl, ap, ◌∙◌}
+use Rattle.std.proofs.Common.{refl, sym, ap, ◌∙◌, inl, arith}
 use Rattle.step_engine.specs.Build.{setting}
 use Rattle.step_engine.specs.Edits.{over}
 use Rattle.step_engine.proofs.Ending.{counts_wanting}
 use Rattle.step_engine.proofs.Listing.{list_none, list_noted, list_more, list_refused, need_item, list_item, ready_held, item_held, notes_held, advanced_held, left_here, left_more}
+use Rattle.step_engine.proofs.LookLemmas.{no_items}
+use Rattle.step_engine.proofs.ForwardLemmas.{goes_on_none, goes_on_sorted, goes_on_same, none_left}
+use Rattle.step_engine.proofs.ActLemmas.{moved_none, moved_more, moved_all}
 use Rattle.step_engine.proofs.advance.advance_all.Goals as goal
 
 pub loop-item-init : goal.loop-item-init
 loop-item-init g c = record {
   held = refl;
   count = refl;
+  goes = goes_on_none _ _ _ _ _ _ (λ k p h. inl (rw c.into_iter-item-iterator.ensures.into_iter_gives.0 h));
+  grows = omega arith;
+  moved = moved_none _ _ _ _ _ _ (rw (← c.into_iter-item-iterator.ensures.into_iter_gives.0) refl);
+  entered = λ h. h;
   here = rw (c.new-runs.ensures.items, c.requires.none) (list_none _ _ _ _ c.requires.ready);
   left = λ a h. rw (← c.into_iter-item-iterator.ensures.into_iter_gives.0) h;
 }
@@ -45,6 +52,10 @@ loop-item-preserved g c =
     record {
       held = c.advance.ensures.held ∙ i.held;
       count = c.in_ok-left.ensures.count ∙ i.count;
+      goes = goes_on_sorted _ _ _ _ _ _ _ _ _ _ _ _ c.in-Some.item _ _ _ i.goes c.in-Some.ensures.steps.0 c.in_ok-left.ensures.goes c.in_ok-sort_in.ensures;
+      grows = omega (arith, i.grows, c.in_ok-left.ensures.acts.grows);
+      moved = moved_more _ _ _ _ _ _ c.in-Some.item _ _ _ _ _ _ _ _ i.moved i.grows c.in-Some.ensures.steps.0 (left_here _ _ _ _ i.left c.in-Some.ensures.steps.0) i.goes.later.done c.in_ok-left.ensures.acts c.in_ok-sort_in.ensures;
+      entered = λ h. c.in_ok-left.ensures.entered (i.entered h);
       here = list_more s _ _ _ _ _ _ _ i.here _ (need_item s _ _ (left_here _ _ _ _ i.left c.in-Some.ensures.steps.0)) _ _ _ _ _ (advanced_held s _ _ _ _ _ _ _ (ap (over c.args.edits.now) i.held) c.in_ok-left.ensures.ok) c.in_ok-sort_in.ensures;
       left = left_more _ _ _ _ i.left c.in-Some.ensures.steps.0;
     }
@@ -69,3 +80,12 @@ returns-in_err-sort_in-clause-count g c = counts_wanting c.from_residual-in_err-
 
 pub returns-clause-count : goal.returns-clause-count
 returns-clause-count g c = c.loop-item.invariant.count
+
+pub returns-clause-goes : goal.returns-clause-goes
+returns-clause-goes g c = let rest = c.loop-item.item-iterator.rest in goes_on_same _ _ _ _ _ _ _ _ _ c.loop-item.invariant.goes (none_left rest.items _ (no_items rest.items (sym rest.ok.0 ∙ c.in-None.ensures.steps.0)))
+
+pub returns-clause-acts : goal.returns-clause-acts
+returns-clause-acts g c = let rest = c.loop-item.item-iterator.rest in moved_all _ _ _ rest.items _ _ _ (no_items rest.items (sym rest.ok.0 ∙ c.in-None.ensures.steps.0)) c.loop-item.invariant.grows c.loop-item.invariant.moved
+
+pub returns-clause-entered : goal.returns-clause-entered
+returns-clause-entered g c = c.loop-item.invariant.entered

@@ -5,6 +5,7 @@ use Rattle.step_engine.proofs.Moves.{adds_none}
 use Rattle.step_engine.proofs.Asking.{still_none}
 use Rattle.step_engine.proofs.Steps.{item_in}
 use Rattle.step_engine.proofs.Advancing.{check_good, check_asks, check_more, check_stale}
+use Rattle.step_engine.proofs.ActLemmas.{acts_counted}
 use Rattle.step_engine.proofs.advance.check_next.Goals as goal
 
 pub check_batch-requires-clause-next : goal.check_batch-requires-clause-next
@@ -66,3 +67,12 @@ returns-in-Some-true-clause-count g c = c.in_ok-found-in-Some.ensures.count
 
 pub returns-in-Some-false-clause-count : goal.returns-in-Some-false-clause-count
 returns-in-Some-false-clause-count g c = c.in_ok-found-in-Some.ensures.count
+
+pub returns-in-None-clause-acts : goal.returns-in-None-clause-acts
+returns-in-None-clause-acts g c = acts_counted _ _ _ _ _ c.count_act.ensures.grows (c.count_act.ensures.counts refl)
+
+pub returns-in-Some-true-clause-acts : goal.returns-in-Some-true-clause-acts
+returns-in-Some-true-clause-acts g c = acts_counted _ _ _ _ _ c.count_act-2.ensures.grows (c.count_act-2.ensures.counts (rw c.in-Some-true.is at c.is_some.ensures))
+
+pub returns-in-Some-false-clause-acts : goal.returns-in-Some-false-clause-acts
+returns-in-Some-false-clause-acts g c = acts_counted _ _ _ _ _ c.count_act-2.ensures.grows (c.count_act-2.ensures.counts (rw c.in-Some-false.is at c.is_some.ensures))

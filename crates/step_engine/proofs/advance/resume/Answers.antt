@@ -2,6 +2,7 @@
 use Rattle.std.proofs.Common.{refl}
 use Rattle.step_engine.proofs.Advancing.{resumed}
 use Rattle.step_engine.proofs.Ending.{counts_wanting}
+use Rattle.step_engine.proofs.ActLemmas.{acts_asked, acts_counted}
 use Rattle.step_engine.proofs.advance.resume.Goals as goal
 
 pub returns-clause-ok : goal.returns-clause-ok
@@ -45,3 +46,11 @@ returns-in_err-push-clause-count g c = counts_wanting c.from_residual-in_err-pus
 
 pub returns-clause-count : goal.returns-clause-count
 returns-clause-count g c = c.in_ok-found.ensures.count
+
+pub returns-in_default-clause-acts : goal.returns-in_default-clause-acts
+returns-in_default-clause-acts g c =
+    let laws = g.met.R.Rules g.world.𝓛 g.world.𝓜 g.world.𝓡 ((λ s x. x), (λ x. x), (λ x. x), λ x. x) in
+    acts_asked g.R.Rules.means.rank _ c.args.asked _ (λ p h. laws.lawful.lower _ p _ _ c.requires.asked.next h) (rw c.in_default.is at c.in_ok-found.ensures.none)
+
+pub returns-clause-acts : goal.returns-clause-acts
+returns-clause-acts g c = acts_counted _ _ _ _ _ c.count_act.ensures.grows (c.count_act.ensures.counts refl)

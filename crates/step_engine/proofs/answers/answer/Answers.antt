@@ -36,7 +36,7 @@ pub returns-in_ok-copy-in-Some-clause-adds : goal.returns-in_ok-copy-in-Some-cla
 returns-in_ok-copy-in-Some-clause-adds g c = adds_none _ _ _
 
 pub returns-in_ok-copy-in-Some-clause-ok : goal.returns-in_ok-copy-in-Some-clause-ok
-returns-in_ok-copy-in-Some-clause-ok g c = rw (c.in-Part.is, c.in_ok-copy-in-Some.ensures) (answered_part _ _ _ _ _ _ (moves_none _ _ _) c.requires.kept c.in-Some.ensures)
+returns-in_ok-copy-in-Some-clause-ok g c = rw (c.in-Part.is, c.in_ok-copy-in-Some.ensures) (answered_part _ _ _ _ _ _ (moves_none _ _ _) c.requires.kept c.in-Some.ensures.some)
 
 pub returns-in-None-clause-adds : goal.returns-in-None-clause-adds
 returns-in-None-clause-adds g c = adds_none _ _ _

@@ -1,9 +1,10 @@
 -- One more answer.
 use Rattle.std.proofs.Common.{refl, ap, ◌∙◌}
 use Rattle.step_engine.specs.Edits.{over}
-use Rattle.step_engine.proofs.Steps.{way_none, way_more, way_adds, here_on, answering_none, answering_more, answering_all}
+use Rattle.step_engine.proofs.Steps.{item_in, way_none, way_more, way_adds, here_on, answering_none, answering_more, answering_all}
 use Rattle.step_engine.proofs.Asking.{still_then}
 use Rattle.step_engine.proofs.Ending.{counts_wanting}
+use Rattle.step_engine.proofs.ForwardLemmas.{lacks_ask}
 use Rattle.step_engine.proofs.answers.answers.Goals as goal
 
 pub loop-ask-init : goal.loop-ask-init
@@ -62,3 +63,6 @@ returns-in_err-keep_pair-clause-count g c = counts_wanting c.from_residual-in_er
 
 pub returns-clause-count : goal.returns-clause-count
 returns-clause-count g c = c.loop-ask.invariant.way.count
+
+pub returns-in_default-clause-none : goal.returns-in_default-clause-none
+returns-in_default-clause-none g c = lacks_ask _ _ _ (item_in _ _ _ _ c.items-ask-items.ensures c.loop-ask-test.true c.ask-item.is) (rw c.in_default.is at c.in_ok-found.ensures.none)

@@ -6,6 +6,7 @@ use Rattle.step_engine.specs.Engine.{state}
 use Rattle.step_engine.specs.Reading.{knowledge}
 use Rattle.step_engine.proofs.Steps.{item_in, way_none, way_more, way_adds, here_back, here_on, checking_batch_none, checking_batch_step, checking_batch_all, checking_batch_high, asks_have}
 use Rattle.step_engine.proofs.Asking.{still_then}
+use Rattle.step_engine.proofs.ForwardLemmas.{lacks_pair}
 use Rattle.step_engine.proofs.answers.check_batch.Goals as goal
 
 pub loop-pair-init : goal.loop-pair-init
@@ -68,3 +69,6 @@ returns-in_default-clause-count g c = c.in_ok-found.ensures.count ∙ c.loop-pai
 
 pub returns-clause-count : goal.returns-clause-count
 returns-clause-count g c = c.loop-pair.invariant.way.count
+
+pub returns-in_default-clause-none : goal.returns-in_default-clause-none
+returns-in_default-clause-none g c = lacks_pair g.R.Rules.means.rank _ _ _ _ (asks_have _ _ (item_in _ _ _ _ c.items-pair-items.ensures c.loop-pair-test.true c.pair-item.is)) (c.if-not-is_lower.ensures.yes refl) (rw c.in_default.is at c.in_ok-found.ensures.none)

@@ -9,7 +9,7 @@ returns-in-Some-clause-same g c =
     (h.0, h.1, h.2 c.args.pair.now c.requires.old c.requires.asked)
 
 pub returns-clause-same : goal.returns-clause-same
-returns-clause-same g c = (c.in_ok-outcome.outcome, rw c.in_ok-outcome.ensures c.in-Some-result_of.ensures, c.same-same.ensures)
+returns-clause-same g c = (c.in_ok-outcome.outcome, rw c.in_ok-outcome.ensures c.in-Some-result_of.ensures.some, c.same-same.ensures)
 
 pub returns-clause-compared : goal.returns-clause-compared
-returns-clause-compared g c = compared_noted g.K.Ord.cmp c.args.old.now c.args.fresh.now.items c.args.compared.now c.note_compared.new.compared c.args.part.now c.same-same.result c.args.pair.now c.in_ok-outcome.outcome c.requires.compared (rw c.in_ok-outcome.ensures c.in-Some-result_of.ensures) c.requires.old c.requires.asked c.same-same.ensures c.in_ok-note_compared.ensures
+returns-clause-compared g c = compared_noted g.K.Ord.cmp c.args.old.now c.args.fresh.now.items c.args.compared.now c.note_compared.new.compared c.args.part.now c.same-same.result c.args.pair.now c.in_ok-outcome.outcome c.requires.compared (rw c.in_ok-outcome.ensures c.in-Some-result_of.ensures.some) c.requires.old c.requires.asked c.same-same.ensures c.in_ok-note_compared.ensures

@@ -7,6 +7,8 @@ use Rattle.step_engine.specs.Reading.{knowledge}
 use Rattle.step_engine.proofs.Acting.{noted_of}
 use Rattle.step_engine.proofs.Ending.{counts_wanting}
 use Rattle.step_engine.proofs.TakingLemmas.{taking}
+use Rattle.step_engine.proofs.ForwardLemmas.{goes_on_join}
+use Rattle.step_engine.proofs.VisitLemmas.{runs_turned, round_acts, one_there, not_empty}
 use Rattle.step_engine.proofs.round.round.Goals as goal
 
 pub returns-in_err-runs-clause-notes : goal.returns-in_err-runs-clause-notes
@@ -26,7 +28,7 @@ returns-clause-ok g c =
     let s = setting g.R.Rules.means (over c.args.edits.now (g.T.Tree.held c.args.tree.now)) c.args.job.now c.args.old.now in
     let y = state c.args.fresh.now.items (knowledge g.R.Key.Ord.cmp c.args.learned.now) c.args.book.now (g.T.Tree.reads c.args.tree.now) in
     let z = state c.advance_all.new.fresh.items (knowledge g.R.Key.Ord.cmp c.advance_all.new.learned) c.advance_all.new.book (g.T.Tree.reads c.advance_all.new.tree) in
-    c.in_ok-take_all.ensures s y z _ _ refl (taking s y z _ _ _ _ _ _ c.in_ok-runs.ensures.ok c.in_ok-done.ensures)
+    c.in_ok-take_all.ensures.takes s y z _ _ refl (taking s y z _ _ _ _ _ _ c.in_ok-runs.ensures.ok c.in_ok-done.ensures)
 
 pub returns-in_err-runs-clause-held : goal.returns-in_err-runs-clause-held
 returns-in_err-runs-clause-held g c = c.advance_all.ensures.held
@@ -48,3 +50,12 @@ returns-in_err-take_all-clause-count g c = counts_wanting c.from_residual-in_err
 
 pub returns-clause-count : goal.returns-clause-count
 returns-clause-count g c = c.in_ok-runs.ensures.count
+
+pub returns-clause-goes : goal.returns-clause-goes
+returns-clause-goes g c = goes_on_join _ _ _ _ _ _ _ _ _ _ _ _ c.in_ok-runs.ensures.goes (runs_turned _ _ _ _ c.in_ok-done.ensures) c.in_ok-take_all.ensures.goes
+
+pub returns-clause-acts : goal.returns-clause-acts
+returns-clause-acts g c = round_acts _ _ _ _ _ _ c.in_ok-runs.runs.items c.in_ok-runs.ensures.acts c.count_act.ensures.grows (λ o. c.count_act.ensures.counts (not_empty _ _ _ c.in_ok-runs.runs.ok.0 c.is_empty.ensures (one_there c.in_ok-runs.runs.items o)))
+
+pub returns-clause-entered : goal.returns-clause-entered
+returns-clause-entered g c = λ h. c.in_ok-take_all.ensures.entered (c.in_ok-runs.ensures.entered h)

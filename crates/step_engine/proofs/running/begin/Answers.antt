@@ -1,6 +1,7 @@
 -- One key is opened.
-use Rattle.std.proofs.Common.{◌≡◌, refl, [], ◌∷◌}
+use Rattle.std.proofs.Common.{◌≡◌, refl, arith, [], ◌∷◌}
 use Rattle.step_engine.proofs.ScanLemmas.{begins, opens_still, opens_same}
+use Rattle.step_engine.proofs.VisitLemmas.{begins_whole}
 use Rattle.step_engine.proofs.running.begin.Goals as goal
 
 pub returns-in_err-key-clause-noted : goal.returns-in_err-key-clause-noted
@@ -23,3 +24,11 @@ pub returns-clause-ok : goal.returns-clause-ok
 returns-clause-ok g c =
     let ks : c.push.new.self.items ≡ c.args.top.now ∷ [] = rw (c.push.ensures.items, c.if-is_err.ensures.negation, c.new-keys.ensures.items, c.in_ok-key.ensures) refl in
     begins _ _ _ _ _ _ _ _ (record { news = c.in_ok-news.news; woken = c.new.result; parked = c.new-2.result }) ks c.in_ok-news.ensures.ok c.new.ensures.items c.new-2.ensures
+
+pub returns-clause-whole : goal.returns-clause-whole
+returns-clause-whole g c = λ rank new. begins_whole _ _ _ _ (record { news = c.in_ok-news.news; woken = c.new.result; parked = c.new-2.result }) new c.in_ok-news.ensures.opened c.new.ensures.items c.new-2.ensures
+
+pub returns-clause-met : goal.returns-clause-met
+returns-clause-met g c =
+    let ks : c.push.new.self.items ≡ c.args.top.now ∷ [] = rw (c.push.ensures.items, c.if-is_err.ensures.negation, c.new-keys.ensures.items, c.in_ok-key.ensures) refl in
+    c.in_ok-news.ensures.met c.args.top.now (rw ks (0, omega arith, refl))

@@ -1,5 +1,5 @@
 -- All keys that are able to go on do.
-use Rattle.std.proofs.Common.{refl}
+use Rattle.std.proofs.Common.{refl, ◌∙◌}
 use Rattle.step_engine.specs.Build.{setting}
 use Rattle.step_engine.specs.Edits.{over}
 use Rattle.step_engine.specs.Engine.{state}
@@ -7,6 +7,7 @@ use Rattle.step_engine.specs.Reading.{knowledge}
 use Rattle.step_engine.specs.Table.{place_at}
 use Rattle.step_engine.proofs.Ending.{counts_wanting}
 use Rattle.step_engine.proofs.ScanLemmas.{able_ready, able_items, visit_noted, visited}
+use Rattle.step_engine.proofs.VisitLemmas.{visit_acts, visit_whole, visit_met, entered_opened, not_empty, puts_same}
 use Rattle.step_engine.proofs.running.run_ready_keys.Goals as goal
 
 pub returns-in_err-able-clause-notes : goal.returns-in_err-able-clause-notes
@@ -35,7 +36,7 @@ returns-clause-ok g c =
     let s = setting g.R.Rules.means (over c.args.edits.now (g.T.Tree.held c.args.tree.now)) c.args.job.now c.args.old.now in
     let y = state c.args.fresh.now.items (knowledge g.R.Key.Ord.cmp c.args.learned.now) c.args.book.now (g.T.Tree.reads c.args.tree.now) in
     let laws = g.met.R.Rules g.world.𝓛 g.world.𝓜 g.world.𝓡 ((λ s x. x), (λ x. x), (λ x. x), λ x. x) in
-    visited g.R.Key.Ord.cmp s laws.lawful y (place_at g.R.Key.Ord.cmp c.args.places.now) c.requires.ready c.args.pool.now c.take_able.new.pool c.requires.items c.take_able.new.book (place_at g.R.Key.Ord.cmp c.take_able.new.places) c.in_ok-able.able.items c.in_ok-able.ensures.ok c.in_ok-able.ensures.held (state c.round.new.fresh.items (knowledge g.R.Key.Ord.cmp c.round.new.learned) c.round.new.book (g.T.Tree.reads c.round.new.tree)) (place_at g.R.Key.Ord.cmp c.round.new.places) c.in_ok-left.left.items c.in_ok-left.ensures.ok c.put_back.new.pool c.in_ok-put_back.ensures
+    visited g.R.Key.Ord.cmp s laws.lawful y (place_at g.R.Key.Ord.cmp c.args.places.now) c.requires.ready c.args.pool.now c.take_able.new.pool c.requires.items c.take_able.new.book (place_at g.R.Key.Ord.cmp c.take_able.new.places) c.in_ok-able.able.items c.in_ok-able.ensures.ok c.in_ok-able.ensures.held (state c.round.new.fresh.items (knowledge g.R.Key.Ord.cmp c.round.new.learned) c.round.new.book (g.T.Tree.reads c.round.new.tree)) (place_at g.R.Key.Ord.cmp c.round.new.places) c.in_ok-left.left.items c.in_ok-left.ensures.ok c.put_back.new.pool c.in_ok-put_back.ensures.among
 
 pub returns-in_err-left-clause-notes : goal.returns-in_err-left-clause-notes
 returns-in_err-left-clause-notes g c =
@@ -78,3 +79,16 @@ returns-in_err-put_back-clause-count g c = counts_wanting c.from_residual-in_err
 
 pub returns-clause-count : goal.returns-clause-count
 returns-clause-count g c = c.in_ok-left.ensures.count
+
+pub returns-clause-forward : goal.returns-clause-forward
+returns-clause-forward g c = λ whole entered.
+    let w = c.in_ok-able.ensures.parts whole in
+    let e = c.in_ok-left.ensures.entered (entered_opened g.R.Key.Ord.cmp g.R.Rules.means.rank _ _ c.take_able.new.pool c.in_ok-able.able.items _ w entered) in
+    let f = c.in_ok-left.ensures.ok.ready.finds in
+    let put = puts_same g.R.Key.Ord.cmp c.in_ok-left.left.items c.round.new.fresh.items c.take_able.new.pool c.put_back.new.pool _ _ (c.len-first.ensures ∙ c.args.fresh.now.ok.0) c.in_ok-put_back.ensures.all in
+    record {
+      whole = visit_whole g.R.Key.Ord.cmp g.R.Rules.means.rank _ _ _ c.take_able.new.pool c.put_back.new.pool c.in_ok-able.able.items c.in_ok-left.left.items _ _ w c.in_ok-left.ensures.goes f e put;
+      entered = e;
+      met = visit_met g.R.Key.Ord.cmp g.R.Rules.means.rank _ _ _ c.take_able.new.pool c.put_back.new.pool c.in_ok-able.able.items c.in_ok-left.left.items _ _ w c.in_ok-left.ensures.goes f e put;
+      acts = visit_acts g.R.Key.Ord.cmp g.R.Rules.means.rank _ _ c.take_able.new.pool c.in_ok-able.able.items w _ _ _ c.count_act.ensures.grows (λ h. c.count_act.ensures.counts (not_empty _ _ _ c.take_able.new.pool.news.ok.0 c.is_empty.ensures h)) c.in_ok-left.ensures.acts;
+    }

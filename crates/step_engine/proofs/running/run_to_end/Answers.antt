@@ -1,12 +1,15 @@
 -- One more visit.
-use Rattle.std.proofs.Common.{refl, ap, ◌∙◌}
+use Rattle.std.proofs.Common.{refl, ap, ◌∙◌, arith}
 use Rattle.step_engine.specs.Build.{setting}
 use Rattle.step_engine.specs.Edits.{over}
 use Rattle.step_engine.specs.Engine.{state}
 use Rattle.step_engine.specs.Reading.{knowledge}
+use Rattle.step_engine.specs.Table.{place_at}
 use Rattle.step_engine.proofs.Listing.{ready_held}
 use Rattle.step_engine.proofs.Ending.{counts_wanting}
 use Rattle.step_engine.proofs.ScanLemmas.{begins_noted, settling_more, settling_noted, settling_refused, brought_to, under_held, visited_held, visit_notes_held}
+use Rattle.step_engine.proofs.Moves.{none_in}
+use Rattle.step_engine.proofs.VisitLemmas.{top_open}
 use Rattle.step_engine.proofs.running.run_to_end.Goals as goal
 
 pub returns-in_err-pool-clause-notes : goal.returns-in_err-pool-clause-notes
@@ -19,7 +22,7 @@ pub loop-acts-init : goal.loop-acts-init
 loop-acts-init g c =
     let s = setting g.R.Rules.means (over c.args.edits.now (g.T.Tree.held c.args.tree.now)) c.args.job.now c.args.old.now in
     let y = state c.args.fresh.now.items (knowledge g.R.Key.Ord.cmp c.args.learned.now) c.args.book.now (g.T.Tree.reads c.args.tree.now) in
-    record { held = refl; count = refl; here = c.in_ok-pool.ensures.ok s y refl refl c.requires.ready }
+    record { held = refl; count = refl; here = c.in_ok-pool.ensures.ok s y refl refl c.requires.ready; whole = c.in_ok-pool.ensures.whole g.R.Rules.means.rank c.requires.new; entered = rw c.requires.none (λ e h. absurd (none_in e h)); met = c.in_ok-pool.ensures.met }
 
 pub run_ready_keys-requires-clause-ready : goal.run_ready_keys-requires-clause-ready
 run_ready_keys-requires-clause-ready g c =
@@ -47,14 +50,15 @@ loop-acts-preserved g c =
     let s = setting g.R.Rules.means (over c.args.edits.now (g.T.Tree.held c.args.tree.now)) c.args.job.now c.args.old.now in
     let y = state c.args.fresh.now.items (knowledge g.R.Key.Ord.cmp c.args.learned.now) c.args.book.now (g.T.Tree.reads c.args.tree.now) in
     let i = c.loop-acts.invariant in
-    record { held = c.run_ready_keys.ensures.held ∙ i.held; count = c.in_ok-run_ready_keys.ensures.count ∙ i.count; here = settling_more g.R.Key.Ord.cmp s _ y _ _ _ _ _ c.loop-acts.pool c.run_ready_keys.new.pool i.here (visited_held g.R.Key.Ord.cmp s _ _ _ _ _ c.loop-acts.pool c.run_ready_keys.new.pool (ap (over c.args.edits.now) i.held) c.in_ok-run_ready_keys.ensures.ok) }
+    let f = c.in_ok-run_ready_keys.ensures.forward i.whole i.entered in
+    record { whole = f.whole; entered = f.entered; met = f.met _ i.met; held = c.run_ready_keys.ensures.held ∙ i.held; count = c.in_ok-run_ready_keys.ensures.count ∙ i.count; here = settling_more g.R.Key.Ord.cmp s _ y _ _ _ _ _ c.loop-acts.pool c.run_ready_keys.new.pool i.here (visited_held g.R.Key.Ord.cmp s _ _ _ _ _ c.loop-acts.pool c.run_ready_keys.new.pool (ap (over c.args.edits.now) i.held) c.in_ok-run_ready_keys.ensures.ok) }
 
 pub returns-in-Some-clause-ok : goal.returns-in-Some-clause-ok
 returns-in-Some-clause-ok g c =
     let s = setting g.R.Rules.means (over c.args.edits.now (g.T.Tree.held c.args.tree.now)) c.args.job.now c.args.old.now in
     let y = state c.args.fresh.now.items (knowledge g.R.Key.Ord.cmp c.args.learned.now) c.args.book.now (g.T.Tree.reads c.args.tree.now) in
     let i = c.loop-acts.invariant in
-    brought_to g.R.Key.Ord.cmp s _ y _ _ _ c.loop-acts.pool _ _ i.here c.in-Some.ensures c.in_ok-copy.ensures
+    brought_to g.R.Key.Ord.cmp s _ y _ _ _ c.loop-acts.pool _ _ i.here c.in-Some.ensures.some c.in_ok-copy.ensures
 
 pub returns-clause-notes : goal.returns-clause-notes
 returns-clause-notes g c =
@@ -77,14 +81,6 @@ returns-in-Some-clause-notes g c =
     let i = c.loop-acts.invariant in
     settling_noted g.R.Key.Ord.cmp s _ y _ _ _ c.loop-acts.pool i.here
 
-pub returns-then-acts-before-clause-notes : goal.returns-then-acts-before-clause-notes
-returns-then-acts-before-clause-notes g c =
-    let s = setting g.R.Rules.means (over c.args.edits.now (g.T.Tree.held c.args.tree.now)) c.args.job.now c.args.old.now in
-    let y = state c.args.fresh.now.items (knowledge g.R.Key.Ord.cmp c.args.learned.now) c.args.book.now (g.T.Tree.reads c.args.tree.now) in
-    let i = c.loop-acts.invariant in
-    let j = settling_more g.R.Key.Ord.cmp s _ y _ _ _ _ _ c.loop-acts.pool c.run_ready_keys.new.pool i.here (visited_held g.R.Key.Ord.cmp s _ _ _ _ _ c.loop-acts.pool c.run_ready_keys.new.pool (ap (over c.args.edits.now) i.held) c.in_ok-run_ready_keys.ensures.ok) in
-    settling_noted g.R.Key.Ord.cmp s _ y _ _ _ c.run_ready_keys.new.pool j
-
 pub returns-in_err-pool-clause-held : goal.returns-in_err-pool-clause-held
 returns-in_err-pool-clause-held g c = refl
 
@@ -96,9 +92,6 @@ returns-in-Some-clause-held g c = c.loop-acts.invariant.held
 
 pub returns-in_err-copy-clause-held : goal.returns-in_err-copy-clause-held
 returns-in_err-copy-clause-held g c = c.loop-acts.invariant.held
-
-pub returns-then-acts-before-clause-held : goal.returns-then-acts-before-clause-held
-returns-then-acts-before-clause-held g c = c.run_ready_keys.ensures.held ∙ c.loop-acts.invariant.held
 
 pub returns-clause-held : goal.returns-clause-held
 returns-clause-held g c = c.loop-acts.invariant.held
@@ -112,8 +105,13 @@ returns-in-Some-clause-count g c = c.loop-acts.invariant.count
 pub returns-in_err-copy-clause-count : goal.returns-in_err-copy-clause-count
 returns-in_err-copy-clause-count g c = counts_wanting c.from_residual-in_err-copy.result _ _ c.from_residual-in_err-copy.ensures.1 c.loop-acts.invariant.count
 
-pub returns-then-acts-before-clause-count : goal.returns-then-acts-before-clause-count
-returns-then-acts-before-clause-count g c = c.in_ok-run_ready_keys.ensures.count ∙ c.loop-acts.invariant.count
-
 pub returns-clause-count : goal.returns-clause-count
 returns-clause-count g c = c.loop-acts.invariant.count
+
+pub unreachable-requires : goal.unreachable-requires
+unreachable-requires g c =
+    let i = c.loop-acts.invariant in
+    let f = c.in_ok-run_ready_keys.ensures.forward i.whole i.entered in
+    let o = top_open (place_at g.R.Key.Ord.cmp c.loop-acts.places) c.args.top.now i.met c.in_default.ensures.none in
+    let r = f.acts c.args.top.now i.met.0 o i.met.1 in
+    omega (arith, r c.loop-acts-test.true)

@@ -6,6 +6,7 @@ use Rattle.step_engine.specs.Engine.{state}
 use Rattle.step_engine.specs.Reading.{knowledge}
 use Rattle.step_engine.specs.Table.{place_at}
 use Rattle.step_engine.specs.Settling.{IsSettling}
+use Rattle.step_engine.specs.Forward.{IsMet, IsWhole, AreEntered}
 use Rattle.step_engine.proofs.running.run_to_end.Given as goal
 
 abbrev pub invariant-loop-acts : goal.invariant-loop-acts
@@ -16,6 +17,9 @@ invariant-loop-acts g l =
       held : g.T.Tree.held l.tree ≡ g.T.Tree.held l.fn.tree;
       count : g.T.Tree.faults l.tree ≡ g.T.Tree.faults l.fn.tree;
       here : IsSettling g.R.Key.Ord.cmp s l.fn.top y z (place_at g.R.Key.Ord.cmp l.fn.places) (place_at g.R.Key.Ord.cmp l.places) l.pool;
+      whole : IsWhole g.R.Key.Ord.cmp g.R.Rules.means.rank (place_at g.R.Key.Ord.cmp l.places) l.pool;
+      entered : AreEntered (place_at g.R.Key.Ord.cmp l.places) l.fresh.items;
+      met : IsMet (place_at g.R.Key.Ord.cmp l.places l.fn.top);
     }
 
 abbrev pub decreases-loop-acts : goal.decreases-loop-acts
