@@ -1,11 +1,11 @@
 //! The steps of a build: what each asks, and what it gives.
 #![tactic(auto)]
 
-pub mod adoption;
-pub mod job;
+mod adoption;
+mod job;
 pub mod laws;
-pub mod rules;
-pub mod shapes;
+mod rules;
+mod shapes;
 
 pub use adoption::adopt;
 pub use document_rules::{defines, documents};

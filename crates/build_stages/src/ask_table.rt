@@ -12,7 +12,7 @@ use step_engine::{Ask, KeyTable, StepKey};
 
 /// A value for each of some asks: a table of the files, one of the fields and one of the parts.
 #[derive(Drop)]
-pub struct AskTable<K: StepKey, V: Drop> {
+pub(crate) struct AskTable<K: StepKey, V: Drop> {
     files: BTreeMap<Path, V>,
     fields: BTreeMap<u8, V>,
     parts: KeyTable<K, V>,

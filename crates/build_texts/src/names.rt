@@ -26,7 +26,7 @@ use std::collections::BTreeMap;
 
 /// A name and its GUID.
 #[derive(Clone, Copy)]
-pub struct FoundGuid<'a> {
+pub(crate) struct FoundGuid<'a> {
     pub name: &'a [u8],
     pub guid: Guid,
 }

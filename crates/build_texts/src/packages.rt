@@ -17,7 +17,7 @@ use std::alloc::Global;
 
 /// A line of the package of a path.
 #[derive(Clone, Copy)]
-pub struct DeclaredGuid<'a> {
+pub(crate) struct DeclaredGuid<'a> {
     pub from: &'a Path,
     pub line: &'a NamedGuid,
 }

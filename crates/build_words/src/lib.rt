@@ -2,13 +2,13 @@
 #![tactic(auto)]
 
 pub mod checks;
-pub mod command;
-pub mod fields;
-pub mod given;
+mod command;
+mod fields;
+mod given;
 pub mod job;
-pub mod lists;
-pub mod words;
-pub mod workers;
+mod lists;
+mod words;
+mod workers;
 
 pub use fields::job_fields;
 pub use job::Job;

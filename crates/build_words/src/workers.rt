@@ -47,7 +47,7 @@ impl Workers {
 
     /// As many as a decimal number without a leading zero says, or none where it isn't one from 1
     /// to 64.
-    pub fn from_decimal(text: &[u8]) -> Option<Workers>
+    pub(crate) fn from_decimal(text: &[u8]) -> Option<Workers>
         ensures { result ≡ workers_of text.now }
     {
         match number_of(text) {

@@ -2,6 +2,6 @@
 //! that was cut is told.
 #![tactic(auto)]
 
-pub mod heads;
+mod heads;
 
 pub use heads::{HEAD, NEWEST, before, behind, edition_in, is_edition, is_head, with_head};

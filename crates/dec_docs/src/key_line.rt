@@ -17,7 +17,7 @@ use std::alloc::Global;
 
 /// A key of [Defines] that is read.
 #[derive(Clone, Copy, PartialEq, Eq)]
-pub enum DecKey {
+pub(crate) enum DecKey {
     Name,
     Guid,
 }

@@ -12,7 +12,7 @@ use meta_lexer::lookup;
 /// What the lines of a section declare: keys of the package, GUIDs ([Guids], [Protocols], [Ppis])
 /// or PCDs of one kind.
 #[derive(Clone, Copy, PartialEq, Eq)]
-pub enum DecSection {
+pub(crate) enum DecSection {
     Defines,
     Guids,
     Pcds(Kind),

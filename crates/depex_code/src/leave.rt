@@ -3,7 +3,7 @@
 /// Whether SOR may stand at the front of a part, and whether BEFORE or AFTER may be the whole of
 /// it.
 #[derive(Clone, Copy, PartialEq, Eq)]
-pub struct Leave {
+pub(crate) struct Leave {
     pub sor: bool,
     pub edge: bool,
 }

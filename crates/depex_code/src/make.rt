@@ -111,7 +111,11 @@ pub fn name(alloc: Global, guid: Option<Guid>) -> Result<Piece, WantOfMemory>
 }
 
 /// BEFORE or AFTER a GUID name.
-pub fn edge_piece(alloc: Global, edge: Edge, guid: Option<Guid>) -> Result<Piece, WantOfMemory>
+pub(crate) fn edge_piece(
+    alloc: Global,
+    edge: Edge,
+    guid: Option<Guid>,
+) -> Result<Piece, WantOfMemory>
     ensures { IfOk result (λ p. piece_size p ≡ edge_size edge guid) }
 {
     let bytes = match guid {
@@ -218,7 +222,12 @@ fn joined_code(join: Joiner, a: Code, b: Code) -> Result<Code, WantOfMemory>
 }
 
 /// Two operands and what joins them.
-pub fn join_pieces(alloc: Global, join: Joiner, a: Piece, b: Piece) -> Result<Piece, WantOfMemory>
+pub(crate) fn join_pieces(
+    alloc: Global,
+    join: Joiner,
+    a: Piece,
+    b: Piece,
+) -> Result<Piece, WantOfMemory>
     ensures { IfOk result (λ p. piece_size p ≡ join_size join (piece_size a) (piece_size b)) }
 {
     let measure = joined_measure(a.measure, b.measure);
@@ -252,7 +261,7 @@ fn prefixed_code(alloc: Global, prefix: Prefix, a: Code) -> Result<Code, WantOfM
 }
 
 /// An operand and what stands before it.
-pub fn prefix_piece(alloc: Global, prefix: Prefix, a: Piece) -> Result<Piece, WantOfMemory>
+pub(crate) fn prefix_piece(alloc: Global, prefix: Prefix, a: Piece) -> Result<Piece, WantOfMemory>
     ensures { IfOk result (λ p. piece_size p ≡ prefix_size prefix (piece_size a)) }
 {
     let measure = prefixed_measure(a.measure);

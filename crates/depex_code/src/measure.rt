@@ -3,7 +3,7 @@ ghost use Rattle.std.specs.Prelude.{◌≤◌};
 
 /// How deep an expression nests, up to 65, and its opcodes, up to 4,097.
 #[derive(Clone, Copy)]
-pub struct Measure {
+pub(crate) struct Measure {
     pub deep: u32,
     pub count: u32,
     ghost low: { deep ≤ 65 },

@@ -3,7 +3,7 @@ use build_base::Guid;
 
 /// What joins two operands.
 #[derive(Clone, Copy, PartialEq, Eq)]
-pub enum Joiner {
+pub(crate) enum Joiner {
     And,
     Or,
 }
@@ -17,7 +17,7 @@ pub enum Prefix {
 
 /// What stands before a GUID name.
 #[derive(Clone, Copy, PartialEq, Eq)]
-pub enum Edge {
+pub(crate) enum Edge {
     Before,
     After,
 }

@@ -2,18 +2,18 @@
 //! of lines, what a field states, and the least fault of a line.
 #![tactic(auto)]
 
-pub mod document;
+mod document;
 pub mod form;
-pub mod format;
-pub mod gathered;
+mod format;
+mod gathered;
 pub mod least_check;
 pub mod meaning;
 pub mod missing;
-pub mod reader;
+mod reader;
 pub mod segment_name;
 pub mod value_fields;
 pub mod values;
-pub mod whole;
+mod whole;
 
 pub use document::read_document;
 pub use format::Format;

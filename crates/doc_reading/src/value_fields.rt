@@ -47,7 +47,7 @@ pub fn open_quote(alloc: Global, at: &Place, text: &[u8]) -> Result<(), Refusal>
 
 /// The GUID that a field states in registry form; `code` is the fault of a text that is none.
 #[tactic(auto, unfolding(crate::specs::ValueFields::guid_value))]
-pub fn guid_value(alloc: Global, code: u16, at: &Place, text: &[u8]) -> Result<Guid, Refusal>
+pub(crate) fn guid_value(alloc: Global, code: u16, at: &Place, text: &[u8]) -> Result<Guid, Refusal>
     ensures { Answers result (guid_value code at.now text.now) }
 {
     undefined_macro(alloc, at, text)?;

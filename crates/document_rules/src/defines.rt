@@ -16,7 +16,7 @@ fn equals_at(text: &[u8]) -> Option<usize>
 
 /// The name and the value of a text `NAME=VALUE` or `NAME`.
 #[tactic(auto, unfolding(crate::specs::Defines::macro_of))]
-pub fn split_define(text: &[u8]) -> (&[u8], &[u8])
+pub(crate) fn split_define(text: &[u8]) -> (&[u8], &[u8])
     ensures name { result.0.now ≡ (macro_of text.now).name }
     ensures value { result.1.now ≡ (macro_of text.now).value }
 {

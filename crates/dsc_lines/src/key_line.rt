@@ -20,7 +20,7 @@ use std::alloc::Global;
 
 /// A key of [Defines] that is read.
 #[derive(Clone, Copy, PartialEq, Eq)]
-pub enum PlatformKey {
+pub(crate) enum PlatformKey {
     Name,
     Guid,
     Arches,

@@ -36,7 +36,7 @@ pub struct Begun {
 
 /// What the lines below a tag say.
 #[derive(Clone, Copy, PartialEq, Eq)]
-pub enum Tag {
+pub(crate) enum Tag {
     Libraries,
     Defines,
     Pcds(Kind, StoreKind),

@@ -27,7 +27,7 @@ use std::alloc::Global;
 /// the SKUs that they name, the components of all blocks but the last, and the parts of the last
 /// one.
 #[derive(Drop)]
-pub struct DscFormat {
+pub(crate) struct DscFormat {
     pub alloc: Global,
     pub stated: Stated,
     pub standing: Open,

@@ -8,7 +8,7 @@ use std::marker::Model;
 
 /// The document of such a platform.
 #[derive(Drop)]
-pub struct NamedPlatform {
+pub(crate) struct NamedPlatform {
     pub document: PlatformDoc,
 }
 

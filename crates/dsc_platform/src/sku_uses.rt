@@ -22,7 +22,7 @@ use std::alloc::Global;
 
 /// A place that names a SKU, or, where it is SKUID_IDENTIFIER, the SKUs that are chosen.
 #[derive(Drop)]
-pub struct SkuUse {
+pub(crate) struct SkuUse {
     pub at: Place,
     pub text: Text,
     pub chosen: bool,

@@ -7,6 +7,7 @@ pub mod KeptLemmas
 pub mod LawLemmas
 pub mod StoreLemmas
 pub mod ReplayLemmas
+pub mod ReadLemmas
 pub mod ScriptLemmas
 pub mod SelftestLemmas
 pub mod CompleteLemmas

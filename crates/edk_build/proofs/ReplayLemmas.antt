@@ -141,7 +141,7 @@ pub follows_script : (held : Option Files) (at : List ℕ) (script : Option (Lis
 follows_script held at script lines st a b old new e f = subst (λ z. Follows held at z st a b old new) (sym e) f
 
 -- what is left behind the first line
-behind : (line : ScriptLine) (left : List ScriptLine) → take (length (line ∷ left) - 1) (drop 1 (line ∷ left)) ≡ left
+pub behind : (line : ScriptLine) (left : List ScriptLine) → take (length (line ∷ left) - 1) (drop 1 (line ∷ left)) ≡ left
 behind line left = take_all (length (line ∷ left) - 1) left (omega arith)
 
 pub so_far_next : (held held' : Option Files) (lines left : List ScriptLine) (line d : ScriptLine) (stand : ReplayState) (a now : List Key) (next : ReplayState) (b : List Key) (old mid new : Option (List Emission))
@@ -320,3 +320,21 @@ line_stopped r held at line o s a b old new e h = subst (λ z. IfErr r (λ x. Ha
 pub line_dropped : (held : Option Files) (o : ScriptCommand) (path : List ℕ) (s next : ReplayState) (a : List Key) (old : Option (List Emission)) → o ≡ order.Drop path
     → next ≡ after_edit s path None → WasCarriedOut held o s a next a old old
 line_dropped held o path s next a old e n = subst (λ z. WasCarriedOut held z s a next a old old) (sym e) (was_dropped held path s next a old old n refl)
+
+-- an order adds one build at most
+pub one_build_more : (held : Option Files) (o : ScriptCommand) (s : ReplayState) (a : List Key) (next : ReplayState) (b : List Key) (old new : Option (List Emission)) → WasCarriedOut held o s a next b old new
+    → next.builds ≤ s.builds + 1
+one_build_more held (order.Put path from) s a next b old new w = subst (λ z. z ≤ s.builds + 1) (sym (ap (λ z. z.builds) w.done.2)) (omega arith)
+one_build_more held (order.Drop path) s a next b old new w = subst (λ z. z ≤ s.builds + 1) (sym (ap (λ z. z.builds) w.done.0)) (omega arith)
+one_build_more held (order.Build job) s a next b old new w = subst (λ z. z ≤ s.builds + 1) (sym (ap (λ z. z.builds) w.done.stands)) (omega arith)
+
+-- fewer builds than lines are behind a line
+pub few_builds : (held : Option Files) (o : ScriptCommand) (left : List ScriptLine) (s : ReplayState) (a : List Key) (next : ReplayState) (b : List Key) (old new : Option (List Emission))
+    → 1 ≤ length left → s.builds + length left ≤ 1000 → WasCarriedOut held o s a next b old new → next.builds + length (take (length left - 1) (drop 1 left)) ≤ 1000
+few_builds held o [] s a next b old new l f w = absurd (omega (arith, l))
+few_builds held o (line ∷ left) s a next b old new l f w =
+    let more : next.builds ≤ s.builds + 1 = one_build_more held o s a next b old new w in
+    subst (λ z. next.builds + length z ≤ 1000) (sym (behind line left)) (omega (arith, f, more))
+
+pub none_built : (s : ReplayState) (lines : List ScriptLine) → s ≡ start → length lines ≤ 1000 → s.builds + length lines ≤ 1000
+none_built s lines e l = subst (λ z. z.builds + length lines ≤ 1000) (sym e) (omega (arith, l))

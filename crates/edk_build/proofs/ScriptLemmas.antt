@@ -1,5 +1,5 @@
 -- The lines of a script, one after the other, and the jobs in them.
-use Rattle.std.proofs.Common.{◌≡◌, false, true, refl, sym, ap, ◌∙◌, ℕ, List, [], ◌∷◌, ◌++◌, Option, Some, None, nat_le, cond, append_assoc, append-nil, subst}
+use Rattle.std.proofs.Common.{◌≡◌, false, true, refl, sym, ap, ◌∙◌, ℕ, List, [], ◌∷◌, ◌++◌, Option, Some, None, nat_le, cond, append_assoc, append-nil, subst, length, length-append, ◌+◌, ◌≤◌, arith}
 use Rattle.std.specs.Prelude.{codes}
 use Rattle.std.specs.List.{list_all}
 use Rattle.std.specs.Option.{option_map, IfSome}
@@ -45,6 +45,15 @@ pub lines_end : (lines : List ScriptLine) (pieces : List Piece) (whole : Option 
 unfolding lines_among
 lines_end lines pieces whole i e =
     ap Some (sym (append-nil lines)) ∙ ap (λ z. option_map (λ more. lines ++ more) (lines_among z)) (sym e) ∙ i
+
+-- a line holds one order at most
+pub line_counted : (lines lines' : List ScriptLine) (number : ℕ) (content : Option ScriptCommand) → length lines + 1 ≤ number → lines' ≡ lines ++ lines_at number content → length lines' + 1 ≤ number + 1
+line_counted lines lines' number None l e = subst (λ z. length z + 1 ≤ number + 1) (sym (e ∙ append-nil lines)) (omega (arith, l))
+line_counted lines lines' number (Some order) l e =
+    subst (λ z. z + 1 ≤ number + 1) (sym (ap length e ∙ length-append lines (script_line number order ∷ []))) (omega (arith, l))
+
+pub line_numbered : (number : ℕ) → number ≤ 1000 → number + 1 ≤ 1001
+line_numbered number l = omega (arith, l)
 
 build_has : (words : List (List ℕ)) (z : Option Job) (o : ScriptCommand) → words_job words ≡ z → option_map order.Build z ≡ Some o → HasJob o
 build_has words None o e h = absurd cc

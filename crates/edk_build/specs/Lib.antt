@@ -13,5 +13,6 @@ pub mod Kept
 pub mod KeptBuild
 pub mod KeptRuns
 pub mod History
+pub mod ReplayReads
 pub mod Selftest
 pub mod Volinfo

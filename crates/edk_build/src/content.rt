@@ -83,7 +83,7 @@ enum Left<'a> {
 /// An iterator over the pieces of an output, each of 1 to 65,536 bytes, seen by contracts as the
 /// bytes that are left.
 #[derive(Drop)]
-pub struct ContentPieces<'a> {
+pub(crate) struct ContentPieces<'a> {
     left: Left<'a>,
 }
 

@@ -11,7 +11,7 @@ use std::marker::Model;
 
 /// A file and what is to be written to it.
 #[derive(Drop)]
-pub struct FileOut<'a> {
+pub(crate) struct FileOut<'a> {
     start: Target,
     more: Target,
     content: Content<'a>,

@@ -4,7 +4,7 @@ use build_base::Path;
 /// The folder below which the outputs of a build go, which names it in its summary too; whether the
 /// summary tells the status.
 #[derive(Drop)]
-pub struct Label {
+pub(crate) struct Label {
     pub folder: Option<Path>,
     pub tells_status: bool,
 }

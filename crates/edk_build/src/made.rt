@@ -34,7 +34,7 @@ pub enum Made<'a> {
 
 /// All that a build emits.
 #[derive(Drop)]
-pub struct PreparedOutputs<'a> {
+pub(crate) struct PreparedOutputs<'a> {
     made: Made<'a>,
     summary: Text,
 }

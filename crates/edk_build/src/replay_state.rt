@@ -12,7 +12,7 @@ use step_pack::{Key, Out};
 
 /// The edits so far, the cache that the last build left, and how many builds there were.
 #[derive(Drop)]
-pub struct ReplayState {
+pub(crate) struct ReplayState {
     pub edits: Edits,
     pub cache: Cache<Key, Out>,
     pub builds: u64,

@@ -1,5 +1,5 @@
 //! The script of a replay.
-ghost use Rattle.std.specs.Prelude.{◌≡◌, ◌≤◌, ◌++◌, ℕ, true, IfOk, OnOk, IfSome, map, string_bytes};
+ghost use Rattle.std.specs.Prelude.{◌≡◌, ◌≤◌, ◌++◌, ℕ, true, IfOk, OnOk, IfSome, length, map, string_bytes};
 ghost use Rattle.build_base.specs.Path.{path_field};
 ghost use Rattle.std.specs.List.{list_all};
 ghost use Rattle.meta_lexer.specs.Lines.{is_plain, piece_of};
@@ -19,7 +19,7 @@ const MOST_LINES: u64 = 1000;
 /// What a line of a script asks for: that a path gets the bytes that another one has in the tree,
 /// that there is no file at a path, or a build.
 #[derive(Drop)]
-pub enum ScriptCommand {
+pub(crate) enum ScriptCommand {
     Put { path: Path, from: Path },
     Drop(Path),
     Build(Job),
@@ -27,7 +27,7 @@ pub enum ScriptCommand {
 
 /// A line of a script that isn't empty; lines count from 1.
 #[derive(Drop)]
-pub struct ScriptLine {
+pub(crate) struct ScriptLine {
     pub number: u64,
     pub order: ScriptCommand,
 }
@@ -170,7 +170,8 @@ pub(crate) fn read_script(
     alloc: Global,
     bytes: &[u8],
 ) -> Result<Option<Rows<ScriptLine>>, WantOfMemory>
-    ensures { IfOk result (λ lines. lines ≡ script_of bytes.now) }
+    ensures script { IfOk result (λ lines. lines ≡ script_of bytes.now) }
+    ensures few { IfOk result (λ lines. IfSome lines (λ found. length found ≤ 1000)) }
 {
     let mut lines = Rows::new(alloc);
     let mut number = 1;

@@ -8,6 +8,7 @@ ghost use Rattle.edk_build.specs.Commands.{command_of, IfBuild, IfNoBuild, IfRep
 ghost use Rattle.edk_build.specs.History.{IsReplayed, IsReplayComplete, IsUsage};
 ghost use Rattle.edk_build.specs.Kept.{IsSoundKept, OfKept, StaysSound};
 ghost use Rattle.edk_build.specs.KeptBuild.{HasEnded, HasStopped, told};
+ghost use Rattle.edk_build.specs.ReplayReads.{ReplayReads};
 ghost use Rattle.edk_build.specs.Run.{world_of, IsComplete};
 ghost use Rattle.edk_build.specs.Selftest.{IsSelftest, IsSelftestStatus, IsSelftestComplete};
 ghost use Rattle.edk_build.specs.Statuses.{OnEnd, OnUnkept, OnUnwritten, OnUsage, OnReadFault, OnWriteFault, OnBuild, IsUsageTold};
@@ -91,6 +92,8 @@ pub fn run<H: Threads + Sync, T: Tree, S: Sink, K: Keeper, G: Gate>(
         (λ at. IfSome (T.held tree.old) (λ files.
         IsReplayComplete files at (HasFailed (T.faults tree.old) (T.faults tree.new))
         (HasFailed (S.faults sink.old) (S.faults sink.new)) result)) }
+    ensures replay_read { IfReplay (command_of (map string_bytes words.now))
+        (λ at. ReplayReads (T.held tree.old) at (T.reads tree.old) (T.reads tree.new)) }
 
     // A selftest, for which the tree isn't asked.
     ensures selftest { IfSelftest (command_of (map string_bytes words.now)) (λ n.

@@ -1,6 +1,6 @@
 //! The top call of the program.
 #![tactic(auto)]
 
-pub mod top;
+mod top;
 
 pub use top::run;

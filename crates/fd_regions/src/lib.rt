@@ -1,8 +1,8 @@
 //! Flash devices: the bytes of their regions, each in its place.
 #![tactic(auto)]
 
-pub mod compose;
-pub mod contents;
+mod compose;
+mod contents;
 
 use build_base::Image;
 pub use build_base::Pieces;

@@ -34,7 +34,7 @@ const LIMIT: u64 = 65535;
 /// What is kept of the lines above: what they came to, what they left open, whether the last heads
 /// begin a volume, how many statements it has, and how many devices, volumes and rules there are.
 #[derive(Drop)]
-pub struct FlashLines {
+pub(crate) struct FlashLines {
     pub alloc: Global,
     pub reads: Rows<LineRead>,
     pub marks: Marks,

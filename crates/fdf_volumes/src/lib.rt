@@ -4,5 +4,5 @@
 pub mod body;
 pub mod inf_line;
 pub mod statement;
-pub mod volume_key;
+mod volume_key;
 pub mod volume_line;

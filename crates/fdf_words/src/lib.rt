@@ -2,7 +2,7 @@
 //! and of SET (EDK II FDF specification).
 #![tactic(auto)]
 
-pub mod data_bytes;
+mod data_bytes;
 pub mod device_line;
 pub mod keys;
 pub mod marks;

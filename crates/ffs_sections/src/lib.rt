@@ -3,14 +3,14 @@
 
 pub mod alignment;
 pub mod faults;
-pub mod file;
+mod file;
 pub mod header;
-pub mod lent;
-pub mod lent_plan;
-pub mod sections;
-pub mod sizes;
+mod lent;
+mod lent_plan;
+mod sections;
+mod sizes;
 pub mod standard;
-pub mod sums;
+mod sums;
 
 pub use file::{file_of, file_of_lent};
 pub use lent::{LentContent, LentPart};

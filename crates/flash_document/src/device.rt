@@ -55,7 +55,7 @@ pub fn number_of(key: DeviceKey, k: usize, lines: &[LineRead]) -> Option<u64>
 /// The pairs of BlockSize and NumBlocks: a size that waits for its count, the size of the first
 /// pair, and all products together.
 #[derive(Clone, Copy)]
-pub struct BlockSum {
+pub(crate) struct BlockSum {
     pub waiting: Option<u64>,
     pub first: Option<u64>,
     pub total: u64,

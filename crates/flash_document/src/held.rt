@@ -15,7 +15,7 @@ use std::alloc::Global;
 /// A region that holds a volume: the volume's name, the region's size, and the first block size of
 /// its device.
 #[derive(Drop)]
-pub struct HeldRegion {
+pub(crate) struct HeldRegion {
     pub name: Text,
     pub size: u64,
     pub block: Option<u64>,
@@ -24,7 +24,7 @@ pub struct HeldRegion {
 /// Of the regions that hold a volume: the first one's size and the first block size of its device,
 /// and the first size that differs.
 #[derive(Clone, Copy, PartialEq, Eq)]
-pub struct HeldSizes {
+pub(crate) struct HeldSizes {
     pub first: u64,
     pub block: Option<u64>,
     pub other: Option<u64>,

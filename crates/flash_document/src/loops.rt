@@ -13,7 +13,7 @@ use std::collections::BTreeSet;
 use std::mem;
 
 /// The volumes that one holds by some steps, and those that the last step came to first.
-pub struct Level {
+pub(crate) struct Level {
     pub alloc: Global,
     pub seen: BTreeSet<usize>,
     pub edge: Rows<usize>,

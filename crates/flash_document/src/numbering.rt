@@ -22,7 +22,7 @@ pub struct Waiting {
 
 /// The volumes with numbers, those that may come next, and those that wait, each by one that it
 /// holds.
-pub struct Sorter {
+pub(crate) struct Sorter {
     pub alloc: Global,
     pub numbered: BTreeSet<usize>,
     pub ready: BTreeSet<usize>,
@@ -205,7 +205,10 @@ impl Sorter {
 }
 
 /// The volumes in the order of their numbers.
-pub fn topological_order(alloc: Global, nests: &[Rows<usize>]) -> Result<Rows<usize>, WantOfMemory>
+pub(crate) fn topological_order(
+    alloc: Global,
+    nests: &[Rows<usize>],
+) -> Result<Rows<usize>, WantOfMemory>
     ensures { IfOk result (λ order. order ≡ topological_order nests.now) }
 {
     let mut turns = Sorter::begin(alloc, nests)?;

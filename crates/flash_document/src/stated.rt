@@ -8,7 +8,7 @@ use std::alloc::Global;
 
 /// A region of a device and what fills it.
 #[derive(Drop)]
-pub struct StatedRegion {
+pub(crate) struct StatedRegion {
     pub at: Place,
     pub offset: u64,
     pub size: u64,
@@ -18,7 +18,7 @@ pub struct StatedRegion {
 /// A device. `blocks` are the products of its pairs of BlockSize and NumBlocks, `first_block` the
 /// size of the first pair.
 #[derive(Drop)]
-pub struct StatedDevice {
+pub(crate) struct StatedDevice {
     pub at: Place,
     pub name: Text,
     pub base: Option<u64>,
@@ -31,7 +31,7 @@ pub struct StatedDevice {
 
 /// A file of a volume, whose sections name volumes.
 #[derive(Drop)]
-pub struct StatedFile {
+pub(crate) struct StatedFile {
     pub head: FileHead,
     pub whole: Option<Path>,
     pub sections: Rows<SectionLine>,
@@ -39,7 +39,7 @@ pub struct StatedFile {
 
 /// A statement of a volume.
 #[derive(Drop)]
-pub enum FdfStatement {
+pub(crate) enum FdfStatement {
     Apriori {
         at: Place,
         pei: bool,
@@ -51,7 +51,7 @@ pub enum FdfStatement {
 
 /// A volume. `flags` are the attributes that it states.
 #[derive(Drop)]
-pub struct StatedVolume {
+pub(crate) struct StatedVolume {
     pub at: Place,
     pub name: Text,
     pub block_size: Option<u64>,
@@ -68,14 +68,14 @@ pub struct StatedVolume {
 
 /// A rule, and its name as it is written.
 #[derive(Drop)]
-pub struct StatedRule {
+pub(crate) struct StatedRule {
     pub name: Text,
     pub rule: RuleDoc,
 }
 
 /// What a section states below one head.
 #[derive(Drop)]
-pub enum FdfSection {
+pub(crate) enum FdfSection {
     Settings,
     Device(StatedDevice),
     Volume(StatedVolume),

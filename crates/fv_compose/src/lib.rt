@@ -1,13 +1,13 @@
 //! Firmware volumes (UEFI PI specification, volume 3).
 #![tactic(auto)]
 
-pub mod files;
-pub mod header;
-pub mod image;
-pub mod layout;
-pub mod length;
+mod files;
+mod header;
+mod image;
+mod layout;
+mod length;
 mod pad;
-pub mod place;
+mod place;
 mod places;
 
 use build_base::Image;

@@ -82,7 +82,7 @@ pub fn front(bytes: &[u8], count: u128) -> &[u8]
 }
 
 /// A copy of some bytes.
-pub fn copy_bytes(alloc: Global, bytes: &[u8]) -> Result<Vec<u8>, WantOfMemory>
+pub(crate) fn copy_bytes(alloc: Global, bytes: &[u8]) -> Result<Vec<u8>, WantOfMemory>
     ensures { IfOk result (λ out. out.items ≡ bytes.now) }
 {
     Ok(Vec::from_slice(alloc, bytes)?)

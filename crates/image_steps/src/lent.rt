@@ -14,7 +14,7 @@ use te_images::{TeHead, strip_at, te_header};
 
 /// The content of a section, as `Shaped`, whose bytes stand where they stood.
 #[derive(Drop)]
-pub struct LentShaped<'a> {
+pub(crate) struct LentShaped<'a> {
     pub shift: u32,
     pub content: LentContent<'a>,
 }

@@ -1,11 +1,11 @@
 //! What the steps of files, volumes and devices ask, and what they give by the answers.
 #![tactic(auto)]
 
-pub mod asks;
+mod asks;
 pub mod contents;
-pub mod devices;
+mod devices;
 pub mod files;
-pub mod lent;
+mod lent;
 pub mod parts;
 pub mod volumes;
 

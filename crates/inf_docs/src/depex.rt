@@ -17,7 +17,7 @@ use std::alloc::Global;
 
 /// The section at hand: its head's place, what its heads say, and the terms of its lines so far.
 #[derive(Drop)]
-pub struct OpenSection {
+pub(crate) struct OpenSection {
     pub at: Place,
     pub scopes: Rows<Scope>,
     pub terms: Rows<Text>,
@@ -128,7 +128,7 @@ pub(crate) fn add_terms(
 }
 
 /// The section of these heads, without a line.
-pub fn opened_section(
+pub(crate) fn opened_section(
     alloc: Global,
     at: &Place,
     scopes: &[Scope],

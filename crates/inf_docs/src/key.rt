@@ -6,7 +6,7 @@ use meta_lexer::lookup;
 
 /// A key of [Defines] that is read.
 #[derive(Clone, Copy, PartialEq, Eq)]
-pub enum ModuleKey {
+pub(crate) enum ModuleKey {
     BaseName,
     FileGuid,
     Kind,

@@ -27,7 +27,7 @@ use std::mem;
 /// The format of a module's description, and what its reader holds: what the rows come to, the
 /// section at hand, and the parts of the sections above.
 #[derive(Drop)]
-pub struct ModuleFormat {
+pub(crate) struct ModuleFormat {
     pub alloc: Global,
     pub tables: ModuleTables,
     pub section: Option<OpenSection>,

@@ -39,7 +39,12 @@ pub fn check_name(alloc: Global, at: &Place, text: &[u8]) -> Result<(), Refusal>
 }
 
 /// A name for an architecture.
-pub fn name_for(alloc: Global, at: &Place, arch: Arch, name: &[u8]) -> Result<Named, WantOfMemory>
+pub(crate) fn name_for(
+    alloc: Global,
+    at: &Place,
+    arch: Arch,
+    name: &[u8],
+) -> Result<Named, WantOfMemory>
     ensures { IfOk result (λ n. n ≡ name_for at.now arch name.now) }
 {
     Ok(Named {

@@ -13,7 +13,7 @@ use meta_lexer::lookup;
 /// What the lines of a section state: keys of the module, paths of packages, names of library
 /// classes or of GUIDs, PCDs, or the terms of a dependency expression.
 #[derive(Clone, Copy, PartialEq, Eq)]
-pub enum SectionKind {
+pub(crate) enum SectionKind {
     Defines,
     Packages,
     Classes,

@@ -85,7 +85,7 @@ fn too_many(alloc: Global, inf: &Path) -> Refusal
 }
 
 /// The choice for a module, of whose instances so much is found.
-pub fn choice_of_found(
+pub(crate) fn choice_of_found(
     alloc: Global,
     user: &Module,
     tables: &Tables<'_>,

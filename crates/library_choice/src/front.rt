@@ -26,7 +26,7 @@ pub struct Front {
 /// The queue that begins with the classes of a module, and that of the instances without a class.
 /// Neither knows of the other, so each goes on as far as its own INF files are known.
 #[derive(Drop)]
-pub struct Fronts {
+pub(crate) struct Fronts {
     pub classes: Front,
     pub nulls: Front,
 }

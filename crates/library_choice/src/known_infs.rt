@@ -60,7 +60,7 @@ fn add_infs(
 }
 
 /// INF files that are known. Of one path the first counts.
-pub struct KnownInfs {
+pub(crate) struct KnownInfs {
     list: Rows<Shared<InfDoc>>,
     by_path: IndexMap<Path, Shared<InfDoc>>,
 }

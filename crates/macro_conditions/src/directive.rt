@@ -11,7 +11,7 @@ use meta_lexer::words::{is_identifier, same_word, split_once};
 
 /// What a line does to the conditionals. A line that acts is any but their directives.
 #[derive(Clone, Copy, PartialEq, Eq)]
-pub enum Directive {
+pub(crate) enum Directive {
     Act,
     If,
     Elseif,
@@ -32,7 +32,7 @@ fn after_word(text: &[u8]) -> &[u8]
 }
 
 /// Whether a line is a directive.
-pub fn is_directive(text: &[u8]) -> bool
+pub(crate) fn is_directive(text: &[u8]) -> bool
     ensures { result ≡ is_directive text.now }
 {
     !text.is_empty() && text[0] == b'!'
@@ -47,7 +47,7 @@ fn behind_mark(text: &[u8]) -> &[u8]
 
 /// The word after the `!` of a directive.
 #[tactic(auto, unfolding(crate::specs::Directives::directive_word))]
-pub fn directive_word(text: &[u8]) -> &[u8]
+pub(crate) fn directive_word(text: &[u8]) -> &[u8]
     ensures { result.now ≡ directive_word text.now }
 {
     first_word(behind_mark(text))
@@ -55,7 +55,7 @@ pub fn directive_word(text: &[u8]) -> &[u8]
 
 /// What follows the word of a directive.
 #[tactic(auto, unfolding(crate::specs::Directives::directive_rest))]
-pub fn directive_rest(text: &[u8]) -> &[u8]
+pub(crate) fn directive_rest(text: &[u8]) -> &[u8]
     ensures { result.now ≡ directive_rest text.now }
 {
     after_word(behind_mark(text))
@@ -94,7 +94,7 @@ pub fn kind_of(text: &[u8]) -> Directive
 
 /// Whether a line is an `!include`.
 #[tactic(auto, unfolding(crate::specs::Directives::is_include))]
-pub fn is_include(text: &[u8]) -> bool
+pub(crate) fn is_include(text: &[u8]) -> bool
     ensures { result ≡ is_include text.now }
 {
     is_directive(text) && same_word(directive_word(text), b"include".as_slice())
@@ -102,7 +102,7 @@ pub fn is_include(text: &[u8]) -> bool
 
 /// Whether a line is a `DEFINE` or an `EDK_GLOBAL`.
 #[tactic(auto, unfolding(crate::specs::Directives::is_definition))]
-pub fn is_definition(text: &[u8]) -> bool
+pub(crate) fn is_definition(text: &[u8]) -> bool
     ensures { result ≡ is_definition text.now }
 {
     same_word(first_word(text), b"DEFINE".as_slice())
@@ -111,7 +111,7 @@ pub fn is_definition(text: &[u8]) -> bool
 
 /// The name and the value of a definition, where it has its form.
 #[tactic(auto, unfolding(crate::specs::Directives::definition_of))]
-pub fn definition_of(text: &[u8]) -> Option<(&[u8], &[u8])>
+pub(crate) fn definition_of(text: &[u8]) -> Option<(&[u8], &[u8])>
     ensures { option_map (λ p. (p.0.now, p.1.now)) result ≡ definition_of text.now }
 {
     match split_once(b'=', after_word(text)) {
@@ -122,7 +122,7 @@ pub fn definition_of(text: &[u8]) -> Option<(&[u8], &[u8])>
 
 /// The macro that is named as `NAME` or `$(NAME)`.
 #[tactic(auto, unfolding(crate::specs::Directives::macro_named))]
-pub fn macro_named(text: &[u8]) -> Option<&[u8]>
+pub(crate) fn macro_named(text: &[u8]) -> Option<&[u8]>
     ensures { option_map (λ t. t.now) result ≡ macro_named text.now }
 {
     if is_identifier(text) {

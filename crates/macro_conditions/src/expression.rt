@@ -247,7 +247,7 @@ fn listed_value(
 }
 
 /// The refusal of an expression with a fault.
-pub fn refuse_expression(alloc: Global, code: u16, at: &Place, text: &[u8]) -> Refusal
+pub(crate) fn refuse_expression(alloc: Global, code: u16, at: &Place, text: &[u8]) -> Refusal
     ensures { Finds result (Some (fault_of code at.now (detail_of code text.now))) }
 {
     refuse(alloc, code, at, detail(code, text))

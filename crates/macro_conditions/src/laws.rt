@@ -14,33 +14,33 @@ ghost use Rattle.macro_conditions.specs.LineTree.{Items, tree_of, written};
 ghost use Rattle.macro_conditions.specs.TreesOfLines.{IsTreeOf};
 
 /// The items of a file's tree, written out in order, are its lines.
-pub fn tree_is_whole()
+pub(crate) fn tree_is_whole()
     ensures { (lines : List Line) → written (tree_of lines) ≡ lines }
 {}
 
 /// A file's lines have one tree in which each line stands where its kind may stand, and it is the
 /// one that the conditionals are read by.
-pub fn lines_have_one_tree()
+pub(crate) fn lines_have_one_tree()
     ensures found { (lines : List Line) → IsTreeOf lines (tree_of lines) }
     ensures only { (lines : List Line) (t : Items) → IsTreeOf lines t → t ≡ tree_of lines }
 {}
 
 /// What the text of an expression comes to, after `!if` and in a numeric field, is the value of its
 /// tree, or the fault that the tree has.
-pub fn values_are_of_trees()
+pub(crate) fn values_are_of_trees()
     ensures { (text : List ℕ) → IsValueOf text (value_of_text text) }
 {}
 
 /// Each tree of the grammar that spells an expression has that value, so no expression can be read
 /// in two ways.
 #[tactic(auto, using(crate::proofs::ExpressionMeaning::tree_has_value))]
-pub fn every_tree_has_that_value()
+pub(crate) fn every_tree_has_that_value()
     ensures { (text : List ℕ) (t : Tree) → ends_quoted text ≡ false → IsTree (symbols_of text) t
         → value_of_text text ≡ answered (Some (value_of t)) }
 {}
 
 /// The answer to the path that is wanted makes less left.
-pub fn answers_make_less_left()
+pub(crate) fn answers_make_less_left()
     ensures { (limit : ℕ) (root : List ℕ) (macros fixed : List Macro) (files : List Known)
         (path : List ℕ) (got : Got) → AreWithin limit files
         → expansion (answer files) root macros fixed ≡ Err (need path)
@@ -49,7 +49,7 @@ pub fn answers_make_less_left()
 {}
 
 /// A path that is wanted has no answer, so that in a world, which tells all, none is wanted.
-pub fn wanted_paths_are_unknown()
+pub(crate) fn wanted_paths_are_unknown()
     ensures { (known : Source) (root : List ℕ) (macros fixed : List Macro) (path : List ℕ)
         → expansion known root macros fixed ≡ Err (need path) → known path ≡ None }
 {}

@@ -2,15 +2,15 @@
 #![tactic(auto)]
 
 mod conditional;
-pub mod directive;
+mod directive;
 pub mod expansion;
 pub mod expression;
 pub mod known;
 pub mod laws;
-pub mod machine;
+mod machine;
 pub mod macros;
-pub mod operand;
-pub mod operator;
+mod operand;
+mod operator;
 pub mod table;
 mod work;
 

@@ -10,7 +10,7 @@ use build_base::fault_codes::{VALUE_RANGE, ZERO_DIVISOR};
 /// A text, a number, the code of the fault that comes first, or that a text stands in the place of
 /// a number.
 #[derive(Clone, Copy)]
-pub enum Operand<'a> {
+pub(crate) enum Operand<'a> {
     Word(&'a [u8]),
     Number(u64),
     Error(u16),
@@ -151,7 +151,7 @@ fn kinds_fit(op: BinaryOperator, left: Operand<'_>, right: Operand<'_>) -> bool
 
 /// The value of a prefix operator with its operand.
 #[tactic(auto, unfolding(crate::specs::Values::apply_prefix))]
-pub fn apply_prefix<'a>(op: PrefixOperator, operand: Operand<'a>) -> Operand<'a>
+pub(crate) fn apply_prefix<'a>(op: PrefixOperator, operand: Operand<'a>) -> Operand<'a>
     ensures { view result ≡ apply_prefix op (view operand.entry) }
 {
     match (op, operand) {

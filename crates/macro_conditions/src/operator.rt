@@ -5,7 +5,7 @@ ghost use Rattle.macro_conditions.specs.Values.{level, takes_texts};
 
 /// An operator with two operands.
 #[derive(Clone, Copy, PartialEq, Eq)]
-pub enum BinaryOperator {
+pub(crate) enum BinaryOperator {
     Or,
     And,
     BitOr,
@@ -28,14 +28,14 @@ pub enum BinaryOperator {
 
 /// An operator before its operand: logical not, and the complement of all bits.
 #[derive(Clone, Copy, PartialEq, Eq)]
-pub enum PrefixOperator {
+pub(crate) enum PrefixOperator {
     Not,
     Flip,
 }
 
 /// What a word of expressions stands for: a number, or an operator.
 #[derive(Clone, Copy, PartialEq, Eq)]
-pub enum Keyword {
+pub(crate) enum Keyword {
     Number(u64),
     Binary(BinaryOperator),
     Prefix(PrefixOperator),
@@ -61,7 +61,7 @@ impl BinaryOperator {
     }
 
     /// Whether its operands may be texts.
-    pub fn takes_texts(self) -> bool
+    pub(crate) fn takes_texts(self) -> bool
         ensures { result ≡ takes_texts self }
     {
         self.level() == 5

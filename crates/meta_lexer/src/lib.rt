@@ -9,7 +9,7 @@ pub mod numbers;
 pub mod parts;
 pub mod refusal;
 pub mod token;
-pub mod word_table;
+mod word_table;
 pub mod words;
 
 pub use field::{Span, fields};

@@ -2,14 +2,14 @@
 //! give by the answers.
 #![tactic(auto)]
 
-pub mod apriori;
-pub mod asks;
-pub mod files;
-pub mod modules;
-pub mod names;
+mod apriori;
+mod asks;
+mod files;
+mod modules;
+mod names;
 pub mod plans;
-pub mod required;
-pub mod sections;
+mod required;
+mod sections;
 
 pub use apriori::apriori_given;
 pub use asks::{line_asks, members_asks, plan_asks};

@@ -1,13 +1,13 @@
 //! What the steps of libraries and PCDs ask, and what they give by the answers.
 #![tactic(auto)]
 
-pub mod asks;
-pub mod choices;
-pub mod near;
+mod asks;
+mod choices;
+mod near;
 pub mod parts;
-pub mod pcds;
+mod pcds;
 pub mod settings;
-pub mod skus;
+mod skus;
 
 pub use asks::{choice_asks, dec_asks, inf_asks, linked_asks, package_asks};
 pub use choices::own_inf;

@@ -13,7 +13,7 @@ use packed_values::{Encode, Input, decode_fields, encode_fields};
 use std::alloc::Global;
 
 /// How a value of `RegionKind` is encoded.
-pub struct RegionKindEncoding;
+pub(crate) struct RegionKindEncoding;
 
 impl Encode for RegionKindEncoding {
     type Value = RegionKind;
@@ -52,7 +52,7 @@ impl Encode for RegionKindEncoding {
 }
 
 /// How a value of `Region` is encoded.
-pub struct RegionEncoding;
+pub(crate) struct RegionEncoding;
 
 impl Encode for RegionEncoding {
     type Value = Region;
@@ -71,7 +71,7 @@ impl Encode for RegionEncoding {
 }
 
 /// How a value of `DevicePlan` is encoded.
-pub struct DevicePlanEncoding;
+pub(crate) struct DevicePlanEncoding;
 
 type DevicePlanFirst = (Place, Text, u64);
 

@@ -34,7 +34,7 @@ impl Encode for ModuleEncoding {
 }
 
 /// How a value of `Call` is encoded.
-pub struct CallEncoding;
+pub(crate) struct CallEncoding;
 
 impl Encode for CallEncoding {
     type Value = Call;
@@ -72,7 +72,7 @@ impl Encode for ChoiceEncoding {
 }
 
 /// How a value of `PcdRow` is encoded.
-pub struct PcdRowEncoding;
+pub(crate) struct PcdRowEncoding;
 
 type PcdRowFirst = (PcdNameEncoding, KindEncoding, DatumEncoding, u32);
 
@@ -196,7 +196,7 @@ impl Encode for FileImageEncoding {
 }
 
 /// How a value of `VpdPlace` is encoded.
-pub struct VpdPlaceEncoding;
+pub(crate) struct VpdPlaceEncoding;
 
 impl Encode for VpdPlaceEncoding {
     type Value = VpdPlace;

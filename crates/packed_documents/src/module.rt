@@ -12,7 +12,7 @@ use packed_values::{Encode, Input, decode_fields, encode_fields};
 use std::alloc::Global;
 
 /// How a value of `Named` is encoded.
-pub struct NamedEncoding;
+pub(crate) struct NamedEncoding;
 
 impl Encode for NamedEncoding {
     type Value = Named;
@@ -31,7 +31,7 @@ impl Encode for NamedEncoding {
 }
 
 /// How a value of `Served` is encoded.
-pub struct ServedEncoding;
+pub(crate) struct ServedEncoding;
 
 impl Encode for ServedEncoding {
     type Value = Served;
@@ -50,7 +50,7 @@ impl Encode for ServedEncoding {
 }
 
 /// How a value of `UsedPcd` is encoded.
-pub struct UsedPcdEncoding;
+pub(crate) struct UsedPcdEncoding;
 
 impl Encode for UsedPcdEncoding {
     type Value = UsedPcd;
@@ -69,7 +69,7 @@ impl Encode for UsedPcdEncoding {
 }
 
 /// How a value of `DepexPart` is encoded.
-pub struct DepexPartEncoding;
+pub(crate) struct DepexPartEncoding;
 
 impl Encode for DepexPartEncoding {
     type Value = DepexPart;

@@ -12,7 +12,7 @@ use packed_values::{Encode, Input, decode_fields, encode_fields};
 use std::alloc::Global;
 
 /// How a value of `NamedGuid` is encoded.
-pub struct NamedGuidEncoding;
+pub(crate) struct NamedGuidEncoding;
 
 impl Encode for NamedGuidEncoding {
     type Value = NamedGuid;
@@ -31,7 +31,7 @@ impl Encode for NamedGuidEncoding {
 }
 
 /// How a value of `DecPcd` is encoded.
-pub struct DecPcdEncoding;
+pub(crate) struct DecPcdEncoding;
 
 type DecPcdFirst = (Place, ArchEncoding, KindEncoding, PcdNameEncoding);
 

@@ -9,7 +9,7 @@ use packed_values::{Encode, Input, decode_fields, encode_fields};
 use std::alloc::Global;
 
 /// How a value of `PcdName` is encoded.
-pub struct PcdNameEncoding;
+pub(crate) struct PcdNameEncoding;
 
 impl Encode for PcdNameEncoding {
     type Value = PcdName;
@@ -28,7 +28,7 @@ impl Encode for PcdNameEncoding {
 }
 
 /// How a value of `PcdSet` is encoded.
-pub struct PcdSetEncoding;
+pub(crate) struct PcdSetEncoding;
 
 impl Encode for PcdSetEncoding {
     type Value = PcdSet;

@@ -13,7 +13,7 @@ use packed_values::{Encode, Input, decode_fields, encode_fields};
 use std::alloc::Global;
 
 /// How a value of `Sku` is encoded.
-pub struct SkuEncoding;
+pub(crate) struct SkuEncoding;
 
 impl Encode for SkuEncoding {
     type Value = Sku;
@@ -32,7 +32,7 @@ impl Encode for SkuEncoding {
 }
 
 /// How a value of `LibraryLine` is encoded.
-pub struct LibraryLineEncoding;
+pub(crate) struct LibraryLineEncoding;
 
 impl Encode for LibraryLineEncoding {
     type Value = LibraryLine;
@@ -51,7 +51,7 @@ impl Encode for LibraryLineEncoding {
 }
 
 /// How a value of `Store` is encoded.
-pub struct StoreEncoding;
+pub(crate) struct StoreEncoding;
 
 impl Encode for StoreEncoding {
     type Value = Store;
@@ -101,7 +101,7 @@ impl Encode for StoreEncoding {
 }
 
 /// How a value of `PcdLine` is encoded.
-pub struct PcdLineEncoding;
+pub(crate) struct PcdLineEncoding;
 
 type PcdLineFirst = (Place, ArchEncoding, KindEncoding);
 
@@ -184,7 +184,7 @@ impl Encode for PcdLineEncoding {
 }
 
 /// How a value of `Component` is encoded.
-pub struct ComponentEncoding;
+pub(crate) struct ComponentEncoding;
 
 type ComponentFirst = (Place, ArchEncoding, Path);
 

@@ -15,7 +15,7 @@ use packed_values::{Encode, Input, decode_fields, encode_fields};
 use std::alloc::Global;
 
 /// How a value of `Align` is encoded.
-pub struct AlignEncoding;
+pub(crate) struct AlignEncoding;
 
 impl Encode for AlignEncoding {
     type Value = Align;
@@ -46,7 +46,7 @@ impl Encode for AlignEncoding {
 }
 
 /// How a value of `SectionSource` is encoded.
-pub struct SectionSourceEncoding;
+pub(crate) struct SectionSourceEncoding;
 
 impl Encode for SectionSourceEncoding {
     type Value = SectionSource;
@@ -93,7 +93,7 @@ impl Encode for SectionSourceEncoding {
 }
 
 /// How a value of `SectionPlan` is encoded.
-pub struct SectionPlanEncoding;
+pub(crate) struct SectionPlanEncoding;
 
 type SectionPlanFirst = (Place, u8, bool, AlignEncoding);
 
@@ -160,7 +160,7 @@ impl Encode for SectionPlanEncoding {
 }
 
 /// How a value of `FilePlan` is encoded.
-pub struct FilePlanEncoding;
+pub(crate) struct FilePlanEncoding;
 
 type FilePlanFirst = (Place, u8, Option<Guid>, bool);
 
@@ -228,7 +228,7 @@ impl Encode for FilePlanEncoding {
 }
 
 /// How a value of `InfLine` is encoded.
-pub struct InfLineEncoding;
+pub(crate) struct InfLineEncoding;
 
 type InfLineFirst = (Place, Path, Option<ArchEncoding>);
 
@@ -294,7 +294,7 @@ impl Encode for InfLineEncoding {
 }
 
 /// How a value of `Member` is encoded.
-pub struct MemberEncoding;
+pub(crate) struct MemberEncoding;
 
 impl Encode for MemberEncoding {
     type Value = Member;
@@ -326,7 +326,7 @@ impl Encode for MemberEncoding {
 }
 
 /// How a value of `Item` is encoded.
-pub struct ItemEncoding;
+pub(crate) struct ItemEncoding;
 
 impl Encode for ItemEncoding {
     type Value = Item;
@@ -365,7 +365,7 @@ impl Encode for ItemEncoding {
 }
 
 /// How a value of `RuleDoc` is encoded.
-pub struct RuleDocEncoding;
+pub(crate) struct RuleDocEncoding;
 
 impl Encode for RuleDocEncoding {
     type Value = RuleDoc;
@@ -384,7 +384,7 @@ impl Encode for RuleDocEncoding {
 }
 
 /// How a value of `VolumeHead` is encoded.
-pub struct VolumeHeadEncoding;
+pub(crate) struct VolumeHeadEncoding;
 
 type VolumeHeadFirst = (Place, Text, u32, u8);
 
@@ -468,7 +468,7 @@ impl Encode for VolumeHeadEncoding {
 }
 
 /// How a value of `VolumePlan` is encoded.
-pub struct VolumePlanEncoding;
+pub(crate) struct VolumePlanEncoding;
 
 impl Encode for VolumePlanEncoding {
     type Value = VolumePlan;

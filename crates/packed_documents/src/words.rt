@@ -12,7 +12,7 @@ use packed_values::{Encode, Input};
 use std::alloc::Global;
 
 /// How a value of `Arch` is encoded.
-pub struct ArchEncoding;
+pub(crate) struct ArchEncoding;
 
 #[tactic(auto, unfolding(crate::specs::Words::arch_encoding, packed_values::specs::Plain::byte_encoding))]
 impl Encode for ArchEncoding {
@@ -40,7 +40,7 @@ impl Encode for ArchEncoding {
 }
 
 /// How a value of `ModuleType` is encoded.
-pub struct ModuleTypeEncoding;
+pub(crate) struct ModuleTypeEncoding;
 
 #[tactic(auto, unfolding(crate::specs::Words::module_type_encoding, packed_values::specs::Plain::byte_encoding))]
 impl Encode for ModuleTypeEncoding {
@@ -76,7 +76,7 @@ impl Encode for ModuleTypeEncoding {
 }
 
 /// How a value of `Kind` is encoded.
-pub struct KindEncoding;
+pub(crate) struct KindEncoding;
 
 #[tactic(auto, unfolding(crate::specs::Words::kind_encoding, packed_values::specs::Plain::byte_encoding))]
 impl Encode for KindEncoding {
@@ -101,7 +101,7 @@ impl Encode for KindEncoding {
 }
 
 /// How a value of `Datum` is encoded.
-pub struct DatumEncoding;
+pub(crate) struct DatumEncoding;
 
 #[tactic(auto, unfolding(crate::specs::Words::datum_encoding, packed_values::specs::Plain::byte_encoding))]
 impl Encode for DatumEncoding {
@@ -127,7 +127,7 @@ impl Encode for DatumEncoding {
 }
 
 /// How a value of `Asked` is encoded.
-pub struct AskedEncoding;
+pub(crate) struct AskedEncoding;
 
 #[tactic(auto, unfolding(crate::specs::Words::asked_encoding, packed_values::specs::Plain::byte_encoding))]
 impl Encode for AskedEncoding {

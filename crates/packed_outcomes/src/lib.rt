@@ -2,8 +2,8 @@
 #![tactic(auto)]
 
 pub mod key;
-pub mod out;
+mod out;
 pub mod talk;
-pub mod whole;
+mod whole;
 
 pub use whole::{pack_outcome, unpack_key, unpack_outcome};

@@ -19,7 +19,7 @@ use std::alloc::Global;
 use step_pack::{Out, Output};
 
 /// How a value of `Output` is encoded.
-pub struct OutputEncoding;
+pub(crate) struct OutputEncoding;
 
 impl Encode for OutputEncoding {
     type Value = Output;
@@ -116,7 +116,7 @@ fn decode_made(alloc: Global, input: &mut Input, tag: u8) -> Result<Option<Out>,
 }
 
 /// How a value of `Out` is encoded.
-pub struct OutEncoding;
+pub(crate) struct OutEncoding;
 
 impl Encode for OutEncoding {
     type Value = Out;

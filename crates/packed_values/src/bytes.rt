@@ -11,7 +11,7 @@ use std::alloc::Global;
 
 /// Adds the encoding of a text of these bytes.
 #[tactic(auto, unfolding(crate::specs::Plain::text_encoding, crate::specs::Plain::number_encoding))]
-pub fn encode_bytes(bytes: &[u8], out: &mut Vec<u8>) -> Result<(), WantOfMemory>
+pub(crate) fn encode_bytes(bytes: &[u8], out: &mut Vec<u8>) -> Result<(), WantOfMemory>
     ensures { OnOk result (IsAppended text_encoding out.old.items bytes.now out.new.items) }
 {
     u64::encode(&(bytes.len() as u64), out)?;

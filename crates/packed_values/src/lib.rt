@@ -1,15 +1,15 @@
 //! Values as bytes, with one encoding each: how a value is written, and read back.
 #![tactic(auto)]
 
-pub mod base;
-pub mod bytes;
-pub mod encode;
+mod base;
+mod bytes;
+mod encode;
 pub mod fields;
-pub mod image;
-pub mod input;
-pub mod parts;
+mod image;
+mod input;
+mod parts;
 pub mod plain;
-pub mod whole;
+mod whole;
 
 pub use encode::Encode;
 pub use input::Input;

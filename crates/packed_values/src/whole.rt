@@ -63,7 +63,7 @@ pub fn unpack_behind<T: Encode>(
 
 /// Bytes are the encoding of one value at most.
 #[tactic(auto, using(crate::proofs::WholeLemmas::encoded_once))]
-pub fn bytes_are_one_value<T: Encode>()
+pub(crate) fn bytes_are_one_value<T: Encode>()
     ensures { (bytes : List ℕ) (x y : T.Value) → IsEncoding T.encoding x bytes
         → IsEncoding T.encoding y bytes → x ≡ y }
 {}

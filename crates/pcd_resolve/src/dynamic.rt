@@ -209,7 +209,7 @@ fn put_valued<'a>(
 
 /// The SKUs that have a value of their own, each with its name in the place of the value.
 #[tactic(auto, unfolding(crate::specs::Platform::own_value_rows))]
-pub fn own_value_rows<'a>(
+pub(crate) fn own_value_rows<'a>(
     alloc: Global,
     line: &'a DecPcd,
     lines: &[StatedLine<'a>],

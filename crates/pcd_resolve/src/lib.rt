@@ -1,23 +1,23 @@
 //! Kinds and values of the PCDs of a platform and of its modules (EDK II build specification).
 #![tactic(auto)]
 
-pub mod dynamic;
-pub mod faults;
+mod dynamic;
+mod faults;
 pub mod groups;
-pub mod kinds;
+mod kinds;
 pub mod name_filter;
 pub mod packages;
-pub mod platform;
-pub mod resolve;
-pub mod rows;
+mod platform;
+mod resolve;
+mod rows;
 pub mod sku_tables;
-pub mod sku_values;
+mod sku_values;
 pub mod skus;
-pub mod sorted;
-pub mod sought;
-pub mod tables;
-pub mod used;
-pub mod uses;
+mod sorted;
+mod sought;
+mod tables;
+mod used;
+mod uses;
 
 pub use pcd_ranks::{assign, listing, names};
 pub use platform::resolve_platform;

@@ -11,7 +11,7 @@ ghost use Rattle.pcd_resolve.specs.PlatformTables.{HoldsPlatform};
 ghost use Rattle.pcd_resolve.specs.Rows.{all_rows, names_of};
 ghost use Rattle.pcd_resolve.specs.SkuTables.{AreTables};
 ghost use Rattle.pcd_resolve.specs.Sought.{found, sought_view};
-ghost use Rattle.pcd_resolve.specs.Tables.{set_name, stated_name, use_name};
+ghost use Rattle.pcd_resolve.specs.Tables.{set_name, use_name};
 ghost use Rattle.pcd_ranks.specs.Views.{stated_view, use_view};
 
 use crate::dynamic::dynamic_rows;
@@ -75,7 +75,7 @@ fn counts(arches: &[Arch], stated: &StatedLine<'_>) -> bool
 }
 
 /// The lines that count for the built architectures.
-pub fn counting_lines<'a>(
+pub(crate) fn counting_lines<'a>(
     alloc: Global,
     arches: &[Arch],
     lines: &[StatedLine<'a>],
@@ -229,37 +229,7 @@ fn rows_by_tables<'a>(
     all_rows(alloc, tables, all.as_slice())
 }
 
-// The same, by the tables of the platform's lines and of what is set.
-fn rows_by_lines<'a>(
-    alloc: Global,
-    ask: &'a PlatformAsk,
-    names: &[Vec<u8>],
-    skus: &SkuTables,
-    picked: &[&'a Sku],
-    uses: &IndexMap<Vec<u8>, Vec<UseLine<'a>>>,
-    lines: &IndexMap<Vec<u8>, Vec<StatedLine<'a>>>,
-) -> Result<Rows<PcdRow>, Refusal>
-    requires skus { AreTables ask.now.platform.skus skus.now }
-    requires picked { map (λ s. s.now) picked.now ≡ chosen ask.now }
-    requires walks { All (λ s. WalkEnds ask.now.platform.skus s.now.name) picked.now }
-    requires uses { Grouped use_view use_name (uses_in ask.now.modules) uses.now }
-    requires lines { Grouped stated_view stated_name (stated_in ask.now.platform) lines.now }
-    ensures { Answers result
-        (all_rows (map (rows_at ask.now (uses_in ask.now.modules) (stated_in ask.now.platform))
-        (map (λ n. n.items) names.now))) }
-{
-    let sets = sets_of_ask(alloc, ask)?;
-    let tables = PlatformTables {
-        ask,
-        skus,
-        picked,
-        uses,
-        lines,
-        sets: &sets,
-    };
-    rows_by_tables(alloc, &tables, names)
-}
-
+// The same, by the tables of the uses, of the platform's lines and of what is set.
 fn rows_by_uses<'a>(
     alloc: Global,
     ask: &'a PlatformAsk,
@@ -277,7 +247,16 @@ fn rows_by_uses<'a>(
         (map (λ n. n.items) names.now))) }
 {
     let lines = all_lines(alloc, ask.platform.value())?;
-    rows_by_lines(alloc, ask, names, skus, picked, uses, &lines)
+    let sets = sets_of_ask(alloc, ask)?;
+    let tables = PlatformTables {
+        ask,
+        skus,
+        picked,
+        uses,
+        lines: &lines,
+        sets: &sets,
+    };
+    rows_by_tables(alloc, &tables, names)
 }
 
 // The rows of the PCDs that modules use.

@@ -111,44 +111,6 @@ fn sets_of_ask<'a>(
     )
 }
 
-// The rows by the tables of the uses, of the platform's lines and of what is set.
-fn rows_by_sets<'a>(
-    alloc: Global,
-    ask: &'a ModuleAsk,
-    names: &[Vec<u8>],
-    tables: &ModuleTables<'a>,
-    uses: &IndexMap<Vec<u8>, Vec<UseLine<'a>>>,
-    lines: &IndexMap<Vec<u8>, Vec<StatedLine<'a>>>,
-    sets: &IndexMap<Vec<u8>, Vec<&'a PcdSet>>,
-) -> Result<Rows<PcdRow>, Refusal>
-    requires tabled { IsTabled tables.now }
-    requires parts { tables.now.parts.now ≡ ask.now.parts }
-    requires uses { Grouped use_view use_name (uses_of_module ask.now.parts) uses.now }
-    requires lines { GroupedAt tables.now.marks.items stated_view stated_name
-        (stated_in ask.now.platform) lines.now }
-    requires sets { GroupedAt tables.now.marks.items (λ s. s.now) set_name (sets_in ask.now)
-        sets.now }
-    requires kept { AllKept tables.now.marks.items (map (λ n. n.items) names.now) }
-    ensures { Answers result
-        (all_rows (map (rows_in ask.now (uses_of_module ask.now.parts) (stated_in ask.now.platform))
-        (map (λ n. n.items) names.now))) }
-{
-    let dynamic = rows_by_name(
-        alloc,
-        tables.marks.as_slice(),
-        ask.dynamic.value().rows.items(),
-    )?;
-    let from = ModuleLines {
-        ask,
-        tables,
-        uses,
-        lines,
-        sets,
-        dynamic: &dynamic,
-    };
-    all_rows(alloc, &from, names)
-}
-
 // The rows by the tables of the uses and of the platform's lines.
 fn rows_by_lines<'a>(
     alloc: Global,
@@ -168,8 +130,18 @@ fn rows_by_lines<'a>(
         (all_rows (map (rows_in ask.now (uses_of_module ask.now.parts) (stated_in ask.now.platform))
         (map (λ n. n.items) names.now))) }
 {
-    let sets = sets_of_ask(alloc, tables.marks.as_slice(), ask)?;
-    rows_by_sets(alloc, ask, names, tables, uses, lines, &sets)
+    let marks = tables.marks.as_slice();
+    let sets = sets_of_ask(alloc, marks, ask)?;
+    let dynamic = rows_by_name(alloc, marks, ask.dynamic.value().rows.items())?;
+    let from = ModuleLines {
+        ask,
+        tables,
+        uses,
+        lines,
+        sets: &sets,
+        dynamic: &dynamic,
+    };
+    all_rows(alloc, &from, names)
 }
 
 fn rows_by_tables<'a>(

@@ -29,7 +29,7 @@ use std::alloc::Global;
 /// A PCD of modules: its kind, and of the lines by which the modules' packages declare it the first
 /// one of the kind and the first one.
 #[derive(Clone, Copy)]
-pub struct DeclarationSearch<'n, 'a> {
+pub(crate) struct DeclarationSearch<'n, 'a> {
     pub name: &'n Vec<u8>,
     pub kind: Option<Kind>,
     pub line: Option<&'a DecPcd>,

@@ -59,7 +59,7 @@ pub fn put_package(out: &mut Vec<u8>) -> Result<(), AllocError>
 
 /// Adds the platform up to its components.
 #[tactic(auto, unfolding(crate::specs::Texts::platform_front))]
-pub fn put_platform_front(out: &mut Vec<u8>) -> Result<(), AllocError>
+pub(crate) fn put_platform_front(out: &mut Vec<u8>) -> Result<(), AllocError>
     ensures { OnOk result (out.new.items ≡ out.old.items ++ platform_front) }
 {
     out.extend_from_slice(PLATFORM)?;
@@ -68,7 +68,7 @@ pub fn put_platform_front(out: &mut Vec<u8>) -> Result<(), AllocError>
 
 /// Adds the flash device.
 #[tactic(auto, unfolding(crate::specs::Texts::device_text))]
-pub fn put_device(out: &mut Vec<u8>) -> Result<(), AllocError>
+pub(crate) fn put_device(out: &mut Vec<u8>) -> Result<(), AllocError>
     ensures { OnOk result (out.new.items ≡ out.old.items ++ device_text) }
 {
     out.extend_from_slice(DEVICE)?;
@@ -77,7 +77,7 @@ pub fn put_device(out: &mut Vec<u8>) -> Result<(), AllocError>
 
 /// Adds the rule of the modules.
 #[tactic(auto, unfolding(crate::specs::Texts::rule_text))]
-pub fn put_rule(out: &mut Vec<u8>) -> Result<(), AllocError>
+pub(crate) fn put_rule(out: &mut Vec<u8>) -> Result<(), AllocError>
     ensures { OnOk result (out.new.items ≡ out.old.items ++ rule_text) }
 {
     out.extend_from_slice(RULE)?;
@@ -86,7 +86,7 @@ pub fn put_rule(out: &mut Vec<u8>) -> Result<(), AllocError>
 
 /// Adds a module up to its number.
 #[tactic(auto, unfolding(crate::specs::Texts::module_front))]
-pub fn put_module_front(out: &mut Vec<u8>) -> Result<(), AllocError>
+pub(crate) fn put_module_front(out: &mut Vec<u8>) -> Result<(), AllocError>
     ensures { OnOk result (out.new.items ≡ out.old.items ++ module_front) }
 {
     out.extend_from_slice(b"[Defines]\nBASE_NAME = m")?;
@@ -95,7 +95,7 @@ pub fn put_module_front(out: &mut Vec<u8>) -> Result<(), AllocError>
 
 /// Adds what stands between a module's number and the end of its GUID.
 #[tactic(auto, unfolding(crate::specs::Texts::guid_front))]
-pub fn put_guid_front(out: &mut Vec<u8>) -> Result<(), AllocError>
+pub(crate) fn put_guid_front(out: &mut Vec<u8>) -> Result<(), AllocError>
     ensures { OnOk result (out.new.items ≡ out.old.items ++ guid_front) }
 {
     out.extend_from_slice(b"\nFILE_GUID = 00000000-0000-0000-0001-")?;
@@ -104,7 +104,7 @@ pub fn put_guid_front(out: &mut Vec<u8>) -> Result<(), AllocError>
 
 /// Adds what stands between a module's GUID and its dependency expression.
 #[tactic(auto, unfolding(crate::specs::Texts::module_back))]
-pub fn put_module_back(out: &mut Vec<u8>) -> Result<(), AllocError>
+pub(crate) fn put_module_back(out: &mut Vec<u8>) -> Result<(), AllocError>
     ensures { OnOk result (out.new.items ≡ out.old.items ++ module_back) }
 {
     out.extend_from_slice(MODULE_BACK)?;

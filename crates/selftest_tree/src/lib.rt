@@ -2,11 +2,11 @@
 //! modules as are wanted.
 #![tactic(auto)]
 
-pub mod constant_texts;
-pub mod count;
-pub mod files;
-pub mod module;
-pub mod numbered_texts;
+mod constant_texts;
+mod count;
+mod files;
+mod module;
+mod numbered_texts;
 
 pub use count::count_of;
 pub use files::selftest_files;

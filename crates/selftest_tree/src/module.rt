@@ -45,7 +45,7 @@ fn put_hex(out: &mut Vec<u8>, count: u8, k: u64) -> Result<(), AllocError>
 
 /// Adds the path of a module.
 #[tactic(auto, unfolding(crate::specs::Texts::module_path))]
-pub fn put_module_path(out: &mut Vec<u8>, k: u64) -> Result<(), AllocError>
+pub(crate) fn put_module_path(out: &mut Vec<u8>, k: u64) -> Result<(), AllocError>
     ensures { OnOk result (out.new.items ≡ out.old.items ++ module_path k) }
 {
     out.extend_from_slice(b"m")?;
@@ -78,7 +78,7 @@ fn put_module(out: &mut Vec<u8>, word: &[u8], k: u64) -> Result<(), AllocError>
 }
 
 /// The text of a module, whose dependency expression is this word.
-pub fn module_text(alloc: Global, word: &[u8], k: u64) -> Result<Text, WantOfMemory>
+pub(crate) fn module_text(alloc: Global, word: &[u8], k: u64) -> Result<Text, WantOfMemory>
     ensures { IfOk result (λ t. t ≡ module_text word.now k) }
 {
     let mut out = Vec::new(alloc);

@@ -51,7 +51,7 @@ fn put_infs(out: &mut Vec<u8>, n: u64) -> Result<(), AllocError>
 
 /// The platform.
 #[tactic(auto, unfolding(crate::specs::Texts::platform_text))]
-pub fn platform_text(alloc: Global, n: u64) -> Result<Text, WantOfMemory>
+pub(crate) fn platform_text(alloc: Global, n: u64) -> Result<Text, WantOfMemory>
     ensures { IfOk result (λ t. t ≡ platform_text n) }
 {
     let mut out = Vec::new(alloc);
@@ -62,7 +62,7 @@ pub fn platform_text(alloc: Global, n: u64) -> Result<Text, WantOfMemory>
 
 /// The flash description.
 #[tactic(auto, unfolding(crate::specs::Texts::flash_text))]
-pub fn flash_text(alloc: Global, n: u64) -> Result<Text, WantOfMemory>
+pub(crate) fn flash_text(alloc: Global, n: u64) -> Result<Text, WantOfMemory>
     ensures { IfOk result (λ t. t ≡ flash_text n) }
 {
     let mut out = Vec::new(alloc);

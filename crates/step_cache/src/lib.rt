@@ -6,7 +6,7 @@ mod checking;
 mod decoding;
 mod known;
 pub mod laws;
-pub mod numbered;
+mod numbered;
 mod places;
 mod pool;
 mod reading;

@@ -28,7 +28,7 @@ pub struct Numbered {
 
 /// The pool of packed answers and results, and the entries.
 #[derive(Drop)]
-pub struct Pooled {
+pub(crate) struct Pooled {
     pub pool: Rows<Text>,
     pub entries: Rows<Numbered>,
 }

@@ -27,7 +27,7 @@ use build_base::text::{Text, WantOfMemory};
 use std::alloc::Global;
 
 /// Counts what a visit did for the keys under way.
-pub fn count_act(acts: &mut u64, done: bool)
+pub(crate) fn count_act(acts: &mut u64, done: bool)
     ensures grows { acts.old ≤ acts.new }
     ensures counts { done ≡ true → Rises acts.old acts.new }
 {
@@ -248,7 +248,7 @@ fn sort_in<K: Drop, O: Drop>(
 
 /// One step forward for each key under way: the runs that are to make their next turns, and the
 /// rest.
-pub fn advance_all<R: Rules, T: Tree>(
+pub(crate) fn advance_all<R: Rules, T: Tree>(
     alloc: Global,
     rules: &R,
     job: &Rows<Text>,

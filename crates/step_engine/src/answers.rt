@@ -42,7 +42,7 @@ fn field(alloc: Global, job: &Rows<Text>, number: u8) -> Result<Shared<Text>, Wa
 }
 
 /// Whether a part that is asked is of lower rank.
-pub fn is_lower<R: Rules>(rules: &R, key: &R::Key, ask: &Ask<R::Key>) -> bool
+pub(crate) fn is_lower<R: Rules>(rules: &R, key: &R::Key, ask: &Ask<R::Key>) -> bool
     ensures yes { result ≡ true → (part : R.Key) → ask.now ≡ Ask.Part part
         → R.means.rank part < R.means.rank key.now }
     ensures no { result ≡ false → (part : R.Key) × (ask.now ≡ Ask.Part part)
@@ -265,7 +265,7 @@ fn check_pair<R: Rules, T: Tree>(
 }
 
 /// Whether the answers of a batch are right, where all asks have an answer by now.
-pub fn check_batch<R: Rules, T: Tree>(
+pub(crate) fn check_batch<R: Rules, T: Tree>(
     alloc: Global,
     rules: &R,
     job: &Rows<Text>,

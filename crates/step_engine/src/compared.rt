@@ -12,7 +12,7 @@ use std::marker::Model;
 /// Whether the old answers to a part are its outcome, for each part that was compared, seen as the
 /// list of both.
 #[derive(Drop)]
-pub struct Compared<K: StepKey> {
+pub(crate) struct Compared<K: StepKey> {
     table: KeyTable<K, bool>,
 }
 

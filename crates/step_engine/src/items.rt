@@ -33,7 +33,7 @@ pub struct Asked<K, O> {
 
 /// An old entry of which the batches before this one are right.
 #[derive(Drop)]
-pub struct Check<K, O> {
+pub(crate) struct Check<K, O> {
     pub entry: Entry<K, O>,
     pub batch: usize,
 }
@@ -56,13 +56,13 @@ pub struct Waiting<K, O> {
 
 /// The keys that wait for one part.
 #[derive(Drop)]
-pub struct Queue<K, O> {
+pub(crate) struct Queue<K, O> {
     pub list: Vec<Waiting<K, O>>,
 }
 
 /// What came of a check: the entry is valid, it isn't, or it is to be checked on.
 #[derive(Drop)]
-pub enum Checked<K, O> {
+pub(crate) enum Checked<K, O> {
     Right(Entry<K, O>),
     Wrong(K),
     Next(Check<K, O>),

@@ -4,21 +4,21 @@
 
 mod advance;
 mod answers;
-pub mod brought;
-pub mod cache;
+mod brought;
+mod cache;
 mod compared;
 pub mod edits;
 mod files;
 mod in_order;
 mod items;
-pub mod key_table;
+mod key_table;
 mod learned;
 mod open;
 mod place;
 mod places;
 mod pool;
 mod read;
-pub mod refusal;
+mod refusal;
 mod round;
 pub mod rules;
 mod running;

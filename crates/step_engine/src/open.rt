@@ -60,7 +60,7 @@ fn open<K: StepKey, O: Same + Drop>(
 }
 
 /// The keys of a list that are met for the first time.
-pub fn open_all<K: StepKey, O: Same + Drop>(
+pub(crate) fn open_all<K: StepKey, O: Same + Drop>(
     alloc: Global,
     old: &Cache<K, O>,
     keys: &Vec<K>,

@@ -21,7 +21,7 @@ pub struct Pool<K: StepKey, O: Drop> {
 }
 
 /// Takes out the keys that wait for a part.
-pub fn take_parked<K: StepKey, O: Drop>(
+pub(crate) fn take_parked<K: StepKey, O: Drop>(
     alloc: Global,
     part: &K,
     parked: &mut KeyTable<K, Queue<K, O>>,
@@ -38,7 +38,7 @@ pub fn take_parked<K: StepKey, O: Drop>(
 }
 
 /// The key waits for the part.
-pub fn park<K: StepKey, O: Drop>(
+pub(crate) fn park<K: StepKey, O: Drop>(
     alloc: Global,
     part: K,
     waiting: Waiting<K, O>,
@@ -57,7 +57,7 @@ pub fn park<K: StepKey, O: Drop>(
 }
 
 /// The keys that wait for a part wait no longer.
-pub fn wake<K: StepKey, O: Drop>(
+pub(crate) fn wake<K: StepKey, O: Drop>(
     alloc: Global,
     part: &K,
     parked: &mut KeyTable<K, Queue<K, O>>,

@@ -129,7 +129,7 @@ fn begin<K: StepKey, O: Same + Drop>(
 /// of it, or makes its entry. A key waits only for parts of lower rank that are under way, so one of
 /// those under way is always able to go on. What is done is counted, up to the greatest number of
 /// 64 bits.
-pub fn run_to_end<H: Threads + Sync, R: Rules, T: Tree, G: Gate>(
+pub(crate) fn run_to_end<H: Threads + Sync, R: Rules, T: Tree, G: Gate>(
     rt: &H,
     alloc: Global,
     rules: &R,

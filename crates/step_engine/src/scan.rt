@@ -157,7 +157,7 @@ fn sort_all<K: StepKey, O: Drop>(
 }
 
 /// Takes out the keys that are able to go on. All new keys and all that were woken are looked at.
-pub fn take_able<R: Rules>(
+pub(crate) fn take_able<R: Rules>(
     alloc: Global,
     rules: &R,
     old: &Cache<R::Key, R::Out>,

@@ -15,7 +15,7 @@ use std::marker::Model;
 
 /// The bytes of a file, that there is none, or that it is over the limit.
 #[derive(Drop)]
-pub enum SeenFile {
+pub(crate) enum SeenFile {
     Bytes(Shared<Text>),
     Absent,
     TooLong,
@@ -50,7 +50,7 @@ impl Seen {
     }
 
     /// What stands at a path that has an edit.
-    pub fn of_edit(alloc: Global, bytes: &Option<Shared<Text>>) -> Result<Seen, WantOfMemory>
+    pub(crate) fn of_edit(alloc: Global, bytes: &Option<Shared<Text>>) -> Result<Seen, WantOfMemory>
         ensures { IfOk result (λ seen. seen ≡ got_of file_limit bytes.now) }
     {
         let file = match bytes {

@@ -54,7 +54,7 @@ fn make<K: StepKey, O: Drop>(
 }
 
 /// The entry of a key that runs is made.
-pub fn make_new<K: StepKey, O: Drop>(
+pub(crate) fn make_new<K: StepKey, O: Drop>(
     alloc: Global,
     entry: Entry<K, O>,
     fresh: &mut Vec<Entry<K, O>>,
@@ -74,7 +74,7 @@ pub fn make_new<K: StepKey, O: Drop>(
 }
 
 /// The old entry of a key that is checked is taken over.
-pub fn make_old<K: StepKey, O: Drop>(
+pub(crate) fn make_old<K: StepKey, O: Drop>(
     alloc: Global,
     entry: Entry<K, O>,
     fresh: &mut Vec<Entry<K, O>>,
@@ -94,7 +94,7 @@ pub fn make_old<K: StepKey, O: Drop>(
 }
 
 /// A key whose old entry isn't valid runs.
-pub fn rerun<K: StepKey, O: Drop>(
+pub(crate) fn rerun<K: StepKey, O: Drop>(
     alloc: Global,
     key: K,
     book: &mut Book<K>,

@@ -51,7 +51,7 @@ pub fn turns<H: Threads + Sync, R: Rules, G: Gate>(
 }
 
 /// What a turn leaves: its asks wait, or its entry is made.
-pub fn take_turn<K: StepKey, O: Drop>(
+pub(crate) fn take_turn<K: StepKey, O: Drop>(
     alloc: Global,
     turned: Turned<K, O>,
     fresh: &mut Vec<Entry<K, O>>,

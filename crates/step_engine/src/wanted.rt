@@ -133,7 +133,7 @@ pub fn parts_of<R: Rules>(
 }
 
 /// Whether an entry of the key was made.
-pub fn is_done<K: StepKey>(key: &K, places: &Places<K>) -> bool
+pub(crate) fn is_done<K: StepKey>(key: &K, places: &Places<K>) -> bool
     ensures yes { result ≡ true → IsDone (place_at K.cmp places.now key.now) }
     ensures no { result ≡ false → IsDone (place_at K.cmp places.now key.now) → ⊥ }
 {

@@ -4,10 +4,10 @@
 
 pub mod key;
 pub mod laws;
-pub mod order;
+mod order;
 pub mod out;
-pub mod pack;
-pub mod step_key;
+mod pack;
+mod step_key;
 
 pub use key::Key;
 pub use out::{Out, Output};

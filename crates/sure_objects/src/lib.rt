@@ -2,8 +2,8 @@
 #![tactic(auto)]
 
 mod listed_tree;
-pub mod sure_sink;
-pub mod sure_tree;
+mod sure_sink;
+mod sure_tree;
 mod tabled_tree;
 
 pub use sure_sink::SureSink;

@@ -42,17 +42,15 @@ te_of file = unless (first_holding (te_checks file)) (te_head_of file)
 abbrev pub directory_bytes : List ℕ → List ℕ
 directory_bytes pair = little_bytes 4 (slice_index pair 0) ++ little_bytes 4 (slice_index pair 1)
 
--- The 40 bytes: "VZ", then each value in its own size, little-endian.
-unfoldable pub te_bytes : TeHead → List ℕ
-te_bytes head =
-    codes "VZ" ++ little_bytes 2 head.machine ++ (head.sections ∷ head.subsystem ∷ [])
-    ++ little_bytes 2 head.stripped
-    ++ little_bytes 4 head.entry ++ little_bytes 4 head.code ++ little_bytes 8 head.base
-    ++ directory_bytes head.relocation ++ directory_bytes head.debug
-
--- what stands in front of ImageBase
+-- What stands in front of ImageBase: "VZ", then each value in its own size, little-endian.
 unfoldable pub front_bytes : TeHead → List ℕ
 front_bytes head =
     codes "VZ" ++ little_bytes 2 head.machine ++ (head.sections ∷ head.subsystem ∷ [])
     ++ little_bytes 2 head.stripped
     ++ little_bytes 4 head.entry ++ little_bytes 4 head.code
+
+-- the 40 bytes
+unfoldable pub te_bytes : TeHead → List ℕ
+te_bytes head =
+    front_bytes head ++ little_bytes 8 head.base ++ directory_bytes head.relocation
+    ++ directory_bytes head.debug

@@ -16,7 +16,7 @@ use crate::standard::{
 
 /// Where the headers of a PE file stand: the signature's place, and SizeOfOptionalHeader.
 #[derive(Clone, Copy)]
-pub struct PeHeaders {
+pub(crate) struct PeHeaders {
     signature: u32,
     optional_size: u16,
     is_pe32_plus: bool,

@@ -2,11 +2,11 @@
 //! answers.
 #![tactic(auto)]
 
-pub mod asks;
-pub mod code;
-pub mod depex;
+mod asks;
+mod code;
+mod depex;
 pub mod report;
-pub mod stems;
+mod stems;
 
 pub use asks::{push_module_asks, report_asks};
 pub use code::{code_given, stated_guid};

@@ -11,7 +11,7 @@ use std::alloc::Global;
 
 /// Bytes from one place on up to another.
 #[derive(Clone, Copy)]
-pub struct TakenRange {
+pub(crate) struct TakenRange {
     pub start: u64,
     pub end: u64,
 }
@@ -19,7 +19,7 @@ pub struct TakenRange {
 /// The stretches that are taken, one behind another, and for each type of values a number below
 /// which no multiple of its alignment is free.
 #[derive(Drop)]
-pub struct FreeMap {
+pub(crate) struct FreeMap {
     pub taken: Vec<TakenRange>,
     pub lows: [u64; 6],
 }

@@ -13,7 +13,7 @@ mod places;
 mod placing;
 mod rows;
 mod sizes;
-pub mod vpd;
+mod vpd;
 
 pub use ask::VpdAsk;
 pub use vpd::vpd_of;

@@ -17,7 +17,7 @@ use std::alloc::Global;
 
 /// A line, and the row of its PCD and its SKU.
 #[derive(Clone, Copy)]
-pub struct EntryLine<'a> {
+pub(crate) struct EntryLine<'a> {
     pub line: &'a PcdLine,
     pub row: &'a PcdRow,
 }

@@ -19,7 +19,7 @@ use std::alloc::Global;
 
 /// An entry, and where it starts.
 #[derive(Clone, Copy)]
-pub struct PlacedLine<'a> {
+pub(crate) struct PlacedLine<'a> {
     pub entry: EntryLine<'a>,
     pub offset: u32,
 }
