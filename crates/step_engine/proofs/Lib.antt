@@ -20,6 +20,7 @@ pub mod PoolLemmas
 pub mod Ending
 pub mod ScanLemmas
 pub mod EditLemmas
+pub mod UneditedLemmas
 pub mod QueueLemmas
 pub mod WantedLemmas
 pub mod OpenedLemmas

@@ -1,6 +1,6 @@
 //! One step forward for a key under way.
 ghost use Rattle.std.specs.Prelude.{◌≡◌, ◌≤◌, ◌⊎◌, true, IfOk, OnOk, [], ◌∷◌, length};
-ghost use Rattle.step_engine.specs.Build.{setting, Counts};
+ghost use Rattle.step_engine.specs.Build.{setting, Counts, HasReadUnedited};
 ghost use Rattle.step_engine.specs.Edits.{over};
 ghost use Rattle.step_engine.specs.Engine.{state, AreKept, Adds};
 ghost use Rattle.step_engine.specs.Reading.{knowledge};
@@ -61,6 +61,7 @@ fn resume<R: Rules, T: Tree>(
     ensures adds { Adds (setting R.means (over edits.now (T.held tree.old)) job.now old.now)
         asked.key (state fresh.now.items (knowledge R.Key.cmp learned.old) [] (T.reads tree.old))
         (state fresh.now.items (knowledge R.Key.cmp learned.new) [] (T.reads tree.new)) }
+    ensures unedited { HasReadUnedited edits.now (T.reads tree.old) (T.reads tree.new) }
     ensures ok { IfOk result
         (IsResumed (setting R.means (over edits.now (T.held tree.old)) job.now old.now) asked.key
         (state fresh.now.items (knowledge R.Key.cmp learned.old) [] (T.reads tree.old))
@@ -118,6 +119,7 @@ fn check_next<R: Rules, T: Tree>(
         check.entry.key (state fresh.now.items (knowledge R.Key.cmp learned.old) []
         (T.reads tree.old))
         (state fresh.now.items (knowledge R.Key.cmp learned.new) [] (T.reads tree.new)) }
+    ensures unedited { HasReadUnedited edits.now (T.reads tree.old) (T.reads tree.new) }
     ensures ok { IfOk result
         (IsCheckedOn (setting R.means (over edits.now (T.held tree.old)) job.now old.now)
         check.entry.key (state fresh.now.items (knowledge R.Key.cmp learned.old) []
@@ -178,6 +180,7 @@ pub fn advance<R: Rules, T: Tree>(
         (T.reads tree.old))
         (state fresh.new.items (knowledge R.Key.cmp learned.new) book.new (T.reads tree.new))
         (place_at R.Key.cmp places.old) }
+    ensures unedited { HasReadUnedited edits.now (T.reads tree.old) (T.reads tree.new) }
     ensures ok { IfOk result
         (IsAdvanced (setting R.means (over edits.now (T.held tree.old)) job.now old.now)
         (item_key item) (state fresh.old.items (knowledge R.Key.cmp learned.old) book.old
@@ -278,6 +281,7 @@ pub(crate) fn advance_all<R: Rules, T: Tree>(
         (place_at R.Key.cmp places.old)
         (λ top. AreItemsWanted (setting R.means (over edits.now (T.held tree.old)) job.now old.now)
         top items.items) }
+    ensures unedited { HasReadUnedited edits.now (T.reads tree.old) (T.reads tree.new) }
     ensures ok { IfOk result
         (λ runs. IsList (setting R.means (over edits.now (T.held tree.old)) job.now old.now)
         (state fresh.old.items (knowledge R.Key.cmp learned.old) book.old (T.reads tree.old))

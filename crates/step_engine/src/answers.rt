@@ -2,7 +2,7 @@
 ghost use Rattle.std.specs.Prelude.{MatchOption, ◌≡◌, ◌⊎◌, ◌<◌, ◌≤◌, true, false, IfOk, OnOk, IfSome, IfNone, ◌++◌, List, [], ◌∷◌, Contains, slice_index_or};
 ghost use Rattle.build_base.specs.World.{World};
 ghost use Rattle.step_engine.specs.Meaning.{asks_of};
-ghost use Rattle.step_engine.specs.Build.{setting, IsHere, Counts};
+ghost use Rattle.step_engine.specs.Build.{setting, IsHere, Counts, HasReadUnedited};
 ghost use Rattle.step_engine.specs.Edits.{over};
 ghost use Rattle.step_engine.specs.Engine.{state, AreKept, Adds, IsNext, AreLower, IsAnswered, AreAnswered, IsCheckedPair, IsCheckedBatch};
 ghost use Rattle.step_engine.specs.Agreeing.{HasPair, Agree, IsCompared, AreCompared};
@@ -81,6 +81,7 @@ fn answer<R: Rules, T: Tree>(
     ensures adds { Adds (setting R.means (over edits.now (T.held tree.old)) job.now old.now) key.now
         (state fresh.now.items (knowledge R.Key.cmp learned.old) [] (T.reads tree.old))
         (state fresh.now.items (knowledge R.Key.cmp learned.new) [] (T.reads tree.new)) }
+    ensures unedited { HasReadUnedited edits.now (T.reads tree.old) (T.reads tree.new) }
     ensures ok { IfOk result
         (λ r. MatchOption r
         (IsStill (setting R.means (over edits.now (T.held tree.old)) job.now old.now) key.now
@@ -132,6 +133,7 @@ pub fn answers<R: Rules, T: Tree>(
     ensures adds { Adds (setting R.means (over edits.now (T.held tree.old)) job.now old.now) key.now
         (state fresh.now.items (knowledge R.Key.cmp learned.old) [] (T.reads tree.old))
         (state fresh.now.items (knowledge R.Key.cmp learned.new) [] (T.reads tree.new)) }
+    ensures unedited { HasReadUnedited edits.now (T.reads tree.old) (T.reads tree.new) }
     ensures ok { IfOk result
         (λ r. MatchOption r
         (IsStill (setting R.means (over edits.now (T.held tree.old)) job.now old.now) key.now
@@ -240,6 +242,7 @@ fn check_pair<R: Rules, T: Tree>(
     ensures adds { Adds (setting R.means (over edits.now (T.held tree.old)) job.now old.now) key.now
         (state fresh.now.items (knowledge R.Key.cmp learned.old) [] (T.reads tree.old))
         (state fresh.now.items (knowledge R.Key.cmp learned.new) [] (T.reads tree.new)) }
+    ensures unedited { HasReadUnedited edits.now (T.reads tree.old) (T.reads tree.new) }
     ensures ok { IfOk result
         (λ r. MatchOption r
         (IsStill (setting R.means (over edits.now (T.held tree.old)) job.now old.now) key.now
@@ -290,6 +293,7 @@ pub(crate) fn check_batch<R: Rules, T: Tree>(
     ensures adds { Adds (setting R.means (over edits.now (T.held tree.old)) job.now old.now) key.now
         (state fresh.now.items (knowledge R.Key.cmp learned.old) [] (T.reads tree.old))
         (state fresh.now.items (knowledge R.Key.cmp learned.new) [] (T.reads tree.new)) }
+    ensures unedited { HasReadUnedited edits.now (T.reads tree.old) (T.reads tree.new) }
     ensures ok { IfOk result
         (λ r. MatchOption r
         (IsStill (setting R.means (over edits.now (T.held tree.old)) job.now old.now) key.now

@@ -4,7 +4,7 @@ ghost use Rattle.step_engine.specs.Edits.{over};
 ghost use Rattle.step_engine.specs.Entries.{AreSound};
 ghost use Rattle.step_engine.specs.Needed.{IsBad};
 ghost use Rattle.step_engine.specs.Caches.{AreInOrder, AddsMissing, AreOthers, IsJoined};
-ghost use Rattle.step_engine.specs.Build.{setting, Counts, IsEntryOf, Ran, RanAll, HasRead, Built};
+ghost use Rattle.step_engine.specs.Build.{setting, Counts, IsEntryOf, Ran, RanAll, HasRead, HasReadUnedited, Built};
 ghost use Rattle.step_engine.specs.Ended.{IsReached, IsLeftOver};
 
 use crate::cache::Cache;
@@ -190,6 +190,7 @@ fn reach<H: Threads + Sync, R: Rules, T: Tree, G: Gate>(
         book.old book.new }
     ensures read { HasRead (setting R.means (over edits.now (T.held tree.old)) job.now cache.now)
         top.now (T.reads tree.old) (T.reads tree.new) }
+    ensures unedited { HasReadUnedited edits.now (T.reads tree.old) (T.reads tree.new) }
     ensures ok { IfOk result
         (λ r. IsReached (setting R.means (over edits.now (T.held tree.old)) job.now cache.now)
         top.now book.old book.new r.result r.made) }
@@ -306,6 +307,9 @@ pub fn bring_over<H: Threads + Sync, R: Rules, T: Tree, G: Gate>(
         book.new) }
     ensures read { HasRead (setting R.means (over edits.now (T.held tree.old)) job.now cache) top
         (T.reads tree.old) (T.reads tree.new) }
+
+    // A path that has an edit isn't read from the tree.
+    ensures unedited { HasReadUnedited edits.now (T.reads tree.old) (T.reads tree.new) }
 
     // Where the tree tells what it holds and the cache is sound.
     ensures built { IfOk result

@@ -1,6 +1,6 @@
 //! One round of a list of keys.
 ghost use Rattle.std.specs.Prelude.{◌≡◌, ◌≤◌, IfOk, OnOk, [], length};
-ghost use Rattle.step_engine.specs.Build.{setting, Counts};
+ghost use Rattle.step_engine.specs.Build.{setting, Counts, HasReadUnedited};
 ghost use Rattle.step_engine.specs.Edits.{over};
 ghost use Rattle.step_engine.specs.Engine.{state};
 ghost use Rattle.step_engine.specs.Reading.{knowledge};
@@ -62,6 +62,7 @@ pub fn round<H: Threads + Sync, R: Rules, T: Tree, G: Gate>(
         (place_at R.Key.cmp places.old)
         (λ top. AreItemsWanted (setting R.means (over edits.now (T.held tree.old)) job.now old.now)
         top items.items) }
+    ensures unedited { HasReadUnedited edits.now (T.reads tree.old) (T.reads tree.new) }
     ensures ok { IfOk result
         (λ left. IsList (setting R.means (over edits.now (T.held tree.old)) job.now old.now)
         (state fresh.old.items (knowledge R.Key.cmp learned.old) book.old (T.reads tree.old))

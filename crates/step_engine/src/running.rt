@@ -1,6 +1,6 @@
 //! A build from visit to visit, until its key is done.
 ghost use Rattle.std.specs.Prelude.{◌≡◌, ◌≤◌, ℕ, None, IfOk, OnOk, [], ◌∷◌};
-ghost use Rattle.step_engine.specs.Build.{setting, Counts};
+ghost use Rattle.step_engine.specs.Build.{setting, Counts, HasReadUnedited};
 ghost use Rattle.step_engine.specs.Edits.{over};
 ghost use Rattle.step_engine.specs.Engine.{state};
 ghost use Rattle.step_engine.specs.Reading.{knowledge};
@@ -70,6 +70,7 @@ fn run_ready_keys<H: Threads + Sync, R: Rules, T: Tree, G: Gate>(
         (place_at R.Key.cmp places.old)
         (λ top. AreAllWanted R.Key.cmp
         (setting R.means (over edits.now (T.held tree.old)) job.now old.now) top pool.old) }
+    ensures unedited { HasReadUnedited edits.now (T.reads tree.old) (T.reads tree.new) }
     ensures ok { IfOk result
         (λ _. IsVisited R.Key.cmp
         (setting R.means (over edits.now (T.held tree.old)) job.now old.now)
@@ -159,6 +160,7 @@ pub(crate) fn run_to_end<H: Threads + Sync, R: Rules, T: Tree, G: Gate>(
         (T.reads tree.old))
         (state fresh.new.items (knowledge R.Key.cmp learned.new) book.new (T.reads tree.new))
         (place_at R.Key.cmp places.old) }
+    ensures unedited { HasReadUnedited edits.now (T.reads tree.old) (T.reads tree.new) }
     ensures ok { IfOk result
         (λ r. IsBroughtTo (setting R.means (over edits.now (T.held tree.old)) job.now old.now)
         top.now (state fresh.old.items (knowledge R.Key.cmp learned.old) book.old

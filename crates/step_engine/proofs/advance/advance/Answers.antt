@@ -6,6 +6,7 @@ use Rattle.step_engine.proofs.Acting.{notes_none, notes_read, noted_of, act_note
 use Rattle.step_engine.specs.declared.places.Place.TheVariants.{Checking}
 use Rattle.step_engine.proofs.ForwardLemmas.{goes_still, goes_made, goes_same, goes_rerun, later_goes, enters_made, enters_later}
 use Rattle.step_engine.proofs.ActLemmas.{acts_run, acts_more}
+use Rattle.step_engine.proofs.UneditedLemmas.{unedited_none}
 use Rattle.step_engine.proofs.advance.advance.Goals as goal
 
 pub returns-in-Run-clause-notes : goal.returns-in-Run-clause-notes
@@ -122,3 +123,30 @@ returns-in-Next-clause-acts g c = acts_more _ _ _ _ _ _ _ c.in-Check.is c.in_ok-
 
 pub returns-in-Next-clause-entered : goal.returns-in-Next-clause-entered
 returns-in-Next-clause-entered g c = λ h. h
+
+pub returns-in-Run-clause-unedited : goal.returns-in-Run-clause-unedited
+returns-in-Run-clause-unedited g c = unedited_none _ _
+
+pub returns-in_err-item-in-Asked-clause-unedited : goal.returns-in_err-item-in-Asked-clause-unedited
+returns-in_err-item-in-Asked-clause-unedited g c = c.resume.ensures.unedited
+
+pub returns-in_ok-item-in-Asked-clause-unedited : goal.returns-in_ok-item-in-Asked-clause-unedited
+returns-in_ok-item-in-Asked-clause-unedited g c = c.resume.ensures.unedited
+
+pub returns-in_err-checked-in-Check-clause-unedited : goal.returns-in_err-checked-in-Check-clause-unedited
+returns-in_err-checked-in-Check-clause-unedited g c = c.check_next.ensures.unedited
+
+pub returns-in_err-make_old-in-Right-clause-unedited : goal.returns-in_err-make_old-in-Right-clause-unedited
+returns-in_err-make_old-in-Right-clause-unedited g c = c.check_next.ensures.unedited
+
+pub returns-in_ok-make_old-in-Right-clause-unedited : goal.returns-in_ok-make_old-in-Right-clause-unedited
+returns-in_ok-make_old-in-Right-clause-unedited g c = c.check_next.ensures.unedited
+
+pub returns-in_err-item-in-Wrong-clause-unedited : goal.returns-in_err-item-in-Wrong-clause-unedited
+returns-in_err-item-in-Wrong-clause-unedited g c = c.check_next.ensures.unedited
+
+pub returns-in_ok-item-in-Wrong-clause-unedited : goal.returns-in_ok-item-in-Wrong-clause-unedited
+returns-in_ok-item-in-Wrong-clause-unedited g c = c.check_next.ensures.unedited
+
+pub returns-in-Next-clause-unedited : goal.returns-in-Next-clause-unedited
+returns-in-Next-clause-unedited g c = c.check_next.ensures.unedited

@@ -7,12 +7,14 @@ use Rattle.step_engine.proofs.Listing.{list_none, list_noted, list_more, list_re
 use Rattle.step_engine.proofs.LookLemmas.{no_items}
 use Rattle.step_engine.proofs.ForwardLemmas.{goes_on_none, goes_on_sorted, goes_on_same, none_left}
 use Rattle.step_engine.proofs.ActLemmas.{moved_none, moved_more, moved_all}
+use Rattle.step_engine.proofs.UneditedLemmas.{unedited_none, unedited_then}
 use Rattle.step_engine.proofs.advance.advance_all.Goals as goal
 
 pub loop-item-init : goal.loop-item-init
 loop-item-init g c = record {
   held = refl;
   count = refl;
+  unedited = unedited_none _ _;
   goes = goes_on_none _ _ _ _ _ _ (λ k p h. inl (rw c.into_iter-item-iterator.ensures.into_iter_gives.0 h));
   grows = omega arith;
   moved = moved_none _ _ _ _ _ _ (rw (← c.into_iter-item-iterator.ensures.into_iter_gives.0) refl);
@@ -52,6 +54,7 @@ loop-item-preserved g c =
     record {
       held = c.advance.ensures.held ∙ i.held;
       count = c.in_ok-left.ensures.count ∙ i.count;
+      unedited = unedited_then _ _ _ _ i.unedited c.advance.ensures.unedited;
       goes = goes_on_sorted _ _ _ _ _ _ _ _ _ _ _ _ c.in-Some.item _ _ _ i.goes c.in-Some.ensures.steps.0 c.in_ok-left.ensures.goes c.in_ok-sort_in.ensures;
       grows = omega (arith, i.grows, c.in_ok-left.ensures.acts.grows);
       moved = moved_more _ _ _ _ _ _ c.in-Some.item _ _ _ _ _ _ _ _ i.moved i.grows c.in-Some.ensures.steps.0 (left_here _ _ _ _ i.left c.in-Some.ensures.steps.0) i.goes.later.done c.in_ok-left.ensures.acts c.in_ok-sort_in.ensures;
@@ -89,3 +92,12 @@ returns-clause-acts g c = let rest = c.loop-item.item-iterator.rest in moved_all
 
 pub returns-clause-entered : goal.returns-clause-entered
 returns-clause-entered g c = c.loop-item.invariant.entered
+
+pub returns-in_err-left-clause-unedited : goal.returns-in_err-left-clause-unedited
+returns-in_err-left-clause-unedited g c = unedited_then _ _ _ _ c.loop-item.invariant.unedited c.advance.ensures.unedited
+
+pub returns-in_err-sort_in-clause-unedited : goal.returns-in_err-sort_in-clause-unedited
+returns-in_err-sort_in-clause-unedited g c = unedited_then _ _ _ _ c.loop-item.invariant.unedited c.advance.ensures.unedited
+
+pub returns-clause-unedited : goal.returns-clause-unedited
+returns-clause-unedited g c = c.loop-item.invariant.unedited

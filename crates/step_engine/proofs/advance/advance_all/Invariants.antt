@@ -1,6 +1,6 @@
 -- The first keys under way have made a step.
 use Rattle.std.proofs.Common.{◌≡◌, ◌⊎◌, ◌≤◌, Contains, length}
-use Rattle.step_engine.specs.Build.{setting}
+use Rattle.step_engine.specs.Build.{setting, HasReadUnedited}
 use Rattle.step_engine.specs.Edits.{over}
 use Rattle.step_engine.specs.Engine.{state}
 use Rattle.step_engine.specs.Reading.{knowledge}
@@ -19,6 +19,7 @@ invariant-loop-item g l =
     let z = state l.fresh.items (knowledge g.R.Key.Ord.cmp l.learned) l.book (g.T.Tree.reads l.tree) in record {
       held : g.T.Tree.held l.tree ≡ g.T.Tree.held l.fn.tree;
       count : g.T.Tree.faults l.tree ≡ g.T.Tree.faults l.fn.tree;
+      unedited : HasReadUnedited l.fn.edits (g.T.Tree.reads l.fn.tree) (g.T.Tree.reads l.tree);
       here : IsList s y z (place_at g.R.Key.Ord.cmp l.fn.places) (place_at g.R.Key.Ord.cmp l.places) (λ top. AreItemsWanted s top l.fn.items.items) l.runs.items l.rest.items;
       goes : GoesOn g.row.R-Out.Denot g.R.Key.Ord.cmp (length l.fn.fresh.items) (length l.fresh.items) (place_at g.R.Key.Ord.cmp l.fn.places) (place_at g.R.Key.Ord.cmp l.places) (HasItem l.fn.items.items) (λ k p. HasItem l.item-iterator.rest.items k p ⊎ (HasRun l.runs.items k p ⊎ HasItem l.rest.items k p));
       grows : l.fn.acts ≤ l.acts;

@@ -6,6 +6,7 @@ use Rattle.step_engine.proofs.Asking.{still_none}
 use Rattle.step_engine.proofs.Steps.{item_in}
 use Rattle.step_engine.proofs.Advancing.{check_good, check_asks, check_more, check_stale}
 use Rattle.step_engine.proofs.ActLemmas.{acts_counted}
+use Rattle.step_engine.proofs.UneditedLemmas.{unedited_none}
 use Rattle.step_engine.proofs.advance.check_next.Goals as goal
 
 pub check_batch-requires-clause-next : goal.check_batch-requires-clause-next
@@ -76,3 +77,18 @@ returns-in-Some-true-clause-acts g c = acts_counted _ _ _ _ _ c.count_act-2.ensu
 
 pub returns-in-Some-false-clause-acts : goal.returns-in-Some-false-clause-acts
 returns-in-Some-false-clause-acts g c = acts_counted _ _ _ _ _ c.count_act-2.ensures.grows (c.count_act-2.ensures.counts (rw c.in-Some-false.is at c.is_some.ensures))
+
+pub returns-in-None-clause-unedited : goal.returns-in-None-clause-unedited
+returns-in-None-clause-unedited g c = unedited_none _ _
+
+pub returns-in_err-found-in-Some-clause-unedited : goal.returns-in_err-found-in-Some-clause-unedited
+returns-in_err-found-in-Some-clause-unedited g c = c.check_batch.ensures.unedited
+
+pub returns-in-Some-true-clause-unedited : goal.returns-in-Some-true-clause-unedited
+returns-in-Some-true-clause-unedited g c = c.check_batch.ensures.unedited
+
+pub returns-in-Some-false-clause-unedited : goal.returns-in-Some-false-clause-unedited
+returns-in-Some-false-clause-unedited g c = c.check_batch.ensures.unedited
+
+pub returns-in-None-found-clause-unedited : goal.returns-in-None-found-clause-unedited
+returns-in-None-found-clause-unedited g c = c.check_batch.ensures.unedited

@@ -54,3 +54,15 @@ returns-in_default-clause-acts g c =
 
 pub returns-clause-acts : goal.returns-clause-acts
 returns-clause-acts g c = acts_counted _ _ _ _ _ c.count_act.ensures.grows (c.count_act.ensures.counts refl)
+
+pub returns-in_err-found-clause-unedited : goal.returns-in_err-found-clause-unedited
+returns-in_err-found-clause-unedited g c = c.answers.ensures.unedited
+
+pub returns-in_default-clause-unedited : goal.returns-in_default-clause-unedited
+returns-in_default-clause-unedited g c = c.answers.ensures.unedited
+
+pub returns-in_err-push-clause-unedited : goal.returns-in_err-push-clause-unedited
+returns-in_err-push-clause-unedited g c = c.answers.ensures.unedited
+
+pub returns-clause-unedited : goal.returns-clause-unedited
+returns-clause-unedited g c = c.answers.ensures.unedited

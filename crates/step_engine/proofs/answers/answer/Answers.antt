@@ -3,6 +3,7 @@ use Rattle.std.proofs.Common.{refl}
 use Rattle.step_engine.proofs.Moves.{adds_none, moves_none}
 use Rattle.step_engine.proofs.Steps.{adds_read, answered_field, answered_file, answered_part, file_asked}
 use Rattle.step_engine.proofs.Asking.{still_none}
+use Rattle.step_engine.proofs.UneditedLemmas.{unedited_none}
 use Rattle.step_engine.proofs.answers.answer.Goals as goal
 
 pub returns-in_err-answer-in-File-clause-adds : goal.returns-in_err-answer-in-File-clause-adds
@@ -43,3 +44,24 @@ returns-in-None-clause-adds g c = adds_none _ _ _
 
 pub returns-in-None-clause-ok : goal.returns-in-None-clause-ok
 returns-in-None-clause-ok g c = still_none _ _ _ c.requires.kept
+
+pub returns-in_err-answer-in-File-clause-unedited : goal.returns-in_err-answer-in-File-clause-unedited
+returns-in_err-answer-in-File-clause-unedited g c = c.read_once.ensures.unedited
+
+pub returns-in_ok-answer-in-File-clause-unedited : goal.returns-in_ok-answer-in-File-clause-unedited
+returns-in_ok-answer-in-File-clause-unedited g c = c.read_once.ensures.unedited
+
+pub returns-in_err-field-in-Field-clause-unedited : goal.returns-in_err-field-in-Field-clause-unedited
+returns-in_err-field-in-Field-clause-unedited g c = unedited_none _ _
+
+pub returns-in_ok-field-in-Field-clause-unedited : goal.returns-in_ok-field-in-Field-clause-unedited
+returns-in_ok-field-in-Field-clause-unedited g c = unedited_none _ _
+
+pub returns-in_err-copy-in-Some-clause-unedited : goal.returns-in_err-copy-in-Some-clause-unedited
+returns-in_err-copy-in-Some-clause-unedited g c = unedited_none _ _
+
+pub returns-in_ok-copy-in-Some-clause-unedited : goal.returns-in_ok-copy-in-Some-clause-unedited
+returns-in_ok-copy-in-Some-clause-unedited g c = unedited_none _ _
+
+pub returns-in-None-clause-unedited : goal.returns-in-None-clause-unedited
+returns-in-None-clause-unedited g c = unedited_none _ _

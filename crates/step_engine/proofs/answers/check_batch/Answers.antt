@@ -7,10 +7,11 @@ use Rattle.step_engine.specs.Reading.{knowledge}
 use Rattle.step_engine.proofs.Steps.{item_in, way_none, way_more, way_adds, here_back, here_on, checking_batch_none, checking_batch_step, checking_batch_all, checking_batch_high, asks_have}
 use Rattle.step_engine.proofs.Asking.{still_then}
 use Rattle.step_engine.proofs.ForwardLemmas.{lacks_pair}
+use Rattle.step_engine.proofs.UneditedLemmas.{unedited_none, unedited_then}
 use Rattle.step_engine.proofs.answers.check_batch.Goals as goal
 
 pub loop-pair-init : goal.loop-pair-init
-loop-pair-init g c = record { held = refl; way = way_none _ _ _ _ c.requires.kept; here = checking_batch_none _ _ _ }
+loop-pair-init g c = record { held = refl; way = way_none _ _ _ _ c.requires.kept; unedited = unedited_none _ _; here = checking_batch_none _ _ _ }
 
 pub returns-then-not-is_lower-clause-ok : goal.returns-then-not-is_lower-clause-ok
 returns-then-not-is_lower-clause-ok g c =
@@ -43,6 +44,7 @@ loop-pair-preserved g c =
     let way = c.loop-pair.invariant.way in record {
       held = c.check_pair.ensures.held ∙ c.loop-pair.invariant.held;
       way = way_more _ _ _ _ _ _ _ _ way _ _ d.moves d.kept (ap (over c.args.edits.now) c.check_pair.ensures.held) c.in_ok-found.ensures.count;
+      unedited = unedited_then _ _ _ _ c.loop-pair.invariant.unedited c.check_pair.ensures.unedited;
       here = checking_batch_step _ c.args.key.now _ _ (state c.args.fresh.now.items (knowledge g.R.Key.Ord.cmp c.args.learned.now) [] (g.T.Tree.reads c.args.tree.now)) _ _ _ _ _ _ _ c.loop-pair.invariant.here c.loop-pair-test.true c.pair-item.is d.moves.grows (λ w i. d.right w (here_on _ _ _ _ _ _ _ way w i)) d.parts h.2 c.all_right-right.ensures.yes c.all_right-right.ensures.no;
     }
 
@@ -72,3 +74,15 @@ returns-clause-count g c = c.loop-pair.invariant.way.count
 
 pub returns-in_default-clause-none : goal.returns-in_default-clause-none
 returns-in_default-clause-none g c = lacks_pair g.R.Rules.means.rank _ _ _ _ (asks_have _ _ (item_in _ _ _ _ c.items-pair-items.ensures c.loop-pair-test.true c.pair-item.is)) (c.if-not-is_lower.ensures.yes refl) (rw c.in_default.is at c.in_ok-found.ensures.none)
+
+pub returns-in_err-found-clause-unedited : goal.returns-in_err-found-clause-unedited
+returns-in_err-found-clause-unedited g c = unedited_then _ _ _ _ c.loop-pair.invariant.unedited c.check_pair.ensures.unedited
+
+pub returns-in_default-clause-unedited : goal.returns-in_default-clause-unedited
+returns-in_default-clause-unedited g c = unedited_then _ _ _ _ c.loop-pair.invariant.unedited c.check_pair.ensures.unedited
+
+pub returns-then-not-is_lower-clause-unedited : goal.returns-then-not-is_lower-clause-unedited
+returns-then-not-is_lower-clause-unedited g c = c.loop-pair.invariant.unedited
+
+pub returns-clause-unedited : goal.returns-clause-unedited
+returns-clause-unedited g c = c.loop-pair.invariant.unedited

@@ -1,6 +1,6 @@
 -- The first pairs are checked.
 use Rattle.std.proofs.Common.{◌≡◌, []}
-use Rattle.step_engine.specs.Build.{setting}
+use Rattle.step_engine.specs.Build.{setting, HasReadUnedited}
 use Rattle.step_engine.specs.Edits.{over}
 use Rattle.step_engine.specs.Engine.{state}
 use Rattle.step_engine.specs.Reading.{knowledge}
@@ -13,5 +13,6 @@ invariant-loop-pair g l =
     let y = state l.fn.fresh.items (knowledge g.R.Key.Ord.cmp l.learned) [] (g.T.Tree.reads l.tree) in record {
       held : g.T.Tree.held l.tree ≡ g.T.Tree.held l.fn.tree;
       way : IsUnderWay s l.key (over l.fn.edits (g.T.Tree.held l.tree)) (g.T.Tree.faults l.fn.tree) (g.T.Tree.faults l.tree) (state l.fn.fresh.items (knowledge g.R.Key.Ord.cmp l.fn.learned) [] (g.T.Tree.reads l.fn.tree)) y;
+      unedited : HasReadUnedited l.fn.edits (g.T.Tree.reads l.fn.tree) (g.T.Tree.reads l.tree);
       here : IsCheckingBatch s l.pair-items l.pair-index y l.right;
     }

@@ -5,6 +5,7 @@ use Rattle.step_engine.specs.Reading.{knowledge}
 use Rattle.step_engine.proofs.Moves.{adds_compared}
 use Rattle.step_engine.proofs.Asking.{checked_part}
 use Rattle.step_engine.proofs.ActLemmas.{lacks_part}
+use Rattle.step_engine.proofs.UneditedLemmas.{unedited_none}
 use Rattle.step_engine.proofs.answers.check_pair.Goals as goal
 
 pub returns-in_err-same-clause-adds : goal.returns-in_err-same-clause-adds
@@ -18,3 +19,18 @@ returns-in-Part-clause-ok g c = checked_part _ _ _ _ (state c.args.fresh.now.ite
 
 pub returns-in-Part-clause-none : goal.returns-in-Part-clause-none
 returns-in-Part-clause-none g c = lacks_part _ _ _ c.in_ok-same.same c.in-Part.is c.in_ok-same.ensures.none
+
+pub returns-in_err-same-clause-unedited : goal.returns-in_err-same-clause-unedited
+returns-in_err-same-clause-unedited g c = unedited_none _ _
+
+pub returns-in-Part-clause-unedited : goal.returns-in-Part-clause-unedited
+returns-in-Part-clause-unedited g c = unedited_none _ _
+
+pub returns-in_err-found-clause-unedited : goal.returns-in_err-found-clause-unedited
+returns-in_err-found-clause-unedited g c = c.answer.ensures.unedited
+
+pub returns-in-Some-clause-unedited : goal.returns-in-Some-clause-unedited
+returns-in-Some-clause-unedited g c = c.answer.ensures.unedited
+
+pub returns-in-None-clause-unedited : goal.returns-in-None-clause-unedited
+returns-in-None-clause-unedited g c = c.answer.ensures.unedited

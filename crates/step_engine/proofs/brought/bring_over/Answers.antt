@@ -70,3 +70,12 @@ returns-clause-told g c = λ same left. c.in_ok-brought.ensures.idle.1 (ap lengt
 
 pub returns-clause-order : goal.returns-clause-order
 returns-clause-order g c = c.in_ok-brought.ensures.after
+
+pub returns-in_err-reached-clause-unedited : goal.returns-in_err-reached-clause-unedited
+returns-in_err-reached-clause-unedited g c = c.reach.ensures.unedited
+
+pub returns-in_err-brought-clause-unedited : goal.returns-in_err-brought-clause-unedited
+returns-in_err-brought-clause-unedited g c = c.reach.ensures.unedited
+
+pub returns-clause-unedited : goal.returns-clause-unedited
+returns-clause-unedited g c = c.reach.ensures.unedited

@@ -104,3 +104,12 @@ returns-clause-ok g c =
       same = same;
       ended = end_of s c.args.top.now x z t u c.in_ok-result.result c.in_ok-made.made b on same;
     }
+
+pub returns-in_err-result-clause-unedited : goal.returns-in_err-result-clause-unedited
+returns-in_err-result-clause-unedited g c = c.run_to_end.ensures.unedited
+
+pub returns-in_err-made-clause-unedited : goal.returns-in_err-made-clause-unedited
+returns-in_err-made-clause-unedited g c = c.run_to_end.ensures.unedited
+
+pub returns-clause-unedited : goal.returns-clause-unedited
+returns-clause-unedited g c = c.run_to_end.ensures.unedited

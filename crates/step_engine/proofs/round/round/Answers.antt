@@ -59,3 +59,15 @@ returns-clause-acts g c = round_acts _ _ _ _ _ _ c.in_ok-runs.runs.items c.in_ok
 
 pub returns-clause-entered : goal.returns-clause-entered
 returns-clause-entered g c = λ h. c.in_ok-take_all.ensures.entered (c.in_ok-runs.ensures.entered h)
+
+pub returns-in_err-runs-clause-unedited : goal.returns-in_err-runs-clause-unedited
+returns-in_err-runs-clause-unedited g c = c.advance_all.ensures.unedited
+
+pub returns-in_err-done-clause-unedited : goal.returns-in_err-done-clause-unedited
+returns-in_err-done-clause-unedited g c = c.advance_all.ensures.unedited
+
+pub returns-in_err-take_all-clause-unedited : goal.returns-in_err-take_all-clause-unedited
+returns-in_err-take_all-clause-unedited g c = c.advance_all.ensures.unedited
+
+pub returns-clause-unedited : goal.returns-clause-unedited
+returns-clause-unedited g c = c.advance_all.ensures.unedited

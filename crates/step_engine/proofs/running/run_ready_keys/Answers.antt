@@ -8,6 +8,7 @@ use Rattle.step_engine.specs.Table.{place_at}
 use Rattle.step_engine.proofs.Ending.{counts_wanting}
 use Rattle.step_engine.proofs.ScanLemmas.{able_ready, able_items, visit_noted, visited}
 use Rattle.step_engine.proofs.VisitLemmas.{visit_acts, visit_whole, visit_met, entered_opened, not_empty, puts_same}
+use Rattle.step_engine.proofs.UneditedLemmas.{unedited_none}
 use Rattle.step_engine.proofs.running.run_ready_keys.Goals as goal
 
 pub returns-in_err-able-clause-notes : goal.returns-in_err-able-clause-notes
@@ -92,3 +93,15 @@ returns-clause-forward g c = λ whole entered.
       met = visit_met g.R.Key.Ord.cmp g.R.Rules.means.rank _ _ _ c.take_able.new.pool c.put_back.new.pool c.in_ok-able.able.items c.in_ok-left.left.items _ _ w c.in_ok-left.ensures.goes f e put;
       acts = visit_acts g.R.Key.Ord.cmp g.R.Rules.means.rank _ _ c.take_able.new.pool c.in_ok-able.able.items w _ _ _ c.count_act.ensures.grows (λ h. c.count_act.ensures.counts (not_empty _ _ _ c.take_able.new.pool.news.ok.0 c.is_empty.ensures h)) c.in_ok-left.ensures.acts;
     }
+
+pub returns-in_err-able-clause-unedited : goal.returns-in_err-able-clause-unedited
+returns-in_err-able-clause-unedited g c = unedited_none _ _
+
+pub returns-in_err-left-clause-unedited : goal.returns-in_err-left-clause-unedited
+returns-in_err-left-clause-unedited g c = c.round.ensures.unedited
+
+pub returns-in_err-put_back-clause-unedited : goal.returns-in_err-put_back-clause-unedited
+returns-in_err-put_back-clause-unedited g c = c.round.ensures.unedited
+
+pub returns-clause-unedited : goal.returns-clause-unedited
+returns-clause-unedited g c = c.round.ensures.unedited

@@ -10,6 +10,7 @@ use Rattle.step_engine.proofs.Ending.{counts_wanting}
 use Rattle.step_engine.proofs.ScanLemmas.{begins_noted, settling_more, settling_noted, settling_refused, brought_to, under_held, visited_held, visit_notes_held}
 use Rattle.step_engine.proofs.Moves.{none_in}
 use Rattle.step_engine.proofs.VisitLemmas.{top_open}
+use Rattle.step_engine.proofs.UneditedLemmas.{unedited_none, unedited_then}
 use Rattle.step_engine.proofs.running.run_to_end.Goals as goal
 
 pub returns-in_err-pool-clause-notes : goal.returns-in_err-pool-clause-notes
@@ -22,7 +23,7 @@ pub loop-acts-init : goal.loop-acts-init
 loop-acts-init g c =
     let s = setting g.R.Rules.means (over c.args.edits.now (g.T.Tree.held c.args.tree.now)) c.args.job.now c.args.old.now in
     let y = state c.args.fresh.now.items (knowledge g.R.Key.Ord.cmp c.args.learned.now) c.args.book.now (g.T.Tree.reads c.args.tree.now) in
-    record { held = refl; count = refl; here = c.in_ok-pool.ensures.ok s y refl refl c.requires.ready; whole = c.in_ok-pool.ensures.whole g.R.Rules.means.rank c.requires.new; entered = rw c.requires.none (λ e h. absurd (none_in e h)); met = c.in_ok-pool.ensures.met }
+    record { held = refl; count = refl; unedited = unedited_none _ _; here = c.in_ok-pool.ensures.ok s y refl refl c.requires.ready; whole = c.in_ok-pool.ensures.whole g.R.Rules.means.rank c.requires.new; entered = rw c.requires.none (λ e h. absurd (none_in e h)); met = c.in_ok-pool.ensures.met }
 
 pub run_ready_keys-requires-clause-ready : goal.run_ready_keys-requires-clause-ready
 run_ready_keys-requires-clause-ready g c =
@@ -51,7 +52,7 @@ loop-acts-preserved g c =
     let y = state c.args.fresh.now.items (knowledge g.R.Key.Ord.cmp c.args.learned.now) c.args.book.now (g.T.Tree.reads c.args.tree.now) in
     let i = c.loop-acts.invariant in
     let f = c.in_ok-run_ready_keys.ensures.forward i.whole i.entered in
-    record { whole = f.whole; entered = f.entered; met = f.met _ i.met; held = c.run_ready_keys.ensures.held ∙ i.held; count = c.in_ok-run_ready_keys.ensures.count ∙ i.count; here = settling_more g.R.Key.Ord.cmp s _ y _ _ _ _ _ c.loop-acts.pool c.run_ready_keys.new.pool i.here (visited_held g.R.Key.Ord.cmp s _ _ _ _ _ c.loop-acts.pool c.run_ready_keys.new.pool (ap (over c.args.edits.now) i.held) c.in_ok-run_ready_keys.ensures.ok) }
+    record { whole = f.whole; entered = f.entered; met = f.met _ i.met; held = c.run_ready_keys.ensures.held ∙ i.held; count = c.in_ok-run_ready_keys.ensures.count ∙ i.count; unedited = unedited_then _ _ _ _ i.unedited c.run_ready_keys.ensures.unedited; here = settling_more g.R.Key.Ord.cmp s _ y _ _ _ _ _ c.loop-acts.pool c.run_ready_keys.new.pool i.here (visited_held g.R.Key.Ord.cmp s _ _ _ _ _ c.loop-acts.pool c.run_ready_keys.new.pool (ap (over c.args.edits.now) i.held) c.in_ok-run_ready_keys.ensures.ok) }
 
 pub returns-in-Some-clause-ok : goal.returns-in-Some-clause-ok
 returns-in-Some-clause-ok g c =
@@ -115,3 +116,18 @@ unreachable-requires g c =
     let o = top_open (place_at g.R.Key.Ord.cmp c.loop-acts.places) c.args.top.now i.met c.in_default.ensures.none in
     let r = f.acts c.args.top.now i.met.0 o i.met.1 in
     omega (arith, r c.loop-acts-test.true)
+
+pub returns-in_err-pool-clause-unedited : goal.returns-in_err-pool-clause-unedited
+returns-in_err-pool-clause-unedited g c = unedited_none _ _
+
+pub returns-in_err-run_ready_keys-clause-unedited : goal.returns-in_err-run_ready_keys-clause-unedited
+returns-in_err-run_ready_keys-clause-unedited g c = unedited_then _ _ _ _ c.loop-acts.invariant.unedited c.run_ready_keys.ensures.unedited
+
+pub returns-in-Some-clause-unedited : goal.returns-in-Some-clause-unedited
+returns-in-Some-clause-unedited g c = c.loop-acts.invariant.unedited
+
+pub returns-in_err-copy-clause-unedited : goal.returns-in_err-copy-clause-unedited
+returns-in_err-copy-clause-unedited g c = c.loop-acts.invariant.unedited
+
+pub returns-clause-unedited : goal.returns-clause-unedited
+returns-clause-unedited g c = c.loop-acts.invariant.unedited

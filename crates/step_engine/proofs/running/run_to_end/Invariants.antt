@@ -1,6 +1,6 @@
 -- What the loop keeps.
 use Rattle.std.proofs.Common.{◌≡◌, ◌-◌}
-use Rattle.step_engine.specs.Build.{setting}
+use Rattle.step_engine.specs.Build.{setting, HasReadUnedited}
 use Rattle.step_engine.specs.Edits.{over}
 use Rattle.step_engine.specs.Engine.{state}
 use Rattle.step_engine.specs.Reading.{knowledge}
@@ -16,6 +16,7 @@ invariant-loop-acts g l =
     let z = state l.fresh.items (knowledge g.R.Key.Ord.cmp l.learned) l.book (g.T.Tree.reads l.tree) in record {
       held : g.T.Tree.held l.tree ≡ g.T.Tree.held l.fn.tree;
       count : g.T.Tree.faults l.tree ≡ g.T.Tree.faults l.fn.tree;
+      unedited : HasReadUnedited l.fn.edits (g.T.Tree.reads l.fn.tree) (g.T.Tree.reads l.tree);
       here : IsSettling g.R.Key.Ord.cmp s l.fn.top y z (place_at g.R.Key.Ord.cmp l.fn.places) (place_at g.R.Key.Ord.cmp l.places) l.pool;
       whole : IsWhole g.R.Key.Ord.cmp g.R.Rules.means.rank (place_at g.R.Key.Ord.cmp l.places) l.pool;
       entered : AreEntered (place_at g.R.Key.Ord.cmp l.places) l.fresh.items;
