@@ -3,7 +3,7 @@ ghost use Rattle.std.specs.Prelude.{◌≡◌, ◌≤◌, ◌-◌, true, length,
 ghost use Rattle.build_base.specs.Outside.{HasFailed};
 ghost use Rattle.build_base.specs.Spelling.{Spelled, SpelledCut};
 ghost use Rattle.build_base.specs.World.{World};
-ghost use Rattle.step_engine.specs.Build.{setting, IsEntryOf, IsHere, Ran, RanAll, HasRead};
+ghost use Rattle.step_engine.specs.Build.{setting, IsEntryOf, IsHere, Ran, RanAll, HasRead, HasReadUnedited};
 ghost use Rattle.step_engine.specs.Edits.{over};
 ghost use Rattle.step_engine.specs.Entries.{AreSound};
 ghost use Rattle.step_engine.specs.declared.talk.Outcome.{Outcome};
@@ -116,6 +116,9 @@ pub(crate) fn bring_all<H: Threads + Sync, T: Tree, G: Gate>(
         book.new) }
     ensures read { HasRead (setting means (over edits.now (T.held tree.old)) fields.now cache) All
         (T.reads tree.old) (T.reads tree.new) }
+
+    // A path that has an edit isn't read from the tree.
+    ensures unedited { HasReadUnedited edits.now (T.reads tree.old) (T.reads tree.new) }
 {
     let before = book.ran().len() as u64;
     let brought = match bring_over(
@@ -197,6 +200,9 @@ pub fn build<H: Threads + Sync, T: Tree, S: Sink, G: Gate>(
         book.new) }
     ensures read { HasRead (setting means (over edits.now (T.held tree.old)) fields.now cache) All
         (T.reads tree.old) (T.reads tree.new) }
+
+    // A path that has an edit isn't read from the tree.
+    ensures unedited { HasReadUnedited edits.now (T.reads tree.old) (T.reads tree.new) }
 {
     let brought = bring_all(rt, alloc, fields, workers, cache, tree, edits, gate, book)?;
     let status = emit(
