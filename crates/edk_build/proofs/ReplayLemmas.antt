@@ -324,7 +324,7 @@ line_dropped held o path s next a old e n = subst (λ z. WasCarriedOut held z s 
 -- an order adds one build at most
 pub one_build_more : (held : Option Files) (o : ScriptCommand) (s : ReplayState) (a : List Key) (next : ReplayState) (b : List Key) (old new : Option (List Emission)) → WasCarriedOut held o s a next b old new
     → next.builds ≤ s.builds + 1
-one_build_more held (order.Put path from) s a next b old new w = subst (λ z. z ≤ s.builds + 1) (sym (ap (λ z. z.builds) w.done.2)) (omega arith)
+one_build_more held (order.Put path from) s a next b old new w = subst (λ z. z ≤ s.builds + 1) (sym (ap (λ z. z.builds) w.done.0.2)) (omega arith)
 one_build_more held (order.Drop path) s a next b old new w = subst (λ z. z ≤ s.builds + 1) (sym (ap (λ z. z.builds) w.done.0)) (omega arith)
 one_build_more held (order.Build job) s a next b old new w = subst (λ z. z ≤ s.builds + 1) (sym (ap (λ z. z.builds) w.done.stands)) (omega arith)
 

@@ -1,5 +1,5 @@
 //! A replay: the edits and builds of a script, one after the other.
-ghost use Rattle.std.specs.Prelude.{◌≡◌, ◌⊎◌, ◌≤◌, ◌<◌, length, None, Some, true, ℕ, List, IfOk, IfErr, OnOk};
+ghost use Rattle.std.specs.Prelude.{◌≡◌, ◌⊎◌, ◌≤◌, ◌<◌, [], length, None, Some, true, ℕ, List, IfOk, IfErr, OnOk};
 ghost use Rattle.build_base.specs.Outside.{HasFailed};
 ghost use Rattle.build_base.specs.FaultText.{fault_of, fault_text};
 ghost use Rattle.step_engine.specs.Entries.{AreSound};
@@ -7,7 +7,7 @@ ghost use Rattle.build_rules.specs.Rules.{is_job};
 ghost use Rattle.edk_build.specs.Building.{means};
 ghost use Rattle.edk_build.specs.History.{after_edit, WasCarriedOut, HasStoppedAtLine, IsTold, Follows, IsReplayed, IsUntouched};
 ghost use Rattle.edk_build.specs.Script.{HasJob, HaveJobs, script_line, script_of};
-ghost use Rattle.edk_build.specs.ReplayReads.{LineReads, LinesRead, ScriptReads, ReplayReads};
+ghost use Rattle.edk_build.specs.ReplayReads.{LineReads, LinesRead, ScriptReads, ReplayReads, edited_paths};
 ghost use Rattle.edk_build.specs.Statuses.{OnEnd, OnWriteFault, OnUsage, IsUsageTold, Causes};
 ghost use Rattle.build_words.specs.Fields.{job_fields};
 ghost use Rattle.edk_build.specs.declared.script.ScriptCommand.TheVariants as order;
@@ -121,7 +121,8 @@ fn put<T: Tree, S: Sink>(
     ensures stopped { (a : List Key) → IfErr result (λ status.
         HasStoppedAtLine (T.held tree.old) script.now (script_line number (order.Put path.now from.now))
         status stand a a (S.written sink.old) (S.written sink.new)) }
-    ensures read { LineReads (order.Put path.now from.now) (T.reads tree.old) (T.reads tree.new) }
+    ensures read { LineReads (edited_paths stand) (order.Put path.now from.now) (T.reads tree.old)
+        (T.reads tree.new) }
     ensures held { T.held tree.new ≡ T.held tree.old }
     ensures counts { OnOk result
         (Causes Status.Done (T.faults tree.old) (T.faults tree.new) (S.faults sink.old)
@@ -159,7 +160,8 @@ fn build_next<H: Threads + Sync, T: Tree, S: Sink, G: Gate>(
     ensures stopped { (at : List ℕ) (number : ℕ) → IfErr result (λ status.
         HasStoppedAtLine (T.held tree.old) at (script_line number (order.Build job.now)) status stand
         book.old book.new (S.written sink.old) (S.written sink.new)) }
-    ensures read { LineReads (order.Build job.now) (T.reads tree.old) (T.reads tree.new) }
+    ensures read { LineReads (edited_paths stand) (order.Build job.now) (T.reads tree.old)
+        (T.reads tree.new) }
     ensures held { T.held tree.new ≡ T.held tree.old }
     ensures counts { OnOk result
         (Causes Status.Done (T.faults tree.old) (T.faults tree.new) (S.faults sink.old)
@@ -209,7 +211,7 @@ fn carry_out<H: Threads + Sync, T: Tree, S: Sink, G: Gate>(
     ensures stopped { IfErr result (λ status.
         HasStoppedAtLine (T.held tree.old) script.now line.now status stand book.old book.new
         (S.written sink.old) (S.written sink.new)) }
-    ensures read { LineReads line.now.order (T.reads tree.old) (T.reads tree.new) }
+    ensures read { LineReads (edited_paths stand) line.now.order (T.reads tree.old) (T.reads tree.new) }
     ensures held { T.held tree.new ≡ T.held tree.old }
     ensures counts { OnOk result
         (Causes Status.Done (T.faults tree.old) (T.faults tree.new) (S.faults sink.old)
@@ -243,7 +245,7 @@ fn replay_lines<H: Threads + Sync, T: Tree, S: Sink, G: Gate>(
     ensures follows { Follows (T.held tree.old) script.now (Some lines.now) result book.old book.new
         (S.written sink.old) (S.written sink.new) }
     ensures no_usage { OnUsage result ⊥ }
-    ensures read { LinesRead lines.now (T.reads tree.old) (T.reads tree.new) }
+    ensures read { LinesRead [] lines.now (T.reads tree.old) (T.reads tree.new) }
     ensures held { T.held tree.new ≡ T.held tree.old }
     ensures causes { Causes result (T.faults tree.old) (T.faults tree.new) (S.faults sink.old)
         (S.faults sink.new) }

@@ -34,7 +34,7 @@ returns-clause-done g c =
     (record { built = c.in_ok-built.ensures.built; left = c.in_ok-built.ensures.left; ran = c.in_ok-built.ensures.ran; all = c.in_ok-built.ensures.all; sound = c.in_ok-built.ensures.sound })
 
 pub returns-in_err-built-clause-read : goal.returns-in_err-built-clause-read
-returns-in_err-built-clause-read g c = build_reads _ _ c.args.job.now _ _ c.in_err-built.ensures.read
+returns-in_err-built-clause-read g c = build_reads _ _ c.args.job.now c.args.stand.edits _ _ c.in_err-built.ensures.read c.in_err-built.ensures.unedited
 
 pub returns-clause-read : goal.returns-clause-read
-returns-clause-read g c = build_reads _ _ c.args.job.now _ _ c.in_ok-built.ensures.read
+returns-clause-read g c = build_reads _ _ c.args.job.now c.args.stand.edits _ _ c.in_ok-built.ensures.read c.in_ok-built.ensures.unedited
