@@ -1,5 +1,5 @@
 -- What contracts see of a sink in memory.
-use Rattle.std.specs.Prelude.{ℕ, ◌+◌, ◌≤◌, ◌<◌, ◌==◌, List, [], ◌∷◌, length, take, Option, None, Some, IsSome, Result, Ok, Err, if◌then◌else◌}
+use Rattle.std.specs.Prelude.{◌≡◌, ◌↔◌, ℕ, ◌+◌, ◌≤◌, ◌<◌, ◌==◌, List, [], ◌∷◌, ◌++◌, length, take, Option, None, Some, IsSome, is_some, Result, Ok, Err, if◌then◌else◌}
 use Rattle.build_base.specs.declared.outside.Target.{Target}
 use Rattle.build_base.specs.declared.outside.Target.TheVariants.{Start, More, Out, Err as ToErr}
 use Rattle.build_base.specs.Outside.{Emission, Grew}
@@ -28,12 +28,28 @@ abbrev pub kept_at : List SinkFail → ℕ → Option ℕ
 kept_at [] call = None
 kept_at (fail ∷ fails) call = if fail.call == call then Some fail.kept else kept_at fails call
 
--- An emission that has room is told, and takes no more room than its own.
+-- what an emission takes of the room for bytes: its path and its bytes
+abbrev pub size_of : Target → List ℕ → ℕ
+size_of target bytes = length (path_of target) + length bytes
+
+-- what a call writes of its bytes: all, or so many where it is to fail
+abbrev pub written_part : Option ℕ → List ℕ → List ℕ
+written_part None bytes = bytes
+written_part (Some kept) bytes = take kept bytes
+
+-- There is room for one more emission.
+pub record HasRoom (s : SinkState) (target : Target) (bytes : List ℕ) : Type 0 where
+  pub call : 0 < s.calls_left
+  pub size : size_of target bytes ≤ s.bytes_left
+
+-- An emission is told exactly where all before it are told and it has room. It is kept where it is
+-- told, and takes one call and its own bytes. One that isn't told takes nothing, and isn't kept.
 pub record TakesRoom (old new : SinkState) (target : Target) (bytes : List ℕ) : Type 0 where
-  pub told : IsSome old.written → 0 < old.calls_left
-      → length (path_of target) + length bytes ≤ old.bytes_left → IsSome new.written
-  pub calls_taken : old.calls_left ≤ new.calls_left + 1
-  pub bytes_taken : old.bytes_left ≤ new.bytes_left + (length (path_of target) + length bytes)
+  pub told : IsSome new.written ↔ (IsSome old.written × HasRoom old target bytes)
+  pub kept : new.kept ≡ old.kept ++ (if is_some new.written then (target, bytes) ∷ [] else [])
+  pub calls_taken : old.calls_left ≡ new.calls_left + (if is_some new.written then 1 else 0)
+  pub bytes_taken : old.bytes_left ≡ new.bytes_left
+      + (if is_some new.written then size_of target bytes else 0)
 
 -- A call writes all bytes, or fails where it is to fail and writes so many.
 abbrev pub Writes : {E : Type 0} → Option ℕ → Option (List Emission) → Option (List Emission)

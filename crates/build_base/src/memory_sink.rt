@@ -1,11 +1,11 @@
 //! A sink in memory, whose room is made before, and which fails at the calls of a list.
-ghost use Rattle.std.specs.Prelude.{◌≡◌, ◌+◌, ◌-◌, ◌≤◌, ◌<◌, ◌⊎◌, [], ◌∷◌, ◌++◌, length, Some, IfOk, vec_capacity, vec_len};
+ghost use Rattle.std.specs.Prelude.{◌≡◌, ◌+◌, ◌≤◌, ◌<◌, ◌⊎◌, [], ◌∷◌, ◌++◌, length, Some, IfOk, vec_capacity, vec_len};
 ghost use Rattle.std.specs.Bool.{OnTrue, OnFalse};
 ghost use Rattle.build_base.specs.Outside.{Grew, Emits, Cause, next_call};
 ghost use Rattle.std.specs.Prelude.{slice_get};
 ghost use Rattle.std.specs.Option.{option_map};
 ghost use Rattle.build_base.specs.MemorySink.{all_seen, seen, seen_emission, target_of, IsKept};
-ghost use Rattle.build_base.specs.SinkState.{path_of, kept_at, TakesRoom, Writes};
+ghost use Rattle.build_base.specs.SinkState.{path_of, kept_at, written_part, TakesRoom, Writes};
 
 use crate::outside::{Sink, SinkFailed, Target};
 use crate::rows::Rows;
@@ -45,11 +45,12 @@ pub struct SinkFail {
     pub kept: u64,
 }
 
-/// Keeps what is emitted, and tells it as long as there is room.
+/// Keeps what is emitted, and tells it exactly as long as there is room.
 #[derive(Drop)]
 pub struct MemorySink {
     notes: Vec<Note>,
     store: Vec<u8>,
+    left: Room,
     tells: bool,
     fails: Rows<SinkFail>,
     calls: u64,
@@ -57,7 +58,7 @@ pub struct MemorySink {
 }
 
 impl Model for MemorySink {
-    ghost use Rattle.std.specs.Prelude.{◌-◌, Some, None, if◌then◌else◌, vec_capacity, vec_len};
+    ghost use Rattle.std.specs.Prelude.{◌+◌, ◌≤◌, Some, None, if◌then◌else◌, vec_capacity, vec_len};
     ghost use Rattle.build_base.specs.SinkState.{SinkState};
 
     ghost Value = { SinkState };
@@ -68,13 +69,15 @@ impl Model for MemorySink {
       kept = all_seen s.store.items s.notes.items;
       written = if s.tells then Some (all_seen s.store.items s.notes.items) else None;
       faults = s.faults;
-      calls_left = vec_capacity s.notes - vec_len s.notes;
-      bytes_left = vec_capacity s.store - vec_len s.store;
+      calls_left = s.left.calls;
+      bytes_left = s.left.bytes;
       fails = s.fails;
       calls = s.calls;
     } };
 
-    ghost invariant = { λ s. IsKept s.store.items s.notes.items };
+    ghost invariant = { λ s. IsKept s.store.items s.notes.items
+        × (vec_len s.notes + s.left.calls ≤ vec_capacity s.notes)
+        × (vec_len s.store + s.left.bytes ≤ vec_capacity s.store) };
 }
 
 impl MemorySink {
@@ -97,6 +100,7 @@ impl MemorySink {
         Ok(MemorySink {
             notes,
             store,
+            left: room,
             tells: true,
             fails,
             calls: 0,
@@ -127,37 +131,51 @@ fn path_of(target: &Target) -> &[u8]
     }
 }
 
-// Adds both, where there is room.
+// Takes one call and so many bytes of what is left, where there are as many.
+fn take_room(left: &mut Room, path: usize, bytes: usize) -> bool
+    ensures taken { OnTrue result ((left.old.calls ≡ left.new.calls + 1)
+        × (left.old.bytes ≡ left.new.bytes + (path + bytes))) }
+    ensures refused { OnFalse result ((left.new ≡ left.old)
+        × ((left.old.calls ≡ 0) ⊎ (left.old.bytes < path + bytes))) }
+{
+    let path = path as u64;
+    let bytes = bytes as u64;
+    if left.calls == 0 || path > left.bytes || bytes > left.bytes - path {
+        return false;
+    }
+    left.calls -= 1;
+    left.bytes -= path + bytes;
+    true
+}
+
+// Adds both, for which there is room.
 fn put(store: &mut Vec<u8>, path: &[u8], bytes: &[u8])
     requires { vec_len store.old + length path.now + length bytes.now ≤ vec_capacity store.old }
     ensures items { store.new.items ≡ (store.old.items ++ path.now) ++ bytes.now }
-    ensures room { vec_capacity store.old - vec_len store.old
-        ≤ vec_capacity store.new - vec_len store.new + (length path.now + length bytes.now) }
+    ensures len { vec_len store.new ≡ vec_len store.old + (length path.now + length bytes.now) }
+    ensures room { vec_capacity store.old ≤ vec_capacity store.new }
 {
     let _ = store.extend_from_slice(path);
     let _ = store.extend_from_slice(bytes);
 }
 
-// Keeps one emission, where there is room.
+// Keeps one emission, for which there is room.
 #[tactic(auto, using(crate::proofs::MemorySinkLemmas::kept_one, crate::proofs::MemorySinkLemmas::kept_one_still))]
-fn keep(notes: &mut Vec<Note>, store: &mut Vec<u8>, kind: Kind, path: &[u8], bytes: &[u8]) -> bool
-    requires { IsKept store.old.items notes.old.items }
-    ensures kept { OnTrue result
-        (all_seen store.new.items notes.new.items ≡ all_seen store.old.items notes.old.items
-        ++ (target_of kind path.now, bytes.now) ∷ []) }
+fn keep(notes: &mut Vec<Note>, store: &mut Vec<u8>, kind: Kind, path: &[u8], bytes: &[u8])
+    requires kept { IsKept store.old.items notes.old.items }
+    requires call { vec_len notes.old < vec_capacity notes.old }
+    requires room { vec_len store.old + length path.now + length bytes.now
+        ≤ vec_capacity store.old }
+    ensures kept { all_seen store.new.items notes.new.items
+        ≡ all_seen store.old.items notes.old.items
+        ++ (target_of kind path.now, bytes.now) ∷ [] }
     ensures still { IsKept store.new.items notes.new.items }
-    ensures calls { vec_capacity notes.old - vec_len notes.old
-        ≤ vec_capacity notes.new - vec_len notes.new + 1 }
-    ensures room { vec_capacity store.old - vec_len store.old
-        ≤ vec_capacity store.new - vec_len store.new + (length path.now + length bytes.now) }
-    ensures refused { OnFalse result ((vec_capacity notes.old ≤ vec_len notes.old)
-        ⊎ (vec_capacity store.old < vec_len store.old + length path.now + length bytes.now)) }
+    ensures calls { vec_len notes.new ≡ vec_len notes.old + 1 }
+    ensures calls_room { vec_capacity notes.old ≤ vec_capacity notes.new }
+    ensures bytes { vec_len store.new ≡ vec_len store.old + (length path.now + length bytes.now) }
+    ensures bytes_room { vec_capacity store.old ≤ vec_capacity store.new }
 {
     let start = store.len();
-    let room = store.capacity() - start;
-    if notes.len() >= notes.capacity() || path.len() > room || bytes.len() > room - path.len() {
-        return false;
-    }
     put(store, path, bytes);
     notes.push_reserved(Note {
         kind,
@@ -165,7 +183,6 @@ fn keep(notes: &mut Vec<Note>, store: &mut Vec<u8>, kind: Kind, path: &[u8], byt
         path: path.len(),
         bytes: bytes.len(),
     });
-    true
 }
 
 // How many bytes a call that fails keeps.
@@ -188,10 +205,14 @@ impl MemorySink {
         ensures calls { self.new.calls ≡ self.old.calls }
         ensures told { TakesRoom self.old self.new target.now bytes.now }
     {
+        if !self.tells {
+            return;
+        }
+        let path = path_of(target);
+        self.tells = take_room(&mut self.left, path.len(), bytes.len());
         if self.tells {
             let kind = kind_of(target);
-            let path = path_of(target);
-            self.tells = keep(&mut self.notes, &mut self.store, kind, path, bytes);
+            keep(&mut self.notes, &mut self.store, kind, path, bytes);
         }
     }
 }
@@ -261,7 +282,8 @@ impl Sink for MemorySink {
     fn emit(&mut self, target: &Target, bytes: &[u8]) -> Result<(), SinkFailed>
         ensures written { Emits self.old.written self.new.written target.now bytes.now result }
         ensures cause { Cause self.old.faults self.new.faults result }
-        ensures told { TakesRoom self.old self.new target.now bytes.now }
+        ensures told { TakesRoom self.old self.new target.now
+            (written_part (kept_at self.old.fails (next_call self.old.calls)) bytes.now) }
         ensures calls { self.new.calls ≡ next_call self.old.calls }
         ensures fails { self.new.fails ≡ self.old.fails }
         ensures writes { Writes (kept_at self.old.fails (next_call self.old.calls)) self.old.written

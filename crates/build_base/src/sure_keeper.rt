@@ -1,5 +1,5 @@
 //! A keeper in memory that never fails.
-ghost use Rattle.std.specs.Prelude.{◌≡◌, ◌≤◌, IfOk, IfSome, IsSome, Some, None, Err, length, vec_capacity};
+ghost use Rattle.std.specs.Prelude.{◌≡◌, ◌≤◌, ◌↔◌, IfOk, IfSome, IsSome, Some, None, Err, length, vec_capacity};
 ghost use Rattle.std.specs.Option.{option_map};
 ghost use Rattle.build_base.specs.Keeping.{KeeperState, KeeperCause, Stores};
 
@@ -9,32 +9,35 @@ use std::alloc::Global;
 use std::marker::Model;
 
 /// Keeps one text of up to a number of bytes, for which its memory is taken at the start. It tells
-/// what it keeps until it is given a longer one.
+/// what it keeps exactly until it is given a longer one.
 #[derive(Drop)]
 pub struct SureKeeper {
     alloc: Global,
     there: bool,
     tells: bool,
+    room: u64,
     store: Vec<u8>,
 }
 
 impl Model for SureKeeper {
-    ghost use Rattle.std.specs.Prelude.{Option, Some, None, if◌then◌else◌, vec_capacity};
+    ghost use Rattle.std.specs.Prelude.{◌≤◌, Option, Some, None, if◌then◌else◌, vec_capacity};
     ghost use Rattle.build_base.specs.Keeping.{KeeperState};
 
     ghost Value = { KeeperState };
 
     ghost view = { λ k. record {
       kept = if k.tells then Some (if k.there then Some k.store.items else None) else None;
-      room = vec_capacity k.store;
+      room = k.room;
     } };
+
+    ghost invariant = { λ k. k.room ≤ vec_capacity k.store };
 }
 
 impl SureKeeper {
     /// A keeper of this text, with room for `room` bytes.
     pub fn new(alloc: Global, kept: Option<Text>, room: u64) -> Result<SureKeeper, WantOfMemory>
         ensures kept { IfOk result (λ k. k.kept ≡ Some kept) }
-        ensures room { IfOk result (λ k. room ≤ k.room) }
+        ensures room { IfOk result (λ k. k.room ≡ room) }
     {
         let mut store = Vec::with_capacity(alloc, room as usize)?;
         let there = kept.is_some();
@@ -45,6 +48,7 @@ impl SureKeeper {
             alloc,
             there,
             tells: true,
+            room,
             store,
         })
     }
@@ -95,11 +99,11 @@ impl Keeper for SureKeeper {
         ensures kept { Stores self.old.kept self.new.kept bytes.now result }
         ensures cause { KeeperCause 0 0 result }
         ensures room { ¬ (result ≡ Err KeeperFailed.WantOfMemory) }
-        ensures told { IsSome self.old.kept → length bytes.now ≤ self.old.room
-            → IsSome self.new.kept }
-        ensures room_stays { self.old.room ≤ self.new.room }
+        ensures told { IsSome self.new.kept ↔
+            (IsSome self.old.kept × (length bytes.now ≤ self.old.room)) }
+        ensures room_stays { self.new.room ≡ self.old.room }
     {
-        if bytes.len() <= self.store.capacity() {
+        if bytes.len() as u64 <= self.room {
             fill(&mut self.store, bytes);
             self.there = true;
         } else {

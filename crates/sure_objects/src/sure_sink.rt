@@ -10,7 +10,7 @@ use build_base::{Rows, Sink, SinkFailed, Target, WantOfMemory};
 use std::alloc::Global;
 use std::marker::Model;
 
-/// Keeps what is emitted, and tells it as long as there is room. Each call answers.
+/// Keeps what is emitted, and tells it exactly as long as there is room. Each call answers.
 #[derive(Drop)]
 pub struct SureSink {
     sink: MemorySink,
