@@ -1,10 +1,13 @@
 -- Notes stand still while bytes are added behind them.
-use Rattle.std.proofs.Common.{◌≡◌, refl, ap, ◌∙◌, ℕ, ◌+◌, ◌≤◌, ◌<◌, zero, suc, get_or, slice_get, Some, None, List, [], ◌∷◌, ◌++◌, length, take, drop, append_assoc, arith, length-append}
+use Rattle.std.proofs.Common.{◌≡◌, ◌↔◌, refl, sym, ap, ◌∙◌, subst, ℕ, ◌+◌, ◌≤◌, ◌<◌, zero, suc, get_or, slice_get, Option, Some, None, IsSome, is_some, if◌then◌else◌, List, [], ◌∷◌, ◌++◌, length, take, drop, append_assoc, arith, length-append}
 use Rattle.std.proofs.Math.Seq.{take-append_seam, drop-append_seam}
 use Rattle.std.proofs.lemmas.Grind.{common_steps}
+use Rattle.std.proofs.lemmas.List.Sums.{sum_by-cons}
 use Rattle.build_base.specs.declared.memory_sink.Kind.{Kind}
 use Rattle.build_base.specs.declared.memory_sink.Note.{Note}
 use Rattle.build_base.specs.MemorySink.{target_of, seen, all_seen, IsKept}
+use Rattle.build_base.specs.Outside.{Emission}
+use Rattle.build_base.specs.SinkState.{AllTakeRoom, HasRoomForAll, SinkState, TakesRoom, size_of}
 
 take-drop-more : (n k : ℕ) (xs ys : List ℕ) → k + n ≤ length xs → take n (drop k (xs ++ ys)) ≡ take n (drop k xs)
 take-drop-more n k xs ys h = grind (arith, common_steps)
@@ -68,3 +71,26 @@ pub kept_at : (bytes : List ℕ) (notes : List Note) (k : ℕ) (d : Note) → Is
 kept_at bytes [] k d w h = absurd (omega arith)
 kept_at bytes (note ∷ notes) zero d w h = w.0
 kept_at bytes (note ∷ notes) (suc k) d w h = kept_at bytes notes k d w.1 (omega arith)
+
+-- what is taken where the emission is told
+taken_of : (written : Option (List Emission)) (old new size : ℕ) → IsSome written → old ≡ new + (if is_some written then size else 0) → old ≡ new + size
+taken_of written old new size s e = e ∙ ap (λ b. new + (if b then size else 0)) s
+
+pub told_while_room : (old new : SinkState) (emissions : List Emission) → AllTakeRoom old emissions new
+    → IsSome new.written ↔ (IsSome old.written × HasRoomForAll old emissions)
+told_while_room old new [] all =
+    (λ s. (subst (λ z. IsSome z.written) all s, record { calls = omega arith; sizes = omega arith }), λ p. subst (λ z. IsSome z.written) (sym all) p.0)
+told_while_room old new (e ∷ es) all =
+    let next : SinkState = all.0 in
+    let takes : TakesRoom old next e.0 e.1 = all.1 in
+    let rest : IsSome new.written ↔ (IsSome next.written × HasRoomForAll next es) = told_while_room next new es all.2 in
+    let sums = sum_by-cons (λ x. size_of x.0 x.1) e es in
+    let calls : IsSome next.written → old.calls_left ≡ next.calls_left + 1 = λ s. taken_of next.written old.calls_left next.calls_left 1 s takes.calls_taken in
+    let bytes : IsSome next.written → old.bytes_left ≡ next.bytes_left + size_of e.0 e.1 = λ s. taken_of next.written old.bytes_left next.bytes_left (size_of e.0 e.1) s takes.bytes_taken in (
+      λ s.
+          let told = rest.0 s in
+          ((takes.told.0 told.0).0, record { calls = omega (arith, calls told.0, told.1.calls); sizes = omega (arith, sums, bytes told.0, told.1.sizes) }),
+      λ p.
+          let told : IsSome next.written = takes.told.1 (p.0, record { call = omega (arith, p.1.calls); size = omega (arith, sums, p.1.sizes) }) in
+          rest.1 (told, record { calls = omega (arith, calls told, p.1.calls); sizes = omega (arith, sums, bytes told, p.1.sizes) }),
+    )

@@ -4,10 +4,11 @@ use Rattle.build_base.specs.Outside.{HasFailed}
 use Rattle.build_base.specs.declared.outside.KeeperFailed.{KeeperFailed}
 use Rattle.build_base.specs.declared.outside.KeeperFailed.TheVariants.{Failed, WantOfMemory}
 
--- what contracts see of a keeper in memory: what is kept, where it tells it, and the bytes that it
--- has room for
+-- what contracts see of a keeper in memory: what is kept, where it tells it, what it shows, and the
+-- bytes that it has room for
 pub record KeeperState : Type 0 where
   pub kept : Option (Option (List ℕ))
+  pub shown : Option (List ℕ)
   pub room : ℕ
 
 -- what a call of a keeper does to its count

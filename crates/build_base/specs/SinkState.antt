@@ -1,5 +1,5 @@
 -- What contracts see of a sink in memory.
-use Rattle.std.specs.Prelude.{◌≡◌, ◌↔◌, ℕ, ◌+◌, ◌≤◌, ◌<◌, ◌==◌, List, [], ◌∷◌, ◌++◌, length, take, Option, None, Some, IsSome, is_some, Result, Ok, Err, if◌then◌else◌}
+use Rattle.std.specs.Prelude.{◌≡◌, ◌↔◌, ℕ, ◌+◌, ◌≤◌, ◌<◌, ◌==◌, List, [], ◌∷◌, ◌++◌, length, take, Option, None, Some, IsSome, is_some, sum_by, Result, Ok, Err, if◌then◌else◌}
 use Rattle.build_base.specs.declared.outside.Target.{Target}
 use Rattle.build_base.specs.declared.outside.Target.TheVariants.{Start, More, Out, Err as ToErr}
 use Rattle.build_base.specs.Outside.{Emission, Grew}
@@ -50,6 +50,17 @@ pub record TakesRoom (old new : SinkState) (target : Target) (bytes : List ℕ) 
   pub calls_taken : old.calls_left ≡ new.calls_left + (if is_some new.written then 1 else 0)
   pub bytes_taken : old.bytes_left ≡ new.bytes_left
       + (if is_some new.written then size_of target bytes else 0)
+
+-- Emissions one after the other, each of which begins as the one before it left the sink.
+abbrev pub AllTakeRoom : SinkState → List Emission → SinkState → Type 0
+AllTakeRoom old [] new = new ≡ old
+AllTakeRoom old (e ∷ es) new = (next : SinkState) × TakesRoom old next e.0 e.1
+    × AllTakeRoom next es new
+
+-- There is room for so many emissions, and for all their paths and bytes together.
+pub record HasRoomForAll (s : SinkState) (emissions : List Emission) : Type 0 where
+  pub calls : length emissions ≤ s.calls_left
+  pub sizes : sum_by (λ e. size_of e.0 e.1) emissions ≤ s.bytes_left
 
 -- A call writes all bytes, or fails where it is to fail and writes so many.
 abbrev pub Writes : {E : Type 0} → Option ℕ → Option (List Emission) → Option (List Emission)

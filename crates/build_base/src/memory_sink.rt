@@ -1,11 +1,11 @@
 //! A sink in memory, whose room is made before, and which fails at the calls of a list.
 ghost use Rattle.std.specs.Prelude.{◌≡◌, ◌+◌, ◌≤◌, ◌<◌, ◌⊎◌, [], ◌∷◌, ◌++◌, length, Some, IfOk, vec_capacity, vec_len};
 ghost use Rattle.std.specs.Bool.{OnTrue, OnFalse};
-ghost use Rattle.build_base.specs.Outside.{Grew, Emits, Cause, next_call};
-ghost use Rattle.std.specs.Prelude.{slice_get};
+ghost use Rattle.build_base.specs.Outside.{Emission, Grew, Emits, Cause, next_call};
+ghost use Rattle.std.specs.Prelude.{◌↔◌, IsSome, List, slice_get};
 ghost use Rattle.std.specs.Option.{option_map};
 ghost use Rattle.build_base.specs.MemorySink.{all_seen, seen, seen_emission, target_of, IsKept};
-ghost use Rattle.build_base.specs.SinkState.{path_of, kept_at, written_part, TakesRoom, Writes};
+ghost use Rattle.build_base.specs.SinkState.{path_of, kept_at, written_part, AllTakeRoom, HasRoomForAll, SinkState, TakesRoom, Writes};
 
 use crate::outside::{Sink, SinkFailed, Target};
 use crate::rows::Rows;
@@ -304,3 +304,11 @@ impl Sink for MemorySink {
         }
     }
 }
+
+/// What is emitted is told exactly as long as the emissions, failed ones among them, number at most
+/// the calls of the room, and their paths and bytes together at most its bytes.
+#[tactic(auto, using(crate::proofs::MemorySinkLemmas::told_while_room))]
+pub(crate) fn sinks_tell_while_there_is_room()
+    ensures { (old new : SinkState) (emissions : List Emission) → AllTakeRoom old emissions new
+        → IsSome new.written ↔ (IsSome old.written × HasRoomForAll old emissions) }
+{}

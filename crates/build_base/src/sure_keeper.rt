@@ -1,5 +1,5 @@
 //! A keeper in memory that never fails.
-ghost use Rattle.std.specs.Prelude.{◌≡◌, ◌≤◌, ◌↔◌, IfOk, IfSome, IsSome, Some, None, Err, length, vec_capacity};
+ghost use Rattle.std.specs.Prelude.{◌≡◌, ◌≤◌, ◌↔◌, IfOk, IfSome, IsSome, is_some, Some, None, Err, length, if◌then◌else◌, vec_capacity};
 ghost use Rattle.std.specs.Option.{option_map};
 ghost use Rattle.build_base.specs.Keeping.{KeeperState, KeeperCause, Stores};
 
@@ -27,6 +27,7 @@ impl Model for SureKeeper {
 
     ghost view = { λ k. record {
       kept = if k.tells then Some (if k.there then Some k.store.items else None) else None;
+      shown = if k.there then Some k.store.items else None;
       room = k.room;
     } };
 
@@ -37,6 +38,7 @@ impl SureKeeper {
     /// A keeper of this text, with room for `room` bytes.
     pub fn new(alloc: Global, kept: Option<Text>, room: u64) -> Result<SureKeeper, WantOfMemory>
         ensures kept { IfOk result (λ k. k.kept ≡ Some kept) }
+        ensures shown { IfOk result (λ k. k.shown ≡ kept) }
         ensures room { IfOk result (λ k. k.room ≡ room) }
     {
         let mut store = Vec::with_capacity(alloc, room as usize)?;
@@ -53,9 +55,11 @@ impl SureKeeper {
         })
     }
 
-    /// What it keeps.
+    /// What it keeps. Once it tells nothing any more, what it kept before.
     pub fn kept(&self) -> Option<&[u8]>
-        ensures { IfSome self.now.kept (λ there. option_map (λ bytes. bytes.now) result ≡ there) }
+        ensures told { IfSome self.now.kept
+            (λ there. option_map (λ bytes. bytes.now) result ≡ there) }
+        ensures shown { option_map (λ bytes. bytes.now) result ≡ self.now.shown }
     {
         if self.there {
             Some(self.store.as_slice())
@@ -85,6 +89,8 @@ impl Keeper for SureKeeper {
         ensures loads { IfOk result (λ text. IfSome self.old.kept (λ there. text ≡ there)) }
         ensures cause { KeeperCause 0 0 result }
         ensures room { self.new.room ≡ self.old.room }
+        ensures shown { self.new.shown ≡ self.old.shown }
+        ensures loads_shown { IfOk result (λ text. text ≡ self.old.shown) }
     {
         if !self.there {
             return Ok(None);
@@ -102,8 +108,10 @@ impl Keeper for SureKeeper {
         ensures told { IsSome self.new.kept ↔
             (IsSome self.old.kept × (length bytes.now ≤ self.old.room)) }
         ensures room_stays { self.new.room ≡ self.old.room }
+        ensures shown { self.new.shown
+            ≡ (if is_some self.new.kept then Some bytes.now else self.old.shown) }
     {
-        if bytes.len() as u64 <= self.room {
+        if self.tells && bytes.len() as u64 <= self.room {
             fill(&mut self.store, bytes);
             self.there = true;
         } else {
