@@ -37,7 +37,8 @@ use Rattle.build_rules.specs.ModuleValues.{infs_value, chosen_by, chosen_after, 
 use Rattle.build_rules.specs.Rules.{edk, value_in}
 use Rattle.build_rules.specs.RulesBounds.{edk_is_bounded}
 use Rattle.document_rules.specs.Trees.{given_as}
-use Rattle.build_rules.specs.Values.{inf_value, platform_value, fault_asked}
+use Rattle.build_rules.specs.Values.{inf_value, platform_value}
+use Rattle.build_rules.proofs.Asked.{fault_asked}
 use Rattle.build_rules.proofs.DescriptionLemmas.{described_path}
 use Rattle.build_rules.proofs.KindLemmas.{stage_run}
 use Rattle.build_rules.proofs.ToldLemmas.{comes, part_answers, infs_tells, step_answers, told_run, named_path}

@@ -61,7 +61,7 @@ use Rattle.image_rules.specs.VpdTree.{arches_at, placed_vpd}
 use Rattle.document_rules.specs.VpdLines.{has_vpd}
 use Rattle.build_rules.specs.Rules.{edk, stages_of}
 use Rattle.build_rules.specs.RulesBounds.{edk_is_bounded}
-use Rattle.build_rules.specs.Values.{answers_in, fault_asked}
+use Rattle.build_rules.proofs.Asked.{answers_in, fault_asked}
 use Rattle.build_rules.proofs.ValueLemmas.{file_fits}
 
 -- each end that is no fault is of this kind
@@ -178,7 +178,7 @@ fits_in w (ask.Part k) =
     ap (λ (v : Outcome Out). fits (ask.Part k) (answer.Part v)) (value_is key_cmp edk edk_is_bounded w k)
     ∙ result_fits k (run fits (right (meaning_of key_cmp edk) w) (stages_of k)) (run_kind (kind_at k) (right (meaning_of key_cmp edk) w) (stages_of k) (of_kind k))
 
-stop_is : (w : World) (asks : List (Ask Key)) → first_stop fits asks (answers_in w asks) ≡ first_of (map fault_in (answers_in w asks))
+pub stop_is : (w : World) (asks : List (Ask Key)) → first_stop fits asks (answers_in w asks) ≡ first_of (map fault_in (answers_in w asks))
 stop_is w [] = refl
 stop_is w (a ∷ asks) =
     let x = right (meaning_of key_cmp edk) w a in

@@ -1,4 +1,6 @@
 pub mod ValueLemmas
+mod StandLemmas
+mod Asked
 mod KindLemmas
 mod ImageValues
 mod DescriptionLemmas
@@ -7,5 +9,10 @@ mod ChoiceValues
 mod PcdValues
 mod TextLemmas
 mod VpdLemmas
+mod StatementValues
+mod RuleValues
+mod VolumeValues
+mod DeviceValues
+mod BuildValues
 pub mod AdoptLemmas
 mod OlderLemmas

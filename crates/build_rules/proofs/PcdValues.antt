@@ -35,7 +35,8 @@ use Rattle.build_rules.specs.ModuleValues.{choice_value, linked_value, described
 use Rattle.build_rules.specs.Rules.{edk, value_in}
 use Rattle.build_rules.specs.RulesBounds.{edk_is_bounded}
 use Rattle.document_rules.specs.Trees.{given_as}
-use Rattle.build_rules.specs.Values.{platform_value, flash_value, fault_asked, if_shaped}
+use Rattle.build_rules.specs.Values.{platform_value, flash_value, if_shaped}
+use Rattle.build_rules.proofs.Asked.{fault_asked}
 use Rattle.build_rules.proofs.ChoiceValues.{choice_is}
 use Rattle.build_rules.proofs.ImageValues.{flash_is, given_then, step_run, then_same, when_run}
 use Rattle.build_rules.proofs.KindLemmas.{stage_run}

@@ -35,7 +35,8 @@ use Rattle.build_rules.specs.RulesBounds.{edk_is_bounded}
 use Rattle.module_rules.specs.TextTrees.{code_asks, code_from, code_first, code_stages, depex_asks, depex_from, depex_first, depex_stages, heading_asks, told_stages, report_first, report_stages}
 use Rattle.build_rules.specs.TextValues.{code_value, depex_value, told_value, told_text, heading_value, report_value}
 use Rattle.document_rules.specs.Trees.{given_as}
-use Rattle.build_rules.specs.Values.{platform_value, answers_in, fault_asked}
+use Rattle.build_rules.specs.Values.{platform_value}
+use Rattle.build_rules.proofs.Asked.{answers_in, fault_asked}
 use Rattle.build_rules.proofs.ChoiceValues.{choice_is}
 use Rattle.build_rules.proofs.ImageValues.{given_then, last_run, step_run, then_same}
 use Rattle.build_rules.proofs.KindLemmas.{stage_run}

@@ -29,7 +29,8 @@ use Rattle.module_steps.proofs.TakenLemmas.{faults, Tells, at_front, each, then_
 use Rattle.document_rules.specs.Fits.{fits}
 use Rattle.build_rules.specs.Rules.{edk, value_in}
 use Rattle.document_rules.specs.Trees.{given_as}
-use Rattle.build_rules.specs.Values.{answers_in, fault_asked, inf_value, dec_value}
+use Rattle.build_rules.specs.Values.{inf_value, dec_value}
+use Rattle.build_rules.proofs.Asked.{answers_in, fault_asked}
 use Rattle.build_rules.specs.ModuleValues.{infs_value, described_value, package_value, packages_value, parts_value}
 use Rattle.build_rules.proofs.DescriptionLemmas.{described_path}
 use Rattle.build_rules.proofs.KindLemmas.{stage_run}

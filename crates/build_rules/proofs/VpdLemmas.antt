@@ -1,5 +1,5 @@
 -- The value of vital product data in a world.
-use Rattle.std.proofs.Common.{◌≡◌, List, [], ◌∷◌, refl, ap, ◌∙◌, Result, Ok, Err, None}
+use Rattle.std.proofs.Common.{◌≡◌, [], ◌∷◌, refl, ap, ◌∙◌, Result, Ok, Err, None}
 use Rattle.build_base.specs.First.{and_then, or_else, or_fault}
 use Rattle.build_base.specs.World.{World, field}
 use Rattle.build_base.specs.declared.fault.Fault.{Fault}
@@ -20,7 +20,8 @@ use Rattle.build_rules.specs.ModuleValues.{pcds_value}
 use Rattle.build_rules.specs.Rules.{edk, value_in}
 use Rattle.build_rules.specs.RulesBounds.{edk_is_bounded}
 use Rattle.document_rules.specs.Trees.{given_as}
-use Rattle.build_rules.specs.Values.{fault_asked, platform_value}
+use Rattle.build_rules.specs.Values.{platform_value}
+use Rattle.build_rules.proofs.Asked.{fault_asked}
 use Rattle.image_rules.specs.VpdTree.{vpd_asks, placed_vpd, vpd_from, vpd_stages}
 use Rattle.build_rules.specs.VpdValues.{vpd_value}
 use Rattle.build_rules.proofs.ImageValues.{gives, step_run, both_same}

@@ -21,3 +21,5 @@ pub mod Values
 pub mod ModuleValues
 pub mod TextValues
 pub mod VpdValues
+pub mod ImageValues
+pub mod BuildValues

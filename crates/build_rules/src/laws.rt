@@ -1,7 +1,8 @@
 //! What the values of the steps are in a world.
-ghost use Rattle.std.specs.Prelude.{ℕ, List};
+ghost use Rattle.std.specs.Prelude.{◌≡◌, ℕ, List};
 ghost use Rattle.build_base.specs.World.{World};
 ghost use Rattle.doc_types.specs.declared.choice.Module.{Module};
+ghost use Rattle.doc_types.specs.declared.volume.VolumePlan.{VolumePlan};
 ghost use Rattle.step_engine.specs.Meaning.{IsWorld};
 ghost use Rattle.build_stages.specs.Stages.{meaning_of};
 ghost use Rattle.step_pack.specs.Keys.{key_cmp};
@@ -13,7 +14,9 @@ ghost use Rattle.step_pack.specs.declared.key.Key.{Key as KeyOf};
 ghost use Rattle.build_rules.specs.ModuleValues.{GivesChoice, GivesPcds, GivesValues};
 ghost use Rattle.build_rules.specs.TextValues.{GivesCode, GivesDepex, GivesReport};
 ghost use Rattle.build_rules.specs.VpdValues.{GivesVpd};
-ghost use Rattle.build_rules.specs.Values.{GivesPackage, GivesModule, GivesPlatform, GivesFlash, GivesFile, GivesVolume, GivesBased, GivesDevice, GivesAll};
+ghost use Rattle.build_rules.specs.Values.{GivesPackage, GivesModule, GivesPlatform, GivesFlash};
+ghost use Rattle.build_rules.specs.ImageValues.{nested_image, volume_image, GivesFile, GivesVolume, GivesBased, GivesDevice};
+ghost use Rattle.build_rules.specs.BuildValues.{GivesAll};
 
 /// The steps of edition 2, whatever those of images and of the whole build were, are older
 /// definitions: dependency expressions whose conjunctions aren't simplified, and of all other kinds
@@ -96,6 +99,12 @@ pub(crate) fn volumes_are_made()
 /// be moved it gives what stands.
 pub(crate) fn volumes_are_moved()
     ensures { (w : World) (v : ℕ) → IsWorld (meaning_of key_cmp edk) w → GivesBased w v }
+{}
+
+/// A section that holds a volume holds the image of that volume, which is moved where it is to be.
+pub(crate) fn nested_volumes_are_images()
+    ensures { (w : World) (volumes : List VolumePlan) (n : ℕ) → IsWorld (meaning_of key_cmp edk) w
+        → nested_image w volumes n ≡ volume_image w volumes n }
 {}
 
 /// The step of a device gives its image, or the first fault: of the flash description, of the

@@ -1,5 +1,5 @@
 -- What a device's step gives.
-use Rattle.build_rules.proofs.ImageValues.{device_is}
+use Rattle.build_rules.proofs.DeviceValues.{device_is}
 use Rattle.build_rules.proofs.laws.devices_are_made.Goals as goal
 
 pub returns : goal.returns

@@ -1,5 +1,5 @@
 -- What an item's step gives.
-use Rattle.build_rules.proofs.ImageValues.{file_is}
+use Rattle.build_rules.proofs.VolumeValues.{file_is}
 use Rattle.build_rules.proofs.laws.files_are_made.Goals as goal
 
 pub returns : goal.returns

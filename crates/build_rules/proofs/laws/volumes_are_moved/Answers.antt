@@ -1,5 +1,5 @@
 -- What the step of a moved volume gives.
-use Rattle.build_rules.proofs.ImageValues.{based_is}
+use Rattle.build_rules.proofs.VolumeValues.{based_is}
 use Rattle.build_rules.proofs.laws.volumes_are_moved.Goals as goal
 
 pub returns : goal.returns
