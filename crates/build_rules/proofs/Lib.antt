@@ -14,5 +14,7 @@ mod RuleValues
 mod VolumeValues
 mod DeviceValues
 mod BuildValues
+mod ReachedLemmas
+mod OutputValues
 pub mod AdoptLemmas
 mod OlderLemmas

@@ -1,6 +1,6 @@
 -- The value of the whole build in a world: the files that it gives, by what the steps of modules,
 -- images and the report give (EDK II Build specification, build output).
-use Rattle.std.specs.Prelude.{◌≡◌, ℕ, ◌+◌, ◌==◌, ◌&&◌, not, Bool, true, false, List, [], ◌∷◌, length, map, Option, Some, None, Result, Ok}
+use Rattle.std.specs.Prelude.{◌≡◌, ◌⊎◌, ℕ, ◌+◌, ◌==◌, ◌&&◌, not, Bool, true, false, List, [], ◌∷◌, length, map, Option, Some, None, Result, Ok}
 use Rattle.std.specs.Option.{is_some}
 use Rattle.std.specs.Result.{result_err}
 use Rattle.build_base.specs.First.{and_then, or_else, first_of, or_fault, with_front}
@@ -10,8 +10,13 @@ use Rattle.doc_types.specs.declared.choice.Module.{Module}
 use Rattle.doc_types.specs.declared.flash.DevicePlan.{DevicePlan}
 use Rattle.doc_types.specs.declared.flash.FlashDoc.{FlashDoc}
 use Rattle.doc_types.specs.declared.volume.VolumePlan.{VolumePlan}
-use Rattle.build_stages.specs.Stages.{outcome_of}
+use Rattle.step_engine.specs.Meaning.{Asks}
+use Rattle.step_engine.specs.declared.talk.Ask.TheVariants as ask
+use Rattle.step_engine.specs.declared.talk.Outcome.TheVariants.{Good}
+use Rattle.build_stages.specs.Stages.{outcome_of, meaning_of}
+use Rattle.step_pack.specs.Keys.{key_cmp}
 use Rattle.step_pack.specs.declared.key.Key.TheVariants as key
+use Rattle.step_pack.specs.declared.out.Out.{Out}
 use Rattle.step_pack.specs.declared.out.Out.TheVariants as out
 use Rattle.step_pack.specs.declared.out.Output.{Output}
 use Rattle.module_steps.specs.Settings.{built_modules}
@@ -22,7 +27,7 @@ use Rattle.document_rules.specs.VpdLines.{has_vpd}
 use Rattle.output_rules.specs.Outputs.{module_outputs, volume_outputs, device_outputs, vpd_outputs, report_output}
 use Rattle.output_rules.specs.Wanted.{wanted_of, is_marked}
 use Rattle.output_rules.specs.declared.wanted.Wanted.{Wanted}
-use Rattle.build_rules.specs.Rules.{value_in}
+use Rattle.build_rules.specs.Rules.{edk, value_in}
 use Rattle.build_rules.specs.Values.{inf_value, platform_value, flash_file, flash_value, if_shaped}
 use Rattle.build_rules.specs.ModuleValues.{pcds_value}
 use Rattle.build_rules.specs.TextValues.{code_value, depex_value, report_value}
@@ -125,3 +130,23 @@ all_value w =
 -- the whole build gives its files
 abbrev pub GivesAll : World → Type 0
 GivesAll w = value_in w key.All ≡ outcome_of (given_as out.All (all_value w))
+
+-- Where the bytes of a file come from.
+
+-- What a step gives has bytes of this part. The texts of a module have two parts, where there are
+-- any. So has vital product data: its image and its map. An expression without bytes has none.
+abbrev pub HasPart : Out → ℕ → Type 0
+HasPart (out.Code texts) part = (is_some texts ≡ true) × ((part ≡ 0) ⊎ (part ≡ 1))
+HasPart (out.Depex bytes) part = (not (length bytes == 0) ≡ true) × (part ≡ 0)
+HasPart (out.Volume image) part = part ≡ 0
+HasPart (out.Device image) part = part ≡ 0
+HasPart (out.Report text) part = part ≡ 0
+HasPart (out.Vpd vpd) part = (part ≡ 0) ⊎ (part ≡ 1)
+HasPart _ part = ⊥
+
+-- The build asks for the step that an output names, and what that step gives has bytes of its part.
+pub record IsMade (w : World) (output : Output) : Type 0 where
+  pub given : Out
+  pub asked : Asks (meaning_of key_cmp edk) w key.All (ask.Part output.from)
+  pub value : value_in w output.from ≡ Good given
+  pub has : HasPart given output.part

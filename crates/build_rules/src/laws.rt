@@ -1,5 +1,5 @@
 //! What the values of the steps are in a world.
-ghost use Rattle.std.specs.Prelude.{◌≡◌, ℕ, List};
+ghost use Rattle.std.specs.Prelude.{◌≡◌, ℕ, List, Ok, All};
 ghost use Rattle.build_base.specs.World.{World};
 ghost use Rattle.doc_types.specs.declared.choice.Module.{Module};
 ghost use Rattle.doc_types.specs.declared.volume.VolumePlan.{VolumePlan};
@@ -11,12 +11,13 @@ ghost use Rattle.build_rules.specs.Older.{second_edition};
 ghost use Rattle.build_rules.specs.Rules.{edk};
 ghost use Rattle.document_rules.specs.Trees.{EdkStages};
 ghost use Rattle.step_pack.specs.declared.key.Key.{Key as KeyOf};
+ghost use Rattle.step_pack.specs.declared.out.Output.{Output};
 ghost use Rattle.build_rules.specs.ModuleValues.{GivesChoice, GivesPcds, GivesValues};
 ghost use Rattle.build_rules.specs.TextValues.{GivesCode, GivesDepex, GivesReport};
 ghost use Rattle.build_rules.specs.VpdValues.{GivesVpd};
 ghost use Rattle.build_rules.specs.Values.{GivesPackage, GivesModule, GivesPlatform, GivesFlash};
 ghost use Rattle.build_rules.specs.ImageValues.{nested_image, volume_image, GivesFile, GivesVolume, GivesBased, GivesDevice};
-ghost use Rattle.build_rules.specs.BuildValues.{GivesAll};
+ghost use Rattle.build_rules.specs.BuildValues.{all_value, GivesAll, IsMade};
 
 /// The steps of edition 2, whatever those of images and of the whole build were, are older
 /// definitions: dependency expressions whose conjunctions aren't simplified, and of all other kinds
@@ -123,4 +124,11 @@ pub(crate) fn vital_data_is_placed()
 /// report.
 pub(crate) fn builds_give_their_files()
     ensures { (w : World) → IsWorld (meaning_of key_cmp edk) w → GivesAll w }
+{}
+
+/// Each file that the build gives comes from a step that the build asks for, and what that step
+/// gives has bytes of its part.
+pub(crate) fn outputs_have_bytes()
+    ensures { (w : World) (outputs : List Output) → IsWorld (meaning_of key_cmp edk) w
+        → all_value w ≡ Ok outputs → All (IsMade w) outputs }
 {}
