@@ -1,5 +1,5 @@
 -- What lines read, one after the other.
-use Rattle.std.proofs.Common.{◌≡◌, refl, sym, ap, ◌∙◌, ℕ, ◌-◌, ◌≤◌, ◌<◌, List, [], ◌∷◌, length, take, drop, get_or, map, cond, true, false, nat_eq, ◌++◌, ◌⊎◌, Contains, Option, Some, None, Result, Ok, Err, inl, inr, arith, subst}
+use Rattle.std.proofs.Common.{◌≡◌, refl, sym, ap, ◌∙◌, ℕ, ◌-◌, ◌≤◌, ◌<◌, List, [], ◌∷◌, length, take, drop, get_or, map, cond, true, false, nat_eq, ◌++◌, ◌⊎◌, Contains, Option, Some, None, inl, inr, arith, subst}
 use Rattle.std.specs.Option.{IfSome}
 use Rattle.std.specs.Cmp.Lexicographic.{pointwise}
 use Rattle.std.proofs.lemmas.Cmp.{nat_list_eq_equiv}
@@ -15,7 +15,6 @@ use Rattle.step_engine.specs.declared.edits.Edit.{Edit}
 use Rattle.step_pack.specs.declared.key.Key.{Key}
 use Rattle.step_pack.specs.declared.out.Out.{Out}
 use Rattle.edk_build.specs.History.{start, script_in, WasCarriedOut}
-use Rattle.edk_build.specs.Script.{script_of}
 use Rattle.edk_build.specs.ReplayReads.{LineReads, LinesRead, ScriptReads, ReplayReads, edited_paths, edited_behind}
 use Rattle.edk_build.specs.declared.replay_state.ReplayState.{ReplayState}
 use Rattle.edk_build.specs.declared.script.ScriptCommand.{ScriptCommand}
@@ -47,8 +46,8 @@ not_edited : (edits : List Edit) (found : Option Edit) (p : List ℕ) → last_e
 not_edited [] found p n c = absurd (omega (arith, c.1))
 not_edited (e ∷ edits) found p n c = elim (head_or_tail e.path (map (λ f. f.path) edits) p c) as (λ _. ⊥) [
   | inl same ↦
-    let is : pointwise nat_eq e.path p ≡ true = rw same (nat_list_eq_equiv.refl p) in
-    some_edit edits e p (subst (λ b. last_edit (cond b (Some e) found) edits p ≡ None) is n)
+      let is : pointwise nat_eq e.path p ≡ true = rw same (nat_list_eq_equiv.refl p) in
+      some_edit edits e p (subst (λ b. last_edit (cond b (Some e) found) edits p ≡ None) is n)
   | inr more ↦ not_edited edits (cond (pointwise nat_eq e.path p) (Some e) found) p n more
 ]
 
