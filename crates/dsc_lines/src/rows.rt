@@ -36,7 +36,7 @@ pub struct Begun {
 
 /// What the lines below a tag say.
 #[derive(Clone, Copy, PartialEq, Eq)]
-pub(crate) enum Tag {
+pub enum Tag {
     Libraries,
     Defines,
     Pcds(Kind, StoreKind),

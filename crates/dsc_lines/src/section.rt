@@ -18,7 +18,7 @@ use std::alloc::Global;
 
 /// Where PCDs are kept at run time, which gives their lines a form.
 #[derive(Clone, Copy, PartialEq, Eq)]
-pub(crate) enum StoreKind {
+pub enum StoreKind {
     Plain,
     Hii,
     Vpd,
@@ -36,7 +36,7 @@ pub enum Section {
 
 /// The PCDs of a section: their kind, where they are kept, and for which architecture and SKU.
 #[derive(Drop)]
-pub(crate) struct PcdScope {
+pub struct PcdScope {
     pub kind: Kind,
     pub store: StoreKind,
     pub arch: Arch,
