@@ -25,7 +25,6 @@ use Rattle.fdf_words.specs.declared.rows.Scope.TheVariants as scope
 use Rattle.flash_document.specs.Columns.{row_at, column}
 use Rattle.flash_document.specs.Document.{part_device, part_rule, plan_at, item_plan, volume_plan}
 use Rattle.flash_document.specs.Flash.{line_of}
-use Rattle.flash_document.specs.Numbering.{next_in, given, turns, topological_order}
 use Rattle.flash_document.specs.Parts.{stated_of, stated_from, stated_below, all_stated}
 use Rattle.flash_document.specs.Sets.{is_heads, section_lines}
 use Rattle.flash_document.specs.Shape.{FewItems}
@@ -111,25 +110,6 @@ one_rule at scope.Settings k lines = none_more _
 one_rule at (scope.Device name) k lines = none_more _
 one_rule at (scope.Volume name) k lines = none_more _
 one_rule at (scope.Rule rule) k lines = rule_once at rule (column rule_sections k lines) (rule_head k lines)
-
--- no more numbers than volumes
-given_few : (more : List ℕ → List ℕ) (n : ℕ) (order : List ℕ) (next : Option ℕ) → ((longer : List ℕ) → length (more longer) ≤ n + length longer)
-    → length (given more order next) ≤ suc n + length order
-given_few more n order None later = omega arith
-given_few more n order (Some p) later =
-    let l : length (more (order ++ p ∷ [])) ≤ n + length (order ++ p ∷ []) = later (order ++ p ∷ []) in
-    let e : length (order ++ p ∷ []) ≡ length order + 1 = length-append order (p ∷ []) in
-    omega (arith, l, e)
-
-turns_few : (nests ns : List (List ℕ)) (order : List ℕ) → length (turns nests ns order) ≤ length ns + length order
-unfolding turns
-turns_few nests [] order = omega arith
-turns_few nests (n ∷ ns) order = given_few (turns nests ns) (length ns) order (next_in nests order) (turns_few nests ns)
-
-pub order_few : (nests : List (List ℕ)) → length (topological_order nests) ≤ length nests
-order_few nests =
-    let l : length (turns nests nests []) ≤ length nests + 0 = turns_few nests nests [] in
-    omega (arith, l)
 
 one_plan : (names : List (List ℕ)) (regions : List HeldRegion) (o : Option StatedVolume) → length (plan_at names regions o) ≤ 1
 one_plan names regions None = none_more 1

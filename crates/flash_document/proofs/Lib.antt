@@ -1,15 +1,11 @@
-pub mod TurnLemmas
 pub mod RegionLemmas
 pub mod NameLemmas
 pub mod HeldLemmas
 pub mod ExponentLemmas
-pub mod LoopLemmas
 pub mod MarkedLemmas
 pub mod WholeLemmas
-pub mod OrderLemmas
 pub mod ShapeLemmas
 pub mod CarryLemmas
-pub mod NestLemmas
 pub mod RowLemmas
 pub mod NestedLemmas
 pub mod CountLemmas

@@ -1,11 +1,13 @@
 -- Names in lower case and their places.
-use Rattle.std.proofs.Common.{◌≡◌, ◌∙◌, ℕ, ◌+◌, Bool, true, false, cond, nat_eq, if◌then◌else◌, List, [], ◌∷◌, ◌++◌, length, Option, Some, None, refl, sym, ap, arith}
+use Rattle.std.proofs.Common.{◌≡◌, ◌∙◌, ℕ, ◌+◌, ◌<◌, Bool, true, false, cond, nat_eq, if◌then◌else◌, List, [], ◌∷◌, ◌++◌, length, map, get_or, Option, Some, None, refl, sym, ap, inl, inr, arith, ◌⊎◌, suc}
 use Rattle.std.specs.Prelude.{is_some}
 use Rattle.std.specs.Global.{Vec}
 use Rattle.std.specs.HashMap.{HashMap, get}
 use Rattle.std.specs.Cmp.Lexicographic.{pointwise, same_text}
+use Rattle.std.proofs.lemmas.Bool.{cases_Bool, or_cases, eqb-true, both_ways}
 use Rattle.build_base.specs.First.{or_else}
 use Rattle.flash_document.specs.Names.{lower_case, same_key, place_from, Places}
+use Rattle.volume_nesting.specs.Numbering.{has}
 
 pub or_none : {T : Type 0} (o : Option T) → or_else o None ≡ o
 or_none None = refl
@@ -71,3 +73,36 @@ places_added above v m n k i is place absent h update = λ q.
 pub places_none : {S : Type 0} (m : HashMap (Vec ℕ) ℕ S) → m.entries ≡ [] → Places [] m
 unfolding place_from
 places_none m e = λ q. rw e refl
+
+-- a place of a name is that of one of them which is this name
+pub place_named : (n : ℕ) (key : List ℕ) (names : List (List ℕ)) (q : ℕ) → place_from n key names ≡ Some q
+    → (i : ℕ) × (q ≡ n + i) × (pointwise nat_eq (lower_case (get_or names i [])) key ≡ true)
+unfolding place_from
+place_named n key [] q h = absurd cc
+place_named n key (name ∷ names) q h =
+    elim (cases_Bool (pointwise nat_eq (lower_case name) key)) [
+      | inl t ↦ (0, one n q (sym (ap (λ b. if b then Some n else place_from (n + 1) key names) t) ∙ h), t)
+      | inr f ↦
+          let (i, e, t) = place_named (n + 1) key names q (sym (ap (λ b. if b then Some n else place_from (n + 1) key names) f) ∙ h) in
+          (suc i, omega (arith, e), t)
+    ]
+  where
+    one : (a b : ℕ) → Some a ≡ Some b → b ≡ a + 0
+    one a b e = let same : a ≡ b = cc in omega (arith, same)
+
+-- among names of which one stands at a number, the place of that name is no greater
+pub named_among : (n : ℕ) (key : List ℕ) (name : ℕ → List ℕ) (above rest : List ℕ) (q : ℕ) → has above q ≡ true → pointwise nat_eq (lower_case (name q)) key ≡ true
+    → (u : ℕ) × (place_from n key (map name (above ++ rest)) ≡ Some u) × (u < n + length above)
+unfolding place_from
+named_among n key name [] rest q h t = absurd (both_ways false refl h)
+named_among n key name (p ∷ above) rest q h t =
+    elim (cases_Bool (pointwise nat_eq (lower_case (name p)) key)) [
+      | inl e ↦ (n, ap (λ b. if b then Some n else place_from (n + 1) key (map name (above ++ rest))) e, omega arith)
+      | inr f ↦
+          let (u, e, l) = named_among (n + 1) key name above rest q (later f (or_cases (nat_eq p q) (has above q) h)) t in
+          (u, ap (λ b. if b then Some n else place_from (n + 1) key (map name (above ++ rest))) f ∙ e, omega (arith, l))
+    ]
+  where
+    later : pointwise nat_eq (lower_case (name p)) key ≡ false → (nat_eq p q ≡ true) ⊎ (has above q ≡ true) → has above q ≡ true
+    later f (inl e) = absurd (both_ways _ f (ap (λ x. pointwise nat_eq (lower_case (name x)) key) (eqb-true p q e) ∙ t))
+    later f (inr h) = h

@@ -1,12 +1,12 @@
 -- The volumes of a document without a fault, by their numbers.
-use Rattle.std.proofs.Common.{◌≡◌, ◌∙◌, ℕ, ◌+◌, ◌*◌, ◌<◌, ◌≤◌, Bool, true, false, ◌==◌, nat_eq, if◌then◌else◌, List, [], ◌∷◌, ◌++◌, length, map, get_or, Option, Some, None, unwrap_or, refl, sym, ap, subst, inl, inr, arith, append_assoc, ◌⊎◌}
-use Rattle.std.specs.Prelude.{slice_get, is_some, bit_and, bit_or, IsTrue}
-use Rattle.std.specs.List.{All, flat_map, list_all}
+use Rattle.std.proofs.Common.{◌≡◌, ◌∙◌, ℕ, ◌+◌, ◌*◌, ◌<◌, Bool, true, false, ◌==◌, nat_eq, if◌then◌else◌, List, [], ◌∷◌, ◌++◌, length, map, get_or, Option, Some, None, unwrap_or, refl, sym, ap, subst, inl, inr, arith, append_assoc}
+use Rattle.std.specs.Prelude.{slice_get, is_some, bit_and, bit_or}
+use Rattle.std.specs.List.{All, flat_map}
 use Rattle.std.specs.Option.{IfSome, option_map}
 use Rattle.std.specs.Cmp.Lexicographic.{pointwise}
 use Rattle.std.proofs.lemmas.Bool.{and_parts, both_ways}
 use Rattle.std.proofs.lemmas.List.{length-append}
-use Rattle.std.proofs.lemmas.List.Elements.{All-nil, All-cons, All-append, All-head, All-tail}
+use Rattle.std.proofs.lemmas.List.Elements.{All-nil, All-cons, All-head, All-tail}
 use Rattle.std.proofs.lemmas.List.Folds.{list_all-append}
 use Rattle.std.proofs.lemmas.Nat.{and_or_apart, and_or_self, or_shifted}
 use Rattle.std.specs.Int.Bits.{or_add_and}
@@ -20,18 +20,19 @@ use Rattle.fdf_words.specs.declared.rows.Scope.{Scope}
 use Rattle.fdf_words.specs.declared.rows.SectionBody.{SectionBody}
 use Rattle.fdf_words.specs.declared.rows.SectionBody.TheVariants as body
 use Rattle.fdf_words.specs.declared.rows.SectionLine.{SectionLine}
-use Rattle.flash_document.specs.Document.{body_source, section_plan, file_plan, item_plan, polarity_of, erase_flag, exponent, attributes_of, head_plan, volume_plan, plan_at}
+use Rattle.flash_document.specs.Document.{body_source, section_plan, item_plan, polarity_of, erase_flag, exponent, attributes_of, volume_plan, plan_at}
 use Rattle.flash_document.specs.Names.{lower_case, place_from, place_of}
-use Rattle.flash_document.specs.Numbering.{has, nest_of, all_among}
-use Rattle.flash_document.specs.Shape.{SourceFits, GuidFits, SectionFits, FileFits, ItemFits, ErasedFits, VolumeFits, VolumesFit}
-use Rattle.flash_document.specs.Whole.{place_list, body_names, section_nest, item_nest, nest_in, body_unknown, row_unknown, held_of}
+use Rattle.volume_nesting.specs.Numbering.{has, nest_of, all_among}
+use Rattle.flash_document.specs.Shape.{SourceFits, GuidFits, SectionFits, ItemFits, VolumeFits, VolumesFit}
+use Rattle.flash_document.specs.Whole.{place_list, body_names, section_nest, item_nest, nest_in, body_unknown, row_unknown}
 use Rattle.flash_document.specs.declared.held.HeldRegion.{HeldRegion}
 use Rattle.flash_document.specs.declared.stated.FdfStatement.{FdfStatement}
 use Rattle.flash_document.specs.declared.stated.FdfStatement.TheVariants as item
 use Rattle.flash_document.specs.declared.stated.StatedVolume.{StatedVolume}
 use Rattle.flash_document.proofs.CarryLemmas.{ItemHas, VolumeHas, at_place}
-use Rattle.flash_document.proofs.NestLemmas.{IsOrdered, place_named, named_among}
+use Rattle.flash_document.proofs.NameLemmas.{place_named, named_among}
 use Rattle.flash_document.proofs.RowLemmas.{RowFits, ScopeFits}
+use Rattle.volume_nesting.proofs.NestLemmas.{IsOrdered}
 
 -- a test whose failure is a fault holds where there is none
 pub passed : (test : Bool) (fault : Fault) → (if test then None else Some fault) ≡ None → test ≡ true

@@ -1,12 +1,12 @@
 -- A document without a fault has its shape.
-use Rattle.std.proofs.Common.{◌≡◌, ◌∙◌, ℕ, ◌+◌, ◌*◌, ◌%◌, ◌==◌, ◌<◌, ◌≤◌, Bool, true, false, nat_le, List, [], ◌∷◌, ◌++◌, length, map, Option, Some, None, Result, Ok, Err, if◌then◌else◌, unwrap_or, get_or, nat_eq, inl, inr, refl, sym, ap, subst, arith}
+use Rattle.std.proofs.Common.{◌≡◌, ◌∙◌, ℕ, ◌+◌, ◌*◌, ◌%◌, ◌==◌, ◌<◌, ◌≤◌, Bool, true, false, nat_le, List, [], ◌∷◌, length, map, Option, Some, None, Result, Ok, Err, if◌then◌else◌, get_or, nat_eq, inl, inr, refl, sym, ap, subst, arith}
 use Rattle.std.specs.Prelude.{IfOk, slice_get}
 use Rattle.std.specs.List.{All, flat_map}
 use Rattle.std.specs.Option.{IfSome}
 use Rattle.std.specs.Cmp.Lexicographic.{pointwise}
 use Rattle.std.proofs.lemmas.List.{length-map, length-append}
-use Rattle.std.proofs.lemmas.List.Elements.{All-nil, All-cons, All-append, All-get_or, All-head, All-tail}
-use Rattle.std.proofs.lemmas.Option.{slice_get_cases, slice_get_within, get_or_from_slice_get}
+use Rattle.std.proofs.lemmas.List.Elements.{All-nil, All-cons, All-append, All-head, All-tail}
+use Rattle.std.proofs.lemmas.Option.{slice_get_cases}
 use Rattle.std.proofs.lemmas.Bool.Decides.{nat_tests}
 use Rattle.std.proofs.Math.Nat.{mul-mod_right}
 use Rattle.build_base.specs.Answer.{Answers}
@@ -17,8 +17,6 @@ use Rattle.build_base.specs.declared.refusal.Refusal.{Refusal}
 use Rattle.build_base.specs.declared.lines.Lines.{Lines}
 use Rattle.meta_lexer.specs.Faults.{first_fault}
 use Rattle.doc_types.specs.declared.flash.FlashDoc.{FlashDoc}
-use Rattle.doc_types.specs.declared.flash.RegionKind.{RegionKind}
-use Rattle.doc_types.specs.declared.volume.VolumePlan.{VolumePlan}
 use Rattle.doc_types.specs.Volumes.{SizeFits}
 use Rattle.fdf_lines.specs.Grammar.{rows_of_flash}
 use Rattle.fdf_lines.specs.Limits.{WithinLimits}
@@ -28,18 +26,16 @@ use Rattle.fdf_words.specs.declared.rows.RegionContent.{RegionContent}
 use Rattle.fdf_words.specs.declared.rows.Content.{Content}
 use Rattle.fdf_words.specs.declared.rows.Content.TheVariants as content
 use Rattle.flash_document.specs.Devices.{capped}
-use Rattle.flash_document.specs.Document.{numbered, ordered_names, kind_numbered, content_kind, region_kind, region_plan, device_plan, part_device, part_rule, plan_at, volume_plan, head_plan, document_of, flash_of_lines}
+use Rattle.flash_document.specs.Document.{numbered, ordered_names, kind_numbered, content_kind, region_kind, region_plan, device_plan, part_device, part_rule, plan_at, volume_plan, document_of, flash_of_lines}
 use Rattle.flash_document.specs.Flash.{line_of, flash_of}
 use Rattle.flash_document.specs.Names.{lower_case, place_from, place_of}
-use Rattle.flash_document.specs.Numbering.{topological_order}
 use Rattle.flash_document.specs.Parts.{all_stated}
 use Rattle.flash_document.specs.Shape.{HeadFits, KindFits, RegionFits, DeviceFits, SectionFits, NameFits, RuleFits, HasShape}
-use Rattle.flash_document.specs.Whole.{volumes_of, volume_in, names_of, nests_of, nest_in, all_held, held_of, first_size, volume_size, block_of, size_of, size_fault, part_too_large, whole_blocks, check_equal_sizes, blocks_with, volume_blocks, part_blocks, part_unstated, loop_fault, row_unknown, line_unknown, part_sizes, part_key, twin, is_again, above_with, twin_marks, first_marked, whole_fault}
+use Rattle.flash_document.specs.Whole.{volumes_of, volume_in, names_of, nests_of, nest_in, all_held, held_of, first_size, volume_size, block_of, size_of, size_fault, part_too_large, whole_blocks, blocks_with, volume_blocks, part_blocks, part_unstated, loop_fault, row_unknown, line_unknown, part_sizes, part_key, twin, is_again, above_with, twin_marks, first_marked, whole_fault}
 use Rattle.flash_document.specs.declared.held.HeldRegion.{HeldRegion}
 use Rattle.flash_document.specs.declared.held.HeldSizes.{HeldSizes}
 use Rattle.flash_document.specs.declared.stated.FdfSection.{FdfSection}
 use Rattle.flash_document.specs.declared.stated.FdfSection.TheVariants.{Settings, Device, Volume, Rule}
-use Rattle.flash_document.specs.declared.stated.StatedDevice.{StatedDevice}
 use Rattle.flash_document.specs.declared.stated.StatedRegion.{StatedRegion}
 use Rattle.flash_document.specs.declared.stated.StatedVolume.{StatedVolume}
 use Rattle.fdf_words.specs.declared.rows.LineRead.TheVariants.{Heads, Body}
@@ -48,11 +44,11 @@ use Rattle.fdf_words.specs.declared.rows.Row.TheVariants as row
 use Rattle.fdf_words.specs.declared.rows.Scope.{Scope}
 use Rattle.doc_reading.specs.Grammar.{Read}
 use Rattle.doc_types.specs.declared.volume.SectionPlan.{SectionPlan}
-use Rattle.flash_document.proofs.CarryLemmas.{LineHas, StatedHas, VolumeHas, at_place, all_have, volumes_have}
-use Rattle.flash_document.proofs.CountLemmas.{FewStated, all_count, one_device, volumes_count, one_rule, order_few, plans_few, few_stated, few_plans}
-use Rattle.flash_document.proofs.NestLemmas.{order_ordered}
+use Rattle.flash_document.proofs.CarryLemmas.{LineHas, StatedHas, at_place, all_have, volumes_have}
+use Rattle.flash_document.proofs.CountLemmas.{FewStated, all_count, one_device, volumes_count, one_rule, plans_few, few_stated, few_plans}
+use Rattle.volume_nesting.proofs.NestLemmas.{order_ordered}
 use Rattle.flash_document.proofs.NestedLemmas.{passed, plans_nested}
-use Rattle.flash_document.proofs.OrderLemmas.{order_below}
+use Rattle.volume_nesting.proofs.OrderLemmas.{order_below, order_few}
 use Rattle.flash_document.proofs.RowLemmas.{RowFits, ScopeFits, ReadFits, rows_fit, lines_fit}
 
 -- of two faults neither is there

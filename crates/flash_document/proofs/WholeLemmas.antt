@@ -2,7 +2,6 @@
 use Rattle.std.proofs.Common.{◌≡◌, ◌∙◌, ℕ, List, [], ◌∷◌, ◌++◌, map, Option, Some, None, refl, sym, ap, subst, Bor}
 use Rattle.std.specs.Prelude.{slice_get, Result, Ok, Err, IfOk}
 use Rattle.std.specs.List.{flat_map}
-use Rattle.std.specs.Option.{option_map}
 use Rattle.std.proofs.lemmas.Option.{slice_get-map}
 use Rattle.std.proofs.lemmas.Simd.{map-map}
 use Rattle.build_base.specs.Answer.{Answers, Refused}
@@ -11,21 +10,16 @@ use Rattle.build_base.specs.declared.fault.Fault.{Fault}
 use Rattle.build_base.specs.declared.lines.Lines.{Lines}
 use Rattle.build_base.specs.declared.refusal.Refusal.{Refusal}
 use Rattle.build_base.specs.declared.refusal.Refusal.TheVariants.{Bad, WantOfMemory}
-use Rattle.doc_reading.specs.Grammar.{Read}
 use Rattle.doc_types.specs.declared.flash.FlashDoc.{FlashDoc}
 use Rattle.fdf_lines.specs.Grammar.{rows_of_flash}
 use Rattle.fdf_lines.specs.Reads.{read_as, reads_as}
 use Rattle.fdf_words.specs.declared.rows.LineRead.{LineRead}
 use Rattle.fdf_words.specs.declared.rows.LineRead.TheVariants.{Heads, Body}
-use Rattle.fdf_words.specs.declared.rows.Row.{Row}
-use Rattle.fdf_words.specs.declared.rows.Scope.{Scope}
 use Rattle.flash_document.specs.Document.{plan_at, plan_in, flash_of_lines}
 use Rattle.flash_document.specs.Flash.{line_of, flash_of}
-use Rattle.flash_document.specs.Numbering.{first_loop}
 use Rattle.flash_document.specs.Tables.{loop_in}
-use Rattle.flash_document.specs.Whole.{volumes_of, names_of, nests_of, nest_in, loop_at, loop_named}
+use Rattle.flash_document.specs.Whole.{nest_in, loop_at, loop_named}
 use Rattle.flash_document.specs.declared.held.HeldRegion.{HeldRegion}
-use Rattle.flash_document.specs.declared.stated.FdfSection.{FdfSection}
 use Rattle.flash_document.specs.declared.stated.StatedVolume.{StatedVolume}
 
 -- volumes that are lent

@@ -37,7 +37,7 @@ use Rattle.flash_document.specs.declared.stated.FdfStatement.TheVariants as stat
 use Rattle.flash_document.specs.declared.stated.StatedRegion.{StatedRegion}
 use Rattle.flash_document.specs.declared.stated.StatedVolume.{StatedVolume}
 use Rattle.flash_document.specs.Names.{place_of}
-use Rattle.flash_document.specs.Numbering.{topological_order}
+use Rattle.volume_nesting.specs.Numbering.{topological_order}
 use Rattle.flash_document.specs.Parts.{all_stated}
 use Rattle.flash_document.specs.Sets.{all_sets}
 use Rattle.flash_document.specs.Whole.{volumes_of, names_of, nests_of, all_held, held_of, block_of, size_of, whole_fault}

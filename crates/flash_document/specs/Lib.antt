@@ -1,5 +1,3 @@
-pub mod Numbering
-pub mod Turning
 pub mod Columns
 pub mod Devices
 pub mod Volumes
@@ -10,7 +8,6 @@ pub mod Whole
 pub mod Held
 pub mod Document
 pub use Rattle.rule_choice.specs.Rules
-pub mod Looping
 pub use Rattle.rule_choice.specs.Modules
 pub mod Tables
 pub mod Flash

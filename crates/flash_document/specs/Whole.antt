@@ -31,7 +31,7 @@ use Rattle.flash_document.specs.declared.check.RegionTest.{RegionTest}
 use Rattle.flash_document.specs.declared.check.RegionTest.TheVariants.{TooLarge, Blocks, TwoSizes}
 use Rattle.flash_document.specs.Devices.{capped}
 use Rattle.flash_document.specs.Names.{lower_case, place_of}
-use Rattle.flash_document.specs.Numbering.{first_loop}
+use Rattle.volume_nesting.specs.Numbering.{first_loop}
 use Rattle.build_base.specs.FaultCodes.{BLOCKS_DIFFER, FDF_MISSING_KEY, FDF_REPEATED_NAME, SIZE_TOO_LARGE, VOLUME_LOOP, VOLUME_TWO_SIZES, VOLUME_UNKNOWN}
 
 abbrev pub volume_in : FdfSection → List StatedVolume

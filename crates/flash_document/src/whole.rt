@@ -3,7 +3,7 @@ ghost use Rattle.std.specs.Prelude.{◌≡◌, ◌++◌, ◌∷◌, [], ℕ, Lis
 ghost use Rattle.std.specs.Option.{option_map};
 ghost use Rattle.build_base.specs.Answer.{Answers, Checks, Finds};
 ghost use Rattle.flash_document.specs.Whole.{volumes_of, names_of, nests_of, all_held, loop_at, loop_named, loop_fault, twin_marks, whole_fault};
-ghost use Rattle.flash_document.specs.Numbering.{first_loop};
+ghost use Rattle.volume_nesting.specs.Numbering.{first_loop};
 ghost use Rattle.std.specs.List.{flat_map};
 ghost use Rattle.flash_document.specs.Document.{numbered, ordered_names, part_device, volume_plans, document_of, flash_of_lines};
 ghost use Rattle.flash_document.specs.Held.{Sizes};
@@ -17,14 +17,11 @@ use crate::check::{
     twin_marks,
 };
 use crate::held::{HeldSizes, all_held, sizes_of};
-use crate::loops::first_loop;
 use crate::names::places_of;
-use crate::numbering::topological_order;
 use crate::parts::all_stated;
 use crate::plan::{device_plans, rules_of};
 use crate::sets::all_sets;
 use crate::stated::{FdfSection, StatedVolume};
-use crate::strong_components::component_numbers;
 use crate::volumes::{names_of, nests_of, ordered_names, volume_at, volume_plans, volumes_of};
 use build_base::fault_codes::VOLUME_LOOP;
 use build_base::{Path, Place, Refusal, Rows, Same, Text, WantOfMemory, refuse};
@@ -33,6 +30,7 @@ use doc_types::volume::VolumePlan;
 use fdf_words::rows::LineRead;
 use indexmap::IndexMap;
 use std::alloc::Global;
+use volume_nesting::{component_numbers, first_loop, topological_order};
 
 /// What the checks and the plans look up: the names of the volumes and their places, the sizes of
 /// the regions that hold them, the volumes that each one holds, and their places in the order of

@@ -15,7 +15,7 @@ use Rattle.doc_types.specs.declared.flash.RegionKind.{RegionKind}
 use Rattle.doc_types.specs.declared.flash.RegionKind.TheVariants as kind
 use Rattle.doc_types.specs.declared.volume.VolumePlan.{VolumePlan}
 use Rattle.flash_document.specs.Names.{place_of}
-use Rattle.flash_document.specs.Numbering.{has}
+use Rattle.volume_nesting.specs.Numbering.{has}
 use Rattle.output_rules.specs.declared.wanted.Wanted.{Wanted}
 use Rattle.build_base.specs.FaultCodes.{IMAGE_UNKNOWN}
 

@@ -7,7 +7,7 @@ ghost use Rattle.build_base.specs.Answer.{Checks};
 ghost use Rattle.build_stages.specs.Gives.{GivesIn};
 ghost use Rattle.build_stages.specs.Known.{shown};
 ghost use Rattle.meta_lexer.specs.Faults.{first_fault};
-ghost use Rattle.flash_document.specs.Numbering.{has};
+ghost use Rattle.volume_nesting.specs.Numbering.{has};
 ghost use Rattle.output_rules.specs.Wanted.{device_line, volume_line, image_lines, is_among, image_unknown, kind_volume, region_volumes, volumes_where, held_volumes, device_marks, volume_marks, wanted_by, wanted_among, all_wanted, wanted_of, is_marked};
 
 use build_base::fault_codes::IMAGE_UNKNOWN;
@@ -17,12 +17,12 @@ use doc_types::flash::{DevicePlan, FlashDoc, Region, RegionKind};
 use doc_types::volume::VolumePlan;
 use document_rules::defines::cut_at_feeds;
 use flash_document::names::{place_in, places_of};
-use flash_document::numbering::insert;
 use indexmap::IndexMap;
 use std::alloc::Global;
 use std::collections::BTreeSet;
 use std::marker::Model;
 use step_pack::Key;
+use volume_nesting::insert;
 
 /// Which images a build makes: a mark for each volume by its number, and one for each device.
 #[derive(Drop)]

@@ -1,6 +1,6 @@
 use Rattle.std.proofs.Common.{◌∙◌, ap, subst}
 use Rattle.build_base.specs.Answer.{Checks}
-use Rattle.flash_document.specs.Numbering.{first_loop}
+use Rattle.volume_nesting.specs.Numbering.{first_loop}
 use Rattle.flash_document.specs.Tables.{loop_in}
 use Rattle.flash_document.specs.Whole.{volumes_of, nests_of}
 use Rattle.flash_document.proofs.WholeLemmas.{loop_lent}

@@ -1,5 +1,5 @@
 use Rattle.std.proofs.Common.{◌∙◌, ap}
-use Rattle.flash_document.specs.Numbering.{topological_order}
+use Rattle.volume_nesting.specs.Numbering.{topological_order}
 use Rattle.flash_document.specs.Whole.{volumes_of, names_of}
 use Rattle.flash_document.proofs.WholeLemmas.{nests_lent}
 use Rattle.flash_document.proofs.whole.tables_with.Goals as goal

@@ -1,7 +1,7 @@
 use Rattle.std.proofs.Common.{◌≡◌, ℕ, ◌||◌, length}
 use Rattle.std.specs.BTreeSet.{contains}
 use Rattle.std.specs.Ordering.{nat_cmp}
-use Rattle.flash_document.specs.Numbering.{has}
+use Rattle.volume_nesting.specs.Numbering.{has}
 use Rattle.output_rules.proofs.wanted.set_of.Given as goal
 
 abbrev pub invariant-loop-left : goal.invariant-loop-left

@@ -1,0 +1,4 @@
+pub mod TurnLemmas
+pub mod LoopLemmas
+pub mod OrderLemmas
+pub mod NestLemmas
