@@ -26,6 +26,10 @@ alignments =
     1 ∷ 16 ∷ 128 ∷ 512 ∷ 1024 ∷ 4096 ∷ 32768 ∷ 65536 ∷ 131072 ∷ 262144 ∷ 524288 ∷ 1048576 ∷ 2097152
     ∷ 4194304 ∷ 8388608 ∷ 16777216 ∷ []
 
+abbrev pub is_alignment : ℕ → Bool
+is_alignment align = list_any (λ stated. stated == align) alignments
+
+-- the same as a fact
 abbrev pub IsAlignment : ℕ → Type 0
 IsAlignment align = Contains alignments align
 

@@ -1,7 +1,7 @@
 //! Alignments of sections and of files.
 ghost use Rattle.std.specs.Prelude.{◌≡◌, ℕ, ◌≤◌, ◌<◌, ◌^◌, ◌%◌, ◌↔◌, IsTrue, IfSome, Some, None, position, nat_le, slice_index};
 ghost use Rattle.build_base.specs.Least.{IsLeast};
-ghost use Rattle.ffs_sections.specs.Alignment.{IsPad, is_section_alignment, pad_of, alignments, IsAlignment, alignment_index, step_bits};
+ghost use Rattle.ffs_sections.specs.Alignment.{IsPad, is_section_alignment, pad_of, alignments, is_alignment, IsAlignment, alignment_index, step_bits};
 
 static POWERS: [u32; 25] = [
     1, 2, 4, 8, 16, 32, 64, 128, 256, 512, 1024, 2048, 4096, 8192, 16384, 32768, 65536, 131072,
@@ -56,7 +56,8 @@ fn first_from(align: u32) -> Option<usize>
 
 /// Whether a file's header can state this alignment.
 pub fn is_file_alignment(align: u32) -> bool
-    ensures { IsTrue result ↔ IsAlignment align }
+    ensures value { result ≡ is_alignment align }
+    ensures stated { IsTrue result ↔ IsAlignment align }
 {
     ALIGNMENTS.contains(&align)
 }

@@ -6,4 +6,5 @@ pub mod FileLemmas
 pub mod LayoutLemmas
 pub mod TopLemmas
 pub mod ImageLemmas
+pub mod ShapeLemmas
 mod PadLemmas

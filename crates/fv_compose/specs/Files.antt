@@ -8,7 +8,7 @@ use Rattle.build_base.specs.Runs.{runs_bytes, kept_bytes, are_blank}
 use Rattle.build_base.specs.declared.run.Run.{Run}
 use Rattle.build_base.specs.declared.fault.Fault.{Fault}
 use Rattle.doc_types.specs.declared.image.FileImage.{FileImage}
-use Rattle.ffs_sections.specs.Alignment.{IsAlignment}
+use Rattle.ffs_sections.specs.Alignment.{is_alignment, IsAlignment}
 use Rattle.ffs_sections.specs.File.{header_len}
 use Rattle.ffs_sections.specs.Sections.{fault_with_size}
 use Rattle.ffs_sections.specs.Standard.{FILE_LIMIT}
@@ -90,6 +90,10 @@ pads_fault ffs3 at (file ∷ files) =
 abbrev pub top_pad_fault : Bool → ℕ → Option FileImage → ℕ → Option Fault
 top_pad_fault ffs3 at None size = None
 top_pad_fault ffs3 at (Some file) size = pad_fault ffs3 at (top_start file size) file
+
+-- an alignment that a file's header can state
+unfoldable pub is_stated : FileImage → Bool
+is_stated file = is_alignment file.align
 
 unfoldable pub AreAligned : List FileImage → Type 0
 AreAligned files = All (λ file. IsAlignment file.align) files

@@ -16,6 +16,14 @@ use Rattle.doc_types.specs.Volumes.{size_limit}
 use Rattle.build_base.specs.FaultCodes.{TOP_FILE_TWICE, TOP_FILE_UNALIGNED, VOLUME_FULL}
 pub use Rattle.doc_types.specs.Volumes.{SizeFits, HasShape}
 
+-- a stated length is a whole number of blocks and at most 256M
+abbrev pub size_fits : ℕ → Option ℕ → Bool
+size_fits block None = true
+size_fits block (Some size) = nat_le size size_limit && size % block == 0
+
+abbrev pub head_fits : VolumeHead → Bool
+head_fits head = size_fits head.block_size head.size
+
 -- the end of the files but the top file
 abbrev pub last_end : VolumeHead → List FileImage → ℕ
 last_end plan files = end_of (header_end plan.name_guid) (plain_files files)

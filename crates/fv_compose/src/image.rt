@@ -1,12 +1,13 @@
 //! The image of a volume: header, files, pads and free space.
-ghost use Rattle.std.specs.Prelude.{◌≡◌, ◌≤◌, ◌%◌, ◌+◌, ◌^◌, ◌↔◌, IsTrue, IfOk, IfSome, Some, None, is_some, true};
+ghost use Rattle.std.specs.Prelude.{◌≡◌, ◌≤◌, ◌%◌, ◌==◌, ◌+◌, ◌^◌, ◌↔◌, IsTrue, IfOk, IfSome, Some, None, is_some, true};
+ghost use Rattle.std.specs.List.{list_all};
 ghost use Rattle.build_base.specs.Answer.{AnswersAs, Checks};
 ghost use Rattle.build_base.specs.Runs.{runs_bytes};
 ghost use Rattle.ffs_sections.specs.Alignment.{IsAlignment};
 ghost use Rattle.fv_compose.specs.Header.{header_end};
-ghost use Rattle.fv_compose.specs.Files.{plain_files, top_of, AreAligned, AreRunsOf};
+ghost use Rattle.fv_compose.specs.Files.{plain_files, top_of, is_stated, AreAligned, AreRunsOf};
 ghost use Rattle.fv_compose.specs.Turns.{pointed, own_starts, IsLaid};
-ghost use Rattle.fv_compose.specs.Volume.{last_end, taken_by, holds, volume_fault, twice_fault, start_fault, top_fault, place_fault, volume_image, with_length, length_of, volume_of, HasShape, IsLength};
+ghost use Rattle.fv_compose.specs.Volume.{last_end, taken_by, holds, volume_fault, twice_fault, start_fault, top_fault, place_fault, volume_image, with_length, length_of, volume_of, head_fits, HasShape, IsLength};
 
 use crate::files::{check_pads, check_top_pad, is_top, put_files, put_top, taken_by, top_of};
 use crate::header::{header_end, start_bytes};
@@ -22,7 +23,8 @@ use std::alloc::Global;
 
 /// Whether a stated size is a whole number of blocks and at most 256M.
 pub fn has_shape(plan: &VolumeHead) -> bool
-    ensures { IsTrue result ↔ HasShape plan.now }
+    ensures value { result ≡ head_fits plan.now }
+    ensures shape { IsTrue result ↔ HasShape plan.now }
 {
     match plan.size {
         None => true,
@@ -32,7 +34,7 @@ pub fn has_shape(plan: &VolumeHead) -> bool
 
 // Whether a size is a multiple of a unit; of 0 there is the multiple 0 alone.
 fn is_multiple(size: u64, unit: u64) -> bool
-    ensures { IsTrue result ↔ (size % unit ≡ 0) }
+    ensures { result ≡ (size % unit == 0) }
 {
     if unit == 0 {
         size == 0
@@ -41,23 +43,26 @@ fn is_multiple(size: u64, unit: u64) -> bool
     }
 }
 
-/// Whether each file has an alignment that a file's header can state.
-pub fn are_aligned(files: &Rows<FileImage>) -> bool
-    ensures { IsTrue result ↔ AreAligned files.now }
+#[tactic(auto, unfolding(crate::specs::Files::is_stated))]
+fn is_stated(file: &FileImage) -> bool
+    ensures { result ≡ is_stated file.now }
 {
-    all_aligned(files.items())
+    is_file_alignment(file.align)
 }
 
-#[tactic(auto, unfolding(crate::specs::Files::AreAligned))]
-fn all_aligned(files: &[FileImage]) -> bool
-    ensures { IsTrue result ↔ AreAligned files.now }
+/// Whether each file has an alignment that a file's header can state.
+#[tactic(auto, using(crate::proofs::ShapeLemmas::files_shape))]
+pub fn are_aligned(files: &Rows<FileImage>) -> bool
+    ensures value { result ≡ list_all is_stated files.now }
+    ensures aligned { IsTrue result ↔ AreAligned files.now }
 {
-    for file in files {
-        if !is_file_alignment(file.align) {
-            return false;
-        }
-    }
-    true
+    all_stated(files.items())
+}
+
+fn all_stated(files: &[FileImage]) -> bool
+    ensures { result ≡ list_all is_stated files.now }
+{
+    files.iter().all(|file| is_stated(file))
 }
 
 // The fault of this code, with the volume's name.

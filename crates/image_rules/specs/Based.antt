@@ -7,9 +7,11 @@ use Rattle.build_base.specs.declared.fault.Fault.{Fault}
 use Rattle.build_stages.specs.Stages.{impossible_answer}
 use Rattle.doc_types.specs.declared.image.FileImage.{FileImage}
 use Rattle.doc_types.specs.declared.volume_head.VolumeHead.{VolumeHead}
+use Rattle.fv_compose.specs.Files.{is_stated}
+use Rattle.fv_compose.specs.Volume.{head_fits}
 use Rattle.image_rebase.specs.Rebase.{rebased_bytes}
 use Rattle.image_steps.specs.Asks.{is_based}
-use Rattle.image_steps.specs.Volumes.{head_fits, is_stated, images_from, volume_given}
+use Rattle.image_steps.specs.Volumes.{images_from, volume_given}
 use Rattle.step_engine.specs.declared.talk.Answer.{Answer}
 use Rattle.step_pack.specs.declared.out.Out.{Out}
 use Rattle.std.specs.Prelude.{ℕ}

@@ -12,8 +12,9 @@ use build_base::{Image, Permit, Refusal, Rows};
 use build_stages::{Given, Stop};
 use doc_types::image::FileImage;
 use doc_types::volume_head::VolumeHead;
+use fv_compose::{are_aligned, has_shape};
 use image_rebase::rebase_volume;
-use image_steps::volumes::{are_stated, head_fits, images};
+use image_steps::volumes::images;
 use image_steps::{is_based, volume_given};
 use std::alloc::Global;
 use step_pack::{Key, Out};
@@ -35,7 +36,7 @@ fn image(
     }
 }
 
-#[tactic(auto, unfolding(crate::specs::Based::rebased_image), using(image_steps::proofs::VolumeLemmas::head_shape, image_steps::proofs::VolumeLemmas::files_shape, crate::proofs::BasedLemmas::is_based_head))]
+#[tactic(auto, unfolding(crate::specs::Based::rebased_image), using(crate::proofs::BasedLemmas::is_based_head))]
 fn rebased_image(
     alloc: Global,
     permit: Permit,
@@ -45,7 +46,7 @@ fn rebased_image(
     requires { is_based head.now ≡ true }
     ensures { GivesIn (λ image. image) result (rebased_image head.now files.now) }
 {
-    if head_fits(head) && are_stated(files.items()) {
+    if has_shape(head) && are_aligned(files) {
         return Ok(image(alloc, permit, head, files)?);
     }
     Err(Stop::ImpossibleAnswer)

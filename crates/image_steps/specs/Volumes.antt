@@ -1,30 +1,17 @@
 -- A volume by the answers of its step (UEFI PI specification, volume 3, section 3).
-use Rattle.std.specs.Prelude.{ℕ, ◌&&◌, ◌==◌, ◌%◌, Bool, true, nat_le, List, map, drop, Option, Some, None, Result, Ok, Err, if◌then◌else◌}
-use Rattle.std.specs.List.{list_all, list_any}
+use Rattle.std.specs.Prelude.{ℕ, ◌&&◌, List, map, drop, Some, Result, Ok, Err, if◌then◌else◌}
+use Rattle.std.specs.List.{list_all}
 use Rattle.build_base.specs.declared.fault.Fault.{Fault}
 use Rattle.build_base.specs.First.{and_then, all_ok}
 use Rattle.step_engine.specs.declared.talk.Answer.{Answer}
-use Rattle.doc_types.specs.Volumes.{size_limit}
 use Rattle.doc_types.specs.declared.image.FileImage.{FileImage}
 use Rattle.doc_types.specs.declared.volume_head.VolumeHead.{VolumeHead}
-use Rattle.ffs_sections.specs.Alignment.{alignments}
-use Rattle.fv_compose.specs.Volume.{volume_of}
+use Rattle.fv_compose.specs.Files.{is_stated}
+use Rattle.fv_compose.specs.Volume.{head_fits, volume_of}
 use Rattle.build_stages.specs.Stages.{impossible_answer}
 use Rattle.build_stages.specs.Writing.{part_of, part_at}
 use Rattle.step_pack.specs.declared.out.Out.{Out}
 use Rattle.step_pack.specs.declared.out.Out.TheVariants as out
-
--- a stated length is a whole number of blocks and at most 256M
-abbrev pub size_fits : ℕ → Option ℕ → Bool
-size_fits block None = true
-size_fits block (Some size) = nat_le size size_limit && size % block == 0
-
-abbrev pub head_fits : VolumeHead → Bool
-head_fits head = size_fits head.block_size head.size
-
--- an alignment that a file's header can state
-unfoldable pub is_stated : FileImage → Bool
-is_stated file = list_any (λ stated. stated == file.align) alignments
 
 -- the file that the step of an item gives
 abbrev pub file_in : Out → Result FileImage Fault

@@ -1,58 +1,17 @@
 //! A volume by the answers of its step.
-ghost use Rattle.std.specs.Prelude.{◌≡◌, ◌==◌, ◌%◌, true, IfOk};
-ghost use Rattle.std.specs.List.{list_all};
 ghost use Rattle.build_base.specs.Answer.{AnswersAs};
 ghost use Rattle.build_stages.specs.Gives.{GivesIn};
 ghost use Rattle.fv_compose.specs.Files.{AreAligned};
 ghost use Rattle.fv_compose.specs.Volume.{HasShape, volume_of};
-ghost use Rattle.image_steps.specs.Volumes.{head_fits, is_stated, file_in, image_at, images_from, composed_volume, volume_given};
+ghost use Rattle.image_steps.specs.Volumes.{file_in, image_at, images_from, composed_volume, volume_given};
 
 use build_base::{Image, Permit, Refusal, Rows, Same};
 use build_stages::{Given, Stop};
 use doc_types::image::FileImage;
-use doc_types::volume_head::{SIZE_LIMIT, VolumeHead};
-use fv_compose::compose;
+use doc_types::volume_head::VolumeHead;
+use fv_compose::{are_aligned, compose, has_shape};
 use std::alloc::Global;
 use step_pack::{Key, Out};
-
-/// The alignments that a file's header can state.
-static ALIGNMENTS: [u32; 16] = [
-    1, 16, 128, 512, 1024, 4096, 0x8000, 0x1_0000, 0x2_0000, 0x4_0000, 0x8_0000, 0x10_0000,
-    0x20_0000, 0x40_0000, 0x80_0000, 0x100_0000,
-];
-
-fn is_multiple(size: u64, unit: u64) -> bool
-    ensures { result ≡ (size % unit == 0) }
-{
-    if unit == 0 {
-        return size == 0;
-    }
-    size % unit == 0
-}
-
-/// Whether a stated length is a whole number of blocks and at most 256M.
-pub fn head_fits(head: &VolumeHead) -> bool
-    ensures { result ≡ head_fits head.now }
-{
-    match head.size {
-        None => true,
-        Some(size) => size <= SIZE_LIMIT && is_multiple(size, head.block_size),
-    }
-}
-
-#[tactic(auto, unfolding(crate::specs::Volumes::is_stated))]
-fn is_stated(file: &FileImage) -> bool
-    ensures { result ≡ is_stated file.now }
-{
-    ALIGNMENTS.contains(&file.align)
-}
-
-/// Whether each alignment of the files is one that a file's header can state.
-pub fn are_stated(files: &[FileImage]) -> bool
-    ensures { result ≡ list_all is_stated files.now }
-{
-    files.iter().all(|file| is_stated(file))
-}
 
 fn file_in(out: &Out) -> Result<&FileImage, Stop<Key>>
     ensures { GivesIn (λ file. file.now) result (file_in out.now) }
@@ -98,7 +57,7 @@ fn image(
     }
 }
 
-#[tactic(auto, unfolding(crate::specs::Volumes::composed_volume), using(crate::proofs::VolumeLemmas::head_shape, crate::proofs::VolumeLemmas::files_shape))]
+#[tactic(auto, unfolding(crate::specs::Volumes::composed_volume))]
 fn composed_volume(
     alloc: Global,
     permit: Permit,
@@ -107,7 +66,7 @@ fn composed_volume(
 ) -> Result<Image, Stop<Key>>
     ensures { GivesIn (λ image. image) result (composed_volume head.now files.now) }
 {
-    if head_fits(head) && are_stated(files.items()) {
+    if has_shape(head) && are_aligned(files) {
         return Ok(image(alloc, permit, head, files)?);
     }
     Err(Stop::ImpossibleAnswer)

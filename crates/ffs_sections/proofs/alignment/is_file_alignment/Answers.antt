@@ -14,5 +14,5 @@ found x xs h =
 finds : (x : ℕ) (xs : List ℕ) → Contains xs x → list_any (λ y. y == x) xs ≡ true
 finds x xs c = list_any_at (λ y. y == x) xs c.0 x c.1 (eq-eqb _ x c.2)
 
-pub returns : goal.returns
-returns c = (λ h. found c.args.align alignments (sym c.contains.ensures.value ∙ h), λ k. c.contains.ensures.value ∙ finds c.args.align alignments k)
+pub returns-clause-stated : goal.returns-clause-stated
+returns-clause-stated c = (λ h. found c.args.align alignments (sym c.contains.ensures.value ∙ h), λ k. c.contains.ensures.value ∙ finds c.args.align alignments k)
