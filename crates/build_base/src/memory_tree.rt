@@ -162,7 +162,9 @@ impl Tree for MemoryTree {
     }
 }
 
-fn got_of(alloc: Global, found: Option<&Text>, limit: u64) -> Result<Got, WantOfMemory>
+/// What a read of a file that was found, or of none, gives: a copy of its bytes, if there are at
+/// most `limit`.
+pub fn got_of(alloc: Global, found: Option<&Text>, limit: u64) -> Result<Got, WantOfMemory>
     ensures { IfOk result (λ g. g ≡ got_of limit (option_copied found.entry)) }
 {
     match found {
@@ -177,7 +179,8 @@ fn got_of(alloc: Global, found: Option<&Text>, limit: u64) -> Result<Got, WantOf
     }
 }
 
-fn note(alloc: Global, reads: &mut Rows<Path>, path: &Path) -> Result<(), WantOfMemory>
+/// Adds a copy of the path of a call that answered.
+pub fn note(alloc: Global, reads: &mut Rows<Path>, path: &Path) -> Result<(), WantOfMemory>
     ensures ok { OnOk result (reads.new ≡ reads.old ++ path.now ∷ []) }
     ensures err { OnErr result (reads.new ≡ reads.old) }
 {

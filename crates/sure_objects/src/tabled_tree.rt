@@ -1,11 +1,9 @@
 //! A tree in memory that never fails, and looks its files up in a table.
-ghost use Rattle.std.specs.Prelude.{◌≡◌, ◌++◌, ◌∷◌, [], IfOk, OnOk, OnErr};
-ghost use Rattle.std.specs.Option.{option_copied};
+ghost use Rattle.std.specs.Prelude.{◌≡◌, [], IfOk, OnOk, OnErr};
 ghost use Rattle.build_base.specs.MemoryTree.{file_at, with_file, without_file};
-ghost use Rattle.build_base.specs.Outside.{got_of};
 ghost use Rattle.sure_objects.specs.Files.{found_in};
 
-use build_base::memory_tree::Held;
+use build_base::memory_tree::{Held, got_of, note};
 use build_base::{Got, Path, Rows, Same, Text, Tree, TreeFailed, WantOfMemory};
 use std::alloc::Global;
 use std::collections::BTreeMap;
@@ -97,28 +95,6 @@ impl TabledTree {
     {
         self.reads.items()
     }
-}
-
-fn got_of(alloc: Global, found: Option<&Text>, limit: u64) -> Result<Got, WantOfMemory>
-    ensures { IfOk result (λ g. g ≡ got_of limit (option_copied found.entry)) }
-{
-    match found {
-        None => Ok(Got::Absent),
-        Some(text) => {
-            if text.bytes().len() as u64 <= limit {
-                Ok(Got::File(text.copy(alloc)?))
-            } else {
-                Ok(Got::TooLong)
-            }
-        }
-    }
-}
-
-fn note(alloc: Global, reads: &mut Rows<Path>, path: &Path) -> Result<(), WantOfMemory>
-    ensures ok { OnOk result (reads.new ≡ reads.old ++ path.now ∷ []) }
-    ensures err { OnErr result (reads.new ≡ reads.old) }
-{
-    reads.push(path.copy(alloc)?)
 }
 
 impl Tree for TabledTree {
