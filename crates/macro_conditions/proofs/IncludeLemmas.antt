@@ -1,25 +1,21 @@
 -- An include is its path, then the file of that path, and then what the file comes to.
-use Rattle.std.proofs.Common.{◌≡◌, ℕ, zero, suc, List, Option, Some, None, Result, Ok, refl, sym, ap, ◌∙◌, subst}
+use Rattle.std.proofs.Common.{◌≡◌, ℕ, zero, suc, List, Option, Result, Ok, refl, sym, ap, ◌∙◌, subst}
 use Rattle.build_base.specs.declared.lines.Macro.{Macro}
 use Rattle.build_base.specs.declared.lines.Taken.{Taken as Line}
-use Rattle.build_base.specs.Path.{path_field}
 use Rattle.macro_conditions.specs.declared.work.Stopped.{Stopped}
 use Rattle.macro_conditions.specs.LineMeaning.{◌>>=◌}
-use Rattle.macro_conditions.specs.Sources.{Source, Located, wanted, missing, over_limit, there, located, places, without_workspace}
-use Rattle.macro_conditions.specs.Expansion.{Env, Stop, found_at, at_path, path_stated, include_path, included_file, include_field, included, entered}
+use Rattle.macro_conditions.specs.Sources.{Source, Located, located, places}
+use Rattle.macro_conditions.specs.Expansion.{Env, Stop, path_stated, include_path, included_file, include_field, included, entered}
 use Rattle.macro_conditions.specs.Work.{Halts, stop_in}
 use Rattle.macro_conditions.proofs.FileTurns.{halts_bind}
 
-file_then : (enter : List ℕ → List ℕ → Result Env Stop) (line : Line) (path : List ℕ) (l : Located) → found_at enter line path l ≡ included_file line path l >>= (λ p. enter p.0 p.1)
-file_then enter line path (wanted p) = refl
-file_then enter line path missing = refl
-file_then enter line path (over_limit p) = refl
-file_then enter line path (there p bytes) = refl
+-- the file that is found of an include of a path, and of a field that states a path or none
+abbrev pub found_at : (List ℕ → List ℕ → Result Env Stop) → Line → List ℕ → Located → Result Env Stop
+found_at enter line path l = included_file line path l >>= (λ found. enter found.0 found.1)
 
-path_then : (enter : List ℕ → List ℕ → List ℕ → Result Env Stop) (known : Source) (line : Line) (field : List ℕ) (o : Option (List ℕ)) → at_path enter known line field o
-    ≡ path_stated line field o >>= (λ path. included_file line path (located known (places line.at.path path)) >>= (λ p. enter path p.0 p.1))
-path_then enter known line field None = refl
-path_then enter known line field (Some path) = file_then (enter path) line path (located known (places line.at.path path))
+abbrev pub at_path : (List ℕ → List ℕ → List ℕ → Result Env Stop) → Source → Line → List ℕ → Option (List ℕ) → Result Env Stop
+at_path enter known line field o =
+    path_stated line field o >>= (λ path. found_at (enter path) line path (located known (places line.at.path path)))
 
 module _ (known : Source) (fixed : List Macro) (levels : ℕ) (line : Line) (e : Env) where
   abbrev Path : Result (List ℕ) Stop
@@ -33,8 +29,8 @@ module _ (known : Source) (fixed : List Macro) (levels : ℕ) (line : Line) (e :
 
 include_is : (known : Source) (fixed : List Macro) (levels : ℕ) (line : Line) (e : Env) → included known fixed levels line e ≡ Path known fixed levels line e >>= Rest known fixed levels line e
 unfolding included entered
-include_is known fixed zero line e = path_then (λ path p bytes. entered known fixed zero line path p bytes e) known line (include_field fixed line e) (path_field (without_workspace (include_field fixed line e)))
-include_is known fixed (suc n) line e = path_then (λ path p bytes. entered known fixed (suc n) line path p bytes e) known line (include_field fixed line e) (path_field (without_workspace (include_field fixed line e)))
+include_is known fixed zero line e = refl
+include_is known fixed (suc n) line e = refl
 
 module _ (known : Source) (fixed : List Macro) (levels : ℕ) (line : Line) (e : Env) where
   pub path_halts : (s : Stopped) → Halts s (stop_in (Path known fixed levels line e)) → Halts s (stop_in (included known fixed levels line e))

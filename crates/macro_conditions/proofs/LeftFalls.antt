@@ -21,8 +21,9 @@ use Rattle.macro_conditions.specs.Macros.{same_text}
 use Rattle.macro_conditions.specs.Sources.{Source, answer, places, Located, wanted, missing, over_limit, there, located, without_workspace}
 use Rattle.macro_conditions.specs.Worlds.{MoreAnswers}
 use Rattle.macro_conditions.specs.LineMeaning.{◌>>=◌, file_of}
-use Rattle.macro_conditions.specs.Expansion.{Env, Stop, bad, need, settled, acts, apply_directive, tested, fault_at, include_field, line_at, read_by, lines_read, inside, outside, file_lines, found_at, at_path, is_open, included, begun, document, rooted, expansion}
+use Rattle.macro_conditions.specs.Expansion.{Env, Stop, bad, need, settled, acts, apply_directive, tested, fault_at, include_field, line_at, read_by, lines_read, inside, outside, file_lines, is_open, included, begun, document, rooted, expansion}
 use Rattle.macro_conditions.specs.Counting.{Counted, Halt, fault, wants, counting, saying, asked, counted_acts, counted_inside, counted_outside, counted_opened, counted_found, counted_at, counted, counted_root, most, left_by, left, with_answer, AreWithin}
+use Rattle.macro_conditions.proofs.IncludeLemmas.{found_at, at_path}
 use Rattle.macro_conditions.proofs.TreeRelated.{IsRelated, file_related}
 use Rattle.macro_conditions.proofs.CountGrowth.{GoesOn, Past, root_goes}
 use Rattle.macro_conditions.proofs.CountGrowth as growth

@@ -15,7 +15,8 @@ use Rattle.macro_conditions.specs.declared.expansion.Turned.TheVariants as turne
 use Rattle.macro_conditions.specs.Work.{Expands}
 use Rattle.macro_conditions.specs.Worlds.{MoreAnswers, Stays, told, AgreesWith, HoldsIn}
 use Rattle.macro_conditions.specs.LineMeaning.{◌>>=◌, file_of}
-use Rattle.macro_conditions.specs.Expansion.{Env, Stop, bad, need, settled, acts, apply_directive, tested, fault_at, include_field, line_at, lines_read, inside, outside, file_lines, found_at, at_path, is_open, included, begun, document, rooted, expansion}
+use Rattle.macro_conditions.specs.Expansion.{Env, Stop, bad, need, settled, acts, apply_directive, tested, fault_at, include_field, line_at, lines_read, inside, outside, file_lines, is_open, included, begun, document, rooted, expansion}
+use Rattle.macro_conditions.proofs.IncludeLemmas.{found_at, at_path}
 use Rattle.macro_conditions.proofs.TreeRelated.{IsRelated, file_related}
 use Rattle.build_base.specs.FaultCodes.{INCLUDE_LOOP, INCLUDE_TOO_DEEP}
 

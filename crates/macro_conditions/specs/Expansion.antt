@@ -182,25 +182,6 @@ long_fault path = fault_of FILE_TOO_LONG (place_of path 0) path
 abbrev pub too_long : List ℕ → Stop
 too_long path = bad (long_fault path)
 
--- an include of this path, where `enter` says what the file comes to that was found
-abbrev pub found_at : (List ℕ → List ℕ → Result Env Stop) → Line → List ℕ → Located
-    → Result Env Stop
-found_at enter line path (wanted p) = Err (need p)
-found_at enter line path missing = Err (bad (fault_at INCLUDE_ABSENT line path))
-found_at enter line path (over_limit p) = Err (too_long p)
-found_at enter line path (there p bytes) = enter p bytes
-
-abbrev pub at_path : (List ℕ → List ℕ → List ℕ → Result Env Stop) → Source → Line → List ℕ
-    → Option (List ℕ) → Result Env Stop
-at_path enter known line field None = Err (bad (fault_at BAD_PATH line field))
-at_path enter known line field (Some path) =
-    found_at (enter path) line path (located known (places line.at.path path))
-
-abbrev pub included_by : (List ℕ → List ℕ → List ℕ → Result Env Stop) → Source → Line → List ℕ
-    → Result Env Stop
-included_by enter known line field =
-    at_path enter known line field (path_field (without_workspace field))
-
 -- the path that an include states
 abbrev pub path_stated : Line → List ℕ → Option (List ℕ) → Result (List ℕ) Stop
 path_stated line field None = Err (bad (fault_at BAD_PATH line field))
@@ -215,6 +196,13 @@ included_file line path (wanted p) = Err (need p)
 included_file line path missing = Err (bad (fault_at INCLUDE_ABSENT line path))
 included_file line path (over_limit p) = Err (too_long p)
 included_file line path (there p bytes) = Ok (p, bytes)
+
+-- an include of this field, where `enter` says what the file comes to that is found
+abbrev pub included_by : (List ℕ → List ℕ → List ℕ → Result Env Stop) → Source → Line → List ℕ
+    → Result Env Stop
+included_by enter known line field = include_path line field
+    >>= (λ path. included_file line path (located known (places line.at.path path))
+    >>= (λ found. enter path found.0 found.1))
 
 abbrev pub is_open : List ℕ → Env → Bool
 is_open path e = list_any (same_text path) e.open_files
