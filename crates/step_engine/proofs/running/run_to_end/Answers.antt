@@ -1,10 +1,14 @@
 -- One more visit.
-use Rattle.std.proofs.Common.{refl, ap, ◌∙◌, arith}
-use Rattle.step_engine.specs.Build.{setting}
+use Rattle.std.proofs.Common.{◌≡◌, ℕ, Result, Ok, Err, refl, ap, ◌∙◌, subst, arith}
+use Rattle.std.specs.Result.{IsErrAnd}
+use Rattle.build_base.specs.Outside.{HasFailed}
+use Rattle.step_engine.specs.Build.{setting, Counts}
 use Rattle.step_engine.specs.Edits.{over}
 use Rattle.step_engine.specs.Engine.{state}
 use Rattle.step_engine.specs.Reading.{knowledge}
 use Rattle.step_engine.specs.Table.{place_at}
+use Rattle.step_engine.specs.declared.refusal.EngineRefusal.{EngineRefusal}
+use Rattle.step_engine.specs.declared.refusal.EngineRefusal.TheVariants.{ReadFault, WantOfMemory}
 use Rattle.step_engine.proofs.Listing.{ready_held}
 use Rattle.step_engine.proofs.Ending.{counts_wanting}
 use Rattle.step_engine.proofs.ScanLemmas.{begins_noted, settling_more, settling_noted, settling_refused, brought_to, under_held, visited_held, visit_notes_held}
@@ -12,6 +16,14 @@ use Rattle.step_engine.proofs.Moves.{none_in}
 use Rattle.step_engine.proofs.VisitLemmas.{top_open}
 use Rattle.step_engine.proofs.UneditedLemmas.{unedited_none, unedited_then}
 use Rattle.step_engine.proofs.running.run_to_end.Goals as goal
+
+-- a refusal that is handed on, where nothing was counted before
+counts_handed : {A : Type 0} (r : Result A EngineRefusal) (e : EngineRefusal) (first before now : ℕ) → IsErrAnd r (λ x. x ≡ e) → before ≡ first → Counts {A = A} before now (Err e) → Counts first now r
+counts_handed (Ok x) e first before now h is c = absurd h
+counts_handed (Err ReadFault) ReadFault first before now h is c = subst (λ n. HasFailed n now) is c
+counts_handed (Err ReadFault) WantOfMemory first before now h is c = absurd (cc)
+counts_handed (Err WantOfMemory) ReadFault first before now h is c = absurd (cc)
+counts_handed (Err WantOfMemory) WantOfMemory first before now h is c = c ∙ is
 
 pub returns-in_err-pool-clause-notes : goal.returns-in_err-pool-clause-notes
 returns-in_err-pool-clause-notes g c =
@@ -99,6 +111,9 @@ returns-clause-held g c = c.loop-acts.invariant.held
 
 pub returns-in_err-pool-clause-count : goal.returns-in_err-pool-clause-count
 returns-in_err-pool-clause-count g c = counts_wanting c.from_residual.result _ _ c.from_residual.ensures.1 refl
+
+pub returns-in_err-run_ready_keys-clause-count : goal.returns-in_err-run_ready_keys-clause-count
+returns-in_err-run_ready_keys-clause-count g c = counts_handed c.from_residual-in_err-run_ready_keys.result c.in_err-run_ready_keys.field-0.0 _ _ _ c.from_residual-in_err-run_ready_keys.ensures.1 c.loop-acts.invariant.count c.in_err-run_ready_keys.ensures.count
 
 pub returns-in-Some-clause-count : goal.returns-in-Some-clause-count
 returns-in-Some-clause-count g c = c.loop-acts.invariant.count
