@@ -19,6 +19,7 @@ use Rattle.build_stages.specs.Writing.{attempt, when}
 use Rattle.doc_types.specs.declared.flash.FlashDoc.{FlashDoc}
 use Rattle.doc_types.specs.declared.platform.PlatformDoc.{PlatformDoc}
 use Rattle.flash_document.specs.Flash.{flash_of}
+use Rattle.flash_document.specs.Shape.{HasShape}
 use Rattle.step_pack.specs.Keys.{key_cmp}
 use Rattle.step_pack.specs.declared.key.Key.{Key}
 use Rattle.step_pack.specs.declared.key.Key.TheVariants as key
@@ -30,6 +31,7 @@ use Rattle.build_rules.specs.Rules.{edk, is_path_or_empty, value_in}
 use Rattle.build_rules.specs.RulesBounds.{edk_is_bounded}
 use Rattle.build_rules.specs.Values.{job_macros, platform_value, flash_file, flash_of_file, flash_value, if_shaped}
 use Rattle.build_rules.proofs.Asked.{answers_in, fault_asked, by_answers}
+use Rattle.build_rules.proofs.FlashShape.{flash_shape}
 use Rattle.build_rules.proofs.KindLemmas.{stage_run}
 use Rattle.build_rules.proofs.ValueLemmas.{document_run, path_some, platform_is}
 
@@ -40,6 +42,10 @@ gives w s = run fits (right (meaning_of key_cmp edk) w) s
 pub then_same : {A B : Type 0} (r : Result A Fault) (f g : A → Result B Fault) → ((x : A) → f x ≡ g x) → and_then r f ≡ and_then r g
 then_same (Ok x) f g h = h x
 then_same (Err fault) f g h = refl
+
+then_found : {A B : Type 0} (r : Result A Fault) (f g : A → Result B Fault) → ((x : A) → r ≡ Ok x → f x ≡ g x) → and_then r f ≡ and_then r g
+then_found (Ok x) f g h = h x refl
+then_found (Err fault) f g h = refl
 
 attempt_run : {A : Type 0} (w : World) (r : Result A Fault) (next : A → EdkStages) → gives w (attempt r next) ≡ and_then r (λ x. gives w (next x))
 attempt_run w (Ok x) next = refl
@@ -57,6 +63,11 @@ pub when_run : {A : Type 0} (w : World) (variant : A → Out) (b : Bool) (s : Ed
 when_run w variant true s r h = h
 when_run w variant false s r h = refl
 
+-- what a test keeps back, where it holds
+pub passed_run : (w : World) (b : Bool) (s : EdkStages) → b ≡ true → gives w (when b s) ≡ gives w s
+passed_run w true s e = refl
+passed_run w false s e = absurd cc
+
 -- a last stage
 pub last_run : {A : Type 0} (w : World) (variant : A → Out) (asks : List (Ask Key)) (f : List (Answer Out) → Result A Fault)
     → gives w (stage asks (λ given. end (given_as variant (f given)))) ≡ given_as variant (by_answers w asks f)
@@ -68,6 +79,12 @@ pub step_run : {A B : Type 0} (w : World) (variant : B → Out) (r : Result A Fa
     → ((x : A) → gives w (next x) ≡ given_as variant (f x)) → gives w (attempt r next) ≡ given_as variant (and_then r f)
 step_run w variant r next f h =
     attempt_run w r next ∙ then_same r (λ x. gives w (next x)) (λ x. given_as variant (f x)) h ∙ given_then variant r f
+
+-- the same by what the first of two gave
+pub found_run : {A B : Type 0} (w : World) (variant : B → Out) (r : Result A Fault) (next : A → EdkStages) (f : A → Result B Fault)
+    → ((x : A) → r ≡ Ok x → gives w (next x) ≡ given_as variant (f x)) → gives w (attempt r next) ≡ given_as variant (and_then r f)
+found_run w variant (Ok x) next f h = h x refl
+found_run w variant (Err fault) next f h = refl
 
 -- the flash description
 
@@ -122,14 +139,14 @@ by_flash_is w next (Ok flash) = refl
 by_flash_is w next (Err fault) = refl
 
 pub after_flash : {A : Type 0} (w : World) → IsWorld (meaning_of key_cmp edk) w → (variant : A → Out) (next : FlashDoc → EdkStages) (f : FlashDoc → Result A Fault)
-    → ((flash : FlashDoc) → gives w (next flash) ≡ given_as variant (f flash))
+    → ((flash : FlashDoc) → HasShape flash → gives w (next flash) ≡ given_as variant (f flash))
     → gives w (stage (ask.Part key.Flash ∷ []) (λ given. attempt (flash_in given 0) next)) ≡ given_as variant (and_then (flash_value w) f)
 unfolding fault_asked
 after_flash w e variant next f h =
     stage_run w (ask.Part key.Flash ∷ []) (λ given. attempt (flash_in given 0) next)
     ∙ ap (by_flash w next) (flash_is w e)
     ∙ by_flash_is w next (flash_value w)
-    ∙ then_same (flash_value w) (λ flash. gives w (next flash)) (λ flash. given_as variant (f flash)) h
+    ∙ then_found (flash_value w) (λ flash. gives w (next flash)) (λ flash. given_as variant (f flash)) (λ flash found. h flash (flash_shape w flash found))
     ∙ given_then variant (flash_value w) f
 
 -- a stage, whose answers give what the next one begins with
@@ -138,9 +155,14 @@ or_then variant (Some fault) r f = refl
 or_then variant None r f = refl
 
 -- two values, one after the other
+pub both_found : {A P Q : Type 0} (variant : A → Out) (p : Result P Fault) (r : Result Q Fault) (f : P → Q → Result Out Fault) (g : P → Q → Result A Fault)
+    → ((x : P) (y : Q) → p ≡ Ok x → r ≡ Ok y → f x y ≡ given_as variant (g x y))
+    → and_then p (λ x. and_then r (λ y. f x y)) ≡ given_as variant (and_then p (λ x. and_then r (λ y. g x y)))
+both_found variant (Ok x) (Ok y) f g h = h x y refl refl
+both_found variant (Ok x) (Err fault) f g h = refl
+both_found variant (Err fault) r f g h = refl
+
 pub both_same : {A P Q : Type 0} (variant : A → Out) (p : Result P Fault) (r : Result Q Fault) (f : P → Q → Result Out Fault) (g : P → Q → Result A Fault)
     → ((x : P) (y : Q) → f x y ≡ given_as variant (g x y))
     → and_then p (λ x. and_then r (λ y. f x y)) ≡ given_as variant (and_then p (λ x. and_then r (λ y. g x y)))
-both_same variant (Ok x) (Ok y) f g h = h x y
-both_same variant (Ok x) (Err fault) f g h = refl
-both_same variant (Err fault) r f g h = refl
+both_same variant p r f g h = both_found variant p r f g (λ x y found also. h x y)

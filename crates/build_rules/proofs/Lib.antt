@@ -2,6 +2,7 @@ pub mod ValueLemmas
 mod StandLemmas
 mod Asked
 mod KindLemmas
+mod FlashShape
 mod ImageValues
 mod DescriptionLemmas
 mod ToldLemmas

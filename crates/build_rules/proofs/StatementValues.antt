@@ -41,27 +41,27 @@ use Rattle.image_rules.specs.ImageTrees.{volume_at, image_by, volume_stages}
 use Rattle.document_rules.specs.Trees.{given_as}
 use Rattle.build_rules.specs.Rules.{edk, value_in}
 use Rattle.build_rules.specs.RulesBounds.{edk_is_bounded}
-use Rattle.build_rules.specs.Values.{flash_value, if_shaped}
+use Rattle.build_rules.specs.Values.{flash_value}
 use Rattle.build_rules.specs.ImageValues.{bytes_got, file_bytes, image_of, nested_image, nested_fault, held_fault, section_content, section_part, body_value, statement_value}
 use Rattle.build_rules.proofs.Asked.{answers_in, fault_asked, by_answers, asked_first, asked_behind, asked_second, fault_append, fault_each, got_no_fault, or_and, checked_and, else_none}
-use Rattle.build_rules.proofs.ImageValues.{gives, after_flash, step_run, when_run, last_run}
+use Rattle.build_rules.proofs.FlashShape.{items_fit}
+use Rattle.build_rules.proofs.ImageValues.{gives, after_flash, found_run, passed_run, last_run}
 use Rattle.build_rules.proofs.StandLemmas.{Stand, stand_whole, stand_at, none_of, none_both, or_same, fronts_same}
 
 -- A volume by the answers of its step: an image or a fault.
 
 abbrev pub placed_plan : World → Bool → ℕ → VolumePlan → Result (List ℕ) Fault
-placed_plan w moved v plan =
-    if_shaped (fits_u16 (length plan.items)) (by_answers w (item_asks v plan.items) (image_by moved plan.head))
+placed_plan w moved v plan = by_answers w (item_asks v plan.items) (image_by moved plan.head)
 
 abbrev pub placed_volume : World → Bool → ℕ → Result (List ℕ) Fault
 placed_volume w moved v = and_then (flash_value w) (λ flash. and_then (volume_at flash v) (placed_plan w moved v))
 
 pub placed_run : (w : World) (moved : Bool) (v : ℕ) → IsWorld (meaning_of key_cmp edk) w → gives w (volume_stages moved v) ≡ given_as out.Volume (placed_volume w moved v)
 placed_run w moved v e =
-    after_flash w e out.Volume _ (λ flash. and_then (volume_at flash v) (placed_plan w moved v)) (λ flash.
-    step_run w out.Volume (volume_at flash v) _ (placed_plan w moved v) (λ plan.
-    when_run w out.Volume (fits_u16 (length plan.items)) _ (by_answers w (item_asks v plan.items) (image_by moved plan.head))
-    (last_run w out.Volume (item_asks v plan.items) (image_by moved plan.head))))
+    after_flash w e out.Volume _ (λ flash. and_then (volume_at flash v) (placed_plan w moved v)) (λ flash shape.
+    found_run w out.Volume (volume_at flash v) _ (placed_plan w moved v) (λ plan found.
+    passed_run w (fits_u16 (length plan.items)) _ (items_fit flash v plan shape found)
+    ∙ last_run w out.Volume (item_asks v plan.items) (image_by moved plan.head)))
 
 -- a step gives an image or a fault
 abbrev IsImage : World → Key → Type 0

@@ -36,7 +36,7 @@ use Rattle.module_images.specs.Modules.{plan_given}
 use Rattle.document_rules.specs.Trees.{given_as}
 use Rattle.build_rules.specs.Rules.{edk, value_in}
 use Rattle.build_rules.specs.RulesBounds.{edk_is_bounded}
-use Rattle.build_rules.specs.Values.{flash_value, if_shaped}
+use Rattle.build_rules.specs.Values.{flash_value}
 use Rattle.build_rules.specs.ImageValues.{statement_value, plan_value, planned_file, item_value, file_value, numbers_where, file_order, volume_files, volume_by, planned_value, volume_value}
 use Rattle.build_rules.proofs.Asked.{answers_in, fault_asked, by_answers, answers_append, or_and}
 use Rattle.build_rules.proofs.ImageValues.{gives, after_flash, step_run, when_run, last_run, or_then, then_same}
@@ -67,7 +67,7 @@ item_run w v flash head e (item.Inf line) = module_run w flash head line e
 file_run : (w : World) (v i : ℕ) → IsWorld (meaning_of key_cmp edk) w → gives w (file_stages v i) ≡ given_as out.File (file_value w v i)
 unfolding file_value
 file_run w v i e =
-    after_flash w e out.File _ (λ flash. and_then (volume_at flash v) (λ plan. and_then (item_at flash plan i) (λ it. item_value w v flash plan.head it))) (λ flash.
+    after_flash w e out.File _ (λ flash. and_then (volume_at flash v) (λ plan. and_then (item_at flash plan i) (λ it. item_value w v flash plan.head it))) (λ flash shape.
     step_run w out.File (volume_at flash v) _ (λ plan. and_then (item_at flash plan i) (λ it. item_value w v flash plan.head it)) (λ plan.
     step_run w out.File (item_at flash plan i) _ (λ it. item_value w v flash plan.head it) (λ it. item_run w v flash plan.head e it)))
 
@@ -142,14 +142,11 @@ volume_made w moved v plan e =
     ∙ ap (λ (l : List (Answer Out)). and_then (or_fault (first_of (map fault_in l)) (all_ok (map image_given l))) make) (order_answers w v plan.items)
     ∙ ap (λ (r : Result (List FileImage) Fault). and_then r make) (images_same w v e (file_order plan.items))
 
-plan_made : (w : World) (moved : Bool) (v : ℕ) → IsWorld (meaning_of key_cmp edk) w → (plan : VolumePlan) → placed_plan w moved v plan ≡ planned_value w moved v plan
-plan_made w moved v e plan = ap (λ (r : Result (List ℕ) Fault). if_shaped (fits_u16 (length plan.items)) r) (volume_made w moved v plan e)
-
 volume_same : (w : World) (moved : Bool) (v : ℕ) → IsWorld (meaning_of key_cmp edk) w → placed_volume w moved v ≡ volume_value w moved v
 unfolding volume_value
 volume_same w moved v e =
     then_same (flash_value w) (λ flash. and_then (volume_at flash v) (placed_plan w moved v)) (λ flash. and_then (volume_at flash v) (planned_value w moved v)) (λ flash.
-    then_same (volume_at flash v) (placed_plan w moved v) (planned_value w moved v) (plan_made w moved v e))
+    then_same (volume_at flash v) (placed_plan w moved v) (planned_value w moved v) (λ plan. volume_made w moved v plan e))
 
 volume_run : (w : World) (moved : Bool) (v : ℕ) → IsWorld (meaning_of key_cmp edk) w → gives w (volume_stages moved v) ≡ given_as out.Volume (volume_value w moved v)
 volume_run w moved v e = placed_run w moved v e ∙ ap (λ (r : Result (List ℕ) Fault). given_as out.Volume r) (volume_same w moved v e)

@@ -269,9 +269,7 @@ volume_by true head files =
 volume_by false head files = composed_volume head files
 
 abbrev pub planned_value : World → Bool → ℕ → VolumePlan → Result (List ℕ) Fault
-planned_value w moved v plan =
-    if_shaped (fits_u16 (length plan.items))
-    (and_then (volume_files w v plan.items) (volume_by moved plan.head))
+planned_value w moved v plan = and_then (volume_files w v plan.items) (volume_by moved plan.head)
 
 -- the image of volume v, as it stands or moved to its base
 unfoldable pub volume_value : World → Bool → ℕ → Result (List ℕ) Fault
