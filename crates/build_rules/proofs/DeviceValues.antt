@@ -36,7 +36,8 @@ use Rattle.build_rules.specs.Values.{platform_value, flash_value}
 use Rattle.build_rules.specs.VpdValues.{vpd_value}
 use Rattle.build_rules.specs.ImageValues.{file_bytes, image_of, nested_image, is_moved, volume_value, volume_image, vpd_bytes, region_bytes, region_fault, regions_value, numbered_value, device_value}
 use Rattle.build_rules.proofs.Asked.{answers_in, fault_asked, by_answers, asked_first, asked_behind, fault_each, got_no_fault, step_fault, else_none}
-use Rattle.build_rules.proofs.ImageValues.{gives, flash_is, step_run, when_run, last_run, both_same}
+use Rattle.build_rules.proofs.FlashShape.{flash_shape, regions_fit}
+use Rattle.build_rules.proofs.ImageValues.{gives, flash_is, step_run, found_run, passed_run, last_run, both_found}
 use Rattle.build_rules.proofs.KindLemmas.{stage_run}
 use Rattle.build_rules.proofs.StandLemmas.{Stand, stand_whole, stand_at, none_both, or_same, fronts_same}
 use Rattle.build_rules.proofs.StatementValues.{file_found}
@@ -175,12 +176,12 @@ device_run w d e =
     ∙ ap (λ (v : Outcome Out). by_device w d v (value_in w key.Platform)) (flash_is w e)
     ∙ ap (by_device w d (outcome_of (given_as out.Flash (flash_value w)))) (platform_is w e)
     ∙ by_device_is w d (flash_value w) (platform_value w)
-    ∙ both_same out.Device (flash_value w) (platform_value w) _ (numbered_value w d) (λ flash platform.
+    ∙ both_found out.Device (flash_value w) (platform_value w) _ (numbered_value w d) (λ flash platform is_flash is_platform.
     step_run w out.Device (vpd_path platform (field w 2) (field w 3)) _ (λ vpd. and_then (device_at flash d) (regions_value w flash.volumes vpd)) (λ vpd.
-    step_run w out.Device (device_at flash d) _ (regions_value w flash.volumes vpd) (λ plan.
-    when_run w out.Device (regions_below plan.regions) _ (or_fault (region_faults w flash.volumes vpd plan.regions) (and_then (region_contents w flash.volumes vpd plan.regions) (device_of plan)))
-    (last_run w out.Device (region_asks flash.volumes vpd plan.regions) (device_given vpd plan)
-    ∙ ap (λ (r : Result (List ℕ) Fault). given_as out.Device r) (regions_same w flash.volumes vpd plan e)))))
+    found_run w out.Device (device_at flash d) _ (regions_value w flash.volumes vpd) (λ plan is_plan.
+    passed_run w (regions_below plan.regions) _ (regions_fit flash d plan (flash_shape w flash is_flash) is_plan)
+    ∙ last_run w out.Device (region_asks flash.volumes vpd plan.regions) (device_given vpd plan)
+    ∙ ap (λ (r : Result (List ℕ) Fault). given_as out.Device r) (regions_same w flash.volumes vpd plan e))))
 
 pub device_is : (w : World) (d : ℕ) → IsWorld (meaning_of key_cmp edk) w → value_in w (key.Device d) ≡ outcome_of (given_as out.Device (device_value w d))
 device_is w d e = value_is key_cmp edk edk_is_bounded w (key.Device d) ∙ ap outcome_of (device_run w d e)

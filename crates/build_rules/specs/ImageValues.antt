@@ -313,10 +313,9 @@ region_fault w volumes vpd (kind.Volume n) = result_err (volume_image w volumes 
 abbrev pub regions_value : World → List VolumePlan → Option (List ℕ) → DevicePlan
     → Result (List ℕ) Fault
 regions_value w volumes vpd plan =
-    if_shaped (regions_below plan.regions)
-    (or_fault (first_of (map (λ region. region_fault w volumes vpd region.kind) plan.regions))
+    or_fault (first_of (map (λ region. region_fault w volumes vpd region.kind) plan.regions))
     (and_then (all_ok (map (λ region. region_bytes w volumes vpd region.kind) plan.regions))
-    (device_of plan)))
+    (device_of plan))
 
 abbrev pub numbered_value : World → ℕ → FlashDoc → PlatformDoc → Result (List ℕ) Fault
 numbered_value w d flash platform =
