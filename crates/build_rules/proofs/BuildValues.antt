@@ -32,6 +32,7 @@ use Rattle.step_pack.specs.declared.out.Out.TheVariants as out
 use Rattle.step_pack.specs.declared.out.Output.{Output}
 use Rattle.module_steps.specs.Settings.{built_modules}
 use Rattle.text_steps.specs.Asks.{built_asks, build_module_asks}
+use Rattle.flash_document.specs.Shape.{HasShape}
 use Rattle.image_steps.specs.Asks.{is_based, volume_key, fits_u16}
 use Rattle.document_rules.specs.Folders.{output_folder}
 use Rattle.document_rules.specs.Trees.{given_as}
@@ -50,7 +51,8 @@ use Rattle.build_rules.specs.ImageValues.{volume_value, device_value}
 use Rattle.build_rules.specs.BuildValues.{module_fault, fault_where, volume_faults, device_faults, report_fault, build_fault, module_files, joined, build_files, files_value, wanted_value, all_value}
 use Rattle.build_rules.proofs.Asked.{answers_in, fault_asked, by_answers, asked_first, asked_behind, fault_append, fault_each, step_fault, else_none}
 use Rattle.build_rules.proofs.DeviceValues.{based_step, device_is}
-use Rattle.build_rules.proofs.ImageValues.{gives, flash_is, path_or_empty, step_run, when_run, last_run, both_same}
+use Rattle.build_rules.proofs.FlashShape.{flash_shape, counts_fit}
+use Rattle.build_rules.proofs.ImageValues.{gives, flash_is, path_or_empty, step_run, passed_run, last_run, both_found}
 use Rattle.build_rules.proofs.KindLemmas.{stage_run}
 use Rattle.build_rules.proofs.PcdValues.{pcds_is}
 use Rattle.build_rules.proofs.StandLemmas.{Stand, stand_whole, stand_at, stand_behind, none_both, or_same}
@@ -257,12 +259,11 @@ files_same w vpd folder modules flash wanted report e =
 -- The whole build.
 
 files_run : (w : World) → IsWorld (meaning_of key_cmp edk) w → (vpd : Bool) (folder : List ℕ) (modules : List Module) (flash : FlashDoc) (wanted : Wanted) (report : Option (List ℕ))
-    → gives w (files_stages vpd folder modules flash wanted report) ≡ given_as out.All (files_value w vpd folder modules flash wanted report)
-files_run w e vpd folder modules flash wanted report =
-    when_run w out.All (fits_u16 (length flash.volumes) && fits_u16 (length flash.devices)) _
-    (or_fault (build_fault w vpd modules flash wanted report) (build_files w vpd folder modules flash wanted report))
-    (last_run w out.All (build_asks vpd modules flash wanted report) (outputs_of vpd folder modules flash wanted report)
-    ∙ ap (λ (r : Result (List Output) Fault). given_as out.All r) (files_same w vpd folder modules flash wanted report e))
+    → HasShape flash → gives w (files_stages vpd folder modules flash wanted report) ≡ given_as out.All (files_value w vpd folder modules flash wanted report)
+files_run w e vpd folder modules flash wanted report shape =
+    passed_run w (fits_u16 (length flash.volumes) && fits_u16 (length flash.devices)) _ (counts_fit flash shape)
+    ∙ last_run w out.All (build_asks vpd modules flash wanted report) (outputs_of vpd folder modules flash wanted report)
+    ∙ ap (λ (r : Result (List Output) Fault). given_as out.All r) (files_same w vpd folder modules flash wanted report e)
 
 pub field_9 : (w : World) → IsWorld (meaning_of key_cmp edk) w → is_path_or_empty (field w 9) ≡ true
 field_9 w e =
@@ -270,10 +271,10 @@ field_9 w e =
 
 -- what stands for the report's file, and what follows it
 report_run : (w : World) → IsWorld (meaning_of key_cmp edk) w → (vpd : Bool) (folder : List ℕ) (modules : List Module) (flash : FlashDoc) (wanted : Wanted)
-    → gives w (attempt (report_named (field w 9)) (λ report. files_stages vpd folder modules flash wanted report)) ≡ given_as out.All (files_value w vpd folder modules flash wanted (flash_file None (field w 9)))
-report_run w e vpd folder modules flash wanted =
+    → HasShape flash → gives w (attempt (report_named (field w 9)) (λ report. files_stages vpd folder modules flash wanted report)) ≡ given_as out.All (files_value w vpd folder modules flash wanted (flash_file None (field w 9)))
+report_run w e vpd folder modules flash wanted shape =
     ap (λ (r : Result (Option (List ℕ)) Fault). gives w (attempt r (λ report. files_stages vpd folder modules flash wanted report))) (path_or_empty (field w 9) (field_9 w e) None)
-    ∙ files_run w e vpd folder modules flash wanted (flash_file None (field w 9))
+    ∙ files_run w e vpd folder modules flash wanted (flash_file None (field w 9)) shape
 
 abbrev by_both : World → Outcome Out → Outcome Out → Result Out Fault
 by_both w p v =
@@ -297,12 +298,12 @@ all_run w e =
     ∙ ap (λ (p : Outcome Out). by_both w p (value_in w key.Flash)) (platform_is w e)
     ∙ ap (by_both w (outcome_of (given_as out.Platform (platform_value w)))) (flash_is w e)
     ∙ by_both_is w (platform_value w) (flash_value w)
-    ∙ both_same out.All (platform_value w) (flash_value w) _ (λ platform flash. and_then (output_folder platform.output (field w 2) (field w 3)) (λ folder.
-    and_then (built_modules platform (field w 1)) (λ modules. wanted_value w (has_vpd platform) folder modules flash))) (λ platform flash.
+    ∙ both_found out.All (platform_value w) (flash_value w) _ (λ platform flash. and_then (output_folder platform.output (field w 2) (field w 3)) (λ folder.
+    and_then (built_modules platform (field w 1)) (λ modules. wanted_value w (has_vpd platform) folder modules flash))) (λ platform flash is_platform is_flash.
     step_run w out.All (output_folder platform.output (field w 2) (field w 3)) _ (λ folder. and_then (built_modules platform (field w 1)) (λ modules. wanted_value w (has_vpd platform) folder modules flash)) (λ folder.
     step_run w out.All (built_modules platform (field w 1)) _ (λ modules. wanted_value w (has_vpd platform) folder modules flash) (λ modules.
     step_run w out.All (wanted_of flash (field w 8)) _ (λ wanted. files_value w (has_vpd platform) folder modules flash wanted (flash_file None (field w 9))) (λ wanted.
-    report_run w e (has_vpd platform) folder modules flash wanted))))
+    report_run w e (has_vpd platform) folder modules flash wanted (flash_shape w flash is_flash)))))
 
 pub all_is : (w : World) → IsWorld (meaning_of key_cmp edk) w → value_in w key.All ≡ outcome_of (given_as out.All (all_value w))
 all_is w e = value_is key_cmp edk edk_is_bounded w key.All ∙ ap outcome_of (all_run w e)

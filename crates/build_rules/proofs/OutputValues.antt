@@ -39,7 +39,7 @@ use Rattle.output_rules.specs.Outputs.{image_output, image_where, file_output, c
 use Rattle.output_rules.specs.Wanted.{wanted_of, is_marked}
 use Rattle.output_rules.specs.declared.wanted.Wanted.{Wanted}
 use Rattle.build_rules.specs.Rules.{edk, value_in}
-use Rattle.build_rules.specs.Values.{inf_value, platform_value, flash_file, flash_value, if_shaped}
+use Rattle.build_rules.specs.Values.{inf_value, platform_value, flash_file, flash_value}
 use Rattle.build_rules.specs.ModuleValues.{pcds_value}
 use Rattle.build_rules.specs.TextValues.{code_value, depex_value, report_value}
 use Rattle.build_rules.specs.VpdValues.{vpd_value}
@@ -48,6 +48,7 @@ use Rattle.build_rules.specs.BuildValues.{module_fault, fault_where, volume_faul
 use Rattle.build_rules.proofs.Asked.{answers_in, fault_asked}
 use Rattle.build_rules.proofs.BuildValues.{asks_behind, field_9, key_is}
 use Rattle.build_rules.proofs.DeviceValues.{device_is}
+use Rattle.build_rules.proofs.FlashShape.{flash_shape, counts_fit}
 use Rattle.build_rules.proofs.ImageValues.{flash_is, path_or_empty}
 use Rattle.build_rules.proofs.ReachedLemmas.{Reaches, reached_asked, here, there}
 use Rattle.build_rules.proofs.StandLemmas.{none_both}
@@ -60,10 +61,6 @@ use Rattle.build_rules.proofs.VpdLemmas.{vpd_is}
 from_ok : {A B : Type 0} (r : Result A Fault) (f : A → Result B Fault) (y : B) (P : Type 0) → and_then r f ≡ Ok y → ((x : A) → r ≡ Ok x → f x ≡ Ok y → P) → P
 from_ok (Ok x) f y P e h = h x refl e
 from_ok (Err fault) f y P e h = absurd cc
-
-shaped_ok : {A : Type 0} (b : Bool) (r : Result A Fault) (y : A) → if_shaped b r ≡ Ok y → (b ≡ true) × (r ≡ Ok y)
-shaped_ok true r y e = (refl, e)
-shaped_ok false r y e = absurd cc
 
 fault_ok : {A : Type 0} (q : Option Fault) (r : Result A Fault) (y : A) → or_fault q r ≡ Ok y → (q ≡ None) × (r ≡ Ok y)
 fault_ok None r y e = (refl, e)
@@ -351,9 +348,8 @@ files_made w outputs platform flash folder modules wanted e p f o m g is =
     let fault = build_fault w vpd modules flash wanted report in
     let files = build_files w vpd folder modules flash wanted report in
     let asks = build_asks vpd modules flash wanted report in
-    let shaped = shaped_ok (fits_u16 (length flash.volumes) && fits_u16 (length flash.devices)) (or_fault fault files) outputs is in
-    let made = fault_ok fault files outputs shaped.1 in
-    let stage_is = last_is w platform flash folder modules wanted e p f o m g shaped.0 in
+    let made = fault_ok fault files outputs is in
+    let stage_is = last_is w platform flash folder modules wanted e p f o m g (counts_fit flash (flash_shape w flash f)) in
     let reached : (a : Ask Key) → Contains asks a → Reaches w a all_stages = λ a c. inr (no_first_fault w platform flash e p f, subst (λ (t : EdkStages). Reaches w a t) (sym stage_is) (inl c)) in
     All-weaker (λ (o : Output). Comes w asks o.from o.part) (IsMade w) (λ o h. record {
       given = h.0;

@@ -1,6 +1,6 @@
 -- The value of the whole build in a world: the files that it gives, by what the steps of modules,
 -- images and the report give (EDK II Build specification, build output).
-use Rattle.std.specs.Prelude.{◌≡◌, ◌⊎◌, ℕ, ◌+◌, ◌==◌, ◌&&◌, not, Bool, true, false, List, [], ◌∷◌, length, map, Option, Some, None, Result, Ok}
+use Rattle.std.specs.Prelude.{◌≡◌, ◌⊎◌, ℕ, ◌+◌, ◌==◌, not, Bool, true, false, List, [], ◌∷◌, length, map, Option, Some, None, Result, Ok}
 use Rattle.std.specs.Option.{is_some}
 use Rattle.std.specs.Result.{result_err}
 use Rattle.build_base.specs.First.{and_then, or_else, first_of, or_fault, with_front}
@@ -20,7 +20,7 @@ use Rattle.step_pack.specs.declared.out.Out.{Out}
 use Rattle.step_pack.specs.declared.out.Out.TheVariants as out
 use Rattle.step_pack.specs.declared.out.Output.{Output}
 use Rattle.module_steps.specs.Settings.{built_modules}
-use Rattle.image_steps.specs.Asks.{is_based, fits_u16}
+use Rattle.image_steps.specs.Asks.{is_based}
 use Rattle.document_rules.specs.Folders.{output_folder}
 use Rattle.document_rules.specs.Trees.{given_as}
 use Rattle.document_rules.specs.VpdLines.{has_vpd}
@@ -28,7 +28,7 @@ use Rattle.output_rules.specs.Outputs.{module_outputs, volume_outputs, device_ou
 use Rattle.output_rules.specs.Wanted.{wanted_of, is_marked}
 use Rattle.output_rules.specs.declared.wanted.Wanted.{Wanted}
 use Rattle.build_rules.specs.Rules.{edk, value_in}
-use Rattle.build_rules.specs.Values.{inf_value, platform_value, flash_file, flash_value, if_shaped}
+use Rattle.build_rules.specs.Values.{inf_value, platform_value, flash_file, flash_value}
 use Rattle.build_rules.specs.ModuleValues.{pcds_value}
 use Rattle.build_rules.specs.TextValues.{code_value, depex_value, report_value}
 use Rattle.build_rules.specs.VpdValues.{vpd_value}
@@ -106,9 +106,8 @@ build_files w vpd folder modules flash wanted report =
 abbrev pub files_value : World → Bool → List ℕ → List Module → FlashDoc → Wanted
     → Option (List ℕ) → Result (List Output) Fault
 files_value w vpd folder modules flash wanted report =
-    if_shaped (fits_u16 (length flash.volumes) && fits_u16 (length flash.devices))
-    (or_fault (build_fault w vpd modules flash wanted report)
-    (build_files w vpd folder modules flash wanted report))
+    or_fault (build_fault w vpd modules flash wanted report)
+    (build_files w vpd folder modules flash wanted report)
 
 abbrev pub wanted_value : World → Bool → List ℕ → List Module → FlashDoc
     → Result (List Output) Fault
