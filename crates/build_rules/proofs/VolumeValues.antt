@@ -12,6 +12,7 @@ use Rattle.doc_types.specs.declared.volume.Item.{Item}
 use Rattle.doc_types.specs.declared.volume.Item.TheVariants as item
 use Rattle.doc_types.specs.declared.volume.VolumePlan.{VolumePlan}
 use Rattle.doc_types.specs.declared.volume_head.VolumeHead.{VolumeHead}
+use Rattle.flash_document.specs.Shape.{ItemFits}
 use Rattle.step_engine.specs.Meaning.{IsWorld}
 use Rattle.step_engine.specs.declared.talk.Ask.TheVariants as ask
 use Rattle.step_engine.specs.declared.talk.Answer.{Answer}
@@ -39,7 +40,8 @@ use Rattle.build_rules.specs.RulesBounds.{edk_is_bounded}
 use Rattle.build_rules.specs.Values.{flash_value}
 use Rattle.build_rules.specs.ImageValues.{statement_value, plan_value, planned_file, item_value, file_value, numbers_where, file_order, volume_files, volume_by, planned_value, volume_value}
 use Rattle.build_rules.proofs.Asked.{answers_in, fault_asked, by_answers, answers_append, or_and}
-use Rattle.build_rules.proofs.ImageValues.{gives, after_flash, step_run, when_run, last_run, or_then, then_same}
+use Rattle.build_rules.proofs.FlashShape.{item_fits, sections_fit}
+use Rattle.build_rules.proofs.ImageValues.{gives, after_flash, step_run, found_run, passed_run, last_run, or_then, then_same}
 use Rattle.build_rules.proofs.KindLemmas.{stage_run}
 use Rattle.build_rules.proofs.RuleValues.{plan_same, planned_same, apriori_same}
 use Rattle.build_rules.proofs.StatementValues.{placed_plan, placed_volume, placed_run, statement_same}
@@ -56,20 +58,21 @@ module_run w flash head line e =
     ∙ or_then out.File (fault_asked w (line_asks line)) (plan_given flash line (answers_in w (line_asks line))) (planned_file w head)
     ∙ ap (λ r. given_as out.File (and_then r (planned_file w head))) (plan_same w flash line e)
 
-item_run : (w : World) (v : ℕ) (flash : FlashDoc) (head : VolumeHead) → IsWorld (meaning_of key_cmp edk) w → (it : Item) → gives w (item_stages v flash head it) ≡ given_as out.File (item_value w v flash head it)
-item_run w v flash head e (item.File plan) =
-    when_run w out.File (sections_below v plan.sections) _ (statement_value w flash head plan)
-    (last_run w out.File (file_asks flash.volumes plan) (file_given flash head plan) ∙ ap (λ (r : Result FileImage Fault). given_as out.File r) (statement_same w flash head plan e))
-item_run w v flash head e (item.Apriori at pei members) =
+item_run : (w : World) (v : ℕ) (flash : FlashDoc) (head : VolumeHead) → IsWorld (meaning_of key_cmp edk) w → (it : Item) → ItemFits v it
+    → gives w (item_stages v flash head it) ≡ given_as out.File (item_value w flash head it)
+item_run w v flash head e (item.File plan) fit =
+    passed_run w (sections_below v plan.sections) _ (sections_fit v plan fit)
+    ∙ last_run w out.File (file_asks flash.volumes plan) (file_given flash head plan) ∙ ap (λ (r : Result FileImage Fault). given_as out.File r) (statement_same w flash head plan e)
+item_run w v flash head e (item.Apriori at pei members) fit =
     last_run w out.File (members_asks members) (apriori_given head at pei members) ∙ ap (λ (r : Result FileImage Fault). given_as out.File r) (apriori_same w head at pei members e)
-item_run w v flash head e (item.Inf line) = module_run w flash head line e
+item_run w v flash head e (item.Inf line) fit = module_run w flash head line e
 
 file_run : (w : World) (v i : ℕ) → IsWorld (meaning_of key_cmp edk) w → gives w (file_stages v i) ≡ given_as out.File (file_value w v i)
 unfolding file_value
 file_run w v i e =
-    after_flash w e out.File _ (λ flash. and_then (volume_at flash v) (λ plan. and_then (item_at flash plan i) (λ it. item_value w v flash plan.head it))) (λ flash shape.
-    step_run w out.File (volume_at flash v) _ (λ plan. and_then (item_at flash plan i) (λ it. item_value w v flash plan.head it)) (λ plan.
-    step_run w out.File (item_at flash plan i) _ (λ it. item_value w v flash plan.head it) (λ it. item_run w v flash plan.head e it)))
+    after_flash w e out.File _ (λ flash. and_then (volume_at flash v) (λ plan. and_then (item_at flash plan i) (λ it. item_value w flash plan.head it))) (λ flash shape.
+    found_run w out.File (volume_at flash v) _ (λ plan. and_then (item_at flash plan i) (λ it. item_value w flash plan.head it)) (λ plan is_plan.
+    found_run w out.File (item_at flash plan i) _ (λ it. item_value w flash plan.head it) (λ it is_it. item_run w v flash plan.head e it (item_fits flash v i plan it shape is_plan is_it))))
 
 pub file_is : (w : World) (v i : ℕ) → IsWorld (meaning_of key_cmp edk) w → value_in w (key.File v i) ≡ outcome_of (given_as out.File (file_value w v i))
 file_is w v i e = value_is key_cmp edk edk_is_bounded w (key.File v i) ∙ ap outcome_of (file_run w v i e)

@@ -1,7 +1,7 @@
 -- The values of the steps of files, volumes and devices in a world: what their sections, items and
 -- regions hold, by the files of the world and by the values of other steps (EDK II FDF
 -- specification; UEFI PI specification, volume 3).
-use Rattle.std.specs.Prelude.{◌≡◌, ℕ, ◌+◌, Bool, true, false, not, if◌then◌else◌, List, [], ◌∷◌, ◌++◌, length, map, slice_get, Option, Some, None, Result, Ok, Err}
+use Rattle.std.specs.Prelude.{◌≡◌, ℕ, ◌+◌, Bool, true, false, not, if◌then◌else◌, List, [], ◌∷◌, ◌++◌, map, slice_get, Option, Some, None, Result, Ok, Err}
 use Rattle.std.specs.List.{filter_map}
 use Rattle.std.specs.Result.{result_err}
 use Rattle.build_base.specs.First.{and_then, or_else, first_of, or_fault, all_ok}
@@ -41,7 +41,7 @@ use Rattle.step_pack.specs.declared.out.Out.{Out}
 use Rattle.step_pack.specs.declared.out.Out.TheVariants as out
 use Rattle.rule_choice.specs.Modules.{inf_arch}
 use Rattle.module_steps.specs.Settings.{arches_built}
-use Rattle.image_steps.specs.Asks.{is_based, is_apriori, is_vpd, volume_step, sections_below, regions_below, fits_u16}
+use Rattle.image_steps.specs.Asks.{is_based, is_apriori, is_vpd, volume_step}
 use Rattle.image_steps.specs.Contents.{file_absent, section_absent, volume_given, words_bytes}
 use Rattle.image_steps.specs.Files.{file_name, image_plan}
 use Rattle.image_steps.specs.Parts.{as_is, file_shaped, header_guid, part_with}
@@ -57,7 +57,7 @@ use Rattle.module_images.specs.Plans.{module_of, module_plan}
 use Rattle.module_images.specs.Sections.{absent_fault, too_long, expression_fault, some_part, file_part, absent_part, expression_part, words_part}
 use Rattle.document_rules.specs.Trees.{given_as}
 use Rattle.build_rules.specs.Rules.{value_in}
-use Rattle.build_rules.specs.Values.{inf_value, platform_value, flash_value, if_shaped}
+use Rattle.build_rules.specs.Values.{inf_value, platform_value, flash_value}
 use Rattle.build_rules.specs.TextValues.{depex_value}
 use Rattle.build_rules.specs.VpdValues.{vpd_value}
 
@@ -231,11 +231,10 @@ apriori_value w head at pei members =
 
 -- Files.
 
-abbrev pub item_value : World → ℕ → FlashDoc → VolumeHead → Item → Result FileImage Fault
-item_value w v flash head (item.File plan) =
-    if_shaped (sections_below v plan.sections) (statement_value w flash head plan)
-item_value w v flash head (item.Apriori at pei members) = apriori_value w head at pei members
-item_value w v flash head (item.Inf line) =
+abbrev pub item_value : World → FlashDoc → VolumeHead → Item → Result FileImage Fault
+item_value w flash head (item.File plan) = statement_value w flash head plan
+item_value w flash head (item.Apriori at pei members) = apriori_value w head at pei members
+item_value w flash head (item.Inf line) =
     and_then (plan_value w flash line) (planned_file w head)
 
 -- the file of item i of volume v
@@ -243,7 +242,7 @@ unfoldable pub file_value : World → ℕ → ℕ → Result FileImage Fault
 file_value w v i =
     and_then (flash_value w) (λ flash.
     and_then (volume_at flash v) (λ plan.
-    and_then (item_at flash plan i) (λ it. item_value w v flash plan.head it)))
+    and_then (item_at flash plan i) (λ it. item_value w flash plan.head it)))
 
 -- Volumes.
 
