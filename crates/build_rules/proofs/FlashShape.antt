@@ -114,7 +114,7 @@ flash_shape w flash e = platform_shape w (platform_value w) flash e
 
 -- What its numbers name.
 
-both_true : (a b : Bool) → a ≡ true → b ≡ true → (a && b) ≡ true
+pub both_true : (a b : Bool) → a ≡ true → b ≡ true → (a && b) ≡ true
 both_true true b h k = k
 both_true false b h k = absurd cc
 

@@ -29,7 +29,7 @@ use Rattle.document_rules.specs.Fits.{fits}
 use Rattle.document_rules.specs.Trees.{flash_in, EdkStages, given_as, some_path, path_named, flash_named, flash_asks, flash_from, flash_given, flash_stages}
 use Rattle.build_rules.specs.Rules.{edk, is_path_or_empty, value_in}
 use Rattle.build_rules.specs.RulesBounds.{edk_is_bounded}
-use Rattle.build_rules.specs.Values.{job_macros, platform_value, flash_file, flash_of_file, flash_value, if_shaped}
+use Rattle.build_rules.specs.Values.{job_macros, platform_value, flash_file, flash_of_file, flash_value}
 use Rattle.build_rules.proofs.Asked.{answers_in, fault_asked, by_answers}
 use Rattle.build_rules.proofs.FlashShape.{flash_shape}
 use Rattle.build_rules.proofs.KindLemmas.{stage_run}
@@ -58,10 +58,6 @@ given_then variant (Err fault) f = refl
 given_or : {A : Type 0} (variant : A → Out) (q : Option Fault) (r : Result A Fault) → or_fault q (given_as variant r) ≡ given_as variant (or_fault q r)
 given_or variant (Some fault) r = refl
 given_or variant None r = refl
-
-pub when_run : {A : Type 0} (w : World) (variant : A → Out) (b : Bool) (s : EdkStages) (r : Result A Fault) → gives w s ≡ given_as variant r → gives w (when b s) ≡ given_as variant (if_shaped b r)
-when_run w variant true s r h = h
-when_run w variant false s r h = refl
 
 -- what a test keeps back, where it holds
 pub passed_run : (w : World) (b : Bool) (s : EdkStages) → b ≡ true → gives w (when b s) ≡ gives w s

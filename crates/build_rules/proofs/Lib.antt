@@ -3,6 +3,7 @@ mod StandLemmas
 mod Asked
 mod KindLemmas
 mod FlashShape
+mod PlatformShape
 mod ImageValues
 mod DescriptionLemmas
 mod ToldLemmas

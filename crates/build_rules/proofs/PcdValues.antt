@@ -35,11 +35,12 @@ use Rattle.build_rules.specs.ModuleValues.{choice_value, linked_value, described
 use Rattle.build_rules.specs.Rules.{edk, value_in}
 use Rattle.build_rules.specs.RulesBounds.{edk_is_bounded}
 use Rattle.document_rules.specs.Trees.{given_as}
-use Rattle.build_rules.specs.Values.{platform_value, flash_value, if_shaped}
+use Rattle.build_rules.specs.Values.{platform_value, flash_value}
 use Rattle.build_rules.proofs.Asked.{fault_asked}
 use Rattle.build_rules.proofs.ChoiceValues.{choice_is}
-use Rattle.build_rules.proofs.ImageValues.{flash_is, given_then, step_run, then_same, when_run}
+use Rattle.build_rules.proofs.ImageValues.{flash_is, given_then, step_run, then_same, passed_run}
 use Rattle.build_rules.proofs.KindLemmas.{stage_run}
+use Rattle.build_rules.proofs.PlatformShape.{skus_found}
 use Rattle.build_rules.proofs.ToldLemmas.{comes, part_answers, linked_answers, package_answers, step_tells, described_tells, parts_tells, step_answers, group_answers, told_run}
 use Rattle.build_rules.proofs.ValueLemmas.{platform_is}
 
@@ -94,9 +95,9 @@ by_both_is w (Err fault) (Ok flash) = refl
 by_both_is w (Err fault) (Err other) = refl
 
 both_made : (p : Result PlatformDoc Fault) (r : Result FlashDoc Fault) (f : PlatformDoc → FlashDoc → Result Out Fault) (g : PlatformDoc → FlashDoc → Result Values Fault)
-    → ((platform : PlatformDoc) (flash : FlashDoc) → f platform flash ≡ given_as out.Values (g platform flash))
+    → ((platform : PlatformDoc) (flash : FlashDoc) → p ≡ Ok platform → f platform flash ≡ given_as out.Values (g platform flash))
     → and_then p (λ platform. and_then r (λ flash. f platform flash)) ≡ given_as out.Values (and_then p (λ platform. and_then r (λ flash. g platform flash)))
-both_made (Ok platform) (Ok flash) f g h = h platform flash
+both_made (Ok platform) (Ok flash) f g h = h platform flash refl
 both_made (Ok platform) (Err fault) f g h = refl
 both_made (Err fault) r f g h = refl
 
@@ -107,10 +108,10 @@ pcds_run w e =
     ∙ ap (λ (p : Outcome Out). by_both w p (value_in w key.Flash)) (platform_is w e)
     ∙ ap (by_both w (outcome_of (given_as out.Platform (platform_value w)))) (flash_is w e)
     ∙ by_both_is w (platform_value w) (flash_value w)
-    ∙ both_made (platform_value w) (flash_value w) _ (λ platform flash. if_shaped (skus_end platform.skus) (and_then (setting_of platform (field w 1) (field w 4) (field w 6)) (λ setting. and_then (modules_value w setting.modules) (pcds_given platform flash setting)))) (λ platform flash.
-    when_run w out.Values (skus_end platform.skus) _ (and_then (setting_of platform (field w 1) (field w 4) (field w 6)) (λ setting. and_then (modules_value w setting.modules) (pcds_given platform flash setting)))
-    (step_run w out.Values (setting_of platform (field w 1) (field w 4) (field w 6)) _ (λ setting. and_then (modules_value w setting.modules) (pcds_given platform flash setting)) (λ setting.
-    made_run w out.Values (modules_parts setting.modules) (modules_value w setting.modules) (pcds_given platform flash setting) (modules_run w e setting.modules))))
+    ∙ both_made (platform_value w) (flash_value w) _ (λ platform flash. and_then (setting_of platform (field w 1) (field w 4) (field w 6)) (λ setting. and_then (modules_value w setting.modules) (pcds_given platform flash setting))) (λ platform flash is_platform.
+    passed_run w (skus_end platform.skus) _ (skus_found w platform is_platform)
+    ∙ step_run w out.Values (setting_of platform (field w 1) (field w 4) (field w 6)) _ (λ setting. and_then (modules_value w setting.modules) (pcds_given platform flash setting)) (λ setting.
+    made_run w out.Values (modules_parts setting.modules) (modules_value w setting.modules) (pcds_given platform flash setting) (modules_run w e setting.modules)))
 
 pub pcds_is : (w : World) → IsWorld (meaning_of key_cmp edk) w → value_in w key.PlatformPcds ≡ outcome_of (given_as out.Values (pcds_value w))
 pcds_is w e = value_is key_cmp edk edk_is_bounded w key.PlatformPcds ∙ ap outcome_of (pcds_run w e)

@@ -23,11 +23,10 @@ use Rattle.module_steps.specs.Choices.{alone, behind}
 use Rattle.module_steps.specs.Parts.{held_package, linked, linked_module, described, parts}
 use Rattle.module_steps.specs.Pcds.{pcds_given, values_given}
 use Rattle.module_steps.specs.Settings.{command_line_pcds, setting_of}
-use Rattle.module_steps.specs.Skus.{skus_end}
 use Rattle.module_rules.specs.ModuleTrees.{most_rounds}
 use Rattle.build_rules.specs.Rules.{value_in}
 use Rattle.document_rules.specs.Trees.{given_as}
-use Rattle.build_rules.specs.Values.{dec_value, inf_value, platform_value, flash_value, if_shaped}
+use Rattle.build_rules.specs.Values.{dec_value, inf_value, platform_value, flash_value}
 
 -- the descriptions of some modules, or the first fault
 abbrev pub infs_value : World → List (List ℕ) → Result (List InfDoc) Fault
@@ -80,9 +79,8 @@ unfoldable pub pcds_value : World → Result Values Fault
 pcds_value w =
     and_then (platform_value w) (λ platform.
     and_then (flash_value w) (λ flash.
-    if_shaped (skus_end platform.skus) (
     and_then (setting_of platform (field w 1) (field w 4) (field w 6)) (λ setting.
-    and_then (modules_value w setting.modules) (pcds_given platform flash setting)))))
+    and_then (modules_value w setting.modules) (pcds_given platform flash setting))))
 
 unfoldable pub module_value : World → Module → Choice → Result ModuleParts Fault
 module_value w m choice = and_then (described_value w (linked_module m choice)) (parts_value w)

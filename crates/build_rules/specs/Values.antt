@@ -1,6 +1,6 @@
 -- The values of the steps of documents in a world: what their lines come to (EDK II DSC, FDF, DEC
 -- and INF specifications).
-use Rattle.std.specs.Prelude.{◌≡◌, ℕ, ◌==◌, Bool, true, false, List, [], length, Option, Some, None, Result, Ok, Err, if◌then◌else◌}
+use Rattle.std.specs.Prelude.{◌≡◌, ℕ, ◌==◌, List, [], length, Option, Some, None, Result, Ok, Err, if◌then◌else◌}
 use Rattle.build_base.specs.First.{and_then}
 use Rattle.build_base.specs.World.{World, got, field}
 use Rattle.build_base.specs.declared.fault.Fault.{Fault}
@@ -17,7 +17,7 @@ use Rattle.doc_types.specs.declared.platform.PlatformDoc.{PlatformDoc}
 use Rattle.dsc_platform.specs.Platform.{platform_of}
 use Rattle.doc_types.specs.declared.flash.FlashDoc.{FlashDoc}
 use Rattle.flash_document.specs.Flash.{flash_of}
-use Rattle.build_stages.specs.Stages.{outcome_of, impossible_answer}
+use Rattle.build_stages.specs.Stages.{outcome_of}
 use Rattle.step_pack.specs.declared.key.Key.TheVariants as key
 use Rattle.step_pack.specs.declared.out.Out.TheVariants as out
 use Rattle.document_rules.specs.Defines.{macros_of_job}
@@ -54,11 +54,6 @@ unfoldable pub flash_value : World → Result FlashDoc Fault
 flash_value w =
     and_then (platform_value w) (λ platform.
     flash_of_file w platform (flash_file platform.flash (field w 7)))
-
--- what has its shape; in a world it has
-abbrev pub if_shaped : {A : Type 0} → Bool → Result A Fault → Result A Fault
-if_shaped true r = r
-if_shaped false r = Err impossible_answer
 
 -- the step of a document gives its value
 abbrev pub GivesPackage : World → List ℕ → Type 0
