@@ -1,7 +1,6 @@
 -- The flash description of a world has its shape, and what follows for what its numbers name.
-use Rattle.std.proofs.Common.{◌≡◌, ◌∙◌, ℕ, zero, suc, ◌+◌, ◌≤◌, ◌<◌, ◌&&◌, Bool, true, false, nat_lt, List, [], ◌∷◌, length, map, slice_get, Option, Some, None, Result, Ok, Err, IfOk, All, refl, sym, ap, subst, arith}
+use Rattle.std.proofs.Common.{◌≡◌, ℕ, zero, suc, ◌+◌, ◌≤◌, ◌<◌, ◌&&◌, Bool, true, false, List, [], ◌∷◌, length, map, slice_get, Option, Some, None, Result, Ok, Err, IfOk, All, refl, ap, subst, arith}
 use Rattle.std.specs.Option.{IfSome}
-use Rattle.std.specs.List.{list_all}
 use Rattle.std.proofs.lemmas.Bool.Decides.{nat_tests}
 use Rattle.std.proofs.lemmas.List.Elements.{All-nil, All-head, All-tail}
 use Rattle.build_base.specs.First.{and_then, unless}
@@ -32,11 +31,10 @@ use Rattle.fdf_lines.specs.Standing.{marks_below, volume_below}
 use Rattle.fdf_lines.specs.declared.flash_lines.FlashLines.{FlashLines}
 use Rattle.fdf_lines.specs.declared.section.FlashSection.TheVariants.{Device, Volume, Rule}
 use Rattle.fdf_lines.proofs.LimitLemmas.{within_held}
-use Rattle.fdf_words.specs.declared.rows.LineRead.{LineRead}
 use Rattle.fdf_words.specs.declared.rows.Row.{Row}
 use Rattle.fdf_words.specs.declared.rows.Scope.{Scope}
 use Rattle.flash_document.specs.Flash.{line_of, flash_of}
-use Rattle.flash_document.specs.Shape.{KindFits, RegionFits, DeviceFits, SourceFits, SectionFits, FileFits, ItemFits, VolumeFits, VolumesFit, FewItems, HasShape}
+use Rattle.flash_document.specs.Shape.{KindFits, RegionFits, DeviceFits, SourceFits, SectionFits, ItemFits, VolumeFits, VolumesFit, FewItems, HasShape}
 use Rattle.flash_document.proofs.CarryLemmas.{at_place}
 use Rattle.flash_document.proofs.ShapeLemmas.{shape_of}
 use Rattle.image_steps.specs.Asks.{source_below, sections_below, fits_u16, kind_below, regions_below}

@@ -1,6 +1,6 @@
 -- Files and volumes in a world.
 use Rattle.std.specs.Prelude.{not, if◌then◌else◌}
-use Rattle.std.proofs.Common.{◌≡◌, ℕ, ◌+◌, Bool, true, false, List, [], ◌∷◌, ◌++◌, length, map, Option, Some, None, Result, Ok, Err, refl, sym, ap, ◌∙◌}
+use Rattle.std.proofs.Common.{◌≡◌, ℕ, ◌+◌, Bool, true, false, List, [], ◌∷◌, ◌++◌, map, Option, Some, None, Result, Ok, Err, refl, sym, ap, ◌∙◌}
 use Rattle.std.proofs.lemmas.List.{map-append}
 use Rattle.build_base.specs.First.{and_then, or_else, or_fault, first_of, with_front, all_ok}
 use Rattle.build_base.specs.World.{World}
@@ -25,7 +25,7 @@ use Rattle.step_pack.specs.Keys.{key_cmp}
 use Rattle.step_pack.specs.declared.key.Key.TheVariants as key
 use Rattle.step_pack.specs.declared.out.Out.{Out}
 use Rattle.step_pack.specs.declared.out.Out.TheVariants as out
-use Rattle.image_steps.specs.Asks.{is_based, is_apriori, files_where, file_asks, item_asks, sections_below, fits_u16}
+use Rattle.image_steps.specs.Asks.{is_based, is_apriori, files_where, file_asks, item_asks, sections_below}
 use Rattle.image_steps.specs.Files.{file_given}
 use Rattle.image_steps.specs.Volumes.{image_given, images_from, composed_volume, volume_given}
 use Rattle.image_rules.specs.Based.{rebased_image, based_given}
@@ -38,7 +38,7 @@ use Rattle.document_rules.specs.Trees.{given_as}
 use Rattle.build_rules.specs.Rules.{edk, value_in}
 use Rattle.build_rules.specs.RulesBounds.{edk_is_bounded}
 use Rattle.build_rules.specs.Values.{flash_value}
-use Rattle.build_rules.specs.ImageValues.{statement_value, plan_value, planned_file, item_value, file_value, numbers_where, file_order, volume_files, volume_by, planned_value, volume_value}
+use Rattle.build_rules.specs.ImageValues.{plan_value, planned_file, item_value, file_value, numbers_where, file_order, volume_files, volume_by, planned_value, volume_value}
 use Rattle.build_rules.proofs.Asked.{answers_in, fault_asked, by_answers, answers_append, or_and}
 use Rattle.build_rules.proofs.FlashShape.{item_fits, sections_fit}
 use Rattle.build_rules.proofs.ImageValues.{gives, after_flash, step_run, found_run, passed_run, last_run, or_then, then_same}

@@ -1,6 +1,6 @@
 -- The values of the steps of documents in a world: what their lines come to (EDK II DSC, FDF, DEC
 -- and INF specifications).
-use Rattle.std.specs.Prelude.{◌≡◌, ℕ, ◌==◌, List, [], length, Option, Some, None, Result, Ok, Err, if◌then◌else◌}
+use Rattle.std.specs.Prelude.{◌≡◌, ℕ, ◌==◌, List, [], length, Option, Some, None, Result, Ok, if◌then◌else◌}
 use Rattle.build_base.specs.First.{and_then}
 use Rattle.build_base.specs.World.{World, got, field}
 use Rattle.build_base.specs.declared.fault.Fault.{Fault}
