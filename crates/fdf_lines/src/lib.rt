@@ -2,7 +2,7 @@
 #![tactic(auto)]
 
 mod counts;
-mod flash_lines;
+pub mod flash_lines;
 pub mod rule_line;
 mod rule_number;
 pub mod rule_options;
