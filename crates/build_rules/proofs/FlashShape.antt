@@ -24,11 +24,9 @@ use Rattle.doc_types.specs.declared.volume.SectionSource.TheVariants as source
 use Rattle.doc_types.specs.declared.volume.VolumePlan.{VolumePlan}
 use Rattle.fdf_lines.specs.Counts.{saturated, heads_above, statements_here}
 use Rattle.fdf_lines.specs.Grammar.{flash_grammar, rows_of_flash}
-use Rattle.fdf_lines.specs.Holding.{Holds}
 use Rattle.fdf_lines.specs.Limits.{WithinLimits}
 use Rattle.fdf_lines.specs.Reads.{reads_as}
 use Rattle.fdf_lines.specs.Standing.{marks_below, volume_below}
-use Rattle.fdf_lines.specs.declared.flash_lines.FlashLines.{FlashLines}
 use Rattle.fdf_lines.specs.declared.section.FlashSection.TheVariants.{Device, Volume, Rule}
 use Rattle.fdf_lines.proofs.LimitLemmas.{within_held}
 use Rattle.fdf_words.specs.declared.rows.Row.{Row}
@@ -49,10 +47,13 @@ lines_again [] = refl
 lines_again (entered at scopes ∷ reads) = ap (λ rs. entered at scopes ∷ rs) (lines_again reads)
 lines_again (gave rows ∷ reads) = ap (λ rs. gave rows ∷ rs) (lines_again reads)
 
--- a reader that holds them
-abbrev held : List (Read Scope Row) → FlashLines
-held reads =
-    record {
+-- the lines of any reader that holds them are
+faultless_within : (lines : List Taken) (fault : Option Fault) → first_fault flash_grammar lines ≡ fault → IfOk (unless fault (read_of flash_grammar lines)) WithinLimits
+faultless_within lines None e =
+    let reads = read_of flash_grammar lines in
+    subst WithinLimits (lines_again reads)
+    (within_held lines
+    (record {
       alloc = record { memory = record { seal = tt } };
       reads = map line_of reads;
       marks = marks_below reads;
@@ -61,16 +62,9 @@ held reads =
       devices = saturated (heads_above Device reads);
       volumes = saturated (heads_above Volume reads);
       rules = saturated (heads_above Rule reads);
-    }
-
-holds_them : (reads : List (Read Scope Row)) → Holds reads (held reads)
-holds_them reads =
-    record { reads = lines_again reads; marks = refl; volume = refl; statements = refl; devices = refl; volumes = refl; rules = refl }
-
-faultless_within : (lines : List Taken) (fault : Option Fault) → first_fault flash_grammar lines ≡ fault → IfOk (unless fault (read_of flash_grammar lines)) WithinLimits
-faultless_within lines None e =
-    let reads = read_of flash_grammar lines in
-    subst WithinLimits (lines_again reads) (within_held lines (held reads) e (holds_them reads))
+    })
+    e
+    (record { reads = lines_again reads; marks = refl; volume = refl; statements = refl; devices = refl; volumes = refl; rules = refl }))
 faultless_within lines (Some fault) e = tt
 
 rows_within : (lines : List Taken) → IfOk (rows_of_flash lines) WithinLimits
