@@ -1,18 +1,17 @@
 -- The entries of an older cache that stay are sound today.
-use Rattle.std.proofs.Common.{◌≡◌, ◌⊎◌, inl, inr, ℕ, zero, suc, ◌<◌, ◌≤◌, ◌++◌, arith, Bool, true, false, true≢false, List, [], ◌∷◌, map, All, Contains, refl, sym, ap, ◌∙◌, subst, cond, Option, Some, None, Result, Ok, Err}
+use Rattle.std.proofs.Common.{◌≡◌, inl, inr, ℕ, zero, suc, ◌<◌, ◌≤◌, ◌++◌, arith, Bool, true, false, List, [], ◌∷◌, All, Contains, refl, sym, ap, ◌∙◌, cond, Some, Result, Ok, Err}
 use Rattle.std.specs.Prelude.{not, ◌&&◌, ◌||◌, nat_le, nat_lt}
 use Rattle.std.proofs.lemmas.Bool.{leb-true}
 use Rattle.std.proofs.lemmas.List.Elements.{All-nil, All-cons, All-head, All-tail, All-weaker, All-contains_itself}
-use Rattle.build_base.specs.World.{World, got, field}
+use Rattle.build_base.specs.World.{World}
 use Rattle.build_stages.specs.Asks.{same_ask}
 use Rattle.build_stages.specs.Bounds.{both_hold}
-use Rattle.build_stages.specs.Stages.{Halt, wants, fails, impossible_answer, Stages, end, stage, IsLower, AreLower, Staged, advance, known_in, meaning_of, oracle, outcome_of, run, turned, value_by, wanted_in}
+use Rattle.build_stages.specs.Stages.{Halt, wants, fails, impossible_answer, end, stage, IsLower, AreLower, advance, known_in, meaning_of, oracle, outcome_of, run, turned, value_by, wanted_in}
 use Rattle.build_stages.specs.StagesLaws.{run_same}
 use Rattle.build_stages.specs.StagesTurns.{wants_lower}
 use Rattle.step_engine.specs.Caches.{Keeps}
 use Rattle.step_engine.specs.Entries.{IsSound, AreSound}
 use Rattle.step_engine.specs.Meaning.{Meaning, FollowsFrom, IsRight, AreRight, asks_of, right}
-use Rattle.step_engine.specs.declared.talk.Answer.{Answer}
 use Rattle.step_engine.specs.declared.talk.Answer.TheVariants as answer
 use Rattle.step_engine.specs.declared.talk.Ask.{Ask}
 use Rattle.step_engine.specs.declared.talk.Ask.TheVariants as ask

@@ -89,6 +89,8 @@ empty_shape platform =
       volume_count = omega arith;
       rule_count = omega arith;
       items = All-nil _;
+      files = All-nil _;
+      rule_sources = All-nil _;
     }
 
 file_shape : (w : World) (platform : PlatformDoc) (file : Option (List ℕ)) (flash : FlashDoc) → flash_of_file w platform file ≡ Ok flash → HasShape flash
@@ -114,7 +116,7 @@ number_names : {A : Type 0} (flash : FlashDoc) (found : Option A) (x : A) → it
 number_names flash (Some y) x e = let same : y ≡ x = cc in ap Some same
 number_names flash None x e = absurd cc
 
-named_has : {A : Type 0} (P : A → Type 0) (flash : FlashDoc) (xs : List A) (n : ℕ) (x : A) → item_of_number flash (slice_get xs n) ≡ Ok x → All P xs → P x
+pub named_has : {A : Type 0} (P : A → Type 0) (flash : FlashDoc) (xs : List A) (n : ℕ) (x : A) → item_of_number flash (slice_get xs n) ≡ Ok x → All P xs → P x
 named_has P flash xs n x e all =
     let found : slice_get xs n ≡ Some x = number_names flash (slice_get xs n) x e in
     at_place P xs n (Some x) found all

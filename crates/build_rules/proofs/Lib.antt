@@ -2,7 +2,7 @@ pub mod ValueLemmas
 mod StandLemmas
 mod Asked
 mod KindLemmas
-mod FlashShape
+pub mod FlashShape
 mod PlatformShape
 mod ImageValues
 mod DescriptionLemmas
@@ -14,8 +14,8 @@ mod VpdLemmas
 mod StatementValues
 mod RuleValues
 mod VolumeValues
-mod DeviceValues
-mod BuildValues
+pub mod DeviceValues
+pub mod BuildValues
 mod ReachedLemmas
 mod OutputValues
 pub mod AdoptLemmas

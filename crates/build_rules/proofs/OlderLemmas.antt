@@ -1,5 +1,5 @@
 -- The steps of edition 2 are older definitions.
-use Rattle.std.proofs.Common.{◌≡◌, refl, true}
+use Rattle.std.proofs.Common.{refl}
 use Rattle.step_pack.specs.declared.key.Key.{Key}
 use Rattle.step_pack.specs.declared.key.Key.TheVariants as key
 use Rattle.build_rules.specs.Adopting.{AreOlder}

@@ -1,15 +1,16 @@
 -- What holds of the rows and the heads of all lines holds of what the sections state.
-use Rattle.std.proofs.Common.{◌≡◌, ◌∙◌, ℕ, ◌+◌, Bool, true, false, ◌==◌, if◌then◌else◌, List, [], ◌∷◌, ◌++◌, take, fold, Option, Some, None, refl, sym, subst, arith, zero, suc}
+use Rattle.std.proofs.Common.{◌≡◌, ◌∙◌, ℕ, ◌+◌, Bool, true, false, ◌==◌, if◌then◌else◌, List, [], ◌∷◌, take, fold, Option, Some, None, refl, subst, arith, zero, suc}
 use Rattle.std.specs.Prelude.{slice_get, bit_and, bit_or}
 use Rattle.std.specs.List.{All, list_all, flat_map, position_or_len}
 use Rattle.std.specs.Option.{IfSome}
 use Rattle.std.proofs.lemmas.Bool.{and_parts}
 use Rattle.std.proofs.lemmas.Bool.Decides.{nat_tests}
-use Rattle.std.proofs.lemmas.List.Elements.{All-nil, All-cons, All-append, All-get_or, All-head, All-tail, All-push}
+use Rattle.std.proofs.lemmas.List.Elements.{All-nil, All-cons, All-append, All-get_or, All-head, All-tail}
 use Rattle.std.proofs.lemmas.Nat.{and_or_apart}
 use Rattle.std.proofs.lemmas.Option.{slice_get_within, get_or_from_slice_get}
 use Rattle.build_base.specs.declared.fault.Place.{Place}
 use Rattle.doc_types.specs.declared.volume.SectionPlan.{SectionPlan}
+use Rattle.doc_types.specs.declared.volume.VolumePlan.{VolumePlan}
 use Rattle.fdf_words.specs.declared.rows.LineRead.{LineRead}
 use Rattle.fdf_words.specs.declared.rows.LineRead.TheVariants.{Heads, Body}
 use Rattle.fdf_words.specs.declared.rows.FileHead.{FileHead}
@@ -21,10 +22,12 @@ use Rattle.fdf_words.specs.declared.rows.Scope.TheVariants as scope
 use Rattle.fdf_words.specs.declared.rows.SectionLine.{SectionLine}
 use Rattle.flash_document.specs.Columns.{row_at, in_row, column}
 use Rattle.flash_document.specs.Devices.{device_of}
+use Rattle.flash_document.specs.Document.{volume_plan, plan_at}
 use Rattle.flash_document.specs.Parts.{stated_of, stated_from, stated_below, all_stated}
 use Rattle.flash_document.specs.Sets.{is_heads, section_lines}
 use Rattle.flash_document.specs.Volumes.{attributes, is_on, with_flag, flags_of, section_then, sections_in, item_at, items_of, volume_of, rule_sections, rule_with, rule_head, rule_of_lines}
 use Rattle.flash_document.specs.Whole.{volume_in, volumes_of}
+use Rattle.flash_document.specs.declared.held.HeldRegion.{HeldRegion}
 use Rattle.flash_document.specs.declared.stated.FdfSection.{FdfSection}
 use Rattle.flash_document.specs.declared.stated.FdfSection.TheVariants as stated
 use Rattle.flash_document.specs.declared.stated.FdfStatement.{FdfStatement}
@@ -66,7 +69,7 @@ LineHas P Q (Body rows) = All P rows
 
 abbrev pub ItemHas : (Row → Type 0) → FdfStatement → Type 0
 ItemHas P (item.Apriori at pei members) = Unit {0}
-ItemHas P (item.File file) = All (λ s. P (row.Section s)) file.sections
+ItemHas P (item.File file) = P (row.File file.head) × All (λ s. P (row.Section s)) file.sections
 ItemHas P (item.Inf line) = Unit {0}
 
 pub record VolumeHas (P : Row → Type 0) (Q : Scope → Type 0) (volume : StatedVolume) : Type 0 where
@@ -109,30 +112,30 @@ module _ (P : Row → Type 0) (Q : Scope → Type 0) where
   sections_have k (line ∷ lines) all =
       section_has (row_at k line) (sections_in k lines) (row_has k line (All-head (LineHas P Q) line lines all)) (sections_have k lines (All-tail (LineHas P Q) line lines all))
 
-  item_has : (o : Option Row) (k : ℕ) (lines : List LineRead) → All (LineHas P Q) lines → All (ItemHas P) (item_at o k lines)
-  item_has None k lines all = All-nil (ItemHas P)
-  item_has (Some (row.Apriori head)) k lines all = All-cons (ItemHas P) _ [] tt (All-nil (ItemHas P))
-  item_has (Some (row.File head)) k lines all = All-cons (ItemHas P) _ [] (sections_have k lines all) (All-nil (ItemHas P))
-  item_has (Some (row.Inf line)) k lines all = All-cons (ItemHas P) _ [] tt (All-nil (ItemHas P))
-  item_has (Some row.Ignored) k lines all = All-nil (ItemHas P)
-  item_has (Some (row.Set x)) k lines all = All-nil (ItemHas P)
-  item_has (Some (row.Number x)) k lines all = All-nil (ItemHas P)
-  item_has (Some (row.Region x)) k lines all = All-nil (ItemHas P)
-  item_has (Some (row.Pcds x)) k lines all = All-nil (ItemHas P)
-  item_has (Some (row.Content x)) k lines all = All-nil (ItemHas P)
-  item_has (Some (row.Setting x)) k lines all = All-nil (ItemHas P)
-  item_has (Some (row.Member x)) k lines all = All-nil (ItemHas P)
-  item_has (Some (row.Section x)) k lines all = All-nil (ItemHas P)
-  item_has (Some (row.Whole x)) k lines all = All-nil (ItemHas P)
-  item_has (Some row.Closes) k lines all = All-nil (ItemHas P)
-  item_has (Some (row.RuleFile x)) k lines all = All-nil (ItemHas P)
-  item_has (Some (row.RuleSection x)) k lines all = All-nil (ItemHas P)
+  item_has : (o : Option Row) (k : ℕ) (lines : List LineRead) → IfSome o P → All (LineHas P Q) lines → All (ItemHas P) (item_at o k lines)
+  item_has None k lines h all = All-nil (ItemHas P)
+  item_has (Some (row.Apriori head)) k lines h all = All-cons (ItemHas P) _ [] tt (All-nil (ItemHas P))
+  item_has (Some (row.File head)) k lines h all = All-cons (ItemHas P) _ [] (h, sections_have k lines all) (All-nil (ItemHas P))
+  item_has (Some (row.Inf line)) k lines h all = All-cons (ItemHas P) _ [] tt (All-nil (ItemHas P))
+  item_has (Some row.Ignored) k lines h all = All-nil (ItemHas P)
+  item_has (Some (row.Set x)) k lines h all = All-nil (ItemHas P)
+  item_has (Some (row.Number x)) k lines h all = All-nil (ItemHas P)
+  item_has (Some (row.Region x)) k lines h all = All-nil (ItemHas P)
+  item_has (Some (row.Pcds x)) k lines h all = All-nil (ItemHas P)
+  item_has (Some (row.Content x)) k lines h all = All-nil (ItemHas P)
+  item_has (Some (row.Setting x)) k lines h all = All-nil (ItemHas P)
+  item_has (Some (row.Member x)) k lines h all = All-nil (ItemHas P)
+  item_has (Some (row.Section x)) k lines h all = All-nil (ItemHas P)
+  item_has (Some (row.Whole x)) k lines h all = All-nil (ItemHas P)
+  item_has (Some row.Closes) k lines h all = All-nil (ItemHas P)
+  item_has (Some (row.RuleFile x)) k lines h all = All-nil (ItemHas P)
+  item_has (Some (row.RuleSection x)) k lines h all = All-nil (ItemHas P)
 
   items_have : (k : ℕ) (lines : List LineRead) → All (LineHas P Q) lines → All (ItemHas P) (items_of k lines)
   items_have k [] all = All-nil (ItemHas P)
   items_have k (line ∷ lines) all =
       let later = All-tail (LineHas P Q) line lines all in
-      All-append (ItemHas P) (item_at (row_at k line) k lines) (items_of k lines) (item_has (row_at k line) k lines later) (items_have k lines later)
+      All-append (ItemHas P) (item_at (row_at k line) k lines) (items_of k lines) (item_has (row_at k line) k lines (row_has k line (All-head (LineHas P Q) line lines all)) later) (items_have k lines later)
 
   rule_row_has : (o : Option Row) → IfSome o P → All (λ s. P (row.RuleSection s)) (in_row rule_sections o)
   rule_row_has None h = All-nil (λ s. P (row.RuleSection s))
@@ -208,3 +211,15 @@ module _ (P : Row → Type 0) (Q : Scope → Type 0) where
   volumes_have [] all = All-nil (VolumeHas P Q)
   volumes_have (part ∷ parts) all =
       All-append (VolumeHas P Q) (volume_in part) (volumes_of parts) (part_volume part (All-head (StatedHas P Q) part parts all)) (volumes_have parts (All-tail (StatedHas P Q) part parts all))
+
+-- what holds of each volume's plan holds of the plans in any order
+module _ (P : StatedVolume → Type 0) (Q : VolumePlan → Type 0) (names : List (List ℕ)) (regions : List HeldRegion) (each : (volume : StatedVolume) → P volume → Q (volume_plan names regions volume)) where
+  one_passes : (o : Option StatedVolume) → IfSome o P → All Q (plan_at names regions o)
+  one_passes None h = All-nil Q
+  one_passes (Some volume) h = All-cons Q (volume_plan names regions volume) [] (each volume h) (All-nil Q)
+
+  pub plans_pass : (volumes : List StatedVolume) → All P volumes → (order : List ℕ) → All Q (flat_map (λ p. plan_at names regions (slice_get volumes p)) order)
+  plans_pass volumes all [] = All-nil Q
+  plans_pass volumes all (p ∷ order) =
+      All-append Q (plan_at names regions (slice_get volumes p)) (flat_map (λ q. plan_at names regions (slice_get volumes q)) order)
+      (one_passes (slice_get volumes p) (at_place P volumes p (slice_get volumes p) refl all)) (plans_pass volumes all order)

@@ -2,7 +2,6 @@
 use Rattle.std.proofs.Common.{◌≡◌, ◌∙◌, ℕ, ◌+◌, ◌≤◌, Bool, true, false, ◌||◌, List, [], ◌∷◌, ◌++◌, length, map, take, Option, Some, None, refl, sym, ap, subst, arith, suc}
 use Rattle.std.specs.Prelude.{slice_get}
 use Rattle.std.specs.List.{All, flat_map, list_any, position_or_len}
-use Rattle.std.specs.Option.{IfSome}
 use Rattle.std.proofs.lemmas.List.{length-map, length-append}
 use Rattle.std.proofs.lemmas.List.Concat.{flat_map-append}
 use Rattle.std.proofs.lemmas.List.Elements.{All-nil, All-cons, All-append, All-head, All-tail}
@@ -231,14 +230,5 @@ few_stated (entered at scopes ∷ reads) few =
     (few_stated reads (All-tail FewIn first (sections_of reads) few)))
 few_stated (gave rows ∷ reads) few = few_stated reads few
 
-few_plan : (names : List (List ℕ)) (regions : List HeldRegion) (o : Option StatedVolume) → IfSome o FewStated → All FewItems (plan_at names regions o)
-few_plan names regions None l = All-nil FewItems
-few_plan names regions (Some volume) l =
-    All-cons FewItems (volume_plan names regions volume) [] (subst (λ n. n ≤ 65535) (sym (length-map volume.items (item_plan names))) l) (All-nil FewItems)
-
-pub few_plans : (names : List (List ℕ)) (regions : List HeldRegion) (volumes : List StatedVolume) → All FewStated volumes → (order : List ℕ)
-    → All FewItems (flat_map (λ p. plan_at names regions (slice_get volumes p)) order)
-few_plans names regions volumes few [] = All-nil FewItems
-few_plans names regions volumes few (p ∷ order) =
-    All-append FewItems (plan_at names regions (slice_get volumes p)) (flat_map (λ q. plan_at names regions (slice_get volumes q)) order)
-    (few_plan names regions (slice_get volumes p) (at_place FewStated volumes p (slice_get volumes p) refl few)) (few_plans names regions volumes few order)
+pub few_plan : (names : List (List ℕ)) (regions : List HeldRegion) (volume : StatedVolume) → FewStated volume → FewItems (volume_plan names regions volume)
+few_plan names regions volume l = subst (λ n. n ≤ 65535) (sym (length-map volume.items (item_plan names))) l

@@ -9,3 +9,4 @@ pub mod CarryLemmas
 pub mod RowLemmas
 pub mod NestedLemmas
 pub mod CountLemmas
+pub mod SectionCases

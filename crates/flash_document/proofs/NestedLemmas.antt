@@ -103,7 +103,7 @@ module _ (names : List (List ℕ)) (above rest : List ℕ) (ordered : List (List
 
   item_nested : (i : FdfStatement) → all_among above (item_nest names i) ≡ true → ItemHas RowFits i → ItemHas (Known names) i → ItemFits (length above) (item_plan ordered i)
   item_nested (item.Apriori at pei members) all fit known = tt
-  item_nested (item.File file) all fit known = sections_nested file.sections all fit known
+  item_nested (item.File file) all fit known = sections_nested file.sections all fit.1 known.1
   item_nested (item.Inf line) all fit known = tt
 
   items_nested : (items : List FdfStatement) → all_among above (flat_map (item_nest names) items) ≡ true → All (ItemHas RowFits) items → All (ItemHas (Known names)) items

@@ -69,13 +69,14 @@ use Rattle.fdf_words.specs.declared.words.Options.{Options}
 use Rattle.doc_types.specs.declared.arch.Arch.{Arch}
 use Rattle.doc_types.specs.declared.module_type.ModuleType.{ModuleType}
 use Rattle.flash_document.specs.Flash.{line_of}
-use Rattle.flash_document.specs.Shape.{SourceFits, GuidFits}
+use Rattle.flash_document.specs.Shape.{SourceFits, GuidFits, IsRuled}
 use Rattle.flash_document.proofs.CarryLemmas.{LineHas}
 
--- a section has a GUID where it is to have one, and a rule's names no volume
+-- a section has a GUID where it is to have one, a file its name, and a rule's section names no file
+-- and no volume
 abbrev pub RowFits : Row → Type 0
 RowFits (row.Section s) = is_some s.guid ≡ (s.kind == EFI_SECTION_FREEFORM_SUBTYPE_GUID)
-RowFits (row.RuleSection s) = GuidFits s s.source × SourceFits 0 s.source
+RowFits (row.RuleSection s) = GuidFits s s.source × SourceFits 0 s.source × IsRuled s.source
 RowFits row.Ignored = Unit {0}
 RowFits (row.Set x) = Unit {0}
 RowFits (row.Number x) = Unit {0}
@@ -86,7 +87,7 @@ RowFits (row.Setting x) = Unit {0}
 RowFits (row.Apriori x) = Unit {0}
 RowFits (row.Member x) = Unit {0}
 RowFits (row.Inf x) = Unit {0}
-RowFits (row.File x) = Unit {0}
+RowFits (row.File head) = is_some head.guid ≡ true
 RowFits (row.Whole x) = Unit {0}
 RowFits row.Closes = Unit {0}
 RowFits (row.RuleFile x) = Unit {0}
@@ -182,7 +183,7 @@ member_fits (Some inf) = tt
 member_fits None = tt
 
 named_file_fits : (line : Taken) (kind : ℕ) (guid : Option Guid) (options : Options) → IfSome (named_file line kind guid options) RowFits
-named_file_fits line kind (Some guid) options = tt
+named_file_fits line kind (Some guid) options = refl
 named_file_fits line kind None options = tt
 
 parts_fit : (line : Taken) (o : Option (ℕ × List ℕ × Options)) → IfSome (parts_row line o) RowFits
@@ -362,8 +363,8 @@ numbered_path : (line : Taken) (kind : ℕ) (options : RuleOptions) (path : List
     → IfSome (rule.numbered_row line kind options (rule.path_source line path) number) RowFits
 numbered_path line kind options path (Ok number) h =
     elim (rule.is_extension path) as (λ b. RowFits (rule.made_plan line kind options number (if b then Refused line.text else Template (without_workspace path)))) [
-      | true ↦ (tt, tt)
-      | false ↦ (no_guid kind h, tt)
+      | true ↦ (tt, tt, tt)
+      | false ↦ (no_guid kind h, tt, tt)
     ]
 numbered_path line kind options path (Err fault) h = tt
 
@@ -372,7 +373,7 @@ rule_path_fits line kind p h = numbered_path line kind p.0 p.2 (rule.number_in l
 
 numbered_text : (line : Taken) (kind : ℕ) (options : RuleOptions) (words : List ℕ) (number : Result ℕ Fault) → not (kind == EFI_SECTION_FREEFORM_SUBTYPE_GUID) ≡ true
     → IfSome (rule.numbered_row line kind options (Words words) number) RowFits
-numbered_text line kind options words (Ok number) h = (no_guid kind h, tt)
+numbered_text line kind options words (Ok number) h = (no_guid kind h, tt, tt)
 numbered_text line kind options words (Err fault) h = tt
 
 rule_text_fits : (line : Taken) (kind : ℕ) (words : List ℕ) (p : RuleOptions × List ℕ × List ℕ) → not (kind == EFI_SECTION_FREEFORM_SUBTYPE_GUID) ≡ true → IfSome (rule.text_row line kind words p) RowFits

@@ -26,26 +26,32 @@ use Rattle.fdf_words.specs.declared.rows.RegionContent.{RegionContent}
 use Rattle.fdf_words.specs.declared.rows.Content.{Content}
 use Rattle.fdf_words.specs.declared.rows.Content.TheVariants as content
 use Rattle.flash_document.specs.Devices.{capped}
-use Rattle.flash_document.specs.Document.{numbered, ordered_names, kind_numbered, content_kind, region_kind, region_plan, device_plan, part_device, part_rule, plan_at, volume_plan, document_of, flash_of_lines}
+use Rattle.flash_document.specs.Document.{numbered, ordered_names, kind_numbered, content_kind, region_kind, region_plan, device_plan, part_device, part_rule, body_source, section_plan, item_plan, plan_at, volume_plan, document_of, flash_of_lines}
 use Rattle.flash_document.specs.Flash.{line_of, flash_of}
 use Rattle.flash_document.specs.Names.{lower_case, place_from, place_of}
 use Rattle.flash_document.specs.Parts.{all_stated}
-use Rattle.flash_document.specs.Shape.{HeadFits, KindFits, RegionFits, DeviceFits, SectionFits, NameFits, RuleFits, HasShape}
+use Rattle.flash_document.specs.Shape.{HeadFits, KindFits, RegionFits, DeviceFits, SectionFits, IsStated, IsRuled, ItemIsStated, ItemsAreStated, NameFits, RuleFits, SectionsAreRuled, FewItems, HasShape}
 use Rattle.flash_document.specs.Whole.{volumes_of, volume_in, names_of, nests_of, nest_in, all_held, held_of, first_size, volume_size, block_of, size_of, size_fault, part_too_large, whole_blocks, blocks_with, volume_blocks, part_blocks, part_unstated, loop_fault, row_unknown, line_unknown, part_sizes, part_key, twin, is_again, above_with, twin_marks, first_marked, whole_fault}
 use Rattle.flash_document.specs.declared.held.HeldRegion.{HeldRegion}
 use Rattle.flash_document.specs.declared.held.HeldSizes.{HeldSizes}
 use Rattle.flash_document.specs.declared.stated.FdfSection.{FdfSection}
 use Rattle.flash_document.specs.declared.stated.FdfSection.TheVariants.{Settings, Device, Volume, Rule}
+use Rattle.flash_document.specs.declared.stated.FdfStatement.{FdfStatement}
+use Rattle.flash_document.specs.declared.stated.FdfStatement.TheVariants as item
 use Rattle.flash_document.specs.declared.stated.StatedRegion.{StatedRegion}
 use Rattle.flash_document.specs.declared.stated.StatedVolume.{StatedVolume}
 use Rattle.fdf_words.specs.declared.rows.LineRead.TheVariants.{Heads, Body}
 use Rattle.fdf_words.specs.declared.rows.Row.{Row}
 use Rattle.fdf_words.specs.declared.rows.Row.TheVariants as row
 use Rattle.fdf_words.specs.declared.rows.Scope.{Scope}
+use Rattle.fdf_words.specs.declared.rows.SectionBody.{SectionBody}
+use Rattle.fdf_words.specs.declared.rows.SectionBody.TheVariants as body
+use Rattle.fdf_words.specs.declared.rows.SectionLine.{SectionLine}
 use Rattle.doc_reading.specs.Grammar.{Read}
+use Rattle.doc_types.specs.declared.volume.RuleDoc.{RuleDoc}
 use Rattle.doc_types.specs.declared.volume.SectionPlan.{SectionPlan}
-use Rattle.flash_document.proofs.CarryLemmas.{LineHas, StatedHas, at_place, all_have, volumes_have}
-use Rattle.flash_document.proofs.CountLemmas.{FewStated, all_count, one_device, volumes_count, one_rule, plans_few, few_stated, few_plans}
+use Rattle.flash_document.proofs.CarryLemmas.{LineHas, ItemHas, VolumeHas, StatedHas, all_have, volumes_have, plans_pass}
+use Rattle.flash_document.proofs.CountLemmas.{FewStated, all_count, one_device, volumes_count, one_rule, plans_few, few_stated, few_plan}
 use Rattle.volume_nesting.proofs.NestLemmas.{order_ordered}
 use Rattle.flash_document.proofs.NestedLemmas.{passed, plans_nested}
 use Rattle.volume_nesting.proofs.OrderLemmas.{order_below, order_few}
@@ -159,17 +165,6 @@ all_make regions (part ∷ parts) above small full once =
     let o = neither (twin again part) (first_marked twin parts (twin_marks parts below)) once in
     All-append (Makes regions) (volume_in part) (volumes_of parts) (part_makes regions again part s.0 f.0 o.0) (all_make regions parts below s.1 f.1 o.1)
 
-one_fits : (names : List (List ℕ)) (regions : List HeldRegion) (o : Option StatedVolume) → IfSome o (Makes regions) → All HeadFits (plan_at names regions o)
-one_fits names regions None h = All-nil HeadFits
-one_fits names regions (Some volume) h = All-cons HeadFits (volume_plan names regions volume) [] (plan_fits names regions volume h) (All-nil HeadFits)
-
-plans_fit : (names : List (List ℕ)) (regions : List HeldRegion) (volumes : List StatedVolume) → All (Makes regions) volumes → (order : List ℕ)
-    → All HeadFits (flat_map (λ p. plan_at names regions (slice_get volumes p)) order)
-plans_fit names regions volumes all [] = All-nil HeadFits
-plans_fit names regions volumes all (p ∷ order) =
-    All-append HeadFits (plan_at names regions (slice_get volumes p)) (flat_map (λ q. plan_at names regions (slice_get volumes q)) order)
-    (one_fits names regions (slice_get volumes p) (at_place (Makes regions) volumes p (slice_get volumes p) refl all)) (plans_fit names regions volumes all order)
-
 none_some : {X Y : Type 0} {x : X} → None ≡ Some x → Y
 none_some e = absurd cc
 
@@ -235,17 +230,49 @@ rule_sections_fit (s ∷ sections) all =
     let h = All-head (λ x. RowFits (row.RuleSection x)) s sections all in
     All-cons (SectionFits 0) s sections (record { nested = h.1; guid = h.0 }) (rule_sections_fit sections (All-tail (λ x. RowFits (row.RuleSection x)) s sections all))
 
-rule_fits : (part : FdfSection) → StatedHas RowFits ScopeFits part → All RuleFits (part_rule part)
-rule_fits Settings h = All-nil RuleFits
-rule_fits (Device device) h = All-nil RuleFits
-rule_fits (Volume volume) h = All-nil RuleFits
-rule_fits (Rule rule) h = All-cons RuleFits rule.rule [] (rule_sections_fit rule.rule.file.sections h) (All-nil RuleFits)
+rule_sections_ruled : (sections : List SectionPlan) → All (λ s. RowFits (row.RuleSection s)) sections → All (λ s. IsRuled s.source) sections
+rule_sections_ruled [] all = All-nil (λ s. IsRuled s.source)
+rule_sections_ruled (s ∷ sections) all =
+    let h = All-head (λ x. RowFits (row.RuleSection x)) s sections all in
+    All-cons (λ x. IsRuled x.source) s sections h.2 (rule_sections_ruled sections (All-tail (λ x. RowFits (row.RuleSection x)) s sections all))
 
-rules_fit : (parts : List FdfSection) → All (StatedHas RowFits ScopeFits) parts → All RuleFits (flat_map part_rule parts)
-rules_fit [] all = All-nil RuleFits
-rules_fit (part ∷ parts) all =
-    All-append RuleFits (part_rule part) (flat_map part_rule parts) (rule_fits part (All-head (StatedHas RowFits ScopeFits) part parts all))
-    (rules_fit parts (All-tail (StatedHas RowFits ScopeFits) part parts all))
+-- what follows of a rule's sections holds of all rules
+module _ (P : RuleDoc → Type 0) (each : (rule : RuleDoc) → All (λ s. RowFits (row.RuleSection s)) rule.file.sections → P rule) where
+  rule_passes : (part : FdfSection) → StatedHas RowFits ScopeFits part → All P (part_rule part)
+  rule_passes Settings h = All-nil P
+  rule_passes (Device device) h = All-nil P
+  rule_passes (Volume volume) h = All-nil P
+  rule_passes (Rule rule) h = All-cons P rule.rule [] (each rule.rule h) (All-nil P)
+
+  rules_pass : (parts : List FdfSection) → All (StatedHas RowFits ScopeFits) parts → All P (flat_map part_rule parts)
+  rules_pass [] all = All-nil P
+  rules_pass (part ∷ parts) all =
+      All-append P (part_rule part) (flat_map part_rule parts) (rule_passes part (All-head (StatedHas RowFits ScopeFits) part parts all))
+      (rules_pass parts (All-tail (StatedHas RowFits ScopeFits) part parts all))
+
+-- the statements of a volume
+body_stated : (names : List (List ℕ)) (stated : SectionBody) → IsStated (body_source names stated)
+body_stated names (body.Tree path) = tt
+body_stated names (body.Volume name) = tt
+body_stated names (body.Words text) = tt
+
+sections_stated : (names : List (List ℕ)) (sections : List SectionLine) → All (λ s. IsStated s.source) (map (section_plan names) sections)
+sections_stated names [] = All-nil (λ s. IsStated s.source)
+sections_stated names (s ∷ sections) = All-cons (λ x. IsStated x.source) (section_plan names s) (map (section_plan names) sections) (body_stated names s.body) (sections_stated names sections)
+
+item_stated : (names : List (List ℕ)) (stated : FdfStatement) → ItemHas RowFits stated → ItemIsStated (item_plan names stated)
+item_stated names (item.Apriori at pei members) h = tt
+item_stated names (item.File file) h = record { guid = h.0; sources = sections_stated names file.sections }
+item_stated names (item.Inf line) h = tt
+
+items_stated : (names : List (List ℕ)) (items : List FdfStatement) → All (ItemHas RowFits) items → All ItemIsStated (map (item_plan names) items)
+items_stated names [] all = All-nil ItemIsStated
+items_stated names (stated ∷ items) all =
+    All-cons ItemIsStated (item_plan names stated) (map (item_plan names) items) (item_stated names stated (All-head (ItemHas RowFits) stated items all))
+    (items_stated names items (All-tail (ItemHas RowFits) stated items all))
+
+volume_stated : (names : List (List ℕ)) (regions : List HeldRegion) (volume : StatedVolume) → VolumeHas RowFits ScopeFits volume → ItemsAreStated (volume_plan names regions volume)
+volume_stated names regions volume h = items_stated names volume.items h.items
 
 -- as many as the lines may state
 record Few (parts : List FdfSection) : Type 0 where
@@ -292,16 +319,18 @@ document_shape root lines parts told all few h =
     subst (All (StatedHas (λ r. row_unknown (names_of parts) r ≡ None) (λ s. Unit {0}))) (sym told)
     (all_have (λ r. row_unknown (names_of parts) r ≡ None) (λ s. Unit {0}) lines (lines_known (names_of parts) lines (faultless (line_unknown (names_of parts)) lines d.0))) in
     record {
-      volumes = plans_fit names regions (volumes_of parts) (all_make regions parts [] b.0 e.0 g.0) (numbered parts);
+      volumes = plans_pass (Makes regions) HeadFits names regions (plan_fits names regions) (volumes_of parts) (all_make regions parts [] b.0 e.0 g.0) (numbered parts);
       regions = subst (λ count. All (DeviceFits count) (flat_map (part_device names) parts)) same (devices_fit names parts);
       nested = plans_nested (names_of parts) regions (volumes_of parts) names (volumes_have RowFits ScopeFits parts stated)
           (volumes_have (λ r. row_unknown (names_of parts) r ≡ None) (λ s. Unit {0}) parts known) [] (numbered parts) refl (order_ordered (nests_of parts)) (numbered_below parts);
       names = all_names names parts stated;
-      rules = rules_fit parts stated;
+      rules = rules_pass RuleFits (λ rule h. rule_sections_fit rule.file.sections h) parts stated;
       device_count = few.devices names;
       volume_count = no_more _ (length (numbered parts)) 65535 (plans_few names regions (volumes_of parts) (numbered parts)) (few_numbered parts few.volumes);
       rule_count = few.rules;
-      items = few_plans names regions (volumes_of parts) few.items (numbered parts);
+      items = plans_pass FewStated FewItems names regions (few_plan names regions) (volumes_of parts) few.items (numbered parts);
+      files = plans_pass (VolumeHas RowFits ScopeFits) ItemsAreStated names regions (volume_stated names regions) (volumes_of parts) (volumes_have RowFits ScopeFits parts stated) (numbered parts);
+      rule_sources = rules_pass SectionsAreRuled (λ rule h. rule_sections_ruled rule.file.sections h) parts stated;
     }
 
 whole_shape : (fault : Option Fault) (doc found : FlashDoc) → (fault ≡ None → HasShape doc) → unless fault doc ≡ Ok found → HasShape found

@@ -1,5 +1,5 @@
 -- What the makers of images may take for granted of a flash description.
-use Rattle.std.specs.Prelude.{◌≡◌, ℕ, ◌+◌, ◌<◌, ◌≤◌, ◌==◌, if◌then◌else◌, List, [], ◌∷◌, length, is_some, bit_and, IsTrue}
+use Rattle.std.specs.Prelude.{◌≡◌, ℕ, ◌+◌, true, ◌<◌, ◌≤◌, ◌==◌, if◌then◌else◌, List, [], ◌∷◌, length, is_some, bit_and, IsTrue}
 use Rattle.std.specs.List.{All}
 use Rattle.doc_types.specs.Standard.{EFI_SECTION_FREEFORM_SUBTYPE_GUID}
 use Rattle.doc_types.specs.declared.flash.FlashDoc.{FlashDoc}
@@ -60,6 +60,22 @@ pub record SectionFits (v : ℕ) (section : SectionPlan) : Type 0 where
   pub nested : SourceFits v section.source
   pub guid : GuidFits section section.source
 
+-- a section of a FILE statement is a file of the tree, a volume, or a text of its line
+abbrev pub IsStated : SectionSource → Type 0
+IsStated (source.Tree path) = Unit {0}
+IsStated (source.Volume n) = Unit {0}
+IsStated (source.Words text) = Unit {0}
+IsStated (source.Template text) = ⊥
+IsStated (source.Refused text) = ⊥
+
+-- a section of a rule is a path with names to be filled in, a text of its line, or may not be used
+abbrev pub IsRuled : SectionSource → Type 0
+IsRuled (source.Template text) = Unit {0}
+IsRuled (source.Words text) = Unit {0}
+IsRuled (source.Refused text) = Unit {0}
+IsRuled (source.Tree path) = ⊥
+IsRuled (source.Volume n) = ⊥
+
 abbrev pub FileFits : ℕ → FilePlan → Type 0
 FileFits v file = All (SectionFits v) file.sections
 
@@ -67,6 +83,19 @@ abbrev pub ItemFits : ℕ → Item → Type 0
 ItemFits v (item.File file) = FileFits v file
 ItemFits v (item.Apriori at pei members) = Unit {0}
 ItemFits v (item.Inf line) = Unit {0}
+
+-- a FILE statement has the name of its file
+pub record FileIsStated (file : FilePlan) : Type 0 where
+  pub guid : is_some file.guid ≡ true
+  pub sources : All (λ section. IsStated section.source) file.sections
+
+abbrev pub ItemIsStated : Item → Type 0
+ItemIsStated (item.File file) = FileIsStated file
+ItemIsStated (item.Apriori at pei members) = Unit {0}
+ItemIsStated (item.Inf line) = Unit {0}
+
+abbrev pub ItemsAreStated : VolumePlan → Type 0
+ItemsAreStated plan = All ItemIsStated plan.items
 
 -- EFI_FVB2_ERASE_POLARITY is set exactly where the polarity isn't 0
 abbrev pub ErasedFits : VolumeHead → Type 0
@@ -91,6 +120,9 @@ VolumesFit v (plan ∷ plans) = VolumeFits v plan × VolumesFit (v + 1) plans
 abbrev pub RuleFits : RuleDoc → Type 0
 RuleFits rule = FileFits 0 rule.file
 
+abbrev pub SectionsAreRuled : RuleDoc → Type 0
+SectionsAreRuled rule = All (λ section. IsRuled section.source) rule.file.sections
+
 -- a volume has no more statements than its section may have
 abbrev pub FewItems : VolumePlan → Type 0
 FewItems plan = length plan.items ≤ 65535
@@ -105,3 +137,5 @@ pub record HasShape (flash : FlashDoc) : Type 0 where
   pub volume_count : length flash.volumes ≤ 65535
   pub rule_count : length flash.rule_list ≤ 65535
   pub items : All FewItems flash.volumes
+  pub files : All ItemsAreStated flash.volumes
+  pub rule_sources : All SectionsAreRuled flash.rule_list

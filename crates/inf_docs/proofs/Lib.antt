@@ -1,3 +1,4 @@
 pub mod TableLemmas
 pub mod SectionLemmas
 pub mod GivenLemmas
+pub mod NameLemmas

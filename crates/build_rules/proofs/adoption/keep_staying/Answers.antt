@@ -1,4 +1,3 @@
-use Rattle.std.proofs.Common.{◌≡◌}
 use Rattle.std.specs.Fn.{FnReturnsAt}
 use Rattle.build_rules.proofs.AdoptLemmas.{keeps_adopted}
 use Rattle.build_rules.proofs.adoption.keep_staying.Goals as goal

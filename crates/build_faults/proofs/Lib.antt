@@ -1,0 +1,3 @@
+mod ImageFaults
+mod StepFaults
+pub mod BuildFaults

@@ -1,0 +1,10 @@
+pub mod PartLemmas
+pub mod FileFaults
+pub mod VolumeFaults
+pub mod MovedFaults
+pub mod DeviceFaults
+pub mod ContentFaults
+pub mod BasedFaults
+pub mod RuleFaults
+pub mod PlanFaults
+pub mod SectionFaults

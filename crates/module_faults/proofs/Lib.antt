@@ -1,0 +1,16 @@
+pub mod PartLemmas
+pub mod LibraryLemmas
+pub mod ValueLemmas
+pub mod PcdLemmas
+pub mod GuidLemmas
+pub mod DepexLemmas
+pub mod VpdLemmas
+pub mod SettingLemmas
+pub mod TextLemmas
+pub mod PathLemmas
+pub mod RowLemmas
+pub mod PlatformLemmas
+pub mod FolderLemmas
+pub mod OutputLemmas
+pub mod JobLemmas
+pub mod InfLemmas
