@@ -26,6 +26,7 @@ use Rattle.edk_build.specs.Run.{world_of}
 use Rattle.edk_build.specs.Selftest.{selftest_job, label_named, Turn, first_turn, second_turn, third_turn, TurnEnded, StopsAt, TurnStopped, AreBuilt, WereBuilt, IsSelftest, IsSelftestStatus, IsSelftestComplete}
 use Rattle.edk_build.specs.Statuses.{OnUsage, OnReadFault, OnWriteFault}
 use Rattle.edk_build.specs.Stops.{IfReadFault, IfWriteFault, IfUnwritten, stop_status}
+use Rattle.edk_build.specs.TopCall.{HasTested}
 use Rattle.edk_build.specs.declared.build.Built.{Built}
 use Rattle.edk_build.specs.declared.command.Command.{Command}
 use Rattle.edk_build.specs.declared.command.Command.TheVariants as command
@@ -194,10 +195,19 @@ status_complete status.WriteFault before now x f = λ no. absurd (no f)
 status_complete status.WantOfMemory before now x f = λ no. inr refl
 
 -- memory was wanting before a selftest had begun
-pub selftest_early : (command : Option Command) (a : List Key) (w : Option (List Emission)) → IfSelftest command (λ n. IsSelftest n status.WantOfMemory a a w w)
+selftest_early : (command : Option Command) (a : List Key) (w : Option (List Emission)) → IfSelftest command (λ n. IsSelftest n status.WantOfMemory a a w w)
 selftest_early None a w = tt
 selftest_early (Some (command.Build job)) a w = tt
 selftest_early (Some (command.Replay at)) a w = tt
 selftest_early (Some (command.Volinfo at)) a w = tt
 selftest_early (Some (command.Selftest n)) a w =
     series_stopped (first_turn n) (second_turn n ∷ third_turn n ∷ []) status.WantOfMemory [] a a w w (stopped_early (first_turn n) [] a w)
+
+-- words that weren't read are no selftest's
+pub tested_early : (command : Option Command) (a : List Key) (w : Option (List Emission)) (sink : ℕ) (U : Type 0) → U → IfSelftest command (λ n. HasTested n status.WantOfMemory a a w w sink sink U)
+tested_early None a w sink U u = tt
+tested_early (Some (command.Build job)) a w sink U u = tt
+tested_early (Some (command.Replay at)) a w sink U u = tt
+tested_early (Some (command.Volinfo at)) a w sink U u = tt
+tested_early (Some (command.Selftest n)) a w sink U u =
+    record { tested = selftest_early (Some (command.Selftest n)) a w; complete = λ f. inr refl; ends = tt; unasked = u }

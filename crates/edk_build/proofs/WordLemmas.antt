@@ -98,11 +98,9 @@ is_job_of (name ∷ options) job e =
       | false ↦ λ h. absurd cc
     ] e
 
-build_job_of : (words : List (List ℕ)) (z : Option Job) (job : Job) → words_job words ≡ z → option_map command.Build z ≡ Some (command.Build job) → is_job (job_fields job) ≡ true
-build_job_of words None job e h = absurd cc
-build_job_of words (Some other) job e h =
-    let same : other ≡ job = cc h in
-    subst (λ j. is_job (job_fields j) ≡ true) same (is_job_of words other e)
+build_given : (found : Option Job) (job : Job) → option_map command.Build found ≡ Some (command.Build job) → found ≡ Some job
+build_given None job e = absurd cc
+build_given (Some other) job e = let same : other ≡ job = cc in ap Some same
 
 no_replay : (path : Option (List ℕ)) (job : Job) → replay_from path ≡ Some (command.Build job) → ⊥
 no_replay None job h = absurd cc
@@ -117,28 +115,31 @@ no_volinfo None job h = absurd cc
 no_volinfo (Some path) job h = absurd cc
 
 -- words that are no build's go before others
-others : (b : Bool) (one rest : Option Command) (job : Job) → (one ≡ Some (command.Build job) → ⊥) → (rest ≡ Some (command.Build job) → is_job (job_fields job) ≡ true)
-    → cond b one rest ≡ Some (command.Build job) → is_job (job_fields job) ≡ true
-others true one rest job none build h = absurd (none h)
-others false one rest job none build h = build h
+others : (b : Bool) (one rest : Option Command) (job : Job) (found : Option Job) → (one ≡ Some (command.Build job) → ⊥) → (rest ≡ Some (command.Build job) → found ≡ Some job)
+    → cond b one rest ≡ Some (command.Build job) → found ≡ Some job
+others true one rest job found none build h = absurd (none h)
+others false one rest job found none build h = build h
 
 two_words : (name word : List ℕ) (job : Job)
     → cond (same_text name (codes "selftest")) (selftest_from (count_of word)) (cond (same_text name (codes "volinfo")) (volinfo_from (path_field word)) (build_from (name ∷ word ∷ []))) ≡ Some (command.Build job)
-    → is_job (job_fields job) ≡ true
+    → words_job (name ∷ word ∷ []) ≡ Some job
 two_words name word job =
     others (same_text name (codes "selftest")) (selftest_from (count_of word)) (cond (same_text name (codes "volinfo")) (volinfo_from (path_field word)) (build_from (name ∷ word ∷ []))) job
-    (no_selftest (count_of word) job)
-    (others (same_text name (codes "volinfo")) (volinfo_from (path_field word)) (build_from (name ∷ word ∷ [])) job
-    (no_volinfo (path_field word) job)
-    (build_job_of (name ∷ word ∷ []) (words_job (name ∷ word ∷ [])) job refl))
+    (words_job (name ∷ word ∷ [])) (no_selftest (count_of word) job)
+    (others (same_text name (codes "volinfo")) (volinfo_from (path_field word)) (build_from (name ∷ word ∷ [])) job (words_job (name ∷ word ∷ []))
+    (no_volinfo (path_field word) job) (build_given (words_job (name ∷ word ∷ [])) job))
 
--- the same of what all words are
-pub is_command_job : (words : List (List ℕ)) (job : Job) → command_of words ≡ Some (command.Build job) → is_job (job_fields job) ≡ true
+-- the job of words that are a build's
+pub command_job : (words : List (List ℕ)) (job : Job) → command_of words ≡ Some (command.Build job) → words_job words ≡ Some job
 unfolding command_of
-is_command_job [] job e = build_job_of [] (words_job []) job refl e
-is_command_job (name ∷ []) job e = build_job_of (name ∷ []) (words_job (name ∷ [])) job refl e
-is_command_job (name ∷ word ∷ []) job e =
+command_job [] job e = build_given (words_job []) job e
+command_job (name ∷ []) job e = build_given (words_job (name ∷ [])) job e
+command_job (name ∷ word ∷ []) job e =
     others (same_text name (codes "replay")) (replay_from (path_field word))
     (cond (same_text name (codes "selftest")) (selftest_from (count_of word)) (cond (same_text name (codes "volinfo")) (volinfo_from (path_field word)) (build_from (name ∷ word ∷ [])))) job
-    (no_replay (path_field word) job) (two_words name word job) e
-is_command_job (name ∷ path ∷ word ∷ words) job e = build_job_of (name ∷ path ∷ word ∷ words) (words_job (name ∷ path ∷ word ∷ words)) job refl e
+    (words_job (name ∷ word ∷ [])) (no_replay (path_field word) job) (two_words name word job) e
+command_job (name ∷ path ∷ word ∷ words) job e = build_given (words_job (name ∷ path ∷ word ∷ words)) job e
+
+-- its fields are those of a job
+pub is_command_job : (words : List (List ℕ)) (job : Job) → command_of words ≡ Some (command.Build job) → is_job (job_fields job) ≡ true
+is_command_job words job e = is_job_of words job (command_job words job e)

@@ -1,5 +1,6 @@
 -- The words `build ..`, `replay SCRIPT`, `selftest N` and `volinfo IMAGE`.
-use Rattle.std.specs.Prelude.{ℕ, List, [], ◌∷◌, Option, Some, codes, if◌then◌else◌}
+use Rattle.std.specs.Prelude.{ℕ, List, [], ◌∷◌, map, Option, Some, String, codes, if◌then◌else◌}
+use Rattle.std.specs.String.{string_bytes}
 use Rattle.std.specs.Option.{option_map}
 use Rattle.build_base.specs.Path.{path_field}
 use Rattle.macro_conditions.specs.Macros.{same_text}
@@ -29,6 +30,10 @@ command_of (command ∷ word ∷ []) =
     else if same_text command (codes "volinfo") then volinfo_from (path_field word)
     else build_from (command ∷ word ∷ [])
 command_of words = build_from words
+
+-- what the words of a command line are
+abbrev pub asked : {Z : Type 0} → List (String Z) → Option Command
+asked words = command_of (map string_bytes words)
 
 -- where they are a build's
 abbrev pub IfBuild : Option Command → (Job → Type 0) → Type 0

@@ -16,3 +16,4 @@ pub mod History
 pub mod ReplayReads
 pub mod Selftest
 pub mod Volinfo
+pub mod TopCall

@@ -12,8 +12,8 @@ use Rattle.edk_build.specs.declared.script.ScriptCommand.{ScriptCommand}
 use Rattle.edk_build.specs.declared.script.ScriptCommand.TheVariants.{Put, Drop, Build}
 use Rattle.edk_build.specs.declared.script.ScriptLine.{ScriptLine}
 
--- A line that puts reads the file whose bytes it takes, unless the tree fails. One that drops reads
--- nothing. A build reads no path twice, and none that has an edit.
+-- A line that puts reads at most the file whose bytes it takes. One that drops reads nothing. A build
+-- reads no path twice, and none that has an edit.
 abbrev pub LineReads : List (List ℕ) → ScriptCommand → Option (List (List ℕ))
     → Option (List (List ℕ)) → Type 0
 LineReads edited (Put path from) a b = (b ≡ a) ⊎ (b ≡ added_to a (from ∷ []))
