@@ -12,8 +12,8 @@ use Rattle.build_rules.specs.TextValues.{code_value, depex_value, report_value}
 use Rattle.build_rules.specs.Values.{dec_value, inf_value, platform_value, flash_value}
 use Rattle.build_rules.specs.VpdValues.{vpd_value}
 
--- The fields of a world come of a build's words: field 1 names architectures that can be built, 2
--- and 3 are names or empty, and 6 gives PCDs values.
+-- The fields of a world come of a build's words. Field 1 names architectures that can be built.
+-- Fields 2 and 3 are names or empty, and 6 gives PCDs values.
 pub record IsSpoken (w : World) : Type 0 where
   pub arches : AreArches (field w 1)
   pub target : IsNameOrNone (field w 2)

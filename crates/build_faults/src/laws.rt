@@ -6,7 +6,7 @@ ghost use Rattle.build_stages.specs.Stages.{meaning_of};
 ghost use Rattle.step_engine.specs.Meaning.{IsWorld};
 ghost use Rattle.step_pack.specs.Keys.{key_cmp};
 
-/// In a world of a build's words each step gives something, or its fault has a name: none ends with
+/// In a world of a build's words each step gives something, or its fault has a name. None ends with
 /// the fault of an answer that no world gives.
 pub fn steps_fail_by_name()
     ensures { (w : World) → IsWorld (meaning_of key_cmp edk) w → IsSpoken w → StepsFailByName w }

@@ -35,8 +35,8 @@ pub fn run<H: Threads + Sync, T: Tree, S: Sink, K: Keeper, G: Gate>(
     gate: &G,
     book: &mut Book<Key>,
 ) -> Status
-    // A build, from the cache that was kept: what it wrote and kept; which steps ran, and what was read;
-    // that it is complete; and that each fault of its outcome has a name.
+    // A build, from the cache that was kept. What it wrote and kept, which steps ran and what was read;
+    // that it is complete, and that each fault of its outcome has a name.
     ensures built { IfBuild (asked words.now) (λ job. HasBuilt (T.held tree.old) job result
         (told (S.written sink.old) (K.kept keeper.old) (S.faults sink.old) (K.faults keeper.old))
         (told (S.written sink.new) (K.kept keeper.new) (S.faults sink.new) (K.faults keeper.new))) }

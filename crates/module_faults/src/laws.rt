@@ -103,8 +103,8 @@ pub fn vpd_fails_by_names()
     ensures { (ask : VpdAsk) → FailsByName (vpd_of ask) }
 {}
 
-/// The folder of a build's outputs fails by a name, and is short, for the folder that a platform
-/// states and the names that a job gives.
+/// The folder of a build's outputs fails by a name, and is short. It is made of the folder that a
+/// platform states and of the names that a job gives.
 pub fn folders_fail_by_names()
     ensures folder { (output target tag : List ℕ) → IsPathField output → IsNameOrNone target
         → IsNameOrNone tag → FailsByName (output_folder output target tag) }
@@ -113,8 +113,8 @@ pub fn folders_fail_by_names()
         → length folder ≤ folder_limit }
 {}
 
-/// The files of a build fail by names in a short folder: those of a module whose INF file has a
-/// path and a name, those of a flash description of its shape, and those of vital product data.
+/// In a short folder the files of a build fail by names. They are those of a module whose INF file
+/// has a path and a name, of a flash description of its shape, and of vital product data.
 pub fn files_fail_by_names()
     ensures modules { (folder : List ℕ) (m : Module) (name : List ℕ) (texts depex : Bool)
         → length folder ≤ folder_limit → IsPathField m.inf → is_identifier name ≡ true
@@ -151,9 +151,8 @@ pub fn modules_have_names()
         → is_identifier inf.base_name ≡ true }
 {}
 
-/// The fields of a job that the words of a build name: each line of its architectures names one
-/// that can be built, each line of its PCDs gives one a value, and its target and its tag are
-/// names.
+/// What the words of a build give the fields of its job. Each line of its architectures names one
+/// that can be built. Each line of its PCDs gives one a value. Its target and its tag are names.
 pub fn jobs_have_words()
     ensures arches { (words : List (List ℕ)) (job : Job) → words_job words ≡ Some job
         → AreArches (slice_index_or (job_fields job) 1 []) }
