@@ -33,17 +33,17 @@ use Rattle.module_faults.proofs.InfLemmas.{module_name}
 use Rattle.module_faults.proofs.OutputLemmas.{module_files_fail, shaped_volumes_fail, shaped_devices_fail, vpd_files_fail, wanted_fails}
 use Rattle.module_faults.proofs.PlatformLemmas.{ModuleFits, modules_fit}
 use Rattle.module_faults.proofs.SettingLemmas.{built_fails, modules_fail}
-use Rattle.build_rules.proofs.FlashShape.{flash_shape}
+use Rattle.build_laws.proofs.FlashShape.{flash_shape}
 use Rattle.build_faults.proofs.ImageFaults.{StepsFail, FlashFits, flash_stands, volumes_fail, files_fail, devices_fail}
 use Rattle.build_faults.proofs.StepFaults.{dec_fails, inf_fails, platform_value_fails, platform_value_fits, flash_value_fails, choice_value_fails, pcds_value_fail, values_value_fail, code_value_fails, depex_value_fails, report_value_fails, vpd_value_fails, vpd_path_fails}
-use Rattle.build_rules.specs.BuildValues.{module_fault, fault_where, volume_faults, device_faults, report_fault, build_fault, module_files, joined, build_files, wanted_value, all_value}
-use Rattle.build_rules.specs.ImageValues.{volume_value, device_value}
-use Rattle.build_rules.specs.ModuleValues.{pcds_value}
+use Rattle.build_laws.specs.BuildValues.{module_fault, fault_where, volume_faults, device_faults, report_fault, build_fault, module_files, joined, build_files, wanted_value, all_value}
+use Rattle.build_laws.specs.ImageValues.{volume_value, device_value}
+use Rattle.build_laws.specs.ModuleValues.{pcds_value}
 use Rattle.build_rules.specs.Rules.{edk}
 use Rattle.build_faults.specs.NamedFaults.{IsSpoken, StepsFailByName}
-use Rattle.build_rules.specs.TextValues.{code_value, depex_value, report_value}
+use Rattle.build_laws.specs.TextValues.{code_value, depex_value, report_value}
 use Rattle.build_rules.specs.Values.{lines_in, inf_value, platform_value, flash_file, flash_value}
-use Rattle.build_rules.specs.VpdValues.{vpd_value}
+use Rattle.build_laws.specs.VpdValues.{vpd_value}
 
 -- Images.
 

@@ -71,13 +71,13 @@ use Rattle.image_faults.proofs.PlanFaults.{plan_fails, plan_planned}
 use Rattle.image_faults.proofs.RuleFaults.{arch_fails}
 use Rattle.image_faults.proofs.SectionFaults.{absent_fault_named, absent_part_fails, expression_named, expression_part_fails, file_part_fails, some_part_fails, too_long_named, words_part_fails}
 use Rattle.image_faults.specs.Served.{FlashStands, GuidStands, IsPlanned, IsPlannedFrom, ItemStands, Serves, ServesRule, ServesRuleFrom, ServesStatement, ServesStatementFrom, VolumeStands}
-use Rattle.build_rules.proofs.DeviceValues.{nested_is}
-use Rattle.build_rules.proofs.FlashShape.{flash_shape, item_fits, named_has}
-use Rattle.build_rules.specs.ImageValues.{apriori_value, body_value, bytes_got, device_value, file_bytes, file_order, file_value, got_fault, held_fault, is_moved, item_value, member_fault, member_value, nested_fault, nested_image, numbered_value, own_value, part_got, plan_value, planned_file, planned_value, region_bytes, region_fault, regions_value, required_fault, rule_part, rule_parts, section_content, section_part, sections_value, statement_value, volume_by, volume_files, volume_image, volume_value, vpd_bytes}
+use Rattle.build_laws.proofs.DeviceValues.{nested_is}
+use Rattle.build_laws.proofs.FlashShape.{flash_shape, item_fits, named_has}
+use Rattle.build_laws.specs.ImageValues.{apriori_value, body_value, bytes_got, device_value, file_bytes, file_order, file_value, got_fault, held_fault, is_moved, item_value, member_fault, member_value, nested_fault, nested_image, numbered_value, own_value, part_got, plan_value, planned_file, planned_value, region_bytes, region_fault, regions_value, required_fault, rule_part, rule_parts, section_content, section_part, sections_value, statement_value, volume_by, volume_files, volume_image, volume_value, vpd_bytes}
 use Rattle.build_rules.specs.Rules.{edk}
-use Rattle.build_rules.specs.TextValues.{depex_value}
+use Rattle.build_laws.specs.TextValues.{depex_value}
 use Rattle.build_rules.specs.Values.{flash_value, inf_value, platform_value}
-use Rattle.build_rules.specs.VpdValues.{vpd_value}
+use Rattle.build_laws.specs.VpdValues.{vpd_value}
 
 -- The values of the documents' steps, and of the other steps that these take, fail by names.
 pub record StepsFail (w : World) : Type 0 where

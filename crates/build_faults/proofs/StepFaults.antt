@@ -51,9 +51,9 @@ use Rattle.module_faults.proofs.TextLemmas.{texts_fail, depex_fails, module_own}
 use Rattle.module_faults.proofs.VpdLemmas.{vpd_fails}
 use Rattle.build_faults.specs.NamedFaults.{IsSpoken}
 use Rattle.build_rules.specs.Values.{lines_in, dec_value, inf_value, job_macros, platform_value, flash_file, flash_of_file, flash_value}
-use Rattle.build_rules.specs.ModuleValues.{infs_value, chosen_by, chosen_after, choice_value, linked_value, described_value, package_value, packages_value, parts_value, modules_value, pcds_value, module_value, values_value}
-use Rattle.build_rules.specs.TextValues.{code_value, depex_value, told_value, told_text, heading_value, report_value}
-use Rattle.build_rules.specs.VpdValues.{vpd_value}
+use Rattle.build_laws.specs.ModuleValues.{infs_value, chosen_by, chosen_after, choice_value, linked_value, described_value, package_value, packages_value, parts_value, modules_value, pcds_value, module_value, values_value}
+use Rattle.build_laws.specs.TextValues.{code_value, depex_value, told_value, told_text, heading_value, report_value}
+use Rattle.build_laws.specs.VpdValues.{vpd_value}
 
 -- Documents.
 

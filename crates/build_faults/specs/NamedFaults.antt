@@ -5,12 +5,12 @@ use Rattle.doc_types.specs.declared.choice.Module.{Module}
 use Rattle.module_faults.specs.Folders.{IsNameOrNone}
 use Rattle.module_faults.specs.Words.{AreArches, AreSets}
 use Rattle.named_faults.specs.Named.{FailsByName}
-use Rattle.build_rules.specs.BuildValues.{all_value}
-use Rattle.build_rules.specs.ImageValues.{file_value, volume_value, device_value}
-use Rattle.build_rules.specs.ModuleValues.{choice_value, pcds_value, values_value}
-use Rattle.build_rules.specs.TextValues.{code_value, depex_value, report_value}
+use Rattle.build_laws.specs.BuildValues.{all_value}
+use Rattle.build_laws.specs.ImageValues.{file_value, volume_value, device_value}
+use Rattle.build_laws.specs.ModuleValues.{choice_value, pcds_value, values_value}
+use Rattle.build_laws.specs.TextValues.{code_value, depex_value, report_value}
 use Rattle.build_rules.specs.Values.{dec_value, inf_value, platform_value, flash_value}
-use Rattle.build_rules.specs.VpdValues.{vpd_value}
+use Rattle.build_laws.specs.VpdValues.{vpd_value}
 
 -- The fields of a world come of a build's words. Field 1 names architectures that can be built.
 -- Fields 2 and 3 are names or empty, and 6 gives PCDs values.

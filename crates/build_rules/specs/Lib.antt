@@ -18,8 +18,3 @@ pub mod RulesBounds
 pub mod Adopting
 pub mod Older
 pub mod Values
-pub mod ModuleValues
-pub mod TextValues
-pub mod VpdValues
-pub mod ImageValues
-pub mod BuildValues

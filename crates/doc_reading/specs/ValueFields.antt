@@ -9,10 +9,10 @@ use Rattle.build_base.specs.Guid.{guid_of}
 use Rattle.build_base.specs.Path.{path_field}
 use Rattle.meta_lexer.specs.Fields.{ends_quoted}
 use Rattle.meta_lexer.specs.Words.{has_macro_use}
-use Rattle.macro_conditions.specs.declared.expression.Value.{Value}
-use Rattle.macro_conditions.specs.declared.expression.Value.TheVariants.{Number, Word}
-use Rattle.macro_conditions.specs.Expressions.{evaluation}
-use Rattle.macro_conditions.specs.Sources.{without_workspace}
+use Rattle.macro_expressions.specs.declared.expression.Value.{Value}
+use Rattle.macro_expressions.specs.declared.expression.Value.TheVariants.{Number, Word}
+use Rattle.macro_expressions.specs.Expressions.{evaluation}
+use Rattle.macro_expressions.specs.Macros.{without_workspace}
 use Rattle.build_base.specs.FaultCodes.{BAD_EXPRESSION, BAD_PATH, OPEN_QUOTE, UNDEFINED_MACRO}
 
 -- `$(` that is left in a text: its macro isn't defined

@@ -9,8 +9,8 @@ ghost use Rattle.doc_reading.specs.ValueFields.{undefined_macro, open_quote, gui
 use build_base::fault_codes::{BAD_EXPRESSION, BAD_PATH, OPEN_QUOTE, UNDEFINED_MACRO};
 use build_base::path::path_field;
 use build_base::{Guid, Path, Place, Refusal, Rows, Text, refuse};
-use macro_conditions::known::without_workspace;
-use macro_conditions::{Value, evaluate};
+use macro_expressions::macros::without_workspace;
+use macro_expressions::{Value, evaluate};
 use meta_lexer::field::ends_quoted;
 use meta_lexer::words::has_macro_use;
 use std::alloc::Global;

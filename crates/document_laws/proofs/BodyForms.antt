@@ -8,7 +8,7 @@ use Rattle.build_base.specs.declared.guid.Guid.{Guid}
 use Rattle.build_base.specs.declared.lines.Taken.{Taken}
 use Rattle.meta_lexer.specs.Fields.{ends_quoted}
 use Rattle.meta_lexer.specs.Words.{same_word}
-use Rattle.macro_conditions.specs.Sources.{without_workspace}
+use Rattle.macro_expressions.specs.Macros.{without_workspace}
 use Rattle.doc_reading.specs.Gathering.{unless_faulty}
 use Rattle.doc_types.specs.Standard.{EFI_SECTION_FIRMWARE_VOLUME_IMAGE, EFI_SECTION_FREEFORM_SUBTYPE_GUID}
 use Rattle.doc_types.specs.declared.volume.Align.{Align}

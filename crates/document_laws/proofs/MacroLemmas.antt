@@ -6,10 +6,10 @@ use Rattle.std.proofs.lemmas.List.{drop_more}
 use Rattle.build_base.specs.declared.lines.Macro.{Macro}
 use Rattle.meta_lexer.specs.Tokens.{is_word_byte, word_size}
 use Rattle.meta_lexer.specs.Words.{is_identifier, begins_with_digit}
-use Rattle.macro_conditions.specs.declared.macros.Undefined.{Undefined}
-use Rattle.macro_conditions.specs.declared.macros.Undefined.TheVariants.{Kept, Zero}
-use Rattle.macro_conditions.specs.Macros.{used_name, use_at, value_of, undefined, meaning, replaced}
-use Rattle.macro_conditions.proofs.MacroFronts.{front_use, front_byte}
+use Rattle.macro_expressions.specs.declared.macros.Undefined.{Undefined}
+use Rattle.macro_expressions.specs.declared.macros.Undefined.TheVariants.{Kept, Zero}
+use Rattle.macro_expressions.specs.Macros.{used_name, use_at, value_of, undefined, meaning, replaced}
+use Rattle.macro_expressions.proofs.MacroFronts.{front_use, front_byte}
 use Rattle.document_laws.specs.MacroUses.{Part, byte, named, before_rest, spelled, unknown, meant, AreParts, IsReplaced}
 use Rattle.document_laws.proofs.ListLemmas.{prefix_passed}
 
@@ -125,7 +125,7 @@ with_use u ms name rest e =
 
 -- the walk is what the parts stand for
 parts_only : (u : Undefined) (ms : List Macro) (parts : List Part) → AreParts parts → replaced u ms (spelled parts) ≡ meant u ms parts
-unfolding Rattle.macro_conditions.specs.Macros.replaced_after
+unfolding Rattle.macro_expressions.specs.Macros.replaced_after
 parts_only u ms [] h = refl
 parts_only u ms (byte b ∷ parts) h =
     sym (front_byte u ms (b ∷ spelled parts) (omega arith) (plain (use_at (b ∷ spelled parts)) refl))

@@ -5,8 +5,8 @@ use Rattle.build_base.specs.FaultCodes.{UNDEFINED_MACRO}
 use Rattle.build_base.specs.declared.fault.Fault.{Fault}
 use Rattle.build_base.specs.declared.lines.Taken.{Taken}
 use Rattle.meta_lexer.specs.Words.{same_word}
-use Rattle.macro_conditions.specs.Macros.{same_text}
-use Rattle.macro_conditions.specs.Sources.{without_workspace}
+use Rattle.macro_expressions.specs.Macros.{same_text}
+use Rattle.macro_expressions.specs.Macros.{without_workspace}
 use Rattle.doc_reading.specs.Gathering.{unless_faulty}
 use Rattle.doc_types.specs.declared.volume.SectionSource.TheVariants.{Template, Words, Refused}
 use Rattle.fdf_words.specs.declared.marks.Marks.{Marks}

@@ -11,8 +11,8 @@ use Rattle.meta_lexer.specs.Fields.{ends_quoted}
 use Rattle.meta_lexer.specs.Lookup.{lookup}
 use Rattle.meta_lexer.specs.Parts.{field_texts}
 use Rattle.meta_lexer.specs.Words.{has_macro_use, is_identifier, same_word}
-use Rattle.macro_conditions.specs.Macros.{same_text}
-use Rattle.macro_conditions.specs.Sources.{without_workspace}
+use Rattle.macro_expressions.specs.Macros.{same_text}
+use Rattle.macro_expressions.specs.Macros.{without_workspace}
 use Rattle.doc_reading.specs.Gathering.{unless_faulty}
 use Rattle.doc_reading.specs.ValueFields.{number_value}
 use Rattle.doc_types.specs.Arches.{arch_named}

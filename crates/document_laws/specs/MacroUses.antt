@@ -3,9 +3,9 @@
 use Rattle.std.specs.Prelude.{◌≡◌, ℕ, true, List, [], ◌∷◌, ◌++◌, unwrap_or}
 use Rattle.build_base.specs.declared.lines.Macro.{Macro}
 use Rattle.meta_lexer.specs.Words.{is_identifier}
-use Rattle.macro_conditions.specs.declared.macros.Undefined.{Undefined}
-use Rattle.macro_conditions.specs.declared.macros.Undefined.TheVariants.{Kept, Zero}
-use Rattle.macro_conditions.specs.Macros.{value_of}
+use Rattle.macro_expressions.specs.declared.macros.Undefined.{Undefined}
+use Rattle.macro_expressions.specs.declared.macros.Undefined.TheVariants.{Kept, Zero}
+use Rattle.macro_expressions.specs.Macros.{value_of}
 
 -- a byte that stands for itself, or the use of a name
 pub data Part : Type 0 where

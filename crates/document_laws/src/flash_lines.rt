@@ -4,7 +4,7 @@ ghost use Rattle.std.specs.Prelude.{◌≡◌, Bool, None, ℕ, List, Option, fa
 ghost use Rattle.build_base.specs.declared.guid.Guid.{Guid};
 ghost use Rattle.build_base.specs.declared.lines.Taken.{Taken as Line};
 ghost use Rattle.build_base.specs.Guid.{guid_of};
-ghost use Rattle.macro_conditions.specs.Sources.{without_workspace};
+ghost use Rattle.macro_expressions.specs.Macros.{without_workspace};
 ghost use Rattle.doc_reading.specs.Least.{least_of};
 ghost use Rattle.doc_types.specs.declared.pcd.PcdName.{PcdName};
 ghost use Rattle.doc_types.specs.declared.volume.Align.{Align};

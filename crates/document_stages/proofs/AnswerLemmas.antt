@@ -5,7 +5,7 @@ use Rattle.std.proofs.lemmas.List.Elements.{All-head, All-tail}
 use Rattle.build_base.specs.First.{or_else}
 use Rattle.build_base.specs.declared.outside.Got.{Got}
 use Rattle.macro_conditions.specs.declared.known.Known.{Known}
-use Rattle.macro_conditions.specs.Macros.{same_text}
+use Rattle.macro_expressions.specs.Macros.{same_text}
 use Rattle.macro_conditions.specs.Sources.{Source, answer}
 use Rattle.macro_conditions.specs.Counting.{with_answer}
 use Rattle.macro_conditions.specs.Worlds.{MoreAnswers}

@@ -11,7 +11,7 @@ use Rattle.meta_lexer.specs.Lines.{without_blanks}
 use Rattle.meta_lexer.specs.Lookup.{lookup}
 use Rattle.meta_lexer.specs.Parts.{field_texts}
 use Rattle.meta_lexer.specs.Words.{split_once, same_word}
-use Rattle.macro_conditions.specs.Sources.{without_workspace}
+use Rattle.macro_expressions.specs.Macros.{without_workspace}
 use Rattle.doc_reading.specs.ValueFields.{undefined_macro}
 use Rattle.doc_reading.specs.Values.{require, of_read_line}
 use Rattle.doc_types.specs.declared.arch.Arch.{Arch}

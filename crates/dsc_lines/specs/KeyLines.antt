@@ -9,7 +9,7 @@ use Rattle.build_base.specs.declared.fault.Place.{Place}
 use Rattle.build_base.specs.declared.lines.Taken.{Taken}
 use Rattle.meta_lexer.specs.Lookup.{lookup}
 use Rattle.meta_lexer.specs.Words.{split_once}
-use Rattle.macro_conditions.specs.Sources.{without_workspace}
+use Rattle.macro_expressions.specs.Macros.{without_workspace}
 use Rattle.doc_reading.specs.SegmentNames.{segment_name}
 use Rattle.doc_reading.specs.Least.{fault_in}
 use Rattle.doc_reading.specs.ValueFields.{undefined_macro, text_value, path_value}

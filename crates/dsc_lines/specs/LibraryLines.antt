@@ -6,7 +6,7 @@ use Rattle.build_base.specs.declared.fault.Fault.{Fault}
 use Rattle.build_base.specs.declared.lines.Taken.{Taken}
 use Rattle.meta_lexer.specs.Parts.{field_texts}
 use Rattle.meta_lexer.specs.Words.{is_identifier}
-use Rattle.macro_conditions.specs.Sources.{without_workspace}
+use Rattle.macro_expressions.specs.Macros.{without_workspace}
 use Rattle.doc_reading.specs.ValueFields.{undefined_macro}
 use Rattle.doc_reading.specs.Values.{require, of_read_line}
 use Rattle.doc_types.specs.declared.arch.Arch.{Arch}

@@ -23,7 +23,7 @@ use doc_reading::value_fields::{open_quote, undefined_macro};
 use doc_reading::values::require;
 use doc_types::arch::Arch;
 use doc_types::pcd::Kind;
-use macro_conditions::known::without_workspace;
+use macro_expressions::macros::without_workspace;
 use meta_lexer::line::trim;
 use meta_lexer::lookup;
 use meta_lexer::parts::field_texts;

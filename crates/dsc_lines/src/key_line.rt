@@ -13,7 +13,7 @@ use build_base::{Guid, Refusal, Same, Taken};
 use doc_reading::least_check::{least_of_one, least_of_two};
 use doc_reading::value_fields::{open_quote, path_value, text_value, undefined_macro};
 use doc_reading::values::require;
-use macro_conditions::known::without_workspace;
+use macro_expressions::macros::without_workspace;
 use meta_lexer::lookup;
 use meta_lexer::words::split_once;
 use std::alloc::Global;

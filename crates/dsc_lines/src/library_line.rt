@@ -14,7 +14,7 @@ use doc_reading::values::require;
 use doc_types::arch::Arch;
 use doc_types::module_type::ModuleType;
 use doc_types::platform::LibraryLine;
-use macro_conditions::known::without_workspace;
+use macro_expressions::macros::without_workspace;
 use meta_lexer::parts::field_texts;
 use meta_lexer::words::is_identifier;
 use std::alloc::Global;

@@ -5,7 +5,7 @@ use Rattle.std.specs.List.{list_all}
 use Rattle.std.specs.Option.{option_map, IfSome}
 use Rattle.std.proofs.lemmas.List.Elements.{All-nil, All-cons}
 use Rattle.build_base.specs.Path.{path_field}
-use Rattle.macro_conditions.specs.Macros.{same_text}
+use Rattle.macro_expressions.specs.Macros.{same_text}
 use Rattle.meta_lexer.specs.Lines.{Piece, is_plain, pieces_from, without_return}
 use Rattle.meta_lexer.specs.Parts.{words_of}
 use Rattle.edk_build.specs.Script.{put_of, drop_of, build_of, order_of, content_of, content_in, script_line, lines_at, with_content, line_content, lines_among, script_of, HasJob, HaveJobs}

@@ -5,7 +5,7 @@ use Rattle.std.specs.Cmp.Lexicographic.{pointwise}
 use Rattle.std.specs.Option.{option_map}
 use Rattle.std.proofs.lemmas.Bool.{and_from}
 use Rattle.build_base.specs.Path.{is_path, path_field}
-use Rattle.macro_conditions.specs.Macros.{same_text}
+use Rattle.macro_expressions.specs.Macros.{same_text}
 use Rattle.build_rules.specs.Rules.{is_path_or_empty, is_job}
 use Rattle.build_words.specs.Command.{is_taken, rows_in}
 use Rattle.build_words.specs.Fields.{or_empty, job_fields}

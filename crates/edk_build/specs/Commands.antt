@@ -3,7 +3,7 @@ use Rattle.std.specs.Prelude.{ℕ, List, [], ◌∷◌, map, Option, Some, Strin
 use Rattle.std.specs.String.{string_bytes}
 use Rattle.std.specs.Option.{option_map}
 use Rattle.build_base.specs.Path.{path_field}
-use Rattle.macro_conditions.specs.Macros.{same_text}
+use Rattle.macro_expressions.specs.Macros.{same_text}
 use Rattle.edk_build.specs.declared.command.Command.{Command}
 use Rattle.edk_build.specs.declared.command.Command.TheVariants.{Build, Replay, Selftest, Volinfo}
 use Rattle.build_words.specs.Jobs.{words_job}

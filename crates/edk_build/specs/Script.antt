@@ -3,7 +3,7 @@ use Rattle.std.specs.Prelude.{◌≡◌, ℕ, Bool, true, nat_le, List, [], ◌�
 use Rattle.std.specs.List.{list_all}
 use Rattle.std.specs.Option.{option_map}
 use Rattle.build_base.specs.Path.{path_field}
-use Rattle.macro_conditions.specs.Macros.{same_text}
+use Rattle.macro_expressions.specs.Macros.{same_text}
 use Rattle.meta_lexer.specs.Lines.{Piece, is_plain, pieces_from, without_return}
 use Rattle.meta_lexer.specs.Parts.{words_of}
 use Rattle.build_rules.specs.Rules.{is_job}

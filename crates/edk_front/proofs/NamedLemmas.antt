@@ -13,11 +13,11 @@ use Rattle.step_pack.specs.declared.key.Key.TheVariants as key
 use Rattle.step_pack.specs.declared.out.Out.{Out}
 use Rattle.step_pack.specs.declared.out.Out.TheVariants as out
 use Rattle.step_pack.specs.declared.out.Output.{Output}
-use Rattle.build_rules.specs.BuildValues.{all_value}
+use Rattle.build_laws.specs.BuildValues.{all_value}
 use Rattle.build_rules.specs.Rules.{value_in}
 use Rattle.build_faults.specs.NamedFaults.{IsSpoken}
 use Rattle.build_faults.proofs.BuildFaults.{all_fails_by_name}
-use Rattle.build_rules.proofs.BuildValues.{all_is}
+use Rattle.build_laws.proofs.BuildValues.{all_is}
 use Rattle.build_words.specs.Jobs.{words_job}
 use Rattle.build_words.specs.declared.job.Job.{Job}
 use Rattle.edk_build.proofs.WordLemmas.{command_job, is_job_of}

@@ -4,9 +4,9 @@ use Rattle.std.specs.List.{starts_with}
 use Rattle.build_base.specs.FaultText.{fault_of}
 use Rattle.build_base.specs.declared.fault.Fault.{Fault}
 use Rattle.build_base.specs.declared.lines.Taken.{Taken}
-use Rattle.macro_conditions.specs.declared.expression.Value.{Value}
-use Rattle.macro_conditions.specs.declared.expression.Value.TheVariants.{Number, Word}
-use Rattle.macro_conditions.specs.Expressions.{evaluation}
+use Rattle.macro_expressions.specs.declared.expression.Value.{Value}
+use Rattle.macro_expressions.specs.declared.expression.Value.TheVariants.{Number, Word}
+use Rattle.macro_expressions.specs.Expressions.{evaluation}
 use Rattle.meta_lexer.specs.Fields.{ends_quoted}
 use Rattle.fdf_words.specs.Numbers.{bad_line}
 use Rattle.build_base.specs.FaultCodes.{BAD_EXPRESSION, BAD_RULE, UNDEFINED_MACRO}

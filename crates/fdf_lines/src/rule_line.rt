@@ -30,7 +30,7 @@ use fdf_words::marks::{Marks, Open};
 use fdf_words::number::bad_line;
 use fdf_words::rows::Row;
 use fdf_words::words::{after_equals, first_word, is_close};
-use macro_conditions::known::without_workspace;
+use macro_expressions::macros::without_workspace;
 use meta_lexer::lookup;
 use meta_lexer::words::same_word;
 use std::alloc::Global;

@@ -6,7 +6,7 @@ ghost use Rattle.fdf_lines.specs.RuleNumbers.{begins_another, holds_another, wit
 use build_base::fault_codes::{BAD_EXPRESSION, BAD_RULE, UNDEFINED_MACRO};
 use build_base::{Refusal, Rows, Taken, Text, refuse};
 use fdf_words::number::bad_line;
-use macro_conditions::{Value, evaluate};
+use macro_expressions::{Value, evaluate};
 use meta_lexer::field::ends_quoted;
 use std::alloc::Global;
 

@@ -6,7 +6,7 @@ use Rattle.build_base.specs.FaultText.{fault_of}
 use Rattle.build_base.specs.Path.{path_field}
 use Rattle.build_base.specs.declared.fault.Fault.{Fault}
 use Rattle.build_base.specs.declared.lines.Taken.{Taken}
-use Rattle.macro_conditions.specs.Sources.{without_workspace}
+use Rattle.macro_expressions.specs.Macros.{without_workspace}
 use Rattle.meta_lexer.specs.Lookup.{lookup}
 use Rattle.doc_reading.specs.ValueFields.{undefined_macro}
 use Rattle.doc_types.specs.declared.volume.InfLine.{InfLine}

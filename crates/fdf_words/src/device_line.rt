@@ -2,7 +2,7 @@
 ghost use Rattle.std.specs.Prelude.{◌≡◌, IfOk, None};
 ghost use Rattle.build_base.specs.Answer.{Answers, Checks, Finds};
 ghost use Rattle.build_base.specs.Path.{path_field};
-ghost use Rattle.macro_conditions.specs.Sources.{without_workspace};
+ghost use Rattle.macro_expressions.specs.Macros.{without_workspace};
 ghost use Rattle.doc_reading.specs.Gathering.{unless_faulty};
 ghost use Rattle.doc_reading.specs.Least.{least_of};
 ghost use Rattle.doc_types.specs.Pcds.{pcd_name_of};
@@ -28,7 +28,7 @@ use doc_reading::least_check::{least_of_three, least_of_two, least_refusal, less
 use doc_reading::value_fields::{number_value, undefined_macro, undefined_macros};
 use doc_reading::values::require;
 use doc_types::pcd::{PcdName, pcd_name_of};
-use macro_conditions::known::without_workspace;
+use macro_expressions::macros::without_workspace;
 use meta_lexer::parts::field_texts;
 use std::alloc::Global;
 

@@ -11,7 +11,7 @@ use Rattle.doc_reading.specs.ValueFields.{undefined_macro}
 use Rattle.doc_reading.specs.Values.{require, of_read_line}
 use Rattle.doc_types.specs.declared.arch.Arch.{Arch}
 use Rattle.doc_types.specs.declared.module.Named.{Named}
-use Rattle.macro_conditions.specs.Sources.{without_workspace}
+use Rattle.macro_expressions.specs.Macros.{without_workspace}
 use Rattle.meta_lexer.specs.Parts.{first_text, field_texts}
 use Rattle.meta_lexer.specs.Words.{is_identifier}
 use Rattle.inf_docs.specs.declared.row.Row.{Row}

@@ -14,7 +14,7 @@ use doc_reading::value_fields::{open_quote, undefined_macro};
 use doc_reading::values::require;
 use doc_types::arch::Arch;
 use doc_types::module::Named;
-use macro_conditions::known::without_workspace;
+use macro_expressions::macros::without_workspace;
 use meta_lexer::parts::{field_texts, first_text};
 use meta_lexer::words::is_identifier;
 use std::alloc::Global;

@@ -12,7 +12,8 @@ use Rattle.meta_lexer.specs.Lines.{TextLine}
 use Rattle.macro_conditions.specs.declared.directive.Directive.{Directive}
 use Rattle.macro_conditions.specs.declared.directive.Directive.TheVariants.{Act, If, Elseif, Else, Endif}
 use Rattle.macro_conditions.specs.Directives.{kind_of, is_include}
-use Rattle.macro_conditions.specs.Sources.{Source, places, in_folder, Located, wanted, missing, over_limit, there, at_place, or_located, located, without_workspace}
+use Rattle.macro_expressions.specs.Macros.{without_workspace}
+use Rattle.macro_conditions.specs.Sources.{Source, places, in_folder, Located, wanted, missing, over_limit, there, at_place, or_located, located}
 use Rattle.macro_conditions.specs.LineTree.{Items, nothing, plain, stray, choice, Branches, unclosed, closed, further, append, Cut, ended, cut, Gathered, ended_by, gather_last, parted_by, gather, before, with_line, parsed, strayed, tree_of}
 use Rattle.macro_conditions.specs.LineMeaning.{Acts, ◌>>=◌, taken, skipped, passed, chosen, at_end, unclosed_line, file_of}
 use Rattle.macro_conditions.specs.Expansion.{Env, apply_directive, tested, fault_at, include_field, line_at, lines_read, is_open}

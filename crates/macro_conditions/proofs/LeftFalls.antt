@@ -17,8 +17,8 @@ use Rattle.meta_lexer.specs.Faults.{Spot, first_fault}
 use Rattle.meta_lexer.specs.Lines.{TextLine, Piece, is_feed, without_return, numbered, pieces_from, piece_fault, piece_line, lines_of}
 use Rattle.macro_conditions.specs.declared.known.Known.{Known}
 use Rattle.macro_conditions.specs.Directives.{is_include}
-use Rattle.macro_conditions.specs.Macros.{same_text}
-use Rattle.macro_conditions.specs.Sources.{Source, answer, places, Located, wanted, missing, over_limit, there, located, without_workspace}
+use Rattle.macro_expressions.specs.Macros.{same_text, without_workspace}
+use Rattle.macro_conditions.specs.Sources.{Source, answer, places, Located, wanted, missing, over_limit, there, located}
 use Rattle.macro_conditions.specs.Worlds.{MoreAnswers}
 use Rattle.macro_conditions.specs.LineMeaning.{◌>>=◌, file_of}
 use Rattle.macro_conditions.specs.Expansion.{Env, Stop, bad, need, settled, acts, apply_directive, tested, fault_at, include_field, line_at, read_by, lines_read, inside, outside, file_lines, is_open, included, begun, document, rooted, expansion}

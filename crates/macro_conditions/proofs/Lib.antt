@@ -1,9 +1,3 @@
-pub mod Shifts
-pub mod ExpressionComplete
-pub mod ExpressionSound
-pub mod ExpressionTurns
-pub mod MacroFronts
-pub mod ExpressionMeaning
 pub mod StackIsTree
 pub mod TreeKeeps
 pub mod TreeRelated
@@ -11,7 +5,6 @@ pub mod TreeWritten
 pub mod TreeStands
 pub mod TreeIsOne
 pub mod SourceLemmas
-pub mod TableLemmas
 pub mod FrameEnds
 pub mod FileTurns
 pub mod IncludeLemmas

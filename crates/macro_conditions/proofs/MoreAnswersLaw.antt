@@ -7,7 +7,8 @@ use Rattle.build_base.specs.declared.outside.Got.{Got}
 use Rattle.build_base.specs.declared.outside.Got.TheVariants.{File, Absent, TooLong}
 use Rattle.build_base.specs.Path.{path_field}
 use Rattle.macro_conditions.specs.Directives.{is_include}
-use Rattle.macro_conditions.specs.Sources.{Source, places, Located, wanted, missing, over_limit, there, at_place, or_located, located, without_workspace}
+use Rattle.macro_expressions.specs.Macros.{without_workspace}
+use Rattle.macro_conditions.specs.Sources.{Source, places, Located, wanted, missing, over_limit, there, at_place, or_located, located}
 use Rattle.build_base.specs.declared.refusal.Refusal.{Refusal}
 use Rattle.build_base.specs.declared.refusal.Refusal.TheVariants as refusals
 use Rattle.macro_conditions.specs.declared.expansion.Turned.{Turned}

@@ -8,7 +8,8 @@ use Rattle.build_base.specs.declared.outside.Got.{Got}
 use Rattle.build_base.specs.declared.outside.Got.TheVariants.{File, Absent, TooLong}
 use Rattle.build_base.specs.Path.{path_field}
 use Rattle.macro_conditions.specs.Directives.{is_include}
-use Rattle.macro_conditions.specs.Sources.{Source, places, Located, wanted, missing, over_limit, there, at_place, or_located, located, without_workspace}
+use Rattle.macro_expressions.specs.Macros.{without_workspace}
+use Rattle.macro_conditions.specs.Sources.{Source, places, Located, wanted, missing, over_limit, there, at_place, or_located, located}
 use Rattle.macro_conditions.specs.LineMeaning.{◌>>=◌, file_of}
 use Rattle.macro_conditions.specs.Expansion.{Env, Stop, bad, need, settled, acts, apply_directive, tested, fault_at, include_field, line_at, lines_read, inside, outside, file_lines, is_open, included, begun, document, rooted, expansion}
 use Rattle.macro_conditions.proofs.IncludeLemmas.{found_at, at_path}

@@ -11,7 +11,8 @@ use Rattle.build_base.specs.Path.{path_field}
 use Rattle.build_base.specs.FaultText.{fault_of}
 use Rattle.macro_conditions.specs.declared.known.Known.{Known}
 use Rattle.macro_conditions.specs.Directives.{is_include}
-use Rattle.macro_conditions.specs.Sources.{Source, answer, places, Located, wanted, missing, over_limit, there, located, without_workspace}
+use Rattle.macro_expressions.specs.Macros.{without_workspace}
+use Rattle.macro_conditions.specs.Sources.{Source, answer, places, Located, wanted, missing, over_limit, there, located}
 use Rattle.macro_conditions.specs.LineMeaning.{Acts, ◌>>=◌, file_of}
 use Rattle.macro_conditions.specs.Expansion.{Env, apply_directive, tested, include_field, unbalanced, fault_at, long_fault, place_of, line_at, lines_read, inside, outside, is_open, begun}
 use Rattle.build_base.specs.FaultCodes.{BAD_PATH, FILE_ABSENT, INCLUDE_ABSENT, INCLUDE_LOOP, INCLUDE_TOO_DEEP}

@@ -5,7 +5,7 @@ use Rattle.meta_lexer.specs.Lines.{without_blanks}
 use Rattle.meta_lexer.specs.Tokens.{word_size}
 use Rattle.meta_lexer.specs.Lookup.{lookup}
 use Rattle.meta_lexer.specs.Words.{same_word, is_identifier, split_once}
-use Rattle.macro_conditions.specs.Macros.{use_at}
+use Rattle.macro_expressions.specs.Macros.{use_at}
 use Rattle.macro_conditions.specs.declared.directive.Directive.{Directive}
 use Rattle.macro_conditions.specs.declared.directive.Directive.TheVariants.{Act, If, Elseif, Else, Endif}
 

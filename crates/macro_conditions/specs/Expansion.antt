@@ -1,5 +1,5 @@
 -- What the lines of a document come to: macros, conditionals and includes.
-use Rattle.std.specs.Prelude.{ℕ, zero, suc, ◌+◌, ◌-◌, ◌/◌, ◌%◌, Bool, true, false, ◌&&◌, not, nat_lt, nat_le, ◌==◌, if◌then◌else◌, List, [], ◌∷◌, ◌++◌, length, fold, map, decimal, codes, slice_index, Option, Some, None, Result, Ok, Err}
+use Rattle.std.specs.Prelude.{ℕ, zero, suc, ◌+◌, ◌-◌, ◌/◌, ◌%◌, Bool, true, false, ◌&&◌, not, nat_lt, nat_le, ◌==◌, if◌then◌else◌, List, [], ◌∷◌, ◌++◌, length, map, decimal, codes, slice_index, Option, Some, None, Result, Ok, Err}
 use Rattle.std.specs.List.{list_any}
 use Rattle.build_base.specs.declared.fault.Fault.{Fault}
 use Rattle.build_base.specs.declared.fault.Place.{Place}
@@ -13,13 +13,13 @@ use Rattle.build_base.specs.FaultText.{fault_of}
 use Rattle.meta_lexer.specs.Faults.{Spot}
 use Rattle.meta_lexer.specs.Words.{same_word}
 use Rattle.meta_lexer.specs.Lines.{TextLine, lines_of, without_blanks}
-use Rattle.macro_conditions.specs.declared.macros.Undefined.TheVariants.{Kept, Zero}
-use Rattle.macro_conditions.specs.declared.expression.Value.{Value}
-use Rattle.macro_conditions.specs.declared.expression.Value.TheVariants.{Number, Word}
-use Rattle.macro_conditions.specs.Macros.{same_text, value_of, replaced}
-use Rattle.macro_conditions.specs.Expressions.{value_of_text, detail_of}
+use Rattle.macro_expressions.specs.declared.macros.Undefined.TheVariants.{Kept, Zero}
+use Rattle.macro_expressions.specs.declared.expression.Value.{Value}
+use Rattle.macro_expressions.specs.declared.expression.Value.TheVariants.{Number, Word}
+use Rattle.macro_expressions.specs.Macros.{put_macro, table_of, same_text, value_of, replaced, without_workspace}
+use Rattle.macro_expressions.specs.Expressions.{value_of_text, detail_of}
 use Rattle.macro_conditions.specs.Directives.{is_directive, directive_word, directive_rest, is_include, is_definition, definition_of, macro_named}
-use Rattle.macro_conditions.specs.Sources.{Source, places, Located, wanted, missing, over_limit, there, located, without_workspace}
+use Rattle.macro_conditions.specs.Sources.{Source, places, Located, wanted, missing, over_limit, there, located}
 use Rattle.macro_conditions.specs.LineMeaning.{Acts, ◌>>=◌, file_of}
 use Rattle.build_base.specs.FaultCodes.{BAD_BYTE, BAD_DIRECTIVE, BAD_EXPRESSION, BAD_PATH, FILE_ABSENT, FILE_TOO_LONG, INCLUDE_ABSENT, INCLUDE_LOOP, INCLUDE_TOO_DEEP, TOO_MANY_MACROS, UNBALANCED}
 
@@ -37,16 +37,6 @@ pub record Env : Type 0 where
 abbrev pub settled : {A : Type 0} → Result A Fault → Result A Stop
 settled (Ok x) = Ok x
 settled (Err fault) = Err (bad fault)
-
--- the macros with one defined: in the place of that of its name, or at the end
-unfoldable pub put_macro : List ℕ → List ℕ → List Macro → List Macro
-put_macro name value [] = record { name = name; value = value } ∷ []
-put_macro name value (m ∷ ms) = if same_text m.name name
-    then record { name = m.name; value = value } ∷ ms else m ∷ put_macro name value ms
-
--- each name once, in first-seen order and with its last value
-unfoldable pub table_of : List Macro → List Macro
-table_of ms = fold (λ table (m : Macro). put_macro m.name m.value table) [] ms
 
 abbrev pub is_there : Option (List ℕ) → Bool
 is_there None = false

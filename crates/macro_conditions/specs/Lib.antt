@@ -1,10 +1,3 @@
-pub mod Macros
-pub mod Scopes
-pub mod Values
-pub mod ExpressionTree
-pub mod ExpressionMachine
-pub mod ExpressionState
-pub mod Expressions
 pub mod Directives
 pub mod LineTree
 pub mod TreesOfLines

@@ -1,11 +1,11 @@
 -- Where the files of an expansion come from: what is known of a path, and the paths that an include
 -- names.
-use Rattle.std.specs.Prelude.{ℕ, ◌+◌, Bool, ◌&&◌, nat_le, if◌then◌else◌, List, [], ◌∷◌, ◌++◌, length, take, drop, codes, Option, Some, None}
+use Rattle.std.specs.Prelude.{ℕ, ◌+◌, nat_le, if◌then◌else◌, List, [], ◌∷◌, ◌++◌, length, Option, Some, None}
 use Rattle.build_base.specs.declared.outside.Got.{Got}
 use Rattle.build_base.specs.declared.outside.Got.TheVariants.{File, Absent, TooLong}
 use Rattle.build_base.specs.Path.{folder_of}
 use Rattle.macro_conditions.specs.declared.known.Known.{Known}
-use Rattle.macro_conditions.specs.Macros.{same_text}
+use Rattle.macro_expressions.specs.Macros.{same_text}
 
 -- what is known of each path, where something is
 abbrev pub Source : Type 0
@@ -15,14 +15,6 @@ Source = List ℕ → Option Got
 unfoldable pub answer : List Known → List ℕ → Option Got
 answer [] path = None
 answer (known ∷ more) path = if same_text known.path path then Some known.got else answer more path
-
-abbrev pub begins_at_workspace : List ℕ → Bool
-begins_at_workspace field = nat_le 13 (length field)
-    && same_text (take 13 field) (codes "$(WORKSPACE)/")
-
--- a path field that begins with `$(WORKSPACE)/` loses that front
-unfoldable pub without_workspace : List ℕ → List ℕ
-without_workspace field = if begins_at_workspace field then drop 13 field else field
 
 -- the file of this path in the folder, where the joined path has at most 2,048 bytes
 abbrev pub in_folder : Option (List ℕ) → List ℕ → List (List ℕ)

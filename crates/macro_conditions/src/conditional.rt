@@ -7,9 +7,9 @@ ghost use Rattle.macro_conditions.specs.Expansion.{Env, acts, unbalanced, bad};
 ghost use Rattle.macro_conditions.specs.Work.{source_view, mode_view, frames_of, env_of, state_of, idle, Halts, Agrees};
 
 use crate::directive::directive_word;
-use crate::table::ListedMacros;
 use crate::work::{Frame, Mode, SourceLine, Stopped, Work, bad, test};
 use build_base::fault_codes::UNBALANCED;
+use macro_expressions::table::ListedMacros;
 use std::alloc::Global;
 
 // Whether lines are taken here.

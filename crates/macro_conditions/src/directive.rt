@@ -3,7 +3,7 @@ ghost use Rattle.std.specs.Prelude.{◌≡◌, ◌≤◌, ◌+◌, length, codes
 ghost use Rattle.std.specs.Option.{option_map};
 ghost use Rattle.macro_conditions.specs.Directives.{first_word, after_word, is_directive, directive_word, directive_rest, kind_by, kind_of, is_include, is_definition, named, definition_of, macro_named};
 
-use crate::macros::use_at;
+use macro_expressions::macros::use_at;
 use meta_lexer::line::trim;
 use meta_lexer::lookup;
 use meta_lexer::token::word_size;

@@ -4,10 +4,10 @@ ghost use Rattle.std.specs.List.{list_any};
 ghost use Rattle.meta_lexer.specs.Lines.{line_view};
 ghost use Rattle.build_base.specs.declared.lines.Lines.{Lines as Document};
 ghost use Rattle.build_base.specs.FaultText.{fault_of};
-ghost use Rattle.macro_conditions.specs.Macros.{same_text};
+ghost use Rattle.macro_expressions.specs.Macros.{same_text, without_workspace};
 ghost use Rattle.macro_conditions.specs.LineMeaning.{file_of};
 ghost use Rattle.macro_conditions.specs.LineStack.{step};
-ghost use Rattle.macro_conditions.specs.Sources.{answer, places, located, without_workspace};
+ghost use Rattle.macro_conditions.specs.Sources.{answer, places, located};
 ghost use Rattle.macro_conditions.specs.Expansion.{bad, settled, hex_digit, spot_detail, lines_read, line_at, place_of, acts, included, entered, include_field, include_path, included_file, file_lines, is_open, too_long, inside, rooted, begun, document, expansion, Stop};
 ghost use Rattle.build_base.specs.declared.outside.Got.{Got as Gotten};
 ghost use Rattle.macro_conditions.specs.Worlds.{told, AgreesWith, HoldsIn};
@@ -15,9 +15,7 @@ ghost use Rattle.macro_conditions.specs.Work.{source_view, located_view, env_of,
 
 use crate::conditional::{active, close, end, open, turn};
 use crate::directive::{Directive, directive_rest, is_include, kind_of};
-use crate::known::{Known, Located, answer, locate, without_workspace};
-use crate::macros::{Undefined, replace};
-use crate::table::{ListedMacros, MacroTable};
+use crate::known::{Known, Located, answer, locate};
 use crate::work::{Frame, SourceLine, Stopped, Work, act, bad, bad_at};
 use build_base::fault_codes::{
     BAD_BYTE, BAD_PATH, FILE_ABSENT, FILE_TOO_LONG, INCLUDE_ABSENT, INCLUDE_LOOP, INCLUDE_TOO_DEEP,
@@ -25,6 +23,8 @@ use build_base::fault_codes::{
 use build_base::path::path_field;
 use build_base::{Got, Lines, Macro, Path, Place, Refusal, Rows, Same, Taken, Text, WantOfMemory};
 use itoa::Buffer;
+use macro_expressions::macros::{Undefined, replace, without_workspace};
+use macro_expressions::table::{ListedMacros, MacroTable};
 use meta_lexer::{LexRefusal, Line, lines};
 use std::alloc::Global;
 

@@ -1,8 +1,8 @@
 //! What is known of files, and where an included file is found.
-ghost use Rattle.std.specs.Prelude.{◌≡◌, ◌+◌, ◌≤◌, ◌++◌, ◌∷◌, length, take, codes, IfOk};
+ghost use Rattle.std.specs.Prelude.{◌≡◌, ◌+◌, ◌≤◌, ◌++◌, ◌∷◌, length, IfOk};
 ghost use Rattle.std.specs.Option.{option_map};
 ghost use Rattle.build_base.specs.Path.{folder_of};
-ghost use Rattle.macro_conditions.specs.Sources.{answer, begins_at_workspace, without_workspace, in_folder, places, at_place, located};
+ghost use Rattle.macro_conditions.specs.Sources.{answer, in_folder, places, at_place, located};
 ghost use Rattle.macro_conditions.specs.Work.{located_view};
 
 use build_base::{Got, Path, Same, Text, WantOfMemory};
@@ -35,24 +35,6 @@ pub(crate) fn answer<'a>(known: &'a [Known], path: &Path) -> Option<&'a Got>
         }
     }
     None
-}
-
-fn begins_at_workspace(field: &[u8]) -> bool
-    ensures { result ≡ begins_at_workspace field.now }
-{
-    field.len() >= 13 && &field[..13] == b"$(WORKSPACE)/".as_slice()
-}
-
-// A path field without `$(WORKSPACE)/` at its front.
-#[tactic(auto, unfolding(crate::specs::Sources::without_workspace))]
-pub fn without_workspace(field: &[u8]) -> &[u8]
-    ensures { result.now ≡ without_workspace field.now }
-{
-    if begins_at_workspace(field) {
-        &field[13..]
-    } else {
-        field
-    }
 }
 
 fn locate_at<'a>(known: &'a [Known], path: Path) -> Located<'a>

@@ -1,7 +1,7 @@
 //! What an expansion has taken so far, and what one line adds to it.
 ghost use Rattle.std.specs.Prelude.{◌≡◌, ◌+◌, ◌≤◌, ◌++◌, ◌∷◌, [], length, map, drop, fold, IfOk, IfErr, OnOk, Some, Ok, not};
 ghost use Rattle.build_base.specs.FaultText.{fault_of};
-ghost use Rattle.macro_conditions.specs.Scopes.{scope_of};
+ghost use Rattle.macro_expressions.specs.Scopes.{scope_of};
 ghost use Rattle.macro_conditions.specs.Directives.{macro_named, directive_rest, definition_of};
 ghost use Rattle.macro_conditions.specs.Expansion.{bad, settled, is_full, fault_at, holds, names, tested, defined, written, apply_directive, scope};
 ghost use Rattle.macro_conditions.specs.Work.{source_view, env_of, Halts, Agrees};
@@ -9,13 +9,13 @@ ghost use Rattle.macro_conditions.specs.Work.{source_view, env_of, Halts, Agrees
 use crate::directive::{
     definition_of, directive_rest, directive_word, is_definition, is_directive, macro_named,
 };
-use crate::expression::{Value, detail, value_in};
-use crate::macros::{Scope, Undefined, replace};
-use crate::table::{ListedMacros, MacroTable};
 use build_base::fault_codes::{BAD_DIRECTIVE, BAD_EXPRESSION, TOO_MANY_MACROS};
 use build_base::{
     Fault, Macro, Path, Place, Refusal, Rows, Same, Taken, Text, WantOfMemory, refuse,
 };
+use macro_expressions::expression::{Value, detail, value_in};
+use macro_expressions::macros::{Scope, Undefined, replace};
+use macro_expressions::table::{ListedMacros, MacroTable};
 use meta_lexer::line::trim;
 use meta_lexer::words::same_word;
 use std::alloc::Global;

@@ -10,7 +10,7 @@ use Rattle.build_base.specs.declared.fault.Place.{Place}
 use Rattle.build_base.specs.declared.guid.Guid.{Guid as GuidBytes}
 use Rattle.build_base.specs.declared.lines.Lines.{Lines}
 use Rattle.build_base.specs.declared.lines.Taken.{Taken}
-use Rattle.macro_conditions.specs.Sources.{without_workspace}
+use Rattle.macro_expressions.specs.Macros.{without_workspace}
 use Rattle.meta_lexer.specs.Words.{split_once}
 use Rattle.doc_reading.specs.Blocks.{Block, blocks}
 use Rattle.doc_reading.specs.Grammar.{Read, entered, gave, first_fault, read_of, rows_of}

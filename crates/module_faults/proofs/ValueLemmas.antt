@@ -2,9 +2,9 @@
 use Rattle.std.proofs.Common.{ℕ, nat_lt, List, length, Option, Some, None, Result, Ok, Err}
 use Rattle.build_base.specs.declared.fault.Place.{Place}
 use Rattle.meta_lexer.specs.Words.{has_macro_use}
-use Rattle.macro_conditions.specs.declared.expression.Value.{Value}
-use Rattle.macro_conditions.specs.declared.expression.Value.TheVariants.{Number, Word}
-use Rattle.macro_conditions.specs.Expressions.{value_of_text}
+use Rattle.macro_expressions.specs.declared.expression.Value.{Value}
+use Rattle.macro_expressions.specs.declared.expression.Value.TheVariants.{Number, Word}
+use Rattle.macro_expressions.specs.Expressions.{value_of_text}
 use Rattle.doc_types.specs.declared.pcd.Datum.{Datum}
 use Rattle.doc_types.specs.declared.pcd.Datum.TheVariants.{U8, U16, U32, U64, Boolean, Void}
 use Rattle.pcd_values.specs.Parsing.{bytes_of, fitting, number_bytes, number_value, void_found, void_value, parsed}

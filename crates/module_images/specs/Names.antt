@@ -8,8 +8,8 @@ use Rattle.build_texts.specs.Words.{arch_word}
 use Rattle.doc_types.specs.declared.choice.Module.{Module}
 use Rattle.doc_types.specs.declared.module.InfDoc.{InfDoc}
 use Rattle.doc_types.specs.declared.platform.PlatformDoc.{PlatformDoc}
-use Rattle.macro_conditions.specs.Macros.{replaced}
-use Rattle.macro_conditions.specs.declared.macros.Undefined.TheVariants.{Kept}
+use Rattle.macro_expressions.specs.Macros.{replaced}
+use Rattle.macro_expressions.specs.declared.macros.Undefined.TheVariants.{Kept}
 use Rattle.text_steps.specs.Code.{stated_guid}
 use Rattle.text_steps.specs.Stems.{stem_of}
 

@@ -8,7 +8,7 @@ use Rattle.build_base.specs.Path.{path_field}
 use Rattle.build_base.specs.declared.fault.Fault.{Fault}
 use Rattle.build_base.specs.declared.fault.Place.{Place}
 use Rattle.build_base.specs.declared.lines.Taken.{Taken}
-use Rattle.macro_conditions.specs.Sources.{without_workspace}
+use Rattle.macro_expressions.specs.Macros.{without_workspace}
 use Rattle.meta_lexer.specs.Faults.{first_fault}
 use Rattle.meta_lexer.specs.Parts.{first_text, field_texts}
 use Rattle.meta_lexer.specs.Words.{is_identifier, split_once}

@@ -4,11 +4,11 @@ use Rattle.std.specs.Prelude.{codes}
 use Rattle.build_base.specs.FaultText.{fault_of}
 use Rattle.build_base.specs.declared.fault.Fault.{Fault}
 use Rattle.build_base.specs.declared.lines.Taken.{Taken}
-use Rattle.macro_conditions.specs.Expressions.{evaluation}
-use Rattle.macro_conditions.specs.Macros.{same_text}
-use Rattle.macro_conditions.specs.Sources.{without_workspace}
-use Rattle.macro_conditions.specs.declared.expression.Value.{Value}
-use Rattle.macro_conditions.specs.declared.expression.Value.TheVariants.{Number, Word}
+use Rattle.macro_expressions.specs.Expressions.{evaluation}
+use Rattle.macro_expressions.specs.Macros.{same_text}
+use Rattle.macro_expressions.specs.Macros.{without_workspace}
+use Rattle.macro_expressions.specs.declared.expression.Value.{Value}
+use Rattle.macro_expressions.specs.declared.expression.Value.TheVariants.{Number, Word}
 use Rattle.meta_lexer.specs.Fields.{ends_quoted}
 use Rattle.meta_lexer.specs.Words.{same_word}
 use Rattle.fdf_lines.specs.RuleNumbers.{holds_another, within_word, number_found, build_number, stated_number}

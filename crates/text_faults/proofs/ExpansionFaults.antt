@@ -13,13 +13,13 @@ use Rattle.build_base.specs.declared.outside.Got.TheVariants.{File, Absent, TooL
 use Rattle.meta_lexer.specs.Faults.{Spot, first_fault}
 use Rattle.meta_lexer.specs.Lines.{Piece, TextLine, is_plain, without_return, before_comment, piece_fault, piece_line, pieces_from, lines_of}
 use Rattle.meta_lexer.specs.Words.{same_word}
-use Rattle.macro_conditions.specs.declared.expression.Value.{Value}
-use Rattle.macro_conditions.specs.declared.expression.Value.TheVariants.{Number, Word}
-use Rattle.macro_conditions.specs.declared.macros.Undefined.TheVariants.{Zero}
-use Rattle.macro_conditions.specs.Macros.{replaced}
-use Rattle.macro_conditions.specs.Expressions.{value_of_text}
+use Rattle.macro_expressions.specs.declared.expression.Value.{Value}
+use Rattle.macro_expressions.specs.declared.expression.Value.TheVariants.{Number, Word}
+use Rattle.macro_expressions.specs.declared.macros.Undefined.TheVariants.{Zero}
+use Rattle.macro_expressions.specs.Macros.{replaced, without_workspace}
+use Rattle.macro_expressions.specs.Expressions.{value_of_text}
 use Rattle.macro_conditions.specs.Directives.{is_directive, directive_word, directive_rest, is_include, is_definition, definition_of, macro_named}
-use Rattle.macro_conditions.specs.Sources.{places, Located, wanted, missing, over_limit, there, at_place, or_located, located, without_workspace}
+use Rattle.macro_conditions.specs.Sources.{places, Located, wanted, missing, over_limit, there, at_place, or_located, located}
 use Rattle.macro_conditions.specs.Worlds.{told}
 use Rattle.macro_conditions.specs.LineMeaning.{◌>>=◌, file_of}
 use Rattle.macro_conditions.specs.Expansion.{Env, Stop, bad, need, settled, fault_at, is_full, holds, names, negated, scope, defined, written, apply_directive, condition, tested, include_field, line_at, acts, read_by, lines_read, inside, outside, file_lines, is_open, included, begun, document, rooted, expansion}

@@ -9,17 +9,17 @@ use Rattle.meta_lexer.specs.Tokens.{tokens_after, tokens_of, token_span}
 use Rattle.meta_lexer.specs.declared.token.Token.{Token}
 use Rattle.meta_lexer.specs.declared.token.TokenKind.{TokenKind}
 use Rattle.meta_lexer.specs.declared.token.TokenKind.TheVariants as kinds
-use Rattle.macro_conditions.specs.declared.operator.BinaryOperator.{BinaryOperator}
-use Rattle.macro_conditions.specs.declared.operator.BinaryOperator.TheVariants as binary
-use Rattle.macro_conditions.specs.declared.operator.PrefixOperator.{PrefixOperator}
-use Rattle.macro_conditions.specs.declared.operator.PrefixOperator.TheVariants as prefix
-use Rattle.macro_conditions.specs.declared.macros.Undefined.TheVariants.{Zero}
-use Rattle.macro_conditions.specs.declared.expression.Value.{Value}
-use Rattle.macro_conditions.specs.Macros.{replaced}
-use Rattle.macro_conditions.specs.Values.{Outcome, word, number, faulty, ill, truth, fitting, on_numbers, on_texts, level, kinds_fit, joined, apply, apply_prefix}
-use Rattle.macro_conditions.specs.ExpressionTree.{Symbol, value, binary, prefix, open_mark, close_mark, unknown}
-use Rattle.macro_conditions.specs.ExpressionMachine.{Wait, group, front, left, Held, State, depth_of, settle, reduce, wanting, deeper, closed, step_wanting, step_holding, step_by, whole, ended_by, next, result_of, run}
-use Rattle.macro_conditions.specs.Expressions.{numeral, keywords, keyword_named, meant, word_symbol, one_mark, mark_before_equals, mark_twice, mark_symbol, symbol_of, symbol_at, answered, value_of_tokens, value_of_text, faulted, evaluation}
+use Rattle.macro_expressions.specs.declared.operator.BinaryOperator.{BinaryOperator}
+use Rattle.macro_expressions.specs.declared.operator.BinaryOperator.TheVariants as binary
+use Rattle.macro_expressions.specs.declared.operator.PrefixOperator.{PrefixOperator}
+use Rattle.macro_expressions.specs.declared.operator.PrefixOperator.TheVariants as prefix
+use Rattle.macro_expressions.specs.declared.macros.Undefined.TheVariants.{Zero}
+use Rattle.macro_expressions.specs.declared.expression.Value.{Value}
+use Rattle.macro_expressions.specs.Macros.{replaced}
+use Rattle.macro_expressions.specs.Values.{Outcome, word, number, faulty, ill, truth, fitting, on_numbers, on_texts, level, kinds_fit, joined, apply, apply_prefix}
+use Rattle.macro_expressions.specs.ExpressionTree.{Symbol, value, binary, prefix, open_mark, close_mark, unknown}
+use Rattle.macro_expressions.specs.ExpressionMachine.{Wait, group, front, left, Held, State, depth_of, settle, reduce, wanting, deeper, closed, step_wanting, step_holding, step_by, whole, ended_by, next, result_of, run}
+use Rattle.macro_expressions.specs.Expressions.{numeral, keywords, keyword_named, meant, word_symbol, one_mark, mark_before_equals, mark_twice, mark_symbol, symbol_of, symbol_at, answered, value_of_tokens, value_of_text, faulted, evaluation}
 use Rattle.named_faults.specs.Named.{IsNameCode, FailsByName}
 use Rattle.named_faults.proofs.CodeLemmas.{bad_expression_named, open_quote_named, value_range_named, zero_divisor_named}
 use Rattle.named_faults.proofs.NamedLemmas.{if_holds}

@@ -10,9 +10,9 @@ use Rattle.build_base.specs.declared.fault.Place.{Place}
 use Rattle.build_base.specs.declared.fault.Fault.{Fault}
 use Rattle.meta_lexer.specs.Faults.{first_fault}
 use Rattle.meta_lexer.specs.Words.{has_macro_use}
-use Rattle.macro_conditions.specs.declared.expression.Value.{Value}
-use Rattle.macro_conditions.specs.declared.expression.Value.TheVariants.{Number, Word}
-use Rattle.macro_conditions.specs.Expressions.{value_of_text}
+use Rattle.macro_expressions.specs.declared.expression.Value.{Value}
+use Rattle.macro_expressions.specs.declared.expression.Value.TheVariants.{Number, Word}
+use Rattle.macro_expressions.specs.Expressions.{value_of_text}
 use Rattle.std.specs.Str.{bytes_eq}
 use Rattle.doc_types.specs.declared.asks.ModuleAsk.{ModuleAsk}
 use Rattle.doc_types.specs.declared.asks.PlatformAsk.{PlatformAsk}

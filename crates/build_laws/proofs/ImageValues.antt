@@ -1,0 +1,164 @@
+-- What stages come to in a world, and the value of the flash description.
+use Rattle.std.specs.Prelude.{◌==◌, if◌then◌else◌}
+use Rattle.std.specs.Option.{is_some}
+use Rattle.std.proofs.Common.{◌≡◌, ℕ, Bool, true, false, List, [], ◌∷◌, length, refl, ap, ◌∙◌, Result, Ok, Err, Option, Some, None}
+use Rattle.build_base.specs.First.{and_then, or_else, or_fault}
+use Rattle.build_base.specs.Path.{path_field}
+use Rattle.build_base.specs.World.{World, field}
+use Rattle.build_base.specs.declared.fault.Fault.{Fault}
+use Rattle.step_engine.specs.Meaning.{right, IsWorld}
+use Rattle.step_engine.specs.declared.talk.Ask.{Ask}
+use Rattle.step_engine.specs.declared.talk.Ask.TheVariants as ask
+use Rattle.step_engine.specs.declared.talk.Answer.{Answer}
+use Rattle.step_engine.specs.declared.talk.Answer.TheVariants as answer
+use Rattle.step_engine.specs.declared.talk.Outcome.{Outcome}
+use Rattle.build_stages.specs.Bounds.{both_hold}
+use Rattle.build_stages.specs.Stages.{end, stage, run, fault_in, outcome_of, meaning_of}
+use Rattle.build_stages.specs.StagesLaws.{value_is}
+use Rattle.build_stages.specs.Writing.{attempt, when}
+use Rattle.doc_types.specs.declared.flash.FlashDoc.{FlashDoc}
+use Rattle.doc_types.specs.declared.platform.PlatformDoc.{PlatformDoc}
+use Rattle.flash_document.specs.Flash.{flash_of}
+use Rattle.flash_document.specs.Shape.{HasShape}
+use Rattle.step_pack.specs.Keys.{key_cmp}
+use Rattle.step_pack.specs.declared.key.Key.{Key}
+use Rattle.step_pack.specs.declared.key.Key.TheVariants as key
+use Rattle.step_pack.specs.declared.out.Out.{Out}
+use Rattle.step_pack.specs.declared.out.Out.TheVariants as out
+use Rattle.document_rules.specs.Fits.{fits}
+use Rattle.document_rules.specs.Trees.{flash_in, EdkStages, given_as, some_path, path_named, flash_named, flash_asks, flash_from, flash_given, flash_stages}
+use Rattle.build_rules.specs.Rules.{edk, is_path_or_empty, value_in}
+use Rattle.build_rules.specs.RulesBounds.{edk_is_bounded}
+use Rattle.build_rules.specs.Values.{job_macros, platform_value, flash_file, flash_of_file, flash_value}
+use Rattle.build_rules.proofs.Asked.{answers_in, fault_asked, by_answers}
+use Rattle.build_laws.proofs.FlashShape.{flash_shape}
+use Rattle.build_rules.proofs.KindLemmas.{stage_run}
+use Rattle.build_rules.proofs.ValueLemmas.{document_run, path_some, platform_is}
+
+-- what stages give in a world
+abbrev pub gives : World → EdkStages → Result Out Fault
+gives w s = run fits (right (meaning_of key_cmp edk) w) s
+
+pub then_same : {A B : Type 0} (r : Result A Fault) (f g : A → Result B Fault) → ((x : A) → f x ≡ g x) → and_then r f ≡ and_then r g
+then_same (Ok x) f g h = h x
+then_same (Err fault) f g h = refl
+
+then_found : {A B : Type 0} (r : Result A Fault) (f g : A → Result B Fault) → ((x : A) → r ≡ Ok x → f x ≡ g x) → and_then r f ≡ and_then r g
+then_found (Ok x) f g h = h x refl
+then_found (Err fault) f g h = refl
+
+attempt_run : {A : Type 0} (w : World) (r : Result A Fault) (next : A → EdkStages) → gives w (attempt r next) ≡ and_then r (λ x. gives w (next x))
+attempt_run w (Ok x) next = refl
+attempt_run w (Err fault) next = refl
+
+pub given_then : {A B : Type 0} (variant : B → Out) (r : Result A Fault) (f : A → Result B Fault) → and_then r (λ x. given_as variant (f x)) ≡ given_as variant (and_then r f)
+given_then variant (Ok x) f = refl
+given_then variant (Err fault) f = refl
+
+given_or : {A : Type 0} (variant : A → Out) (q : Option Fault) (r : Result A Fault) → or_fault q (given_as variant r) ≡ given_as variant (or_fault q r)
+given_or variant (Some fault) r = refl
+given_or variant None r = refl
+
+-- what a test keeps back, where it holds
+pub passed_run : (w : World) (b : Bool) (s : EdkStages) → b ≡ true → gives w (when b s) ≡ gives w s
+passed_run w true s e = refl
+passed_run w false s e = absurd cc
+
+-- a last stage
+pub last_run : {A : Type 0} (w : World) (variant : A → Out) (asks : List (Ask Key)) (f : List (Answer Out) → Result A Fault)
+    → gives w (stage asks (λ given. end (given_as variant (f given)))) ≡ given_as variant (by_answers w asks f)
+last_run w variant asks f =
+    stage_run w asks (λ given. end (given_as variant (f given))) ∙ given_or variant (fault_asked w asks) (f (answers_in w asks))
+
+-- two steps that are tried one after the other, and so on
+pub step_run : {A B : Type 0} (w : World) (variant : B → Out) (r : Result A Fault) (next : A → EdkStages) (f : A → Result B Fault)
+    → ((x : A) → gives w (next x) ≡ given_as variant (f x)) → gives w (attempt r next) ≡ given_as variant (and_then r f)
+step_run w variant r next f h =
+    attempt_run w r next ∙ then_same r (λ x. gives w (next x)) (λ x. given_as variant (f x)) h ∙ given_then variant r f
+
+-- the same by what the first of two gave
+pub found_run : {A B : Type 0} (w : World) (variant : B → Out) (r : Result A Fault) (next : A → EdkStages) (f : A → Result B Fault)
+    → ((x : A) → r ≡ Ok x → gives w (next x) ≡ given_as variant (f x)) → gives w (attempt r next) ≡ given_as variant (and_then r f)
+found_run w variant (Ok x) next f h = h x refl
+found_run w variant (Err fault) next f h = refl
+
+-- the flash description
+
+pub path_or_empty : (text : List ℕ) → is_path_or_empty text ≡ true → (stated : Option (List ℕ)) → flash_named stated text ≡ Ok (flash_file stated text)
+unfolding flash_named
+path_or_empty text e stated =
+    (elim (length text == 0) as (λ b. (if b then true else is_some (path_field text)) ≡ true
+    → (if b then Ok stated else some_path (path_named (path_field text))) ≡ Ok (if b then stated else Some text)) [
+      | true ↦ λ h. refl
+      | false ↦ λ h. ap some_path (path_some _ text h)
+    ]) e
+
+root_run : (w : World) (platform : PlatformDoc) (root : Option (List ℕ)) → gives w (flash_from platform (job_macros w) root) ≡ given_as out.Flash (flash_of_file w platform root)
+root_run w platform None = refl
+root_run w platform (Some path) = document_run w out.Flash flash_of platform.macros (job_macros w) path
+
+-- the stage by what the platform's step gave
+abbrev by_platform : World → Outcome Out → Result Out Fault
+by_platform w v =
+    or_fault (or_else (fault_in (answer.Part v)) None)
+    (gives w (flash_given (answer.Part v ∷ answer.Field (field w 2) ∷ answer.Field (field w 3) ∷ answer.Field (field w 5) ∷ answer.Field (field w 7) ∷ [])))
+
+by_platform_is : (w : World) (r : Result PlatformDoc Fault) → by_platform w (outcome_of (given_as out.Platform r)) ≡ and_then r (λ platform. gives w (attempt (flash_named platform.flash (field w 7)) (λ root. flash_from platform (job_macros w) root)))
+by_platform_is w (Ok platform) = refl
+by_platform_is w (Err fault) = refl
+
+flash_run : (w : World) → IsWorld (meaning_of key_cmp edk) w → is_path_or_empty (field w 7) ≡ true → gives w flash_stages ≡ given_as out.Flash (flash_value w)
+unfolding flash_value fault_asked
+flash_run w is_world e =
+    stage_run w flash_asks flash_given
+    ∙ ap (by_platform w) (platform_is w is_world)
+    ∙ by_platform_is w (platform_value w)
+    ∙ then_same (platform_value w) _ (λ platform. given_as out.Flash (flash_of_file w platform (flash_file platform.flash (field w 7)))) (λ platform.
+    ap (λ (r : Result (Option (List ℕ)) Fault). gives w (attempt r (λ root. flash_from platform (job_macros w) root))) (path_or_empty (field w 7) e platform.flash)
+    ∙ root_run w platform (flash_file platform.flash (field w 7)))
+    ∙ given_then out.Flash (platform_value w) (λ platform. flash_of_file w platform (flash_file platform.flash (field w 7)))
+
+field_7 : (w : World) → IsWorld (meaning_of key_cmp edk) w → is_path_or_empty (field w 7) ≡ true
+field_7 w e =
+    (both_hold (is_path_or_empty (field w 7)) (is_path_or_empty (field w 9)) (both_hold (is_some (path_field (field w 0))) _ e).1).0
+
+pub flash_is : (w : World) → IsWorld (meaning_of key_cmp edk) w → value_in w key.Flash ≡ outcome_of (given_as out.Flash (flash_value w))
+flash_is w e = value_is key_cmp edk edk_is_bounded w key.Flash ∙ ap outcome_of (flash_run w e (field_7 w e))
+
+-- the flash description, and what follows it
+
+abbrev by_flash : World → (FlashDoc → EdkStages) → Outcome Out → Result Out Fault
+by_flash w next v = or_fault (or_else (fault_in (answer.Part v)) None) (gives w (attempt (flash_in (answer.Part v ∷ []) 0) next))
+
+by_flash_is : (w : World) (next : FlashDoc → EdkStages) (r : Result FlashDoc Fault) → by_flash w next (outcome_of (given_as out.Flash r)) ≡ and_then r (λ flash. gives w (next flash))
+by_flash_is w next (Ok flash) = refl
+by_flash_is w next (Err fault) = refl
+
+pub after_flash : {A : Type 0} (w : World) → IsWorld (meaning_of key_cmp edk) w → (variant : A → Out) (next : FlashDoc → EdkStages) (f : FlashDoc → Result A Fault)
+    → ((flash : FlashDoc) → HasShape flash → gives w (next flash) ≡ given_as variant (f flash))
+    → gives w (stage (ask.Part key.Flash ∷ []) (λ given. attempt (flash_in given 0) next)) ≡ given_as variant (and_then (flash_value w) f)
+unfolding fault_asked
+after_flash w e variant next f h =
+    stage_run w (ask.Part key.Flash ∷ []) (λ given. attempt (flash_in given 0) next)
+    ∙ ap (by_flash w next) (flash_is w e)
+    ∙ by_flash_is w next (flash_value w)
+    ∙ then_found (flash_value w) (λ flash. gives w (next flash)) (λ flash. given_as variant (f flash)) (λ flash found. h flash (flash_shape w flash found))
+    ∙ given_then variant (flash_value w) f
+
+-- a stage, whose answers give what the next one begins with
+pub or_then : {A B : Type 0} (variant : B → Out) (q : Option Fault) (r : Result A Fault) (f : A → Result B Fault) → or_fault q (given_as variant (and_then r f)) ≡ given_as variant (and_then (or_fault q r) f)
+or_then variant (Some fault) r f = refl
+or_then variant None r f = refl
+
+-- two values, one after the other
+pub both_found : {A P Q : Type 0} (variant : A → Out) (p : Result P Fault) (r : Result Q Fault) (f : P → Q → Result Out Fault) (g : P → Q → Result A Fault)
+    → ((x : P) (y : Q) → p ≡ Ok x → r ≡ Ok y → f x y ≡ given_as variant (g x y))
+    → and_then p (λ x. and_then r (λ y. f x y)) ≡ given_as variant (and_then p (λ x. and_then r (λ y. g x y)))
+both_found variant (Ok x) (Ok y) f g h = h x y refl refl
+both_found variant (Ok x) (Err fault) f g h = refl
+both_found variant (Err fault) r f g h = refl
+
+pub both_same : {A P Q : Type 0} (variant : A → Out) (p : Result P Fault) (r : Result Q Fault) (f : P → Q → Result Out Fault) (g : P → Q → Result A Fault)
+    → ((x : P) (y : Q) → f x y ≡ given_as variant (g x y))
+    → and_then p (λ x. and_then r (λ y. f x y)) ≡ given_as variant (and_then p (λ x. and_then r (λ y. g x y)))
+both_same variant p r f g h = both_found variant p r f g (λ x y found also. h x y)

@@ -1,0 +1,5 @@
+pub mod ModuleValues
+pub mod TextValues
+pub mod VpdValues
+pub mod ImageValues
+pub mod BuildValues

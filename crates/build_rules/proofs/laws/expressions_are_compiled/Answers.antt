@@ -1,6 +1,0 @@
--- What the step of a module's dependency expression gives.
-use Rattle.build_rules.proofs.TextLemmas.{depex_is}
-use Rattle.build_rules.proofs.laws.expressions_are_compiled.Goals as goal
-
-pub returns : goal.returns
-returns c = depex_is

@@ -1,6 +1,0 @@
--- What the flash description's step gives.
-use Rattle.build_rules.proofs.ImageValues.{flash_is}
-use Rattle.build_rules.proofs.laws.flash_descriptions_are_read.Goals as goal
-
-pub returns : goal.returns
-returns c = flash_is

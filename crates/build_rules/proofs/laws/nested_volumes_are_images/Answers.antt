@@ -1,6 +1,0 @@
--- What a section that holds a volume holds.
-use Rattle.build_rules.proofs.DeviceValues.{nested_is}
-use Rattle.build_rules.proofs.laws.nested_volumes_are_images.Goals as goal
-
-pub returns : goal.returns
-returns c = nested_is

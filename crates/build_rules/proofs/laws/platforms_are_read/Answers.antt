@@ -1,6 +1,0 @@
--- What the platform's step gives.
-use Rattle.build_rules.proofs.ValueLemmas.{platform_is}
-use Rattle.build_rules.proofs.laws.platforms_are_read.Goals as goal
-
-pub returns : goal.returns
-returns c = platform_is

@@ -1,6 +1,0 @@
--- What a volume's step gives.
-use Rattle.build_rules.proofs.VolumeValues.{volume_is}
-use Rattle.build_rules.proofs.laws.volumes_are_made.Goals as goal
-
-pub returns : goal.returns
-returns c = volume_is

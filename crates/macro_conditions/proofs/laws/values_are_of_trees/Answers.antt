@@ -1,5 +1,0 @@
-use Rattle.macro_conditions.proofs.ExpressionMeaning.{value_is}
-use Rattle.macro_conditions.proofs.laws.values_are_of_trees.Goals as goal
-
-pub returns : goal.returns
-returns c = value_is

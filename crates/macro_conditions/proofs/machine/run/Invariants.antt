@@ -1,8 +1,0 @@
-use Rattle.std.proofs.Common.{◌≡◌, map, drop, Some, []}
-use Rattle.macro_conditions.specs.ExpressionTree.{term_view}
-use Rattle.macro_conditions.specs.ExpressionMachine.{run, wanting}
-use Rattle.macro_conditions.specs.ExpressionState.{state_of}
-use Rattle.macro_conditions.proofs.machine.run.Given as goal
-
-abbrev pub invariant-loop-term : goal.invariant-loop-term
-invariant-loop-term l = run (Some (state_of l.machine)) (drop l.term-index (map term_view l.terms)) ≡ run (Some (wanting [])) (map term_view l.terms)

@@ -1,8 +1,0 @@
--- The state that the code keeps.
-use Rattle.std.specs.Prelude.{option_map}
-use Rattle.macro_conditions.specs.declared.machine.Machine.{Machine}
-use Rattle.macro_conditions.specs.Values.{view}
-use Rattle.macro_conditions.specs.ExpressionMachine.{State, waits_of}
-
-abbrev pub state_of : Machine → State
-state_of m = record { waits = waits_of m.waits.items; operand = option_map view m.held }
