@@ -21,3 +21,4 @@ pub mod Seeing
 pub mod Edits
 pub mod Ended
 pub mod Forward
+pub mod Standing

@@ -1,7 +1,7 @@
 //! One step forward for a key under way.
 ghost use Rattle.std.specs.Prelude.{◌≡◌, ◌≤◌, ◌⊎◌, true, IfOk, OnOk, [], ◌∷◌, length};
-ghost use Rattle.step_engine.specs.Build.{setting, Counts, HasReadUnedited};
-ghost use Rattle.step_engine.specs.Edits.{over};
+ghost use Rattle.step_engine.specs.Build.{Counts, HasReadUnedited};
+ghost use Rattle.step_engine.specs.Standing.{setting_of, state_of};
 ghost use Rattle.step_engine.specs.Engine.{state, AreKept, Adds};
 ghost use Rattle.step_engine.specs.Reading.{knowledge};
 ghost use Rattle.step_engine.specs.Table.{place_at, Finds};
@@ -11,19 +11,18 @@ ghost use Rattle.step_engine.specs.Forward.{Rises, Acts, AllAct, Goes, GoesOn, I
 ghost use Rattle.step_engine.specs.declared.places.Place.TheVariants.{Running as AtRun};
 
 use crate::answers::{answers, check_batch};
-use crate::cache::Cache;
-use crate::edits::Edits;
+use crate::fixed::Fixed;
 use crate::items::{Asked, Check, Checked, Item, Run};
 use crate::learned::Learned;
 use crate::places::Places;
+use crate::progress::Progress;
 use crate::refusal::EngineRefusal;
 use crate::rules::Rules;
 use crate::table::{make_old, rerun};
 use crate::talk::{Batch, Entry};
 use build_base::book::Book;
 use build_base::outside::Tree;
-use build_base::rows::Rows;
-use build_base::text::{Text, WantOfMemory};
+use build_base::text::WantOfMemory;
 use std::alloc::Global;
 
 /// Counts what a visit did for the keys under way.
@@ -39,31 +38,27 @@ pub(crate) fn count_act(acts: &mut u64, done: bool)
 // A step that asked is answered where all has an answer by now, and else it waits on.
 fn resume<R: Rules, T: Tree>(
     alloc: Global,
-    rules: &R,
-    job: &Rows<Text>,
-    old: &Cache<R::Key, R::Out>,
+    fixed: &Fixed<'_, R>,
     asked: Asked<R::Key, R::Out>,
     fresh: &Vec<Entry<R::Key, R::Out>>,
     places: &Places<R::Key>,
     tree: &mut T,
-    edits: &Edits,
     learned: &mut Learned<R::Key>,
     acts: &mut u64,
 ) -> Result<Item<R::Key, R::Out>, EngineRefusal>
-    requires kept { AreKept (setting R.means (over edits.now (T.held tree.old)) job.now old.now)
+    requires kept { AreKept (setting_of R.means fixed.now (T.held tree.old))
         (state fresh.now.items (knowledge R.Key.cmp learned.old) [] (T.reads tree.old)) }
     requires finds { Finds (place_at R.Key.cmp places.now) fresh.now.items }
-    requires asked { IsAsked (setting R.means (over edits.now (T.held tree.old)) job.now old.now)
+    requires asked { IsAsked (setting_of R.means fixed.now (T.held tree.old))
         (state fresh.now.items (knowledge R.Key.cmp learned.old) [] (T.reads tree.old)) asked.key
         asked.talk.batches asked.asks }
     ensures held { T.held tree.new ≡ T.held tree.old }
     ensures count { Counts (T.faults tree.old) (T.faults tree.new) result }
-    ensures adds { Adds (setting R.means (over edits.now (T.held tree.old)) job.now old.now)
-        asked.key (state fresh.now.items (knowledge R.Key.cmp learned.old) [] (T.reads tree.old))
+    ensures adds { Adds (setting_of R.means fixed.now (T.held tree.old)) asked.key
+        (state fresh.now.items (knowledge R.Key.cmp learned.old) [] (T.reads tree.old))
         (state fresh.now.items (knowledge R.Key.cmp learned.new) [] (T.reads tree.new)) }
-    ensures unedited { HasReadUnedited edits.now (T.reads tree.old) (T.reads tree.new) }
-    ensures ok { IfOk result
-        (IsResumed (setting R.means (over edits.now (T.held tree.old)) job.now old.now) asked.key
+    ensures unedited { HasReadUnedited fixed.now.edits.now (T.reads tree.old) (T.reads tree.new) }
+    ensures ok { IfOk result (IsResumed (setting_of R.means fixed.now (T.held tree.old)) asked.key
         (state fresh.now.items (knowledge R.Key.cmp learned.old) [] (T.reads tree.old))
         (state fresh.now.items (knowledge R.Key.cmp learned.new) [] (T.reads tree.new))) }
     ensures at { IfOk result (λ a. item_place a ≡ AtRun) }
@@ -76,9 +71,7 @@ fn resume<R: Rules, T: Tree>(
         permit,
         asks,
     } = asked;
-    let found = answers(
-        alloc, rules, job, old, &key, &asks, fresh, places, tree, edits, learned,
-    )?;
+    let found = answers(alloc, fixed, &key, &asks, fresh, places, tree, learned)?;
     let Some(pairs) = found else {
         return Ok(Item::Asked(Asked {
             key,
@@ -96,34 +89,29 @@ fn resume<R: Rules, T: Tree>(
 // The next batch of an old entry is checked where all has an answer by now.
 fn check_next<R: Rules, T: Tree>(
     alloc: Global,
-    rules: &R,
-    job: &Rows<Text>,
-    old: &Cache<R::Key, R::Out>,
+    fixed: &Fixed<'_, R>,
     check: Check<R::Key, R::Out>,
     fresh: &Vec<Entry<R::Key, R::Out>>,
     places: &Places<R::Key>,
     tree: &mut T,
-    edits: &Edits,
     learned: &mut Learned<R::Key>,
     acts: &mut u64,
 ) -> Result<Checked<R::Key, R::Out>, EngineRefusal>
-    requires kept { AreKept (setting R.means (over edits.now (T.held tree.old)) job.now old.now)
+    requires kept { AreKept (setting_of R.means fixed.now (T.held tree.old))
         (state fresh.now.items (knowledge R.Key.cmp learned.old) [] (T.reads tree.old)) }
     requires finds { Finds (place_at R.Key.cmp places.now) fresh.now.items }
-    requires check { IsCheck (setting R.means (over edits.now (T.held tree.old)) job.now old.now)
+    requires check { IsCheck (setting_of R.means fixed.now (T.held tree.old))
         (state fresh.now.items (knowledge R.Key.cmp learned.old) [] (T.reads tree.old)) check.entry
         check.batch }
     ensures held { T.held tree.new ≡ T.held tree.old }
     ensures count { Counts (T.faults tree.old) (T.faults tree.new) result }
-    ensures adds { Adds (setting R.means (over edits.now (T.held tree.old)) job.now old.now)
-        check.entry.key (state fresh.now.items (knowledge R.Key.cmp learned.old) []
-        (T.reads tree.old))
+    ensures adds { Adds (setting_of R.means fixed.now (T.held tree.old)) check.entry.key
+        (state fresh.now.items (knowledge R.Key.cmp learned.old) [] (T.reads tree.old))
         (state fresh.now.items (knowledge R.Key.cmp learned.new) [] (T.reads tree.new)) }
-    ensures unedited { HasReadUnedited edits.now (T.reads tree.old) (T.reads tree.new) }
-    ensures ok { IfOk result
-        (IsCheckedOn (setting R.means (over edits.now (T.held tree.old)) job.now old.now)
-        check.entry.key (state fresh.now.items (knowledge R.Key.cmp learned.old) []
-        (T.reads tree.old))
+    ensures unedited { HasReadUnedited fixed.now.edits.now (T.reads tree.old) (T.reads tree.new) }
+    ensures ok { IfOk result (IsCheckedOn
+        (setting_of R.means fixed.now (T.held tree.old)) check.entry.key
+        (state fresh.now.items (knowledge R.Key.cmp learned.old) [] (T.reads tree.old))
         (state fresh.now.items (knowledge R.Key.cmp learned.new) [] (T.reads tree.new))) }
     ensures acts { OnOk result (Acts R.means.rank (place_at R.Key.cmp places.now) (Item.Check check)
         acts.old acts.new ⊥) }
@@ -134,7 +122,7 @@ fn check_next<R: Rules, T: Tree>(
         Some(batch) => {
             let pairs = &batch.pairs;
             check_batch(
-                alloc, rules, job, old, &entry.key, pairs, fresh, places, tree, edits, learned,
+                alloc, fixed, &entry.key, pairs, fresh, places, tree, learned,
             )?
         }
         None => {
@@ -156,65 +144,72 @@ fn check_next<R: Rules, T: Tree>(
 /// One step forward for a key under way, and what is left of it: nothing where its entry is made.
 pub fn advance<R: Rules, T: Tree>(
     alloc: Global,
-    rules: &R,
-    job: &Rows<Text>,
-    old: &Cache<R::Key, R::Out>,
+    fixed: &Fixed<'_, R>,
     item: Item<R::Key, R::Out>,
-    fresh: &mut Vec<Entry<R::Key, R::Out>>,
-    places: &mut Places<R::Key>,
+    progress: &mut Progress<R::Key, R::Out>,
     tree: &mut T,
-    edits: &Edits,
     book: &mut Book<R::Key>,
-    learned: &mut Learned<R::Key>,
     acts: &mut u64,
 ) -> Result<Option<Item<R::Key, R::Out>>, EngineRefusal>
-    requires ready { IsReady (setting R.means (over edits.now (T.held tree.old)) job.now old.now)
-        (state fresh.old.items (knowledge R.Key.cmp learned.old) book.old (T.reads tree.old))
-        (place_at R.Key.cmp places.old) }
-    requires item { IsItem (setting R.means (over edits.now (T.held tree.old)) job.now old.now)
-        (state fresh.old.items (knowledge R.Key.cmp learned.old) book.old (T.reads tree.old)) item }
+    requires ready { IsReady (setting_of R.means fixed.now (T.held tree.old))
+        (state_of R.Key.cmp progress.old book.old (T.reads tree.old))
+        (place_at R.Key.cmp progress.old.places) }
+    requires item { IsItem (setting_of R.means fixed.now (T.held tree.old))
+        (state_of R.Key.cmp progress.old book.old (T.reads tree.old)) item }
     ensures held { T.held tree.new ≡ T.held tree.old }
     ensures count { Counts (T.faults tree.old) (T.faults tree.new) result }
-    ensures notes { Notes (setting R.means (over edits.now (T.held tree.old)) job.now old.now)
-        (item_key item) (state fresh.old.items (knowledge R.Key.cmp learned.old) book.old
-        (T.reads tree.old))
-        (state fresh.new.items (knowledge R.Key.cmp learned.new) book.new (T.reads tree.new))
-        (place_at R.Key.cmp places.old) }
-    ensures unedited { HasReadUnedited edits.now (T.reads tree.old) (T.reads tree.new) }
-    ensures ok { IfOk result
-        (IsAdvanced (setting R.means (over edits.now (T.held tree.old)) job.now old.now)
-        (item_key item) (state fresh.old.items (knowledge R.Key.cmp learned.old) book.old
-        (T.reads tree.old))
-        (state fresh.new.items (knowledge R.Key.cmp learned.new) book.new (T.reads tree.new))
-        (place_at R.Key.cmp places.old) (place_at R.Key.cmp places.new)) }
-    ensures goes { IfOk result
-        (λ r. Goes (item_key item) (item_place item) (length fresh.old.items)
-        (length fresh.new.items) (place_at R.Key.cmp places.old) (place_at R.Key.cmp places.new)
+    ensures notes { Notes (setting_of R.means fixed.now (T.held tree.old)) (item_key item)
+        (state_of R.Key.cmp progress.old book.old (T.reads tree.old))
+        (state_of R.Key.cmp progress.new book.new (T.reads tree.new))
+        (place_at R.Key.cmp progress.old.places) }
+    ensures unedited { HasReadUnedited fixed.now.edits.now (T.reads tree.old) (T.reads tree.new) }
+    ensures ok { IfOk result (IsAdvanced (setting_of R.means fixed.now (T.held tree.old))
+        (item_key item) (state_of R.Key.cmp progress.old book.old (T.reads tree.old))
+        (state_of R.Key.cmp progress.new book.new (T.reads tree.new))
+        (place_at R.Key.cmp progress.old.places) (place_at R.Key.cmp progress.new.places)) }
+    ensures goes { IfOk result (λ r. Goes (item_key item) (item_place item)
+        (length progress.old.fresh.items) (length progress.new.fresh.items)
+        (place_at R.Key.cmp progress.old.places) (place_at R.Key.cmp progress.new.places)
         (IsLeftAt r)) }
-    ensures acts { IfOk result (λ r. Acts R.means.rank (place_at R.Key.cmp places.old) item acts.old
-        acts.new (IsRun r)) }
-    ensures entered { OnOk result (Enters (place_at R.Key.cmp places.old)
-        (place_at R.Key.cmp places.new) fresh.old.items fresh.new.items) }
+    ensures acts { IfOk result (λ r. Acts R.means.rank
+        (place_at R.Key.cmp progress.old.places) item acts.old acts.new (IsRun r)) }
+    ensures entered { OnOk result (Enters (place_at R.Key.cmp progress.old.places)
+        (place_at R.Key.cmp progress.new.places) progress.old.fresh.items
+        progress.new.fresh.items) }
 {
     match item {
         Item::Run(run) => Ok(Some(Item::Run(run))),
         Item::Asked(asked) => {
             let item = resume(
-                alloc, rules, job, old, asked, fresh, places, tree, edits, learned, acts,
+                alloc,
+                fixed,
+                asked,
+                &progress.fresh,
+                &progress.places,
+                tree,
+                &mut progress.learned,
+                acts,
             )?;
             Ok(Some(item))
         }
         Item::Check(check) => {
             let checked = check_next(
-                alloc, rules, job, old, check, fresh, places, tree, edits, learned, acts,
+                alloc,
+                fixed,
+                check,
+                &progress.fresh,
+                &progress.places,
+                tree,
+                &mut progress.learned,
+                acts,
             )?;
             match checked {
                 Checked::Right(entry) => {
-                    make_old(alloc, entry, fresh, places)?;
+                    make_old(alloc, entry, &mut progress.fresh, &mut progress.places)?;
                     Ok(None)
                 }
                 Checked::Wrong(key) => {
-                    let item = rerun(alloc, key, book, places)?;
+                    let item = rerun(alloc, key, book, &mut progress.places)?;
                     Ok(item)
                 }
                 Checked::Next(check) => Ok(Some(Item::Check(check))),
@@ -253,56 +248,48 @@ fn sort_in<K: Drop, O: Drop>(
 /// rest.
 pub(crate) fn advance_all<R: Rules, T: Tree>(
     alloc: Global,
-    rules: &R,
-    job: &Rows<Text>,
-    old: &Cache<R::Key, R::Out>,
+    fixed: &Fixed<'_, R>,
     items: Vec<Item<R::Key, R::Out>>,
-    fresh: &mut Vec<Entry<R::Key, R::Out>>,
-    places: &mut Places<R::Key>,
+    progress: &mut Progress<R::Key, R::Out>,
     tree: &mut T,
-    edits: &Edits,
     book: &mut Book<R::Key>,
-    learned: &mut Learned<R::Key>,
     acts: &mut u64,
     rest: &mut Vec<Item<R::Key, R::Out>>,
 ) -> Result<Vec<Run<R::Key, R::Out>>, EngineRefusal>
-    requires ready { IsReady (setting R.means (over edits.now (T.held tree.old)) job.now old.now)
-        (state fresh.old.items (knowledge R.Key.cmp learned.old) book.old (T.reads tree.old))
-        (place_at R.Key.cmp places.old) }
-    requires items { AreItems (setting R.means (over edits.now (T.held tree.old)) job.now old.now)
-        (state fresh.old.items (knowledge R.Key.cmp learned.old) book.old (T.reads tree.old))
-        items.items }
+    requires ready { IsReady (setting_of R.means fixed.now (T.held tree.old))
+        (state_of R.Key.cmp progress.old book.old (T.reads tree.old))
+        (place_at R.Key.cmp progress.old.places) }
+    requires items { AreItems (setting_of R.means fixed.now (T.held tree.old))
+        (state_of R.Key.cmp progress.old book.old (T.reads tree.old)) items.items }
     requires none { rest.old.items ≡ [] }
     ensures held { T.held tree.new ≡ T.held tree.old }
     ensures count { Counts (T.faults tree.old) (T.faults tree.new) result }
-    ensures notes { ListNotes (setting R.means (over edits.now (T.held tree.old)) job.now old.now)
-        (state fresh.old.items (knowledge R.Key.cmp learned.old) book.old (T.reads tree.old))
-        (state fresh.new.items (knowledge R.Key.cmp learned.new) book.new (T.reads tree.new))
-        (place_at R.Key.cmp places.old)
-        (λ top. AreItemsWanted (setting R.means (over edits.now (T.held tree.old)) job.now old.now)
-        top items.items) }
-    ensures unedited { HasReadUnedited edits.now (T.reads tree.old) (T.reads tree.new) }
-    ensures ok { IfOk result
-        (λ runs. IsList (setting R.means (over edits.now (T.held tree.old)) job.now old.now)
-        (state fresh.old.items (knowledge R.Key.cmp learned.old) book.old (T.reads tree.old))
-        (state fresh.new.items (knowledge R.Key.cmp learned.new) book.new (T.reads tree.new))
-        (place_at R.Key.cmp places.old) (place_at R.Key.cmp places.new)
-        (λ top. AreItemsWanted (setting R.means (over edits.now (T.held tree.old)) job.now old.now)
-        top items.items) runs.items rest.new.items) }
-    ensures goes { IfOk result
-        (λ runs. GoesOn R.Out R.Key.cmp (length fresh.old.items) (length fresh.new.items)
-        (place_at R.Key.cmp places.old) (place_at R.Key.cmp places.new) (HasItem items.items)
+    ensures notes { ListNotes (setting_of R.means fixed.now (T.held tree.old))
+        (state_of R.Key.cmp progress.old book.old (T.reads tree.old))
+        (state_of R.Key.cmp progress.new book.new (T.reads tree.new))
+        (place_at R.Key.cmp progress.old.places)
+        (λ top. AreItemsWanted (setting_of R.means fixed.now (T.held tree.old)) top items.items) }
+    ensures unedited { HasReadUnedited fixed.now.edits.now (T.reads tree.old) (T.reads tree.new) }
+    ensures ok { IfOk result (λ runs. IsList (setting_of R.means fixed.now (T.held tree.old))
+        (state_of R.Key.cmp progress.old book.old (T.reads tree.old))
+        (state_of R.Key.cmp progress.new book.new (T.reads tree.new))
+        (place_at R.Key.cmp progress.old.places) (place_at R.Key.cmp progress.new.places)
+        (λ top. AreItemsWanted (setting_of R.means fixed.now (T.held tree.old)) top items.items)
+        runs.items rest.new.items) }
+    ensures goes { IfOk result (λ runs. GoesOn R.Out R.Key.cmp (length progress.old.fresh.items)
+        (length progress.new.fresh.items) (place_at R.Key.cmp progress.old.places)
+        (place_at R.Key.cmp progress.new.places) (HasItem items.items)
         (λ k p. HasRun runs.items k p ⊎ HasItem rest.new.items k p)) }
-    ensures acts { IfOk result (λ runs. AllAct R.means.rank (place_at R.Key.cmp places.old)
-        items.items acts.old acts.new (HasOne runs.items)) }
-    ensures entered { OnOk result (Enters (place_at R.Key.cmp places.old)
-        (place_at R.Key.cmp places.new) fresh.old.items fresh.new.items) }
+    ensures acts { IfOk result (λ runs. AllAct R.means.rank
+        (place_at R.Key.cmp progress.old.places) items.items acts.old acts.new
+        (HasOne runs.items)) }
+    ensures entered { OnOk result (Enters (place_at R.Key.cmp progress.old.places)
+        (place_at R.Key.cmp progress.new.places) progress.old.fresh.items
+        progress.new.fresh.items) }
 {
     let mut runs = Vec::new(alloc);
     for item in items {
-        let left = advance(
-            alloc, rules, job, old, item, fresh, places, tree, edits, book, learned, acts,
-        )?;
+        let left = advance(alloc, fixed, item, progress, tree, book, acts)?;
         sort_in(left, &mut runs, rest)?;
     }
     Ok(runs)

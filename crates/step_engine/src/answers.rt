@@ -2,8 +2,8 @@
 ghost use Rattle.std.specs.Prelude.{MatchOption, ◌≡◌, ◌⊎◌, ◌<◌, ◌≤◌, true, false, IfOk, OnOk, IfSome, IfNone, ◌++◌, List, [], ◌∷◌, Contains, slice_index_or};
 ghost use Rattle.build_base.specs.World.{World};
 ghost use Rattle.step_engine.specs.Meaning.{asks_of};
-ghost use Rattle.step_engine.specs.Build.{setting, IsHere, Counts, HasReadUnedited};
-ghost use Rattle.step_engine.specs.Edits.{over};
+ghost use Rattle.step_engine.specs.Build.{IsHere, Counts, HasReadUnedited};
+ghost use Rattle.step_engine.specs.Standing.{setting_of};
 ghost use Rattle.step_engine.specs.Engine.{state, AreKept, Adds, IsNext, AreLower, IsAnswered, AreAnswered, IsCheckedPair, IsCheckedBatch};
 ghost use Rattle.step_engine.specs.Agreeing.{HasPair, Agree, IsCompared, AreCompared};
 ghost use Rattle.step_engine.specs.Reading.{knowledge, compared_at};
@@ -13,7 +13,7 @@ ghost use Rattle.step_engine.specs.Forward.{LacksPart};
 
 use crate::cache::Cache;
 use crate::compared::Compared;
-use crate::edits::Edits;
+use crate::fixed::Fixed;
 use crate::learned::Learned;
 use crate::places::Places;
 use crate::read::read_once;
@@ -57,48 +57,43 @@ pub(crate) fn is_lower<R: Rules>(rules: &R, key: &R::Key, ask: &Ask<R::Key>) -> 
 // The right answer to an ask of a key, where it has one by now.
 fn answer<R: Rules, T: Tree>(
     alloc: Global,
-    rules: &R,
-    job: &Rows<Text>,
-    old: &Cache<R::Key, R::Out>,
+    fixed: &Fixed<'_, R>,
     key: &R::Key,
     ask: &Ask<R::Key>,
     fresh: &Vec<Entry<R::Key, R::Out>>,
     places: &Places<R::Key>,
     tree: &mut T,
-    edits: &Edits,
     learned: &mut Learned<R::Key>,
 ) -> Result<Option<Answer<R::Out>>, EngineRefusal>
-    requires kept { AreKept (setting R.means (over edits.now (T.held tree.old)) job.now old.now)
+    requires kept { AreKept (setting_of R.means fixed.now (T.held tree.old))
         (state fresh.now.items (knowledge R.Key.cmp learned.old) [] (T.reads tree.old)) }
     requires finds { Finds (place_at R.Key.cmp places.now) fresh.now.items }
     requires lower { (part : R.Key) → ask.now ≡ Ask.Part part
         → R.means.rank part < R.means.rank key.now }
-    requires next { (w : World)
-        → IsHere (setting R.means (over edits.now (T.held tree.old)) job.now old.now) w
+    requires next { (w : World) → IsHere (setting_of R.means fixed.now (T.held tree.old)) w
         → (asks : List (Ask R.Key)) × Contains asks ask.now × IsNext R.means w key.now asks }
     ensures held { T.held tree.new ≡ T.held tree.old }
     ensures count { Counts (T.faults tree.old) (T.faults tree.new) result }
-    ensures adds { Adds (setting R.means (over edits.now (T.held tree.old)) job.now old.now) key.now
+    ensures adds { Adds (setting_of R.means fixed.now (T.held tree.old)) key.now
         (state fresh.now.items (knowledge R.Key.cmp learned.old) [] (T.reads tree.old))
         (state fresh.now.items (knowledge R.Key.cmp learned.new) [] (T.reads tree.new)) }
-    ensures unedited { HasReadUnedited edits.now (T.reads tree.old) (T.reads tree.new) }
-    ensures ok { IfOk result
-        (λ r. MatchOption r
-        (IsStill (setting R.means (over edits.now (T.held tree.old)) job.now old.now) key.now
+    ensures unedited { HasReadUnedited fixed.now.edits.now (T.reads tree.old) (T.reads tree.new) }
+    ensures ok { IfOk result (λ r. MatchOption r
+        (IsStill (setting_of R.means fixed.now (T.held tree.old)) key.now
         (state fresh.now.items (knowledge R.Key.cmp learned.old) [] (T.reads tree.old))
         (state fresh.now.items (knowledge R.Key.cmp learned.new) [] (T.reads tree.new)))
-        (IsAnswered (setting R.means (over edits.now (T.held tree.old)) job.now old.now) key.now
-        ask.now (state fresh.now.items (knowledge R.Key.cmp learned.old) [] (T.reads tree.old))
+        (IsAnswered (setting_of R.means fixed.now (T.held tree.old)) key.now ask.now
+        (state fresh.now.items (knowledge R.Key.cmp learned.old) [] (T.reads tree.old))
         (state fresh.now.items (knowledge R.Key.cmp learned.new) [] (T.reads tree.new)))) }
     ensures none { IfOk result (λ r. IfNone r (LacksPart (place_at R.Key.cmp places.now)
         (λ part. ask.now ≡ Ask.Part part))) }
 {
     match ask {
         Ask::File(path) => {
-            let answer = read_once(alloc, tree, edits, &mut learned.files, path)?;
+            let answer = read_once(alloc, tree, fixed.edits, &mut learned.files, path)?;
             Ok(Some(answer))
         }
-        Ask::Field(number) => Ok(Some(Answer::Field(field(alloc, job, *number)?))),
+        Ask::Field(number) => Ok(Some(Answer::Field(field(alloc, fixed.job, *number)?))),
         Ask::Part(part) => match result_of(part, fresh, places) {
             Some(outcome) => Ok(Some(Answer::Part(outcome.copy(alloc)?))),
             None => Ok(None),
@@ -109,47 +104,39 @@ fn answer<R: Rules, T: Tree>(
 /// The right answers to a batch of asks, where all have one by now.
 pub fn answers<R: Rules, T: Tree>(
     alloc: Global,
-    rules: &R,
-    job: &Rows<Text>,
-    old: &Cache<R::Key, R::Out>,
+    fixed: &Fixed<'_, R>,
     key: &R::Key,
     asks: &Rows<Ask<R::Key>>,
     fresh: &Vec<Entry<R::Key, R::Out>>,
     places: &Places<R::Key>,
     tree: &mut T,
-    edits: &Edits,
     learned: &mut Learned<R::Key>,
 ) -> Result<Option<Rows<Pair<R::Key, R::Out>>>, EngineRefusal>
-    requires kept { AreKept (setting R.means (over edits.now (T.held tree.old)) job.now old.now)
+    requires kept { AreKept (setting_of R.means fixed.now (T.held tree.old))
         (state fresh.now.items (knowledge R.Key.cmp learned.old) [] (T.reads tree.old)) }
     requires finds { Finds (place_at R.Key.cmp places.now) fresh.now.items }
-    requires lower { AreLower (setting R.means (over edits.now (T.held tree.old)) job.now old.now)
-        key.now asks.now }
-    requires next { (w : World)
-        → IsHere (setting R.means (over edits.now (T.held tree.old)) job.now old.now) w
+    requires lower { AreLower (setting_of R.means fixed.now (T.held tree.old)) key.now asks.now }
+    requires next { (w : World) → IsHere (setting_of R.means fixed.now (T.held tree.old)) w
         → IsNext R.means w key.now asks.now }
     ensures held { T.held tree.new ≡ T.held tree.old }
     ensures count { Counts (T.faults tree.old) (T.faults tree.new) result }
-    ensures adds { Adds (setting R.means (over edits.now (T.held tree.old)) job.now old.now) key.now
+    ensures adds { Adds (setting_of R.means fixed.now (T.held tree.old)) key.now
         (state fresh.now.items (knowledge R.Key.cmp learned.old) [] (T.reads tree.old))
         (state fresh.now.items (knowledge R.Key.cmp learned.new) [] (T.reads tree.new)) }
-    ensures unedited { HasReadUnedited edits.now (T.reads tree.old) (T.reads tree.new) }
-    ensures ok { IfOk result
-        (λ r. MatchOption r
-        (IsStill (setting R.means (over edits.now (T.held tree.old)) job.now old.now) key.now
+    ensures unedited { HasReadUnedited fixed.now.edits.now (T.reads tree.old) (T.reads tree.new) }
+    ensures ok { IfOk result (λ r. MatchOption r
+        (IsStill (setting_of R.means fixed.now (T.held tree.old)) key.now
         (state fresh.now.items (knowledge R.Key.cmp learned.old) [] (T.reads tree.old))
         (state fresh.now.items (knowledge R.Key.cmp learned.new) [] (T.reads tree.new)))
-        (AreAnswered (setting R.means (over edits.now (T.held tree.old)) job.now old.now) key.now
-        asks.now (state fresh.now.items (knowledge R.Key.cmp learned.old) [] (T.reads tree.old))
+        (AreAnswered (setting_of R.means fixed.now (T.held tree.old)) key.now asks.now
+        (state fresh.now.items (knowledge R.Key.cmp learned.old) [] (T.reads tree.old))
         (state fresh.now.items (knowledge R.Key.cmp learned.new) [] (T.reads tree.new)))) }
     ensures none { IfOk result (λ r. IfNone r (LacksPart (place_at R.Key.cmp places.now)
         (λ part. Contains asks.now (Ask.Part part)))) }
 {
     let mut pairs = Rows::new(alloc);
     for ask in asks.items() {
-        let found = answer(
-            alloc, rules, job, old, key, ask, fresh, places, tree, edits, learned,
-        )?;
+        let found = answer(alloc, fixed, key, ask, fresh, places, tree, learned)?;
         let Some(answer) = found else {
             return Ok(None);
         };
@@ -217,50 +204,51 @@ fn check_part<K: StepKey, O: Same + Drop>(
 // Whether the answer of a pair is the right one, where its ask has an answer by now.
 fn check_pair<R: Rules, T: Tree>(
     alloc: Global,
-    rules: &R,
-    job: &Rows<Text>,
-    old: &Cache<R::Key, R::Out>,
+    fixed: &Fixed<'_, R>,
     key: &R::Key,
     pair: &Pair<R::Key, R::Out>,
     fresh: &Vec<Entry<R::Key, R::Out>>,
     places: &Places<R::Key>,
     tree: &mut T,
-    edits: &Edits,
     learned: &mut Learned<R::Key>,
 ) -> Result<Option<bool>, EngineRefusal>
-    requires kept { AreKept (setting R.means (over edits.now (T.held tree.old)) job.now old.now)
+    requires kept { AreKept (setting_of R.means fixed.now (T.held tree.old))
         (state fresh.now.items (knowledge R.Key.cmp learned.old) [] (T.reads tree.old)) }
     requires finds { Finds (place_at R.Key.cmp places.now) fresh.now.items }
     requires lower { (part : R.Key) → pair.now.ask ≡ Ask.Part part
         → R.means.rank part < R.means.rank key.now }
-    requires next { (w : World)
-        → IsHere (setting R.means (over edits.now (T.held tree.old)) job.now old.now) w
+    requires next { (w : World) → IsHere (setting_of R.means fixed.now (T.held tree.old)) w
         → (asks : List (Ask R.Key)) × Contains asks pair.now.ask × IsNext R.means w key.now asks }
-    requires old { HasPair old.now pair.now }
+    requires old { HasPair fixed.now.old.now pair.now }
     ensures held { T.held tree.new ≡ T.held tree.old }
     ensures count { Counts (T.faults tree.old) (T.faults tree.new) result }
-    ensures adds { Adds (setting R.means (over edits.now (T.held tree.old)) job.now old.now) key.now
+    ensures adds { Adds (setting_of R.means fixed.now (T.held tree.old)) key.now
         (state fresh.now.items (knowledge R.Key.cmp learned.old) [] (T.reads tree.old))
         (state fresh.now.items (knowledge R.Key.cmp learned.new) [] (T.reads tree.new)) }
-    ensures unedited { HasReadUnedited edits.now (T.reads tree.old) (T.reads tree.new) }
-    ensures ok { IfOk result
-        (λ r. MatchOption r
-        (IsStill (setting R.means (over edits.now (T.held tree.old)) job.now old.now) key.now
+    ensures unedited { HasReadUnedited fixed.now.edits.now (T.reads tree.old) (T.reads tree.new) }
+    ensures ok { IfOk result (λ r. MatchOption r
+        (IsStill (setting_of R.means fixed.now (T.held tree.old)) key.now
         (state fresh.now.items (knowledge R.Key.cmp learned.old) [] (T.reads tree.old))
         (state fresh.now.items (knowledge R.Key.cmp learned.new) [] (T.reads tree.new)))
-        (IsCheckedPair (setting R.means (over edits.now (T.held tree.old)) job.now old.now) key.now
-        pair.now (state fresh.now.items (knowledge R.Key.cmp learned.old) [] (T.reads tree.old))
+        (IsCheckedPair (setting_of R.means fixed.now (T.held tree.old)) key.now pair.now
+        (state fresh.now.items (knowledge R.Key.cmp learned.old) [] (T.reads tree.old))
         (state fresh.now.items (knowledge R.Key.cmp learned.new) [] (T.reads tree.new)))) }
     ensures none { IfOk result (λ r. IfNone r (LacksPart (place_at R.Key.cmp places.now)
         (λ part. pair.now.ask ≡ Ask.Part part))) }
 {
     if let Ask::Part(part) = &pair.ask {
-        let same = check_part(alloc, old, part, pair, fresh, places, &mut learned.compared)?;
+        let same = check_part(
+            alloc,
+            fixed.old,
+            part,
+            pair,
+            fresh,
+            places,
+            &mut learned.compared,
+        )?;
         return Ok(same);
     }
-    let found = answer(
-        alloc, rules, job, old, key, &pair.ask, fresh, places, tree, edits, learned,
-    )?;
+    let found = answer(alloc, fixed, key, &pair.ask, fresh, places, tree, learned)?;
     match found {
         Some(answer) => Ok(Some(answer.same(&pair.answer))),
         None => Ok(None),
@@ -270,37 +258,32 @@ fn check_pair<R: Rules, T: Tree>(
 /// Whether the answers of a batch are right, where all asks have an answer by now.
 pub(crate) fn check_batch<R: Rules, T: Tree>(
     alloc: Global,
-    rules: &R,
-    job: &Rows<Text>,
-    old: &Cache<R::Key, R::Out>,
+    fixed: &Fixed<'_, R>,
     key: &R::Key,
     pairs: &Rows<Pair<R::Key, R::Out>>,
     fresh: &Vec<Entry<R::Key, R::Out>>,
     places: &Places<R::Key>,
     tree: &mut T,
-    edits: &Edits,
     learned: &mut Learned<R::Key>,
 ) -> Result<Option<bool>, EngineRefusal>
-    requires kept { AreKept (setting R.means (over edits.now (T.held tree.old)) job.now old.now)
+    requires kept { AreKept (setting_of R.means fixed.now (T.held tree.old))
         (state fresh.now.items (knowledge R.Key.cmp learned.old) [] (T.reads tree.old)) }
     requires finds { Finds (place_at R.Key.cmp places.now) fresh.now.items }
-    requires next { (w : World)
-        → IsHere (setting R.means (over edits.now (T.held tree.old)) job.now old.now) w
+    requires next { (w : World) → IsHere (setting_of R.means fixed.now (T.held tree.old)) w
         → IsNext R.means w key.now (asks_of pairs.now) }
-    requires old { (p : Pair R.Key R.Out) → Contains pairs.now p → HasPair old.now p }
+    requires old { (p : Pair R.Key R.Out) → Contains pairs.now p → HasPair fixed.now.old.now p }
     ensures held { T.held tree.new ≡ T.held tree.old }
     ensures count { Counts (T.faults tree.old) (T.faults tree.new) result }
-    ensures adds { Adds (setting R.means (over edits.now (T.held tree.old)) job.now old.now) key.now
+    ensures adds { Adds (setting_of R.means fixed.now (T.held tree.old)) key.now
         (state fresh.now.items (knowledge R.Key.cmp learned.old) [] (T.reads tree.old))
         (state fresh.now.items (knowledge R.Key.cmp learned.new) [] (T.reads tree.new)) }
-    ensures unedited { HasReadUnedited edits.now (T.reads tree.old) (T.reads tree.new) }
-    ensures ok { IfOk result
-        (λ r. MatchOption r
-        (IsStill (setting R.means (over edits.now (T.held tree.old)) job.now old.now) key.now
+    ensures unedited { HasReadUnedited fixed.now.edits.now (T.reads tree.old) (T.reads tree.new) }
+    ensures ok { IfOk result (λ r. MatchOption r
+        (IsStill (setting_of R.means fixed.now (T.held tree.old)) key.now
         (state fresh.now.items (knowledge R.Key.cmp learned.old) [] (T.reads tree.old))
         (state fresh.now.items (knowledge R.Key.cmp learned.new) [] (T.reads tree.new)))
-        (IsCheckedBatch (setting R.means (over edits.now (T.held tree.old)) job.now old.now) key.now
-        pairs.now (state fresh.now.items (knowledge R.Key.cmp learned.old) [] (T.reads tree.old))
+        (IsCheckedBatch (setting_of R.means fixed.now (T.held tree.old)) key.now pairs.now
+        (state fresh.now.items (knowledge R.Key.cmp learned.old) [] (T.reads tree.old))
         (state fresh.now.items (knowledge R.Key.cmp learned.new) [] (T.reads tree.new)))) }
     ensures none { IfOk result (λ r. IfNone r (LacksPart (place_at R.Key.cmp places.now)
         (λ part. Contains (asks_of pairs.now) (Ask.Part part)
@@ -308,12 +291,10 @@ pub(crate) fn check_batch<R: Rules, T: Tree>(
 {
     let mut right = true;
     for pair in pairs.items() {
-        if !is_lower(rules, key, &pair.ask) {
+        if !is_lower(fixed.rules, key, &pair.ask) {
             return Ok(Some(false));
         }
-        let found = check_pair(
-            alloc, rules, job, old, key, pair, fresh, places, tree, edits, learned,
-        )?;
+        let found = check_pair(alloc, fixed, key, pair, fresh, places, tree, learned)?;
         let Some(same) = found else {
             return Ok(None);
         };

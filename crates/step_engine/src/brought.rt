@@ -1,6 +1,7 @@
 //! A build: the outcome of a key, and the entries that serve the next build.
 ghost use Rattle.std.specs.Prelude.{◌≡◌, ◌≤◌, true, length, IfOk, OnOk, IsTrue, ◌↔◌};
 ghost use Rattle.step_engine.specs.Edits.{over};
+ghost use Rattle.step_engine.specs.Standing.{setting_of};
 ghost use Rattle.step_engine.specs.Entries.{AreSound};
 ghost use Rattle.step_engine.specs.Needed.{IsBad};
 ghost use Rattle.step_engine.specs.Caches.{AreInOrder, AddsMissing, AreOthers, IsJoined};
@@ -8,10 +9,11 @@ ghost use Rattle.step_engine.specs.Build.{setting, Counts, IsEntryOf, Ran, RanAl
 ghost use Rattle.step_engine.specs.Ended.{IsReached, IsLeftOver};
 
 use crate::cache::Cache;
+use crate::crew::Crew;
 use crate::edits::Edits;
+use crate::fixed::Fixed;
 use crate::in_order::in_order;
-use crate::learned::Learned;
-use crate::places::Places;
+use crate::progress::Progress;
 use crate::refusal::EngineRefusal;
 use crate::rules::{Rules, StepKey};
 use crate::running::run_to_end;
@@ -170,51 +172,28 @@ fn leave<K: StepKey, O: Same + Drop>(
 
 // Brings a key to its outcome, from nothing that is known.
 fn reach<H: Threads + Sync, R: Rules, T: Tree, G: Gate>(
-    rt: &H,
-    alloc: Global,
-    rules: &R,
+    crew: &Crew<'_, H, G>,
+    fixed: &Fixed<'_, R>,
     top: &R::Key,
-    job: &Rows<Text>,
-    cache: &Cache<R::Key, R::Out>,
     tree: &mut T,
-    edits: &Edits,
     book: &mut Book<R::Key>,
-    workers: u32,
-    gate: &G,
 ) -> Result<Reached<R::Key, R::Out>, EngineRefusal>
-    requires some { 1 ≤ workers }
-    requires most { workers ≤ 64 }
+    requires some { 1 ≤ crew.now.workers }
+    requires most { crew.now.workers ≤ 64 }
     ensures held { T.held tree.new ≡ T.held tree.old }
     ensures count { Counts (T.faults tree.old) (T.faults tree.new) result }
-    ensures ran { Ran (setting R.means (over edits.now (T.held tree.old)) job.now cache.now) top.now
-        book.old book.new }
-    ensures read { HasRead (setting R.means (over edits.now (T.held tree.old)) job.now cache.now)
-        top.now (T.reads tree.old) (T.reads tree.new) }
-    ensures unedited { HasReadUnedited edits.now (T.reads tree.old) (T.reads tree.new) }
+    ensures ran { Ran (setting_of R.means fixed.now (T.held tree.old)) top.now book.old book.new }
+    ensures read { HasRead (setting_of R.means fixed.now (T.held tree.old)) top.now
+        (T.reads tree.old) (T.reads tree.new) }
+    ensures unedited { HasReadUnedited fixed.now.edits.now (T.reads tree.old) (T.reads tree.new) }
     ensures ok { IfOk result
-        (λ r. IsReached (setting R.means (over edits.now (T.held tree.old)) job.now cache.now)
-        top.now book.old book.new r.result r.made) }
+        (λ r. IsReached (setting_of R.means fixed.now (T.held tree.old)) top.now book.old book.new
+        r.result r.made) }
 {
-    let mut fresh = Vec::new(alloc);
-    let mut places = Places::new(alloc);
-    let mut learned = Learned::new(alloc);
-    let result = run_to_end(
-        rt,
-        alloc,
-        rules,
-        job,
-        cache,
-        top,
-        &mut fresh,
-        &mut places,
-        tree,
-        edits,
-        book,
-        &mut learned,
-        workers,
-        gate,
-    )?;
-    let made = in_order(alloc, fresh, true)?;
+    let alloc = crew.alloc;
+    let mut progress = Progress::new(alloc);
+    let result = run_to_end(crew, fixed, top, &mut progress, tree, book)?;
+    let made = in_order(alloc, progress.fresh, true)?;
     Ok(Reached { result, made })
 }
 
@@ -322,9 +301,19 @@ pub fn bring_over<H: Threads + Sync, R: Rules, T: Tree, G: Gate>(
     ensures order { IfOk result (λ b. AreInOrder R.Key.cmp b.cache) }
 {
     let first = book.ran().len();
-    let reached = reach(
-        rt, alloc, rules, &top, job, &cache, tree, edits, book, workers, gate,
-    )?;
+    let crew = Crew {
+        rt,
+        alloc,
+        workers,
+        gate,
+    };
+    let fixed = Fixed {
+        rules,
+        job,
+        old: &cache,
+        edits,
+    };
+    let reached = reach(&crew, &fixed, &top, tree, book)?;
     let brought = leave(alloc, &cache, reached, first, book)?;
     Ok(brought)
 }

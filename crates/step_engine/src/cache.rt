@@ -97,8 +97,8 @@ impl<K: StepKey, O: Drop> Cache<K, O> {
         self.agrees
     }
 
-    // The entry of a key.
-    pub(crate) fn get(&self, key: &K) -> Option<&Entry<K, O>>
+    /// The entry of a key.
+    pub fn get(&self, key: &K) -> Option<&Entry<K, O>>
         ensures some { IfSome result (λ e. Contains self.now e.now × (e.now.key ≡ key.now)) }
         ensures only { IfSome result (λ e. (d : Entry K O) → Contains self.now d → d.key ≡ key.now
             → d ≡ e.now) }

@@ -1,9 +1,7 @@
 //! A build from visit to visit, until its key is done.
 ghost use Rattle.std.specs.Prelude.{◌≡◌, ◌≤◌, ℕ, None, IfOk, OnOk, [], ◌∷◌};
-ghost use Rattle.step_engine.specs.Build.{setting, Counts, HasReadUnedited};
-ghost use Rattle.step_engine.specs.Edits.{over};
-ghost use Rattle.step_engine.specs.Engine.{state};
-ghost use Rattle.step_engine.specs.Reading.{knowledge};
+ghost use Rattle.step_engine.specs.Build.{Counts, HasReadUnedited};
+ghost use Rattle.step_engine.specs.Standing.{setting_of, state_of};
 ghost use Rattle.step_engine.specs.Table.{place_at};
 ghost use Rattle.step_engine.specs.Items.{IsReady};
 ghost use Rattle.step_engine.specs.Taking.{ListNotes};
@@ -14,83 +12,79 @@ ghost use Rattle.step_engine.specs.Forward.{IsMet, IsWhole, IsForward, AreEntere
 
 use crate::advance::count_act;
 use crate::cache::Cache;
-use crate::edits::Edits;
+use crate::crew::Crew;
+use crate::fixed::Fixed;
 use crate::key_table::KeyTable;
-use crate::learned::Learned;
 use crate::open::open_all;
 use crate::places::Places;
 use crate::pool::Pool;
+use crate::progress::Progress;
 use crate::refusal::EngineRefusal;
 use crate::round::round;
 use crate::rules::{Rules, StepKey};
 use crate::scan::{put_back, take_able};
 use crate::table::result_of;
-use crate::talk::{Entry, Outcome};
+use crate::talk::Outcome;
+use crate::tally::Tally;
 use build_base::book::Book;
 use build_base::outside::{Gate, Tree};
-use build_base::rows::Rows;
 use build_base::same::Same;
-use build_base::text::{Text, WantOfMemory};
+use build_base::text::WantOfMemory;
 use std::alloc::Global;
 use std::thread::Threads;
 
 // All keys that are able to go on do, those that are to make a turn in one wave.
 fn run_ready_keys<H: Threads + Sync, R: Rules, T: Tree, G: Gate>(
-    rt: &H,
-    alloc: Global,
-    rules: &R,
-    job: &Rows<Text>,
-    old: &Cache<R::Key, R::Out>,
-    fresh: &mut Vec<Entry<R::Key, R::Out>>,
-    places: &mut Places<R::Key>,
+    crew: &Crew<'_, H, G>,
+    fixed: &Fixed<'_, R>,
+    progress: &mut Progress<R::Key, R::Out>,
     tree: &mut T,
-    edits: &Edits,
     book: &mut Book<R::Key>,
-    learned: &mut Learned<R::Key>,
-    workers: u32,
-    gate: &G,
-    waves: &mut u64,
-    acts: &mut u64,
+    tally: &mut Tally,
     pool: &mut Pool<R::Key, R::Out>,
 ) -> Result<(), EngineRefusal>
-    requires some { 1 ≤ workers }
-    requires most { workers ≤ 64 }
-    requires ready { IsReady (setting R.means (over edits.now (T.held tree.old)) job.now old.now)
-        (state fresh.old.items (knowledge R.Key.cmp learned.old) book.old (T.reads tree.old))
-        (place_at R.Key.cmp places.old) }
-    requires items { AreUnderWay R.Key.cmp
-        (setting R.means (over edits.now (T.held tree.old)) job.now old.now)
-        (state fresh.old.items (knowledge R.Key.cmp learned.old) book.old (T.reads tree.old))
-        pool.old }
+    requires some { 1 ≤ crew.now.workers }
+    requires most { crew.now.workers ≤ 64 }
+    requires ready { IsReady (setting_of R.means fixed.now (T.held tree.old))
+        (state_of R.Key.cmp progress.old book.old (T.reads tree.old))
+        (place_at R.Key.cmp progress.old.places) }
+    requires items { AreUnderWay R.Key.cmp (setting_of R.means fixed.now (T.held tree.old))
+        (state_of R.Key.cmp progress.old book.old (T.reads tree.old)) pool.old }
     ensures held { T.held tree.new ≡ T.held tree.old }
     ensures count { Counts (T.faults tree.old) (T.faults tree.new) result }
-    ensures notes { ListNotes (setting R.means (over edits.now (T.held tree.old)) job.now old.now)
-        (state fresh.old.items (knowledge R.Key.cmp learned.old) book.old (T.reads tree.old))
-        (state fresh.new.items (knowledge R.Key.cmp learned.new) book.new (T.reads tree.new))
-        (place_at R.Key.cmp places.old)
-        (λ top. AreAllWanted R.Key.cmp
-        (setting R.means (over edits.now (T.held tree.old)) job.now old.now) top pool.old) }
-    ensures unedited { HasReadUnedited edits.now (T.reads tree.old) (T.reads tree.new) }
+    ensures notes { ListNotes (setting_of R.means fixed.now (T.held tree.old))
+        (state_of R.Key.cmp progress.old book.old (T.reads tree.old))
+        (state_of R.Key.cmp progress.new book.new (T.reads tree.new))
+        (place_at R.Key.cmp progress.old.places)
+        (λ top. AreAllWanted R.Key.cmp (setting_of R.means fixed.now (T.held tree.old)) top
+        pool.old) }
+    ensures unedited { HasReadUnedited fixed.now.edits.now (T.reads tree.old) (T.reads tree.new) }
     ensures ok { IfOk result
-        (λ _. IsVisited R.Key.cmp
-        (setting R.means (over edits.now (T.held tree.old)) job.now old.now)
-        (state fresh.old.items (knowledge R.Key.cmp learned.old) book.old (T.reads tree.old))
-        (state fresh.new.items (knowledge R.Key.cmp learned.new) book.new (T.reads tree.new))
-        (place_at R.Key.cmp places.old) (place_at R.Key.cmp places.new) pool.old pool.new) }
+        (λ _. IsVisited R.Key.cmp (setting_of R.means fixed.now (T.held tree.old))
+        (state_of R.Key.cmp progress.old book.old (T.reads tree.old))
+        (state_of R.Key.cmp progress.new book.new (T.reads tree.new))
+        (place_at R.Key.cmp progress.old.places) (place_at R.Key.cmp progress.new.places) pool.old
+        pool.new) }
     ensures forward { OnOk result
-        (IsWhole R.Key.cmp R.means.rank (place_at R.Key.cmp places.old) pool.old
-        → AreEntered (place_at R.Key.cmp places.old) fresh.old.items
-        → IsForward R.Key.cmp R.means.rank (place_at R.Key.cmp places.old)
-        (place_at R.Key.cmp places.new) pool.new fresh.new.items acts.old acts.new) }
+        (IsWhole R.Key.cmp R.means.rank (place_at R.Key.cmp progress.old.places) pool.old
+        → AreEntered (place_at R.Key.cmp progress.old.places) progress.old.fresh.items
+        → IsForward R.Key.cmp R.means.rank (place_at R.Key.cmp progress.old.places)
+        (place_at R.Key.cmp progress.new.places) pool.new progress.new.fresh.items tally.old.acts
+        tally.new.acts) }
 {
-    let able = take_able(alloc, rules, old, pool, places, book)?;
-    count_act(acts, !pool.news.is_empty());
-    let first = fresh.len();
-    let left = round(
-        rt, alloc, rules, job, old, able, fresh, places, tree, edits, book, learned, workers, gate,
-        waves, acts,
+    let alloc = crew.alloc;
+    let able = take_able(
+        alloc,
+        fixed.rules,
+        fixed.old,
+        pool,
+        &mut progress.places,
+        book,
     )?;
-    put_back(alloc, left, fresh, first, pool)?;
+    count_act(&mut tally.acts, !pool.news.is_empty());
+    let first = progress.fresh.len();
+    let left = round(crew, fixed, able, progress, tree, book, tally)?;
+    put_back(alloc, left, &progress.fresh, first, pool)?;
     Ok(())
 }
 
@@ -131,56 +125,43 @@ fn begin<K: StepKey, O: Same + Drop>(
 /// those under way is always able to go on. What is done is counted, up to the greatest number of
 /// 64 bits.
 pub(crate) fn run_to_end<H: Threads + Sync, R: Rules, T: Tree, G: Gate>(
-    rt: &H,
-    alloc: Global,
-    rules: &R,
-    job: &Rows<Text>,
-    old: &Cache<R::Key, R::Out>,
+    crew: &Crew<'_, H, G>,
+    fixed: &Fixed<'_, R>,
     top: &R::Key,
-    fresh: &mut Vec<Entry<R::Key, R::Out>>,
-    places: &mut Places<R::Key>,
+    progress: &mut Progress<R::Key, R::Out>,
     tree: &mut T,
-    edits: &Edits,
     book: &mut Book<R::Key>,
-    learned: &mut Learned<R::Key>,
-    workers: u32,
-    gate: &G,
 ) -> Result<Outcome<R::Out>, EngineRefusal>
-    requires some { 1 ≤ workers }
-    requires most { workers ≤ 64 }
-    requires ready { IsReady (setting R.means (over edits.now (T.held tree.old)) job.now old.now)
-        (state fresh.old.items (knowledge R.Key.cmp learned.old) book.old (T.reads tree.old))
-        (place_at R.Key.cmp places.old) }
-    requires new { (k : R.Key) → place_at R.Key.cmp places.old k ≡ None }
-    requires none { fresh.old.items ≡ [] }
+    requires some { 1 ≤ crew.now.workers }
+    requires most { crew.now.workers ≤ 64 }
+    requires ready { IsReady (setting_of R.means fixed.now (T.held tree.old))
+        (state_of R.Key.cmp progress.old book.old (T.reads tree.old))
+        (place_at R.Key.cmp progress.old.places) }
+    requires new { (k : R.Key) → place_at R.Key.cmp progress.old.places k ≡ None }
+    requires none { progress.old.fresh.items ≡ [] }
     ensures held { T.held tree.new ≡ T.held tree.old }
     ensures count { Counts (T.faults tree.old) (T.faults tree.new) result }
-    ensures notes { TopNotes (setting R.means (over edits.now (T.held tree.old)) job.now old.now)
-        top.now (state fresh.old.items (knowledge R.Key.cmp learned.old) book.old
-        (T.reads tree.old))
-        (state fresh.new.items (knowledge R.Key.cmp learned.new) book.new (T.reads tree.new))
-        (place_at R.Key.cmp places.old) }
-    ensures unedited { HasReadUnedited edits.now (T.reads tree.old) (T.reads tree.new) }
+    ensures notes { TopNotes (setting_of R.means fixed.now (T.held tree.old)) top.now
+        (state_of R.Key.cmp progress.old book.old (T.reads tree.old))
+        (state_of R.Key.cmp progress.new book.new (T.reads tree.new))
+        (place_at R.Key.cmp progress.old.places) }
+    ensures unedited { HasReadUnedited fixed.now.edits.now (T.reads tree.old) (T.reads tree.new) }
     ensures ok { IfOk result
-        (λ r. IsBroughtTo (setting R.means (over edits.now (T.held tree.old)) job.now old.now)
-        top.now (state fresh.old.items (knowledge R.Key.cmp learned.old) book.old
-        (T.reads tree.old))
-        (state fresh.new.items (knowledge R.Key.cmp learned.new) book.new (T.reads tree.new))
-        (place_at R.Key.cmp places.old) (place_at R.Key.cmp places.new) r) }
+        (λ r. IsBroughtTo (setting_of R.means fixed.now (T.held tree.old)) top.now
+        (state_of R.Key.cmp progress.old book.old (T.reads tree.old))
+        (state_of R.Key.cmp progress.new book.new (T.reads tree.new))
+        (place_at R.Key.cmp progress.old.places) (place_at R.Key.cmp progress.new.places) r) }
 {
-    let mut pool = begin(alloc, old, top, places, book)?;
-    let mut waves = 0;
-    let mut acts = 0;
-    while acts < u64::MAX {
-        if let Some(outcome) = result_of(top, fresh, places) {
+    let alloc = crew.alloc;
+    let mut pool = begin(alloc, fixed.old, top, &mut progress.places, book)?;
+    let mut tally = Tally { waves: 0, acts: 0 };
+    while tally.acts < u64::MAX {
+        if let Some(outcome) = result_of(top, &progress.fresh, &progress.places) {
             return Ok(outcome.copy(alloc)?);
         }
-        let before = acts;
-        run_ready_keys(
-            rt, alloc, rules, job, old, fresh, places, tree, edits, book, learned, workers, gate,
-            &mut waves, &mut acts, &mut pool,
-        )?;
-        if acts <= before {
+        let before = tally.acts;
+        run_ready_keys(crew, fixed, progress, tree, book, &mut tally, &mut pool)?;
+        if tally.acts <= before {
             unreachable!();
         }
     }

@@ -1,9 +1,8 @@
 -- One step forward.
 use Rattle.std.proofs.Common.{refl}
-use Rattle.step_engine.specs.Engine.{state}
-use Rattle.step_engine.specs.Reading.{knowledge}
 use Rattle.step_engine.proofs.Acting.{notes_none, notes_read, noted_of, act_noted, adv_asked, adv_right, adv_wrong, adv_next}
 use Rattle.step_engine.specs.declared.places.Place.TheVariants.{Checking}
+use Rattle.step_engine.specs.Standing.{state_of}
 use Rattle.step_engine.proofs.ForwardLemmas.{goes_still, goes_made, goes_same, goes_rerun, later_goes, enters_made, enters_later}
 use Rattle.step_engine.proofs.ActLemmas.{acts_run, acts_more}
 use Rattle.step_engine.proofs.UneditedLemmas.{unedited_none}
@@ -14,63 +13,63 @@ returns-in-Run-clause-notes g c = notes_none _ _ _ _
 
 pub returns-in_err-item-in-Asked-clause-notes : goal.returns-in_err-item-in-Asked-clause-notes
 returns-in_err-item-in-Asked-clause-notes g c =
-    let y = state c.args.fresh.now.items (knowledge g.R.Key.Ord.cmp c.args.learned.now) c.args.book.now (g.T.Tree.reads c.args.tree.now) in
+    let y = state_of g.R.Key.Ord.cmp c.args.progress.now c.args.book.now (g.T.Tree.reads c.args.tree.now) in
     rw c.in-Asked.is (notes_read _ _ y _ _ _ c.resume.ensures.adds)
 
 pub returns-in_ok-item-in-Asked-clause-notes : goal.returns-in_ok-item-in-Asked-clause-notes
 returns-in_ok-item-in-Asked-clause-notes g c =
-    let y = state c.args.fresh.now.items (knowledge g.R.Key.Ord.cmp c.args.learned.now) c.args.book.now (g.T.Tree.reads c.args.tree.now) in
+    let y = state_of g.R.Key.Ord.cmp c.args.progress.now c.args.book.now (g.T.Tree.reads c.args.tree.now) in
     rw c.in-Asked.is (notes_read _ _ y _ _ _ c.resume.ensures.adds)
 
 pub returns-in_ok-item-in-Asked-clause-ok : goal.returns-in_ok-item-in-Asked-clause-ok
 returns-in_ok-item-in-Asked-clause-ok g c =
-    let y = state c.args.fresh.now.items (knowledge g.R.Key.Ord.cmp c.args.learned.now) c.args.book.now (g.T.Tree.reads c.args.tree.now) in
+    let y = state_of g.R.Key.Ord.cmp c.args.progress.now c.args.book.now (g.T.Tree.reads c.args.tree.now) in
     rw c.in-Asked.is (adv_asked _ _ y _ _ _ c.requires.ready _ c.in_ok-item-in-Asked.ensures.ok)
 
 pub returns-in_err-checked-in-Check-clause-notes : goal.returns-in_err-checked-in-Check-clause-notes
 returns-in_err-checked-in-Check-clause-notes g c =
-    let y = state c.args.fresh.now.items (knowledge g.R.Key.Ord.cmp c.args.learned.now) c.args.book.now (g.T.Tree.reads c.args.tree.now) in
+    let y = state_of g.R.Key.Ord.cmp c.args.progress.now c.args.book.now (g.T.Tree.reads c.args.tree.now) in
     rw c.in-Check.is (notes_read _ _ y _ _ _ c.check_next.ensures.adds)
 
 pub returns-in_err-make_old-in-Right-clause-notes : goal.returns-in_err-make_old-in-Right-clause-notes
 returns-in_err-make_old-in-Right-clause-notes g c =
-    let y = state c.args.fresh.now.items (knowledge g.R.Key.Ord.cmp c.args.learned.now) c.args.book.now (g.T.Tree.reads c.args.tree.now) in
+    let y = state_of g.R.Key.Ord.cmp c.args.progress.now c.args.book.now (g.T.Tree.reads c.args.tree.now) in
     rw c.in-Check.is (λ top x q w. noted_of _ _ _ _ _ refl refl (notes_read _ _ y _ _ _ c.check_next.ensures.adds top x q w))
 
 pub returns-in_ok-make_old-in-Right-clause-notes : goal.returns-in_ok-make_old-in-Right-clause-notes
 returns-in_ok-make_old-in-Right-clause-notes g c =
-    let y = state c.args.fresh.now.items (knowledge g.R.Key.Ord.cmp c.args.learned.now) c.args.book.now (g.T.Tree.reads c.args.tree.now) in
+    let y = state_of g.R.Key.Ord.cmp c.args.progress.now c.args.book.now (g.T.Tree.reads c.args.tree.now) in
     rw c.in-Check.is (λ top x q w. noted_of _ _ _ _ _ refl refl (notes_read _ _ y _ _ _ c.check_next.ensures.adds top x q w))
 
 pub returns-in_ok-make_old-in-Right-clause-ok : goal.returns-in_ok-make_old-in-Right-clause-ok
 returns-in_ok-make_old-in-Right-clause-ok g c =
-    let y = state c.args.fresh.now.items (knowledge g.R.Key.Ord.cmp c.args.learned.now) c.args.book.now (g.T.Tree.reads c.args.tree.now) in
+    let y = state_of g.R.Key.Ord.cmp c.args.progress.now c.args.book.now (g.T.Tree.reads c.args.tree.now) in
     rw c.in-Check.is (adv_right _ _ y _ _ _ c.requires.ready _ _ _ (rw c.in-Right.is at c.in_ok-checked-in-Check.ensures.ok) c.in_ok-make_old-in-Right.ensures.made)
 
 pub returns-in_err-item-in-Wrong-clause-notes : goal.returns-in_err-item-in-Wrong-clause-notes
 returns-in_err-item-in-Wrong-clause-notes g c =
-    let y = state c.args.fresh.now.items (knowledge g.R.Key.Ord.cmp c.args.learned.now) c.args.book.now (g.T.Tree.reads c.args.tree.now) in
+    let y = state_of g.R.Key.Ord.cmp c.args.progress.now c.args.book.now (g.T.Tree.reads c.args.tree.now) in
     rw (c.in-Check.is, c.in_err-item-in-Wrong.ensures.err) (notes_read _ _ y _ _ _ c.check_next.ensures.adds)
 
 pub returns-in_ok-item-in-Wrong-clause-notes : goal.returns-in_ok-item-in-Wrong-clause-notes
 returns-in_ok-item-in-Wrong-clause-notes g c =
-    let y = state c.args.fresh.now.items (knowledge g.R.Key.Ord.cmp c.args.learned.now) c.args.book.now (g.T.Tree.reads c.args.tree.now) in
+    let y = state_of g.R.Key.Ord.cmp c.args.progress.now c.args.book.now (g.T.Tree.reads c.args.tree.now) in
     let d = adv_wrong _ _ y _ _ _ c.requires.ready _ _ _ _ (rw c.in-Wrong.is at c.in_ok-checked-in-Check.ensures.ok) c.in_ok-item-in-Wrong.ensures.ok in
     rw c.in-Check.is (act_noted _ _ _ _ _ _ d.act)
 
 pub returns-in_ok-item-in-Wrong-clause-ok : goal.returns-in_ok-item-in-Wrong-clause-ok
 returns-in_ok-item-in-Wrong-clause-ok g c =
-    let y = state c.args.fresh.now.items (knowledge g.R.Key.Ord.cmp c.args.learned.now) c.args.book.now (g.T.Tree.reads c.args.tree.now) in
+    let y = state_of g.R.Key.Ord.cmp c.args.progress.now c.args.book.now (g.T.Tree.reads c.args.tree.now) in
     rw c.in-Check.is (adv_wrong _ _ y _ _ _ c.requires.ready _ _ _ _ (rw c.in-Wrong.is at c.in_ok-checked-in-Check.ensures.ok) c.in_ok-item-in-Wrong.ensures.ok)
 
 pub returns-in-Next-clause-notes : goal.returns-in-Next-clause-notes
 returns-in-Next-clause-notes g c =
-    let y = state c.args.fresh.now.items (knowledge g.R.Key.Ord.cmp c.args.learned.now) c.args.book.now (g.T.Tree.reads c.args.tree.now) in
+    let y = state_of g.R.Key.Ord.cmp c.args.progress.now c.args.book.now (g.T.Tree.reads c.args.tree.now) in
     rw c.in-Check.is (notes_read _ _ y _ _ _ c.check_next.ensures.adds)
 
 pub returns-in-Next-clause-ok : goal.returns-in-Next-clause-ok
 returns-in-Next-clause-ok g c =
-    let y = state c.args.fresh.now.items (knowledge g.R.Key.Ord.cmp c.args.learned.now) c.args.book.now (g.T.Tree.reads c.args.tree.now) in
+    let y = state_of g.R.Key.Ord.cmp c.args.progress.now c.args.book.now (g.T.Tree.reads c.args.tree.now) in
     rw c.in-Check.is (adv_next _ _ y _ _ _ c.requires.ready _ (rw c.in-Next.is at c.in_ok-checked-in-Check.ensures.ok))
 
 pub returns-in-Run-clause-goes : goal.returns-in-Run-clause-goes

@@ -1,7 +1,7 @@
 -- One more step.
 use Rattle.std.proofs.Common.{refl, sym, ap, ◌∙◌, inl, arith}
-use Rattle.step_engine.specs.Build.{setting}
 use Rattle.step_engine.specs.Edits.{over}
+use Rattle.step_engine.specs.Standing.{setting_of}
 use Rattle.step_engine.proofs.Ending.{counts_wanting}
 use Rattle.step_engine.proofs.Listing.{list_none, list_noted, list_more, list_refused, need_item, list_item, ready_held, item_held, notes_held, advanced_held, left_here, left_more}
 use Rattle.step_engine.proofs.LookLemmas.{no_items}
@@ -26,31 +26,31 @@ loop-item-init g c = record {
 pub advance-requires-clause-ready : goal.advance-requires-clause-ready
 advance-requires-clause-ready g c =
     let i = c.loop-item.invariant in
-    let s = setting g.R.Rules.means (over c.args.edits.now (g.T.Tree.held c.args.tree.now)) c.args.job.now c.args.old.now in
-    λ κs q. ready_held s _ _ _ (ap (over c.args.edits.now) i.held) i.here.ready
+    let s = setting_of g.R.Rules.means c.args.fixed.now (g.T.Tree.held c.args.tree.now) in
+    λ κs q. ready_held s _ _ _ (ap (over c.args.fixed.now.edits.now) i.held) i.here.ready
 
 pub advance-requires-clause-item : goal.advance-requires-clause-item
 advance-requires-clause-item g c =
     let i = c.loop-item.invariant in
-    let s = setting g.R.Rules.means (over c.args.edits.now (g.T.Tree.held c.args.tree.now)) c.args.job.now c.args.old.now in
-    λ κs q. item_held s _ _ _ (ap (over c.args.edits.now) i.held) (list_item s _ _ _ _ i.here.grows c.requires.items (left_here _ _ _ _ i.left c.in-Some.ensures.steps.0))
+    let s = setting_of g.R.Rules.means c.args.fixed.now (g.T.Tree.held c.args.tree.now) in
+    λ κs q. item_held s _ _ _ (ap (over c.args.fixed.now.edits.now) i.held) (list_item s _ _ _ _ i.here.grows c.requires.items (left_here _ _ _ _ i.left c.in-Some.ensures.steps.0))
 
 pub returns-in_err-left-clause-notes : goal.returns-in_err-left-clause-notes
 returns-in_err-left-clause-notes g c =
     let i = c.loop-item.invariant in
-    let s = setting g.R.Rules.means (over c.args.edits.now (g.T.Tree.held c.args.tree.now)) c.args.job.now c.args.old.now in
-    list_refused s _ _ _ _ _ _ _ i.here _ (need_item s _ _ (left_here _ _ _ _ i.left c.in-Some.ensures.steps.0)) _ (notes_held s _ _ _ _ _ (ap (over c.args.edits.now) i.held) c.advance.ensures.notes)
+    let s = setting_of g.R.Rules.means c.args.fixed.now (g.T.Tree.held c.args.tree.now) in
+    list_refused s _ _ _ _ _ _ _ i.here _ (need_item s _ _ (left_here _ _ _ _ i.left c.in-Some.ensures.steps.0)) _ (notes_held s _ _ _ _ _ (ap (over c.args.fixed.now.edits.now) i.held) c.advance.ensures.notes)
 
 pub returns-in_err-sort_in-clause-notes : goal.returns-in_err-sort_in-clause-notes
 returns-in_err-sort_in-clause-notes g c =
     let i = c.loop-item.invariant in
-    let s = setting g.R.Rules.means (over c.args.edits.now (g.T.Tree.held c.args.tree.now)) c.args.job.now c.args.old.now in
-    list_refused s _ _ _ _ _ _ _ i.here _ (need_item s _ _ (left_here _ _ _ _ i.left c.in-Some.ensures.steps.0)) _ (notes_held s _ _ _ _ _ (ap (over c.args.edits.now) i.held) c.advance.ensures.notes)
+    let s = setting_of g.R.Rules.means c.args.fixed.now (g.T.Tree.held c.args.tree.now) in
+    list_refused s _ _ _ _ _ _ _ i.here _ (need_item s _ _ (left_here _ _ _ _ i.left c.in-Some.ensures.steps.0)) _ (notes_held s _ _ _ _ _ (ap (over c.args.fixed.now.edits.now) i.held) c.advance.ensures.notes)
 
 pub loop-item-preserved : goal.loop-item-preserved
 loop-item-preserved g c =
     let i = c.loop-item.invariant in
-    let s = setting g.R.Rules.means (over c.args.edits.now (g.T.Tree.held c.args.tree.now)) c.args.job.now c.args.old.now in
+    let s = setting_of g.R.Rules.means c.args.fixed.now (g.T.Tree.held c.args.tree.now) in
     record {
       held = c.advance.ensures.held ∙ i.held;
       count = c.in_ok-left.ensures.count ∙ i.count;
@@ -59,7 +59,7 @@ loop-item-preserved g c =
       grows = omega (arith, i.grows, c.in_ok-left.ensures.acts.grows);
       moved = moved_more _ _ _ _ _ _ c.in-Some.item _ _ _ _ _ _ _ _ i.moved i.grows c.in-Some.ensures.steps.0 (left_here _ _ _ _ i.left c.in-Some.ensures.steps.0) i.goes.later.done c.in_ok-left.ensures.acts c.in_ok-sort_in.ensures;
       entered = λ h. c.in_ok-left.ensures.entered (i.entered h);
-      here = list_more s _ _ _ _ _ _ _ i.here _ (need_item s _ _ (left_here _ _ _ _ i.left c.in-Some.ensures.steps.0)) _ _ _ _ _ (advanced_held s _ _ _ _ _ _ _ (ap (over c.args.edits.now) i.held) c.in_ok-left.ensures.ok) c.in_ok-sort_in.ensures;
+      here = list_more s _ _ _ _ _ _ _ i.here _ (need_item s _ _ (left_here _ _ _ _ i.left c.in-Some.ensures.steps.0)) _ _ _ _ _ (advanced_held s _ _ _ _ _ _ _ (ap (over c.args.fixed.now.edits.now) i.held) c.in_ok-left.ensures.ok) c.in_ok-sort_in.ensures;
       left = left_more _ _ _ _ i.left c.in-Some.ensures.steps.0;
     }
 

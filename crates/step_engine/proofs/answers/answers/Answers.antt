@@ -31,7 +31,7 @@ loop-ask-preserved g c =
     let d = rw c.in-Some.is at c.in_ok-found.ensures.ok in
     let way = c.loop-ask.invariant.way in record {
       held = c.answer.ensures.held ∙ c.loop-ask.invariant.held;
-      way = way_more _ _ _ _ _ _ _ _ way _ _ d.moves d.kept (ap (over c.args.edits.now) c.answer.ensures.held) c.in_ok-found.ensures.count;
+      way = way_more _ _ _ _ _ _ _ _ way _ _ d.moves d.kept (ap (over c.args.fixed.now.edits.now) c.answer.ensures.held) c.in_ok-found.ensures.count;
       unedited = unedited_then _ _ _ _ c.loop-ask.invariant.unedited c.answer.ensures.unedited;
       here = rw (c.in_ok-keep_pair.ensures, c.in_ok-ask.ensures) (answering_more _ _ _ _ _ _ _ _ c.loop-ask.invariant.here c.loop-ask-test.true c.ask-item.is d.moves.grows (λ w i. d.right w (here_on _ _ _ _ _ _ _ way w i)) d.small d.parts);
     }

@@ -43,7 +43,7 @@ loop-pair-preserved g c =
     let d = h.1 in
     let way = c.loop-pair.invariant.way in record {
       held = c.check_pair.ensures.held ∙ c.loop-pair.invariant.held;
-      way = way_more _ _ _ _ _ _ _ _ way _ _ d.moves d.kept (ap (over c.args.edits.now) c.check_pair.ensures.held) c.in_ok-found.ensures.count;
+      way = way_more _ _ _ _ _ _ _ _ way _ _ d.moves d.kept (ap (over c.args.fixed.now.edits.now) c.check_pair.ensures.held) c.in_ok-found.ensures.count;
       unedited = unedited_then _ _ _ _ c.loop-pair.invariant.unedited c.check_pair.ensures.unedited;
       here = checking_batch_step _ c.args.key.now _ _ (state c.args.fresh.now.items (knowledge g.R.Key.Ord.cmp c.args.learned.now) [] (g.T.Tree.reads c.args.tree.now)) _ _ _ _ _ _ _ c.loop-pair.invariant.here c.loop-pair-test.true c.pair-item.is d.moves.grows (λ w i. d.right w (here_on _ _ _ _ _ _ _ way w i)) d.parts h.2 c.all_right-right.ensures.yes c.all_right-right.ensures.no;
     }

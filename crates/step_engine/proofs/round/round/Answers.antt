@@ -1,9 +1,6 @@
 -- A round.
 use Rattle.std.proofs.Common.{refl}
-use Rattle.step_engine.specs.Build.{setting}
-use Rattle.step_engine.specs.Edits.{over}
-use Rattle.step_engine.specs.Engine.{state}
-use Rattle.step_engine.specs.Reading.{knowledge}
+use Rattle.step_engine.specs.Standing.{setting_of, state_of}
 use Rattle.step_engine.proofs.Acting.{noted_of}
 use Rattle.step_engine.proofs.Ending.{counts_wanting}
 use Rattle.step_engine.proofs.TakingLemmas.{taking}
@@ -25,9 +22,9 @@ returns-clause-notes g c = λ top x q w. noted_of _ _ _ _ _ refl refl (c.advance
 
 pub returns-clause-ok : goal.returns-clause-ok
 returns-clause-ok g c =
-    let s = setting g.R.Rules.means (over c.args.edits.now (g.T.Tree.held c.args.tree.now)) c.args.job.now c.args.old.now in
-    let y = state c.args.fresh.now.items (knowledge g.R.Key.Ord.cmp c.args.learned.now) c.args.book.now (g.T.Tree.reads c.args.tree.now) in
-    let z = state c.advance_all.new.fresh.items (knowledge g.R.Key.Ord.cmp c.advance_all.new.learned) c.advance_all.new.book (g.T.Tree.reads c.advance_all.new.tree) in
+    let s = setting_of g.R.Rules.means c.args.fixed.now (g.T.Tree.held c.args.tree.now) in
+    let y = state_of g.R.Key.Ord.cmp c.args.progress.now c.args.book.now (g.T.Tree.reads c.args.tree.now) in
+    let z = state_of g.R.Key.Ord.cmp c.advance_all.new.progress c.advance_all.new.book (g.T.Tree.reads c.advance_all.new.tree) in
     c.in_ok-take_all.ensures.takes s y z _ _ refl (taking s y z _ _ _ _ _ _ c.in_ok-runs.ensures.ok c.in_ok-done.ensures)
 
 pub returns-in_err-runs-clause-held : goal.returns-in_err-runs-clause-held

@@ -1,10 +1,7 @@
 -- All keys that are able to go on do.
 use Rattle.std.proofs.Common.{refl, ◌∙◌}
-use Rattle.step_engine.specs.Build.{setting}
-use Rattle.step_engine.specs.Edits.{over}
-use Rattle.step_engine.specs.Engine.{state}
-use Rattle.step_engine.specs.Reading.{knowledge}
 use Rattle.step_engine.specs.Table.{place_at}
+use Rattle.step_engine.specs.Standing.{setting_of, state_of}
 use Rattle.step_engine.proofs.Ending.{counts_wanting}
 use Rattle.step_engine.proofs.ScanLemmas.{able_ready, able_items, visit_noted, visited}
 use Rattle.step_engine.proofs.VisitLemmas.{visit_acts, visit_whole, visit_met, entered_opened, not_empty, puts_same}
@@ -13,52 +10,52 @@ use Rattle.step_engine.proofs.running.run_ready_keys.Goals as goal
 
 pub returns-in_err-able-clause-notes : goal.returns-in_err-able-clause-notes
 returns-in_err-able-clause-notes g c =
-    let s = setting g.R.Rules.means (over c.args.edits.now (g.T.Tree.held c.args.tree.now)) c.args.job.now c.args.old.now in
-    let y = state c.args.fresh.now.items (knowledge g.R.Key.Ord.cmp c.args.learned.now) c.args.book.now (g.T.Tree.reads c.args.tree.now) in
+    let s = setting_of g.R.Rules.means c.args.fixed.now (g.T.Tree.held c.args.tree.now) in
+    let y = state_of g.R.Key.Ord.cmp c.args.progress.now c.args.book.now (g.T.Tree.reads c.args.tree.now) in
     let laws = g.met.R.Rules g.world.𝓛 g.world.𝓜 g.world.𝓡 ((λ s x. x), (λ x. x), (λ x. x), λ x. x) in
     λ top x q w. c.take_able.ensures.noted s y laws.lawful refl refl c.requires.ready c.requires.items top x q w
 
 pub round-requires-clause-ready : goal.round-requires-clause-ready
 round-requires-clause-ready g c =
-    let s = setting g.R.Rules.means (over c.args.edits.now (g.T.Tree.held c.args.tree.now)) c.args.job.now c.args.old.now in
-    let y = state c.args.fresh.now.items (knowledge g.R.Key.Ord.cmp c.args.learned.now) c.args.book.now (g.T.Tree.reads c.args.tree.now) in
+    let s = setting_of g.R.Rules.means c.args.fixed.now (g.T.Tree.held c.args.tree.now) in
+    let y = state_of g.R.Key.Ord.cmp c.args.progress.now c.args.book.now (g.T.Tree.reads c.args.tree.now) in
     let laws = g.met.R.Rules g.world.𝓛 g.world.𝓜 g.world.𝓡 ((λ s x. x), (λ x. x), (λ x. x), λ x. x) in
-    λ κs q. able_ready g.R.Key.Ord.cmp s laws.lawful y (place_at g.R.Key.Ord.cmp c.args.places.now) c.requires.ready c.args.pool.now c.take_able.new.pool c.requires.items c.take_able.new.book (place_at g.R.Key.Ord.cmp c.take_able.new.places) c.in_ok-able.able.items c.in_ok-able.ensures.ok c.in_ok-able.ensures.held
+    λ κs q. able_ready g.R.Key.Ord.cmp s laws.lawful y (place_at g.R.Key.Ord.cmp c.args.progress.now.places) c.requires.ready c.args.pool.now c.take_able.new.pool c.requires.items c.take_able.new.book (place_at g.R.Key.Ord.cmp c.take_able.new.places) c.in_ok-able.able.items c.in_ok-able.ensures.ok c.in_ok-able.ensures.held
 
 pub round-requires-clause-items : goal.round-requires-clause-items
 round-requires-clause-items g c =
-    let s = setting g.R.Rules.means (over c.args.edits.now (g.T.Tree.held c.args.tree.now)) c.args.job.now c.args.old.now in
-    let y = state c.args.fresh.now.items (knowledge g.R.Key.Ord.cmp c.args.learned.now) c.args.book.now (g.T.Tree.reads c.args.tree.now) in
+    let s = setting_of g.R.Rules.means c.args.fixed.now (g.T.Tree.held c.args.tree.now) in
+    let y = state_of g.R.Key.Ord.cmp c.args.progress.now c.args.book.now (g.T.Tree.reads c.args.tree.now) in
     let laws = g.met.R.Rules g.world.𝓛 g.world.𝓜 g.world.𝓡 ((λ s x. x), (λ x. x), (λ x. x), λ x. x) in
-    λ κs q. able_items g.R.Key.Ord.cmp s laws.lawful y (place_at g.R.Key.Ord.cmp c.args.places.now) c.requires.ready c.args.pool.now c.take_able.new.pool c.requires.items c.take_able.new.book (place_at g.R.Key.Ord.cmp c.take_able.new.places) c.in_ok-able.able.items c.in_ok-able.ensures.ok c.in_ok-able.ensures.held
+    λ κs q. able_items g.R.Key.Ord.cmp s laws.lawful y (place_at g.R.Key.Ord.cmp c.args.progress.now.places) c.requires.ready c.args.pool.now c.take_able.new.pool c.requires.items c.take_able.new.book (place_at g.R.Key.Ord.cmp c.take_able.new.places) c.in_ok-able.able.items c.in_ok-able.ensures.ok c.in_ok-able.ensures.held
 
 pub returns-clause-ok : goal.returns-clause-ok
 returns-clause-ok g c =
-    let s = setting g.R.Rules.means (over c.args.edits.now (g.T.Tree.held c.args.tree.now)) c.args.job.now c.args.old.now in
-    let y = state c.args.fresh.now.items (knowledge g.R.Key.Ord.cmp c.args.learned.now) c.args.book.now (g.T.Tree.reads c.args.tree.now) in
+    let s = setting_of g.R.Rules.means c.args.fixed.now (g.T.Tree.held c.args.tree.now) in
+    let y = state_of g.R.Key.Ord.cmp c.args.progress.now c.args.book.now (g.T.Tree.reads c.args.tree.now) in
     let laws = g.met.R.Rules g.world.𝓛 g.world.𝓜 g.world.𝓡 ((λ s x. x), (λ x. x), (λ x. x), λ x. x) in
-    visited g.R.Key.Ord.cmp s laws.lawful y (place_at g.R.Key.Ord.cmp c.args.places.now) c.requires.ready c.args.pool.now c.take_able.new.pool c.requires.items c.take_able.new.book (place_at g.R.Key.Ord.cmp c.take_able.new.places) c.in_ok-able.able.items c.in_ok-able.ensures.ok c.in_ok-able.ensures.held (state c.round.new.fresh.items (knowledge g.R.Key.Ord.cmp c.round.new.learned) c.round.new.book (g.T.Tree.reads c.round.new.tree)) (place_at g.R.Key.Ord.cmp c.round.new.places) c.in_ok-left.left.items c.in_ok-left.ensures.ok c.put_back.new.pool c.in_ok-put_back.ensures.among
+    visited g.R.Key.Ord.cmp s laws.lawful y (place_at g.R.Key.Ord.cmp c.args.progress.now.places) c.requires.ready c.args.pool.now c.take_able.new.pool c.requires.items c.take_able.new.book (place_at g.R.Key.Ord.cmp c.take_able.new.places) c.in_ok-able.able.items c.in_ok-able.ensures.ok c.in_ok-able.ensures.held (state_of g.R.Key.Ord.cmp c.round.new.progress c.round.new.book (g.T.Tree.reads c.round.new.tree)) (place_at g.R.Key.Ord.cmp c.round.new.progress.places) c.in_ok-left.left.items c.in_ok-left.ensures.ok c.put_back.new.pool c.in_ok-put_back.ensures.among
 
 pub returns-in_err-left-clause-notes : goal.returns-in_err-left-clause-notes
 returns-in_err-left-clause-notes g c =
-    let s = setting g.R.Rules.means (over c.args.edits.now (g.T.Tree.held c.args.tree.now)) c.args.job.now c.args.old.now in
-    let y = state c.args.fresh.now.items (knowledge g.R.Key.Ord.cmp c.args.learned.now) c.args.book.now (g.T.Tree.reads c.args.tree.now) in
+    let s = setting_of g.R.Rules.means c.args.fixed.now (g.T.Tree.held c.args.tree.now) in
+    let y = state_of g.R.Key.Ord.cmp c.args.progress.now c.args.book.now (g.T.Tree.reads c.args.tree.now) in
     let laws = g.met.R.Rules g.world.𝓛 g.world.𝓜 g.world.𝓡 ((λ s x. x), (λ x. x), (λ x. x), λ x. x) in
-    visit_noted g.R.Key.Ord.cmp s laws.lawful y (place_at g.R.Key.Ord.cmp c.args.places.now) c.requires.ready c.args.pool.now c.take_able.new.pool c.requires.items c.take_able.new.book (place_at g.R.Key.Ord.cmp c.take_able.new.places) c.in_ok-able.able.items c.in_ok-able.ensures.ok c.in_ok-able.ensures.held (state c.round.new.fresh.items (knowledge g.R.Key.Ord.cmp c.round.new.learned) c.round.new.book (g.T.Tree.reads c.round.new.tree)) c.round.ensures.notes
+    visit_noted g.R.Key.Ord.cmp s laws.lawful y (place_at g.R.Key.Ord.cmp c.args.progress.now.places) c.requires.ready c.args.pool.now c.take_able.new.pool c.requires.items c.take_able.new.book (place_at g.R.Key.Ord.cmp c.take_able.new.places) c.in_ok-able.able.items c.in_ok-able.ensures.ok c.in_ok-able.ensures.held (state_of g.R.Key.Ord.cmp c.round.new.progress c.round.new.book (g.T.Tree.reads c.round.new.tree)) c.round.ensures.notes
 
 pub returns-in_err-put_back-clause-notes : goal.returns-in_err-put_back-clause-notes
 returns-in_err-put_back-clause-notes g c =
-    let s = setting g.R.Rules.means (over c.args.edits.now (g.T.Tree.held c.args.tree.now)) c.args.job.now c.args.old.now in
-    let y = state c.args.fresh.now.items (knowledge g.R.Key.Ord.cmp c.args.learned.now) c.args.book.now (g.T.Tree.reads c.args.tree.now) in
+    let s = setting_of g.R.Rules.means c.args.fixed.now (g.T.Tree.held c.args.tree.now) in
+    let y = state_of g.R.Key.Ord.cmp c.args.progress.now c.args.book.now (g.T.Tree.reads c.args.tree.now) in
     let laws = g.met.R.Rules g.world.𝓛 g.world.𝓜 g.world.𝓡 ((λ s x. x), (λ x. x), (λ x. x), λ x. x) in
-    visit_noted g.R.Key.Ord.cmp s laws.lawful y (place_at g.R.Key.Ord.cmp c.args.places.now) c.requires.ready c.args.pool.now c.take_able.new.pool c.requires.items c.take_able.new.book (place_at g.R.Key.Ord.cmp c.take_able.new.places) c.in_ok-able.able.items c.in_ok-able.ensures.ok c.in_ok-able.ensures.held (state c.round.new.fresh.items (knowledge g.R.Key.Ord.cmp c.round.new.learned) c.round.new.book (g.T.Tree.reads c.round.new.tree)) c.round.ensures.notes
+    visit_noted g.R.Key.Ord.cmp s laws.lawful y (place_at g.R.Key.Ord.cmp c.args.progress.now.places) c.requires.ready c.args.pool.now c.take_able.new.pool c.requires.items c.take_able.new.book (place_at g.R.Key.Ord.cmp c.take_able.new.places) c.in_ok-able.able.items c.in_ok-able.ensures.ok c.in_ok-able.ensures.held (state_of g.R.Key.Ord.cmp c.round.new.progress c.round.new.book (g.T.Tree.reads c.round.new.tree)) c.round.ensures.notes
 
 pub returns-clause-notes : goal.returns-clause-notes
 returns-clause-notes g c =
-    let s = setting g.R.Rules.means (over c.args.edits.now (g.T.Tree.held c.args.tree.now)) c.args.job.now c.args.old.now in
-    let y = state c.args.fresh.now.items (knowledge g.R.Key.Ord.cmp c.args.learned.now) c.args.book.now (g.T.Tree.reads c.args.tree.now) in
+    let s = setting_of g.R.Rules.means c.args.fixed.now (g.T.Tree.held c.args.tree.now) in
+    let y = state_of g.R.Key.Ord.cmp c.args.progress.now c.args.book.now (g.T.Tree.reads c.args.tree.now) in
     let laws = g.met.R.Rules g.world.𝓛 g.world.𝓜 g.world.𝓡 ((λ s x. x), (λ x. x), (λ x. x), λ x. x) in
-    visit_noted g.R.Key.Ord.cmp s laws.lawful y (place_at g.R.Key.Ord.cmp c.args.places.now) c.requires.ready c.args.pool.now c.take_able.new.pool c.requires.items c.take_able.new.book (place_at g.R.Key.Ord.cmp c.take_able.new.places) c.in_ok-able.able.items c.in_ok-able.ensures.ok c.in_ok-able.ensures.held (state c.round.new.fresh.items (knowledge g.R.Key.Ord.cmp c.round.new.learned) c.round.new.book (g.T.Tree.reads c.round.new.tree)) c.round.ensures.notes
+    visit_noted g.R.Key.Ord.cmp s laws.lawful y (place_at g.R.Key.Ord.cmp c.args.progress.now.places) c.requires.ready c.args.pool.now c.take_able.new.pool c.requires.items c.take_able.new.book (place_at g.R.Key.Ord.cmp c.take_able.new.places) c.in_ok-able.able.items c.in_ok-able.ensures.ok c.in_ok-able.ensures.held (state_of g.R.Key.Ord.cmp c.round.new.progress c.round.new.book (g.T.Tree.reads c.round.new.tree)) c.round.ensures.notes
 
 pub returns-in_err-able-clause-held : goal.returns-in_err-able-clause-held
 returns-in_err-able-clause-held g c = refl
@@ -86,7 +83,7 @@ returns-clause-forward g c = λ whole entered.
     let w = c.in_ok-able.ensures.parts whole in
     let e = c.in_ok-left.ensures.entered (entered_opened g.R.Key.Ord.cmp g.R.Rules.means.rank _ _ c.take_able.new.pool c.in_ok-able.able.items _ w entered) in
     let f = c.in_ok-left.ensures.ok.ready.finds in
-    let put = puts_same g.R.Key.Ord.cmp c.in_ok-left.left.items c.round.new.fresh.items c.take_able.new.pool c.put_back.new.pool _ _ (c.len-first.ensures ∙ c.args.fresh.now.ok.0) c.in_ok-put_back.ensures.all in
+    let put = puts_same g.R.Key.Ord.cmp c.in_ok-left.left.items c.round.new.progress.fresh.items c.take_able.new.pool c.put_back.new.pool _ _ (c.len-first.ensures ∙ c.args.progress.now.fresh.ok.0) c.in_ok-put_back.ensures.all in
     record {
       whole = visit_whole g.R.Key.Ord.cmp g.R.Rules.means.rank _ _ _ c.take_able.new.pool c.put_back.new.pool c.in_ok-able.able.items c.in_ok-left.left.items _ _ w c.in_ok-left.ensures.goes f e put;
       entered = e;
