@@ -122,7 +122,7 @@ regrouped None None None (Some f) r = refl
 regrouped None None None None r = sym (else_none r)
 
 -- what is asked behind the rows of dynamic PCDs
-abbrev pub asks_behind : Bool → List Module → FlashDoc → Wanted → Option (List ℕ) → List (Ask Key)
+abbrev asks_behind : Bool → List Module → FlashDoc → Wanted → Option (List ℕ) → List (Ask Key)
 asks_behind vpd modules flash wanted report =
     ((build_module_asks modules ++ image_asks flash wanted) ++ step_where vpd key.Vpd) ++ report_part report
 
@@ -265,7 +265,7 @@ files_run w e vpd folder modules flash wanted report shape =
     ∙ last_run w out.All (build_asks vpd modules flash wanted report) (outputs_of vpd folder modules flash wanted report)
     ∙ ap (λ (r : Result (List Output) Fault). given_as out.All r) (files_same w vpd folder modules flash wanted report e)
 
-pub field_9 : (w : World) → IsWorld (meaning_of key_cmp edk) w → is_path_or_empty (field w 9) ≡ true
+field_9 : (w : World) → IsWorld (meaning_of key_cmp edk) w → is_path_or_empty (field w 9) ≡ true
 field_9 w e =
     (both_hold (is_path_or_empty (field w 7)) (is_path_or_empty (field w 9)) (both_hold (is_some (path_field (field w 0))) _ e).1).1
 

@@ -3,5 +3,6 @@ pub mod StandLemmas
 pub mod Asked
 pub mod KindLemmas
 pub mod ReachedLemmas
+pub mod NamedOutputs
 pub mod AdoptLemmas
 mod OlderLemmas

@@ -1,25 +1,31 @@
 -- From what the engine promises to what a build has done.
-use Rattle.std.proofs.Common.{◌≡◌, ◌⊎◌, inl, inr, sym, ap, ◌∙◌, ℕ, ◌-◌, List, length, length-append, arith, Option, subst, Result, Ok, Err}
+use Rattle.std.proofs.Common.{◌≡◌, ◌⊎◌, inl, inr, refl, sym, ap, ◌∙◌, ℕ, zero, ◌-◌, List, length, length-append, arith, Contains, Option, subst, Result, Ok, Err}
 use Rattle.std.specs.Result.{IsErrAnd}
 use Rattle.std.proofs.lemmas.List.{append_cancel_left}
+use Rattle.std.proofs.lemmas.List.Elements.{All-contains}
 use Rattle.build_base.specs.World.{World}
 use Rattle.step_engine.specs.Build.{Setting, IsHere, Ran, RanAll}
 use Rattle.step_engine.specs.Build.{IsBuilt as IsBuiltBy}
 use Rattle.step_engine.specs.Caches.{AreInOrder}
-use Rattle.step_engine.specs.Needed.{IsLeft, IsNeededCount, IsNeededEntry, IsOtherEntry, IsStep}
+use Rattle.step_engine.specs.Meaning.{Asks}
+use Rattle.step_engine.specs.Needed.{IsLeft, IsNeeded, IsNeededCount, IsNeededEntry, IsOtherEntry, IsStep, itself, asked}
+use Rattle.step_engine.specs.declared.talk.Ask.TheVariants as ask
 use Rattle.step_engine.specs.declared.talk.Entry.{Entry}
 use Rattle.step_engine.specs.declared.talk.Outcome.{Outcome}
 use Rattle.step_engine.specs.declared.talk.Outcome.TheVariants.{Good, Bad}
 use Rattle.step_pack.specs.declared.key.Key.{Key}
 use Rattle.step_pack.specs.declared.key.Key.TheVariants as key
 use Rattle.step_pack.specs.declared.out.Out.{Out}
+use Rattle.step_pack.specs.declared.out.Out.TheVariants as out
+use Rattle.step_pack.specs.declared.out.Output.{Output}
 use Rattle.build_rules.specs.Rules.{value_in}
+use Rattle.build_rules.proofs.NamedOutputs.{outputs_asked}
 use Rattle.build_base.specs.Outside.{Emission}
 use Rattle.build_base.specs.Spelling.{Spelled, SpelledCut}
 use Rattle.step_pack.specs.Keys.{key_cmp}
-use Rattle.edk_build.specs.Building.{means, AgreesOnGood, IsBrought, IsCounted, IsBuilt, IsCutShort}
+use Rattle.edk_build.specs.Building.{means, AgreesOnGood, HasSource, IsBrought, IsCounted, IsBuilt, IsCutShort}
 use Rattle.edk_build.specs.Emitting.{emitted, status_of}
-use Rattle.edk_build.specs.Outcome.{files_by}
+use Rattle.edk_build.specs.Outcome.{files_by, outputs_in}
 use Rattle.edk_build.specs.declared.label.Label.{Label}
 use Rattle.edk_build.specs.declared.status.Status.{Status}
 use Rattle.edk_build.specs.declared.stop.Stop.{Stop}
@@ -32,11 +38,26 @@ agrees_one w old given e entry (inl needed) = needed.1.value
 agrees_one w old given e entry (inr other) =
     let wrong : Good given ≡ Bad other.0.0 = e ∙ other.0.1 in absurd cc
 
--- each entry that a build leaves whose top step gives no fault has its key's value
+-- the build needs itself, and so each step that it asks for
+output_needed : (w : World) (k : Key) → Asks means w key.All (ask.Part k) → IsNeeded means w key.All k
+output_needed w k a = asked (itself (zero, omega arith, refl)) a
+
+-- the step that an output of the top step names has an entry
+output_has : (w : World) (old cache : List (Entry Key Out)) (given : Out) → Good given ≡ value_in w key.All → IsLeft means w old key.All cache
+    → (o : Output) → Contains (outputs_in given) o → HasSource (value_in w) cache o
+output_has w old cache (out.All outputs) e l o c =
+    inl (l.has o.from (output_needed w o.from (All-contains (λ (o : Output). Asks means w key.All (ask.Part o.from)) outputs o (outputs_asked w outputs (sym e)) c)))
+output_has w old cache given e l o c = absurd (omega (arith, c.1))
+
+-- each entry that a build leaves whose top step gives no fault has its key's value, and each output
+-- has an entry
 pub agrees : (w : World) (old cache : List (Entry Key Out)) (result : Outcome Out) → result ≡ value_in w key.All → IsLeft means w old key.All cache
     → AgreesOnGood result (value_in w) cache
 agrees w old cache (Bad fault) e l = tt
-agrees w old cache (Good given) e l = λ entry has. agrees_one w old given e entry ((l.entries entry).0 has)
+agrees w old cache (Good given) e l = record {
+  agrees = λ entry has. agrees_one w old given e entry ((l.entries entry).0 has);
+  sources = output_has w old cache given e l;
+}
 
 -- the keys that the book grew by are the steps
 pub counted : (w : World) (s : Setting Key Out) (book book' : List Key) (needed : ℕ) → IsHere s w → s.means ≡ means → Ran s key.All book book' → RanAll s key.All book book'

@@ -1,26 +1,34 @@
 -- What stands ready is that of the outcome.
-use Rattle.std.proofs.Common.{◌≡◌, sym, ap, ◌∙◌, ℕ, ◌+◌, ◌<◌, List, [], ◌∷◌, ◌++◌, length, get_or, take, map, Result}
+use Rattle.std.proofs.Common.{◌≡◌, true, false, sym, ap, append_assoc, subst, ◌∙◌, ℕ, ◌+◌, ◌<◌, List, [], ◌∷◌, ◌++◌, length, get_or, take, map, Result}
 use Rattle.std.proofs.lemmas.List.{map-append}
+use Rattle.build_base.specs.Path.{IsPath, is_path}
+use Rattle.build_base.proofs.PathLemmas.{IsPath-join}
 use Rattle.build_base.proofs.Steps.{map-passed}
 use Rattle.build_base.specs.declared.fault.Fault.{Fault}
 use Rattle.build_base.specs.declared.outside.Target.TheVariants.{Out as ToOut}
 use Rattle.build_base.specs.Spelling.{text}
+use Rattle.step_engine.specs.declared.talk.Entry.{Entry}
 use Rattle.step_engine.specs.declared.talk.Outcome.{Outcome}
 use Rattle.step_pack.specs.declared.key.Key.{Key}
 use Rattle.step_pack.specs.declared.out.Out.{Out}
 use Rattle.step_pack.specs.declared.out.Output.{Output}
 use Rattle.edk_build.specs.FilePair.{FilePair}
-use Rattle.edk_build.specs.Outcome.{pair_of, outcome_bytes}
-use Rattle.edk_build.specs.Emitting.{below, labelled, summary, outputs_of}
+use Rattle.edk_build.specs.Building.{HasSource, Tells}
+use Rattle.edk_build.specs.Emitting.{summary, outputs_of}
 use Rattle.edk_build.specs.Made.{IsMade, IsReady, made_status}
 use Rattle.edk_build.specs.declared.label.Label.{Label}
 use Rattle.edk_build.specs.declared.made.Made.{Made}
 
--- the file of an output, where the entry of its step gives this
-pub file_agrees : (value : Key → Outcome Out) (label : Label) (output : Output) (k : Key) (r : Outcome Out) → k ≡ output.from → value k ≡ r
-    → record { path = below label.folder output.path; bytes = outcome_bytes r output.part } ≡ labelled label (pair_of value output)
-file_agrees value label output k r e v =
-    ap (λ x. labelled label (record { path = output.path; bytes = outcome_bytes x output.part })) (sym v ∙ ap value e)
+-- a text that is put together of a folder, a slash and a path is a path
+pub below_is_path : (folder path whole : List ℕ) → IsPath folder → IsPath path → whole ≡ (folder ++ 47 ∷ []) ++ path → is_path whole ≡ false → ⊥
+below_is_path folder path whole f p e none =
+    let passes : is_path whole ≡ true = subst IsPath (sym (e ∙ append_assoc folder (47 ∷ []) path)) (IsPath-join folder path f p) in
+    absurd cc
+
+-- the source of one of some outputs
+pub source_at : (value : Key → Outcome Out) (entries : List (Entry Key Out)) (outputs : List Output) (i : ℕ) (o : Output) → Tells value entries outputs → i < length outputs → o ≡ get_or outputs i o
+    → HasSource value entries o
+source_at value entries outputs i o t h e = t.sources o (i, h, sym e)
 
 -- with its summary, what is made stands ready
 pub ready_of : (made : Made) (label : Label) (outcome : Result (List FilePair) Fault) (line : List ℕ) (steps reused : ℕ) → IsMade made label outcome

@@ -1,12 +1,12 @@
 -- What a build does.
-use Rattle.std.specs.Prelude.{◌≡◌, ◌↔◌, ◌-◌, ℕ, List, length, Contains, Option}
+use Rattle.std.specs.Prelude.{◌≡◌, ◌↔◌, ◌⊎◌, ◌-◌, ℕ, List, [], length, Contains, Option}
 use Rattle.build_base.specs.Outside.{Emission}
 use Rattle.build_base.specs.Spelling.{Spelled, SpelledCut}
 use Rattle.build_base.specs.World.{World}
 use Rattle.build_stages.specs.Stages.{meaning_of}
 use Rattle.step_engine.specs.Meaning.{Meaning}
 use Rattle.step_engine.specs.Build.{IsEntryOf}
-use Rattle.step_engine.specs.Caches.{AreInOrder}
+use Rattle.step_engine.specs.Caches.{AreInOrder, HasKey}
 use Rattle.step_engine.specs.Needed.{IsStep, IsNeededCount, IsLeft, IsFull, AreDistinct}
 use Rattle.step_engine.specs.declared.talk.Entry.{Entry}
 use Rattle.step_engine.specs.declared.talk.Outcome.{Outcome}
@@ -15,8 +15,9 @@ use Rattle.step_pack.specs.Keys.{key_cmp}
 use Rattle.step_pack.specs.declared.key.Key.{Key}
 use Rattle.step_pack.specs.declared.key.Key.TheVariants as key
 use Rattle.step_pack.specs.declared.out.Out.{Out}
+use Rattle.step_pack.specs.declared.out.Output.{Output}
 use Rattle.build_rules.specs.Rules.{edk, value_in}
-use Rattle.edk_build.specs.Outcome.{outcome}
+use Rattle.edk_build.specs.Outcome.{outcome, outcome_bytes, outputs_in}
 use Rattle.edk_build.specs.Emitting.{emitted, status_of}
 use Rattle.edk_build.specs.declared.label.Label.{Label}
 use Rattle.edk_build.specs.declared.status.Status.{Status}
@@ -58,8 +59,19 @@ pub record IsCutShort (w : World) (cache : List (Entry Key Out)) (label : Label)
 abbrev pub Agrees : (Key → Outcome Out) → List (Entry Key Out) → Type 0
 Agrees value entries = (e : Entry Key Out) → Contains entries e → value e.key ≡ e.result
 
+-- the step of an output has an entry, or else no bytes
+abbrev pub HasSource : (Key → Outcome Out) → List (Entry Key Out) → Output → Type 0
+HasSource value entries output =
+    HasKey entries output.from ⊎ (outcome_bytes (value output.from) output.part ≡ [])
+
+-- these entries tell what each output has
+pub record Tells (value : Key → Outcome Out) (entries : List (Entry Key Out))
+    (outputs : List Output) : Type 0 where
+  pub agrees : Agrees value entries
+  pub sources : (o : Output) → Contains outputs o → HasSource value entries o
+
 abbrev pub AgreesOnGood : Outcome Out → (Key → Outcome Out) → List (Entry Key Out) → Type 0
-AgreesOnGood (Good given) value entries = Agrees value entries
+AgreesOnGood (Good given) value entries = Tells value entries (outputs_in given)
 AgreesOnGood (Bad fault) value entries = Unit {0}
 
 abbrev pub result_status : Outcome Out → Status

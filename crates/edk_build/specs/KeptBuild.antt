@@ -99,7 +99,8 @@ AsMade given left steps reused P =
     × Makes given left steps reused outputs line stored × P outputs line stored
 
 -- A build makes its outputs of the entries that it leaves, also where the tree tells nothing: the
--- top step's entry is one of them, and each output has the bytes of the entry that it names.
+-- top step's entry is one of them. Each output has the bytes of the entry that it names, and no
+-- bytes where there is none. A sound cache leaves an entry for each.
 abbrev pub MadeOf : List (Entry Key Out)
     → (Outcome Out → List Output → List ℕ → List ℕ → Type 0) → Type 0
 MadeOf left P =

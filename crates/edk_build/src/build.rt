@@ -1,5 +1,5 @@
 //! One build, from the cache that the last one left.
-ghost use Rattle.std.specs.Prelude.{◌≡◌, ◌≤◌, ◌-◌, true, length, IfOk, OnOk, OnErr};
+ghost use Rattle.std.specs.Prelude.{◌≡◌, ◌-◌, true, length, IfOk, OnOk, OnErr};
 ghost use Rattle.build_base.specs.Outside.{HasFailed};
 ghost use Rattle.build_base.specs.Spelling.{Spelled, SpelledCut};
 ghost use Rattle.build_base.specs.World.{World};
@@ -14,15 +14,17 @@ ghost use Rattle.edk_build.specs.Emitting.{status_of, emitted};
 ghost use Rattle.edk_build.specs.Outcome.{files_by};
 ghost use Rattle.edk_build.specs.Stops.{IfReadFault, IfWriteFault, IfUnwritten};
 
+use crate::host::Host;
 use crate::label::Label;
 use crate::made::make_ready;
+use crate::request::Request;
 use crate::status::Status;
 use crate::stop::Stop;
-use build_base::{Book, Gate, Rows, Sink, Text, Tree};
+use build_base::{Book, Gate, Sink, Tree};
 use build_rules::EdkRules;
 use std::alloc::Global;
 use std::thread::Threads;
-use step_engine::{Cache, Edits, EngineRefusal, Outcome, bring_over};
+use step_engine::{Cache, EngineRefusal, Outcome, bring_over};
 use step_pack::{Key, Out};
 
 /// How a build ended that wrote what it came to, and the cache that it leaves.
@@ -77,27 +79,21 @@ pub struct Brought {
     pub unchanged: bool,
 }
 
-/// Brings what these fields of a job ask for, over edits of the tree's files, from the cache that
-/// the last build left, which is dropped where the build stops.
+/// Brings what is asked for, from the cache that the last build left, which is dropped where the
+/// build stops.
 pub(crate) fn bring_all<H: Threads + Sync, T: Tree, G: Gate>(
-    rt: &H,
-    alloc: Global,
-    fields: &Rows<Text>,
-    workers: u32,
+    host: &Host<'_, H, G>,
+    asked: &Request<'_>,
     cache: Cache<Key, Out>,
     tree: &mut T,
-    edits: &Edits,
-    gate: &G,
     book: &mut Book<Key>,
 ) -> Result<Brought, Stop>
-    requires job { is_job fields.now ≡ true }
-    requires some { 1 ≤ workers }
-    requires most { workers ≤ 64 }
+    requires job { is_job asked.now.fields.now ≡ true }
 
     // Where the tree tells what it holds and the cache is sound.
-    ensures brought { IfOk result (λ b. (w : World)
-        → IsHere (setting means (over edits.now (T.held tree.old)) fields.now cache) w →
-        IsBrought w cache b.given b.cache b.steps b.reused) }
+    ensures brought { IfOk result (λ b. (w : World) → IsHere
+        (setting means (over asked.now.edits.now (T.held tree.old)) asked.now.fields.now cache) w
+        → IsBrought w cache b.given b.cache b.steps b.reused) }
 
     // For any tree.
     ensures sound { AreSound means cache → IfOk result (λ b. AreSound means b.cache) }
@@ -109,30 +105,32 @@ pub(crate) fn bring_all<H: Threads + Sync, T: Tree, G: Gate>(
     ensures no_write { IfWriteFault result ⊥ }
 
     // Each step once, and only where wanted.
-    ensures ran { Ran (setting means (over edits.now (T.held tree.old)) fields.now cache) All
+    ensures ran { Ran
+        (setting means (over asked.now.edits.now (T.held tree.old)) asked.now.fields.now cache) All
         book.old book.new }
-    ensures all { OnOk result
-        (RanAll (setting means (over edits.now (T.held tree.old)) fields.now cache) All book.old
-        book.new) }
-    ensures read { HasRead (setting means (over edits.now (T.held tree.old)) fields.now cache) All
+    ensures all { OnOk result (RanAll
+        (setting means (over asked.now.edits.now (T.held tree.old)) asked.now.fields.now cache) All
+        book.old book.new) }
+    ensures read { HasRead
+        (setting means (over asked.now.edits.now (T.held tree.old)) asked.now.fields.now cache) All
         (T.reads tree.old) (T.reads tree.new) }
 
     // A path that has an edit isn't read from the tree.
-    ensures unedited { HasReadUnedited edits.now (T.reads tree.old) (T.reads tree.new) }
+    ensures unedited { HasReadUnedited asked.now.edits.now (T.reads tree.old) (T.reads tree.new) }
 {
     let before = book.ran().len() as u64;
     let brought = match bring_over(
-        rt,
-        alloc,
+        host.rt,
+        host.alloc,
         &EdkRules,
         Key::All,
-        fields,
+        asked.fields,
         cache,
         tree,
-        edits,
+        asked.edits,
         book,
-        workers,
-        gate,
+        asked.workers.number(),
+        host.gate,
     ) {
         Ok(brought) => brought,
         Err(EngineRefusal::ReadFault) => return Err(Stop::ReadFault),
@@ -149,38 +147,31 @@ pub(crate) fn bring_all<H: Threads + Sync, T: Tree, G: Gate>(
     })
 }
 
-/// Builds what these fields of a job ask for, over edits of the tree's files, from the cache that
-/// the last build left, which is dropped where the build stops.
+/// Builds what is asked for, from the cache that the last build left, which is dropped where the
+/// build stops.
 ///
 /// All is read, and all memory is taken, before the first emission.
 pub fn build<H: Threads + Sync, T: Tree, S: Sink, G: Gate>(
-    rt: &H,
-    alloc: Global,
-    fields: &Rows<Text>,
+    host: &Host<'_, H, G>,
+    asked: &Request<'_>,
     label: &Label,
-    workers: u32,
     cache: Cache<Key, Out>,
     tree: &mut T,
-    edits: &Edits,
     sink: &mut S,
-    gate: &G,
     book: &mut Book<Key>,
 ) -> Result<Built, Stop>
-    requires job { is_job fields.now ≡ true }
-    requires some { 1 ≤ workers }
-    requires most { workers ≤ 64 }
+    requires job { is_job asked.now.fields.now ≡ true }
 
     // Where the tree tells what it holds and the cache is sound.
-    ensures built { IfOk result (λ b. (w : World)
-        → IsHere (setting means (over edits.now (T.held tree.old)) fields.now cache) w →
-        IsBuilt w cache label.now b.status (S.written sink.old) (S.written sink.new)) }
-    ensures left { IfOk result (λ b. (w : World)
-        → IsHere (setting means (over edits.now (T.held tree.old)) fields.now cache) w
+    ensures built { IfOk result (λ b. (w : World) → IsHere
+        (setting means (over asked.now.edits.now (T.held tree.old)) asked.now.fields.now cache) w
+        → IsBuilt w cache label.now b.status (S.written sink.old) (S.written sink.new)) }
+    ensures left { IfOk result (λ b. (w : World) → IsHere
+        (setting means (over asked.now.edits.now (T.held tree.old)) asked.now.fields.now cache) w
         → Leaves w cache b.cache) }
-    ensures cut { IfWriteFault result
-        ((w : World) → IsHere (setting means (over edits.now (T.held tree.old)) fields.now cache) w
-        →
-        IsCutShort w cache label.now (S.written sink.old) (S.written sink.new)) }
+    ensures cut { IfWriteFault result ((w : World) → IsHere
+        (setting means (over asked.now.edits.now (T.held tree.old)) asked.now.fields.now cache) w
+        → IsCutShort w cache label.now (S.written sink.old) (S.written sink.new)) }
 
     // For any tree.
     ensures sound { AreSound means cache → IfOk result (λ b. AreSound means b.cache) }
@@ -193,20 +184,22 @@ pub fn build<H: Threads + Sync, T: Tree, S: Sink, G: Gate>(
     ensures unwritten { IfUnwritten result (S.written sink.new ≡ S.written sink.old) }
 
     // Each step once, and only where wanted.
-    ensures ran { Ran (setting means (over edits.now (T.held tree.old)) fields.now cache) All
+    ensures ran { Ran
+        (setting means (over asked.now.edits.now (T.held tree.old)) asked.now.fields.now cache) All
         book.old book.new }
-    ensures all { OnOk result
-        (RanAll (setting means (over edits.now (T.held tree.old)) fields.now cache) All book.old
-        book.new) }
-    ensures read { HasRead (setting means (over edits.now (T.held tree.old)) fields.now cache) All
+    ensures all { OnOk result (RanAll
+        (setting means (over asked.now.edits.now (T.held tree.old)) asked.now.fields.now cache) All
+        book.old book.new) }
+    ensures read { HasRead
+        (setting means (over asked.now.edits.now (T.held tree.old)) asked.now.fields.now cache) All
         (T.reads tree.old) (T.reads tree.new) }
 
     // A path that has an edit isn't read from the tree.
-    ensures unedited { HasReadUnedited edits.now (T.reads tree.old) (T.reads tree.new) }
+    ensures unedited { HasReadUnedited asked.now.edits.now (T.reads tree.old) (T.reads tree.new) }
 {
-    let brought = bring_all(rt, alloc, fields, workers, cache, tree, edits, gate, book)?;
+    let brought = bring_all(host, asked, cache, tree, book)?;
     let status = emit(
-        alloc,
+        host.alloc,
         label,
         &brought.given,
         &brought.cache,

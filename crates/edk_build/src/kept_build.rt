@@ -16,8 +16,10 @@ ghost use Rattle.edk_build.specs.Statuses.{OnEnd, OnReadFault};
 ghost use Rattle.edk_build.specs.Stops.{IfReadFault, IfUnwritten, IfWriteFault};
 
 use crate::build::{Brought, bring_all};
+use crate::host::Host;
 use crate::label::Label;
 use crate::made::{PreparedOutputs, make_ready};
+use crate::request::Request;
 use crate::status::Status;
 use crate::stop::Stop;
 use build_base::{Book, Gate, Keeper, KeeperFailed, Sink, Text, Tree, WantOfMemory};
@@ -307,14 +309,12 @@ fn keeps_text(job: &Job, is_text: bool, unchanged: bool) -> bool
 
 // Builds what a job asks for from the cache that was loaded, and keeps the one that it leaves.
 fn build_from<H: Threads + Sync, T: Tree, S: Sink, K: Keeper, G: Gate>(
-    rt: &H,
-    alloc: Global,
+    host: &Host<'_, H, G>,
     job: &Job,
     loaded: Loaded,
     tree: &mut T,
     sink: &mut S,
     keeper: &mut K,
-    gate: &G,
     book: &mut Book<Key>,
 ) -> Result<Status, Stop>
     requires job { is_job (job_fields job.now) ≡ true }
@@ -343,18 +343,22 @@ fn build_from<H: Threads + Sync, T: Tree, S: Sink, K: Keeper, G: Gate>(
     ensures read { HasRead (setting means (T.held tree.old) (job_fields job.now) loaded.cache) All
         (T.reads tree.old) (T.reads tree.new) }
 {
-    let Ok(fields) = job_fields(alloc, job) else {
+    let Ok(fields) = job_fields(host.alloc, job) else {
         return Err(Stop::WantOfMemory);
     };
     let Loaded { cache, is_text } = loaded;
-    let edits = Edits::new(alloc);
-    let workers = job.workers.number();
-    let brought = match bring_all(rt, alloc, &fields, workers, cache, tree, &edits, gate, book) {
+    let edits = Edits::new(host.alloc);
+    let asked = Request {
+        fields: &fields,
+        edits: &edits,
+        workers: &job.workers,
+    };
+    let brought = match bring_all(host, &asked, cache, tree, book) {
         Ok(brought) => brought,
         Err(stop) => return Err(stop),
     };
     let is_kept = keeps_text(job, is_text, brought.unchanged);
-    emit_kept(alloc, &brought, is_kept, sink, keeper)
+    emit_kept(host.alloc, &brought, is_kept, sink, keeper)
 }
 
 /// Builds what a job asks for from the cache that is kept, which it loads first, and keeps the one
@@ -363,13 +367,11 @@ fn build_from<H: Threads + Sync, T: Tree, S: Sink, K: Keeper, G: Gate>(
 ///
 /// All is read, and all memory is taken, before the first emission.
 pub(crate) fn build_kept<H: Threads + Sync, T: Tree, S: Sink, K: Keeper, G: Gate>(
-    rt: &H,
-    alloc: Global,
+    host: &Host<'_, H, G>,
     job: &Job,
     tree: &mut T,
     sink: &mut S,
     keeper: &mut K,
-    gate: &G,
     book: &mut Book<Key>,
 ) -> Status
     requires job { is_job (job_fields job.now) ≡ true }
@@ -396,11 +398,11 @@ pub(crate) fn build_kept<H: Threads + Sync, T: Tree, S: Sink, K: Keeper, G: Gate
         (HasFailed (S.faults sink.old) (S.faults sink.new)) result)) }
     ensures stays_sound { StaysSound (K.kept keeper.old) (K.kept keeper.new) }
 {
-    let loaded = match load_cache(alloc, keeper) {
+    let loaded = match load_cache(host.alloc, keeper) {
         Ok(loaded) => loaded,
         Err(stop) => return stop.status(),
     };
-    match build_from(rt, alloc, job, loaded, tree, sink, keeper, gate, book) {
+    match build_from(host, job, loaded, tree, sink, keeper, book) {
         Ok(status) => status,
         Err(stop) => stop.status(),
     }

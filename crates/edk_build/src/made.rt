@@ -1,18 +1,18 @@
 //! What stands ready before the first emission.
-ghost use Rattle.std.specs.Prelude.{◌≡◌, ◌++◌, ◌∷◌, [], map, IfOk, IfSome, Contains};
+ghost use Rattle.std.specs.Prelude.{◌≡◌, ◌++◌, ◌∷◌, [], map, IfOk};
 ghost use Rattle.build_base.specs.Outside.{Cause, Emits};
 ghost use Rattle.build_base.specs.Spelling.{Writes, text};
 ghost use Rattle.build_base.specs.declared.outside.Target.{Target};
 ghost use Rattle.build_base.specs.declared.outside.Target.TheVariants.{Out as ToOut};
-ghost use Rattle.edk_build.specs.Building.{Agrees, AgreesOnGood, result_status};
+ghost use Rattle.edk_build.specs.Building.{Agrees, AgreesOnGood, HasSource, Tells, result_status};
 ghost use Rattle.edk_build.specs.Emitting.{below, labelled, outputs_of, status_of, summary, emitted};
 ghost use Rattle.edk_build.specs.FilePair.{output_of};
 ghost use Rattle.edk_build.specs.Made.{made_status, made_outputs, ready_outputs, IsMade, IsReady};
 ghost use Rattle.step_engine.specs.declared.talk.Outcome.{Outcome};
-ghost use Rattle.edk_build.specs.Outcome.{pair_of, outputs_in, files_by};
-ghost use Rattle.std.specs.Prelude.{codes, length};
+ghost use Rattle.edk_build.specs.Outcome.{outcome_bytes, pair_of, outputs_in, files_by};
+ghost use Rattle.std.specs.Prelude.{codes};
 
-use crate::content::outcome_bytes;
+use crate::content::{Content, outcome_bytes};
 use crate::file_out::{FileOut, write_all};
 use crate::label::Label;
 use crate::status::Status;
@@ -20,10 +20,8 @@ use crate::summary::summary;
 use build_base::fault::fault_text;
 use build_base::{Path, Rows, Same, Sink, SinkFailed, Target, Text, WantOfMemory};
 use std::alloc::Global;
-use step_engine::{Cache, Entry, Outcome};
+use step_engine::{Cache, Outcome};
 use step_pack::{Key, Out, Output};
-
-const LONGEST: usize = 2048;
 
 /// All files, or the text of the fault.
 #[derive(Drop)]
@@ -39,49 +37,53 @@ pub(crate) struct PreparedOutputs<'a> {
     summary: Text,
 }
 
+// The path of a file below a folder, of any length.
+fn joined(alloc: Global, folder: &Path, path: &Path) -> Result<Path, WantOfMemory>
+    ensures { IfOk result (λ p. p ≡ folder.now ++ codes "/" ++ path.now) }
+{
+    let mut bytes = Vec::from_slice(alloc, folder.bytes())?;
+    bytes.extend_from_slice(b"/")?;
+    bytes.extend_from_slice(path.bytes())?;
+    match Path::of_text(Text::from_vec(bytes)) {
+        Some(path) => Ok(path),
+        None => unreachable!(),
+    }
+}
+
 // The path of an output below the folder of the build.
 fn below(alloc: Global, folder: &Option<Path>, path: &Path) -> Result<Path, WantOfMemory>
     ensures { IfOk result (λ p. p ≡ below folder.now path.now) }
 {
     match folder {
         None => path.copy(alloc),
-        Some(folder) => {
-            if folder.bytes().len() + 1 + path.bytes().len() > LONGEST {
-                return Err(WantOfMemory);
-            }
-            folder.join(alloc, path)
-        }
+        Some(folder) => joined(alloc, folder, path),
     }
 }
 
-// The entry of a step.
-fn entry_of<'a>(entries: &'a [Entry<Key, Out>], key: &Key) -> Option<&'a Entry<Key, Out>>
-    ensures { IfSome result (λ e. Contains entries.now e.now × (e.now.key ≡ key.now)) }
+// The content of an output, lent by the entry of its step. An output without one has no bytes.
+fn content_of<'a>(cache: &'a Cache<Key, Out>, output: &Output) -> Content<'a>
+    ensures { (value : Key → Outcome Out) → Agrees value cache.now
+        → HasSource value cache.now output.now →
+        result ≡ outcome_bytes (value output.now.from) output.now.part }
 {
-    let at = entries.partition_point(|entry| entry.key < *key);
-    let entry = entries.get(at)?;
-    if entry.key.same(key) {
-        Some(entry)
-    } else {
-        None
+    match cache.get(&output.from) {
+        Some(entry) => outcome_bytes(&entry.result, output.part),
+        None => Content::text(b"".as_slice()),
     }
 }
 
-// The file of an output, lent by the entry of its step.
 fn file_of<'a>(
     alloc: Global,
     label: &Label,
     cache: &'a Cache<Key, Out>,
     output: &Output,
 ) -> Result<FileOut<'a>, WantOfMemory>
-    ensures { (value : Key → Outcome Out) → Agrees value cache.now →
+    ensures { (value : Key → Outcome Out) → Agrees value cache.now
+        → HasSource value cache.now output.now →
         IfOk result (λ f. f ≡ labelled label.now (pair_of value output.now)) }
 {
-    let Some(entry) = entry_of(cache.entries(), &output.from) else {
-        return Err(WantOfMemory);
-    };
     let path = below(alloc, &label.folder, &output.path)?;
-    FileOut::new(alloc, path, outcome_bytes(&entry.result, output.part))
+    FileOut::new(alloc, path, content_of(cache, output))
 }
 
 fn files_of<'a>(
@@ -90,7 +92,7 @@ fn files_of<'a>(
     cache: &'a Cache<Key, Out>,
     outputs: &[Output],
 ) -> Result<Rows<FileOut<'a>>, WantOfMemory>
-    ensures { (value : Key → Outcome Out) → Agrees value cache.now →
+    ensures { (value : Key → Outcome Out) → Tells value cache.now outputs.now →
         IfOk result (λ fs. fs ≡ map (labelled label.now) (map (pair_of value) outputs.now)) }
 {
     let mut files = Rows::new(alloc);

@@ -14,8 +14,10 @@ ghost use Rattle.edk_build.specs.declared.script.ScriptCommand.TheVariants as or
 ghost use Rattle.step_pack.specs.declared.key.Key.{Key};
 
 use crate::build::build;
+use crate::host::Host;
 use crate::made::write_text;
 use crate::replay_state::{ReplayState, label_of};
+use crate::request::Request;
 use crate::script::{ScriptCommand, ScriptLine, read_script};
 use crate::status::Status;
 use crate::usage::tell_usage;
@@ -142,13 +144,11 @@ fn put<T: Tree, S: Sink>(
 
 // Builds over the edits, from the cache that the last build left.
 fn build_next<H: Threads + Sync, T: Tree, S: Sink, G: Gate>(
-    rt: &H,
-    alloc: Global,
+    host: &Host<'_, H, G>,
     job: &Job,
     stand: ReplayState,
     tree: &mut T,
     sink: &mut S,
-    gate: &G,
     book: &mut Book<Key>,
 ) -> Result<ReplayState, Status>
     requires job { is_job (job_fields job.now) ≡ true }
@@ -176,12 +176,14 @@ fn build_next<H: Threads + Sync, T: Tree, S: Sink, G: Gate>(
         builds,
     } = stand;
     let number = builds + 1;
-    let label = label_of(alloc, number)?;
-    let fields = job_fields(alloc, job)?;
-    let workers = job.workers.number();
-    let built = build(
-        rt, alloc, &fields, &label, workers, cache, tree, &edits, sink, gate, book,
-    )?;
+    let label = label_of(host.alloc, number)?;
+    let fields = job_fields(host.alloc, job)?;
+    let asked = Request {
+        fields: &fields,
+        edits: &edits,
+        workers: &job.workers,
+    };
+    let built = build(host, &asked, &label, cache, tree, sink, book)?;
     Ok(ReplayState {
         edits,
         cache: built.cache,
@@ -191,14 +193,12 @@ fn build_next<H: Threads + Sync, T: Tree, S: Sink, G: Gate>(
 
 // Carries out the order of a line.
 fn carry_out<H: Threads + Sync, T: Tree, S: Sink, G: Gate>(
-    rt: &H,
-    alloc: Global,
+    host: &Host<'_, H, G>,
     script: &Path,
     line: &ScriptLine,
     stand: ReplayState,
     tree: &mut T,
     sink: &mut S,
-    gate: &G,
     book: &mut Book<Key>,
 ) -> Result<ReplayState, Status>
     requires job { HasJob line.now.order }
@@ -220,24 +220,23 @@ fn carry_out<H: Threads + Sync, T: Tree, S: Sink, G: Gate>(
         (λ status. Causes status (T.faults tree.old) (T.faults tree.new) (S.faults sink.old)
         (S.faults sink.new)) }
 {
+    let alloc = host.alloc;
     match &line.order {
         ScriptCommand::Put { path, from } => {
             put(alloc, script, line.number, path, from, stand, tree, sink)
         }
         ScriptCommand::Drop(path) => Ok(drop_file(alloc, path, stand)?),
-        ScriptCommand::Build(job) => build_next(rt, alloc, job, stand, tree, sink, gate, book),
+        ScriptCommand::Build(job) => build_next(host, job, stand, tree, sink, book),
     }
 }
 
 // Carries out the lines of a script, up to one where the replay stops.
 fn replay_lines<H: Threads + Sync, T: Tree, S: Sink, G: Gate>(
-    rt: &H,
-    alloc: Global,
+    host: &Host<'_, H, G>,
     script: &Path,
     lines: &[ScriptLine],
     tree: &mut T,
     sink: &mut S,
-    gate: &G,
     book: &mut Book<Key>,
 ) -> Status
     requires jobs { HaveJobs lines.now }
@@ -250,10 +249,10 @@ fn replay_lines<H: Threads + Sync, T: Tree, S: Sink, G: Gate>(
     ensures causes { Causes result (T.faults tree.old) (T.faults tree.new) (S.faults sink.old)
         (S.faults sink.new) }
 {
-    let mut stand = ReplayState::new(alloc);
+    let mut stand = ReplayState::new(host.alloc);
     let mut left = lines;
     while let [line, rest @ ..] = left {
-        match carry_out(rt, alloc, script, line, stand, tree, sink, gate, book) {
+        match carry_out(host, script, line, stand, tree, sink, book) {
             Ok(next) => {
                 stand = next;
                 left = rest;
@@ -266,13 +265,11 @@ fn replay_lines<H: Threads + Sync, T: Tree, S: Sink, G: Gate>(
 
 // Replays a script that was read.
 fn replay_text<H: Threads + Sync, T: Tree, S: Sink, G: Gate>(
-    rt: &H,
-    alloc: Global,
+    host: &Host<'_, H, G>,
     script: &Path,
     bytes: &[u8],
     tree: &mut T,
     sink: &mut S,
-    gate: &G,
     book: &mut Book<Key>,
 ) -> Status
     ensures follows { IsUntouched result book.old book.new (S.written sink.old) (S.written sink.new)
@@ -286,10 +283,8 @@ fn replay_text<H: Threads + Sync, T: Tree, S: Sink, G: Gate>(
     ensures causes { Causes result (T.faults tree.old) (T.faults tree.new) (S.faults sink.old)
         (S.faults sink.new) }
 {
-    match read_script(alloc, bytes) {
-        Ok(Some(lines)) => {
-            replay_lines(rt, alloc, script, lines.items(), tree, sink, gate, book)
-        }
+    match read_script(host.alloc, bytes) {
+        Ok(Some(lines)) => replay_lines(host, script, lines.items(), tree, sink, book),
         Ok(None) => {
             tell_usage(sink);
             Status::Usage
@@ -301,12 +296,10 @@ fn replay_text<H: Threads + Sync, T: Tree, S: Sink, G: Gate>(
 /// Replays a script of the tree: its edits stand above the tree's files, and its builds pass the
 /// cache on, from none. All lines are checked before the first is carried out.
 pub fn replay<H: Threads + Sync, T: Tree, S: Sink, G: Gate>(
-    rt: &H,
-    alloc: Global,
+    host: &Host<'_, H, G>,
     script: &Path,
     tree: &mut T,
     sink: &mut S,
-    gate: &G,
     book: &mut Book<Key>,
 ) -> Status
     ensures replayed { IsReplayed (T.held tree.old) script.now result book.old book.new
@@ -320,11 +313,9 @@ pub fn replay<H: Threads + Sync, T: Tree, S: Sink, G: Gate>(
         (S.faults sink.new) }
 {
     match tree.read(script, FILE_LIMIT) {
-        Ok(Got::File(bytes)) => {
-            replay_text(rt, alloc, script, bytes.bytes(), tree, sink, gate, book)
-        }
-        Ok(Got::Absent) => tell_fault(alloc, SCRIPT_ABSENT, script, 0, script, sink),
-        Ok(Got::TooLong) => tell_fault(alloc, FILE_TOO_LONG, script, 0, script, sink),
+        Ok(Got::File(bytes)) => replay_text(host, script, bytes.bytes(), tree, sink, book),
+        Ok(Got::Absent) => tell_fault(host.alloc, SCRIPT_ABSENT, script, 0, script, sink),
+        Ok(Got::TooLong) => tell_fault(host.alloc, FILE_TOO_LONG, script, 0, script, sink),
         Err(TreeFailed::Failed) => Status::ReadFault,
         Err(TreeFailed::WantOfMemory) => Status::WantOfMemory,
     }

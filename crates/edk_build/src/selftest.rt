@@ -10,7 +10,9 @@ ghost use Rattle.edk_build.specs.Selftest.{selftest_job, label_named, second_tur
 ghost use Rattle.edk_build.specs.Statuses.{OnUsage, OnReadFault, Causes};
 
 use crate::build::build;
+use crate::host::Host;
 use crate::label::Label;
+use crate::request::Request;
 use crate::status::Status;
 use build_base::path::path_field;
 use build_base::{Book, Gate, Rows, Sink, Text, Tree, WantOfMemory};
@@ -83,14 +85,12 @@ fn label_named(alloc: Global, name: &[u8]) -> Result<Label, WantOfMemory>
 
 // Builds the workspace as it stands, and gives the cache that the build leaves.
 fn build_named<H: Threads + Sync, S: Sink, G: Gate>(
-    rt: &H,
-    alloc: Global,
+    host: &Host<'_, H, G>,
     name: &[u8],
     fields: &Rows<Text>,
     cache: Cache<Key, Out>,
     tree: &mut SureTree,
     sink: &mut S,
-    gate: &G,
     book: &mut Book<Key>,
 ) -> Result<Cache<Key, Out>, Status>
     requires name { path_field name.now ≡ Some name.now }
@@ -108,13 +108,17 @@ fn build_named<H: Threads + Sync, S: Sink, G: Gate>(
     ensures causes { IfErr result
         (λ status. Causes status 0 0 (S.faults sink.old) (S.faults sink.new)) }
 {
-    let Ok(label) = label_named(alloc, name) else {
+    let Ok(label) = label_named(host.alloc, name) else {
         return Err(Status::WantOfMemory);
     };
-    let edits = Edits::new(alloc);
-    match build(
-        rt, alloc, fields, &label, 1, cache, tree, &edits, sink, gate, book,
-    ) {
+    let edits = Edits::new(host.alloc);
+    let workers = Workers::one();
+    let asked = Request {
+        fields,
+        edits: &edits,
+        workers: &workers,
+    };
+    match build(host, &asked, &label, cache, tree, sink, book) {
         Ok(built) => Ok(built.cache),
         Err(stop) => Err(stop.status()),
     }
@@ -140,13 +144,11 @@ fn end(_last: Cache<Key, Out>) -> Status
 
 // The third build, after the edit.
 fn build_third<H: Threads + Sync, S: Sink, G: Gate>(
-    rt: &H,
-    alloc: Global,
+    host: &Host<'_, H, G>,
     fields: &Rows<Text>,
     cache: Cache<Key, Out>,
     tree: &mut SureTree,
     sink: &mut S,
-    gate: &G,
     book: &mut Book<Key>,
 ) -> Status
     requires fields { fields.now ≡ job_fields selftest_job }
@@ -156,10 +158,10 @@ fn build_third<H: Threads + Sync, S: Sink, G: Gate>(
         (S.written sink.new) }
     ensures causes { Causes result 0 0 (S.faults sink.old) (S.faults sink.new) }
 {
-    let Ok(()) = edit(alloc, tree) else {
+    let Ok(()) = edit(host.alloc, tree) else {
         return Status::WantOfMemory;
     };
-    match build_named(rt, alloc, b"third", fields, cache, tree, sink, gate, book) {
+    match build_named(host, b"third", fields, cache, tree, sink, book) {
         Ok(last) => end(last),
         Err(status) => status,
     }
@@ -167,13 +169,11 @@ fn build_third<H: Threads + Sync, S: Sink, G: Gate>(
 
 // The second build, and the third.
 fn build_second<H: Threads + Sync, S: Sink, G: Gate>(
-    rt: &H,
-    alloc: Global,
+    host: &Host<'_, H, G>,
     fields: &Rows<Text>,
     cache: Cache<Key, Out>,
     tree: &mut SureTree,
     sink: &mut S,
-    gate: &G,
     book: &mut Book<Key>,
 ) -> Status
     requires fields { fields.now ≡ job_fields selftest_job }
@@ -183,8 +183,8 @@ fn build_second<H: Threads + Sync, S: Sink, G: Gate>(
         (S.written sink.old) (S.written sink.new) }
     ensures causes { Causes result 0 0 (S.faults sink.old) (S.faults sink.new) }
 {
-    match build_named(rt, alloc, b"second", fields, cache, tree, sink, gate, book) {
-        Ok(next) => build_third(rt, alloc, fields, next, tree, sink, gate, book),
+    match build_named(host, b"second", fields, cache, tree, sink, book) {
+        Ok(next) => build_third(host, fields, next, tree, sink, book),
         Err(status) => status,
     }
 }
@@ -193,11 +193,9 @@ fn build_second<H: Threads + Sync, S: Sink, G: Gate>(
 /// that the last build left; before the third, the dependency expression of the first module
 /// becomes FALSE. The run goes on after a build of a fault, which is told.
 pub fn selftest<H: Threads + Sync, S: Sink, G: Gate>(
-    rt: &H,
-    alloc: Global,
+    host: &Host<'_, H, G>,
     n: u64,
     sink: &mut S,
-    gate: &G,
     book: &mut Book<Key>,
 ) -> Status
     ensures built { IsSelftest n result book.old book.new (S.written sink.old)
@@ -209,18 +207,16 @@ pub fn selftest<H: Threads + Sync, S: Sink, G: Gate>(
     ensures no_read_fault { OnReadFault result ⊥ }
     ensures causes { Causes result 0 0 (S.faults sink.old) (S.faults sink.new) }
 {
-    let Ok(fields) = selftest_fields(alloc) else {
+    let Ok(fields) = selftest_fields(host.alloc) else {
         return Status::WantOfMemory;
     };
-    let Ok(files) = selftest_files(alloc, n) else {
+    let Ok(files) = selftest_files(host.alloc, n) else {
         return Status::WantOfMemory;
     };
-    let mut tree = SureTree::new(alloc, files);
-    let none = Cache::new(alloc);
-    match build_named(
-        rt, alloc, b"first", &fields, none, &mut tree, sink, gate, book,
-    ) {
-        Ok(next) => build_second(rt, alloc, &fields, next, &mut tree, sink, gate, book),
+    let mut tree = SureTree::new(host.alloc, files);
+    let none = Cache::new(host.alloc);
+    match build_named(host, b"first", &fields, none, &mut tree, sink, book) {
+        Ok(next) => build_second(host, &fields, next, &mut tree, sink, book),
         Err(status) => status,
     }
 }

@@ -11,6 +11,7 @@ ghost use Rattle.edk_build.specs.Statuses.{OnEnd, OnUnwritten, OnReadFault, OnWr
 ghost use Rattle.edk_build.specs.Volinfo.{IsVolinfo};
 
 use crate::command::Command;
+use crate::host::Host;
 use crate::kept_build::build_kept;
 use crate::replay::replay;
 use crate::selftest::selftest;
@@ -87,12 +88,11 @@ pub fn run<H: Threads + Sync, T: Tree, S: Sink, K: Keeper, G: Gate>(
         ⊎ OfBuild (asked words.now) (HasFailed (K.faults keeper.old) (K.faults keeper.new))) }
     ensures held { T.held tree.new ≡ T.held tree.old }
 {
+    let host = Host { rt, alloc, gate };
     match command_of(alloc, words) {
-        Ok(Some(Command::Build(job))) => {
-            build_kept(rt, alloc, &job, tree, sink, keeper, gate, book)
-        }
-        Ok(Some(Command::Replay(script))) => replay(rt, alloc, &script, tree, sink, gate, book),
-        Ok(Some(Command::Selftest(n))) => selftest(rt, alloc, n, sink, gate, book),
+        Ok(Some(Command::Build(job))) => build_kept(&host, &job, tree, sink, keeper, book),
+        Ok(Some(Command::Replay(script))) => replay(&host, &script, tree, sink, book),
+        Ok(Some(Command::Selftest(n))) => selftest(&host, n, sink, book),
         Ok(Some(Command::Volinfo(image))) => volinfo(alloc, &image, tree, sink),
         Ok(None) => {
             tell_usage(sink);
