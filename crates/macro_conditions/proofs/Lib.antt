@@ -12,4 +12,8 @@ pub mod MoreAnswersLaw
 pub mod CountGrowth
 pub mod CountBound
 pub mod LeftFalls
+pub mod PlaceLemmas
+pub mod OpenFileLemmas
+pub mod OpeningLemmas
+pub mod PauseLemmas
 pub mod WantedPaths

@@ -7,4 +7,6 @@ pub mod Sources
 pub mod Expansion
 pub mod Work
 pub mod Worlds
+pub mod OpenFiles
 pub mod Counting
+pub mod Asked

@@ -1,11 +1,12 @@
 -- What the code of the expansion stands for.
-use Rattle.std.specs.Prelude.{◌≡◌, ℕ, List, [], ◌∷◌, ◌-◌, length, take, map, reverse, Vec, Option, Some, None, Result, Ok, Err}
+use Rattle.std.specs.Prelude.{◌≡◌, ℕ, List, [], ◌∷◌, ◌-◌, length, take, drop, map, reverse, Vec, Option, Some, None, Result, Ok, Err}
 use Rattle.std.specs.declared.alloc.Global.{Global}
 use Rattle.build_base.specs.declared.lines.Taken.{Taken as Line}
 use Rattle.macro_conditions.specs.declared.known.Located.{Located as CodeLocated}
 use Rattle.macro_conditions.specs.declared.known.Located.TheVariants as located
 use Rattle.macro_conditions.specs.declared.work.Work.{Work}
 use Rattle.macro_conditions.specs.declared.work.SourceLine.{SourceLine}
+use Rattle.macro_conditions.specs.declared.work.LinePlace.{LinePlace}
 use Rattle.macro_conditions.specs.declared.work.Stopped.{Stopped}
 use Rattle.macro_conditions.specs.declared.work.Stopped.TheVariants as stopped
 use Rattle.macro_conditions.specs.declared.work.Mode as code_mode
@@ -18,7 +19,8 @@ use Rattle.macro_conditions.specs.declared.expansion.Turned.{Turned}
 use Rattle.macro_conditions.specs.declared.expansion.Turned.TheVariants as turned
 use Rattle.macro_conditions.specs.Sources.{Located, wanted, missing, over_limit, there}
 use Rattle.macro_conditions.specs.LineStack.{State, Mode, taking, waiting, passing, Frame}
-use Rattle.macro_conditions.specs.Expansion.{Env, Stop, bad, need}
+use Rattle.macro_conditions.specs.Expansion.{Env, Stop, bad, need, line_at}
+use Rattle.meta_lexer.specs.Lines.{TextLine}
 
 abbrev pub located_view : CodeLocated → Located
 located_view (located.Wanted path) = wanted path
@@ -30,23 +32,36 @@ abbrev pub source_view : SourceLine → Line
 source_view line =
     record { at = record { path = line.path.now; line = line.number }; text = line.text.now }
 
+-- so many bytes of a text behind a start
+abbrev pub text_at : List ℕ → LinePlace → List ℕ
+text_at bytes p = take p.count (drop p.start bytes)
+
+abbrev pub text_line : List ℕ → LinePlace → TextLine
+text_line bytes p = record { number = p.number; text = text_at bytes p }
+
+-- the line of a file at a place
+abbrev pub line_in : List ℕ → List ℕ → LinePlace → Line
+line_in path bytes p = line_at path (text_line bytes p)
+
 abbrev pub mode_view : code_mode.Mode → Mode
 mode_view modes.Taking = taking
 mode_view modes.Waiting = waiting
 mode_view modes.Passing = passing
 
-abbrev pub frame_view : code_frame.Frame → Frame
-frame_view f = record { opener = source_view f.opener; mode = mode_view f.mode; last = f.last }
+module _ (path bytes : List ℕ) where
+  abbrev pub frame_view : code_frame.Frame → Frame
+  frame_view f =
+      record { opener = line_in path bytes f.opener; mode = mode_view f.mode; last = f.last }
 
--- the code keeps the innermost last
-abbrev pub frames_of : List code_frame.Frame → List Frame
-frames_of fs = reverse (map frame_view fs)
+  -- the code keeps the innermost last
+  abbrev pub frames_of : List code_frame.Frame → List Frame
+  frames_of fs = reverse (map frame_view fs)
 
 abbrev pub env_of : Work → Env
 env_of w = record { rows = w.rows; macros = w.macros; open_files = w.open_files.items }
 
-abbrev pub state_of : Vec code_frame.Frame Global → Work → State Env
-state_of fs w = record { frames = frames_of fs.items; found = env_of w }
+abbrev pub state_of : List ℕ → List ℕ → Vec code_frame.Frame Global → Work → State Env
+state_of path bytes fs w = record { frames = frames_of path bytes fs.items; found = env_of w }
 
 -- the innermost file is open no more
 abbrev pub left_last : Env → Env

@@ -1,20 +1,20 @@
 //! The stack of open conditionals.
-ghost use Rattle.std.specs.Prelude.{◌≡◌, ◌++◌, ◌∷◌, [], None, Some, OnOk, IfErr};
+ghost use Rattle.std.specs.Prelude.{◌≡◌, ◌++◌, ◌∷◌, [], ℕ, List, None, Some, OnOk, IfErr};
 ghost use Rattle.macro_conditions.specs.declared.directive.Directive.TheVariants.{If, Elseif, Else, Endif};
 ghost use Rattle.macro_conditions.specs.LineMeaning.{at_end};
 ghost use Rattle.macro_conditions.specs.LineStack.{active, mode_by, outermost, open_frame, next_mode, turn_frame, shut, step_by};
 ghost use Rattle.macro_conditions.specs.Expansion.{Env, acts, unbalanced, bad};
-ghost use Rattle.macro_conditions.specs.Work.{source_view, mode_view, frames_of, env_of, state_of, idle, Halts, Agrees};
+ghost use Rattle.macro_conditions.specs.Work.{source_view, line_in, mode_view, frames_of, env_of, state_of, idle, Halts, Agrees};
 
 use crate::directive::directive_word;
-use crate::work::{Frame, Mode, SourceLine, Stopped, Work, bad, test};
+use crate::work::{FileText, Frame, LinePlace, Mode, SourceLine, Stopped, Work, bad, test};
 use build_base::fault_codes::UNBALANCED;
 use macro_expressions::table::ListedMacros;
 use std::alloc::Global;
 
 // Whether lines are taken here.
-pub(crate) fn active(frames: &Vec<Frame<'_>>) -> bool
-    ensures { result ≡ active (frames_of frames.now.items) }
+pub(crate) fn active(frames: &Vec<Frame>) -> bool
+    ensures { (path bytes : List ℕ) → result ≡ active (frames_of path bytes frames.now.items) }
 {
     match frames.last() {
         None => true,
@@ -47,12 +47,12 @@ fn open_frame(
     alloc: Global,
     fixed: &ListedMacros<'_>,
     work: &Work,
-    frames: &Vec<Frame<'_>>,
+    frames: &Vec<Frame>,
     line: SourceLine<'_>,
 ) -> Result<Mode, Stopped>
-    ensures { Agrees mode_view result
-        (open_frame (acts fixed.now idle) (frames_of frames.now.items) (source_view line.entry)
-        (env_of work.now)) }
+    ensures { (path bytes : List ℕ) → Agrees mode_view result
+        (open_frame (acts fixed.now idle) (frames_of path bytes frames.now.items)
+        (source_view line.entry) (env_of work.now)) }
 {
     if active(frames) {
         mode_of_test(alloc, fixed, work, line)
@@ -84,8 +84,8 @@ fn stray(alloc: Global, line: SourceLine<'_>) -> Stopped
     bad(alloc, UNBALANCED, line, directive_word(line.text))
 }
 
-fn push<'a>(frames: &mut Vec<Frame<'a>>, frame: Frame<'a>) -> Result<(), Stopped>
-    ensures frames { OnOk result (frames.new.items ≡ frames.old.items ++ frame.entry ∷ []) }
+fn push(frames: &mut Vec<Frame>, frame: Frame) -> Result<(), Stopped>
+    ensures frames { OnOk result (frames.new.items ≡ frames.old.items ++ frame ∷ []) }
     ensures cause { IfErr result (λ e. e ≡ Stopped.WantOfMemory) }
 {
     match frames.push(frame) {
@@ -95,21 +95,25 @@ fn push<'a>(frames: &mut Vec<Frame<'a>>, frame: Frame<'a>) -> Result<(), Stopped
 }
 
 /// An `!if`, `!ifdef` or `!ifndef`.
-pub(crate) fn open<'a>(
+pub(crate) fn open(
     alloc: Global,
     fixed: &ListedMacros<'_>,
     work: &Work,
-    frames: &mut Vec<Frame<'a>>,
-    line: SourceLine<'a>,
+    file: FileText<'_>,
+    frames: &mut Vec<Frame>,
+    place: LinePlace,
 ) -> Result<(), Stopped>
-    ensures { Agrees (λ u. state_of frames.new work.now) result
-        (step_by (acts fixed.now idle) If (frames_of frames.old.items) (env_of work.now)
-        (source_view line.entry)) }
+    ensures { Agrees
+        (λ u. state_of file.entry.path.now file.entry.bytes.now frames.new work.now) result
+        (step_by (acts fixed.now idle) If
+        (frames_of file.entry.path.now file.entry.bytes.now frames.old.items) (env_of work.now)
+        (line_in file.entry.path.now file.entry.bytes.now place)) }
 {
+    let line = file.line(place);
     match open_frame(alloc, fixed, work, frames, line) {
         Ok(mode) => {
             let frame = Frame {
-                opener: line,
+                opener: place,
                 mode,
                 last: false,
             };
@@ -120,18 +124,22 @@ pub(crate) fn open<'a>(
 }
 
 /// An `!elseif`, or an `!else`, which is the last.
-pub(crate) fn turn<'a>(
+pub(crate) fn turn(
     alloc: Global,
     fixed: &ListedMacros<'_>,
     work: &Work,
-    frames: &mut Vec<Frame<'a>>,
+    file: FileText<'_>,
+    frames: &mut Vec<Frame>,
     last: bool,
-    line: SourceLine<'a>,
+    place: LinePlace,
 ) -> Result<(), Stopped>
-    ensures { Agrees (λ u. state_of frames.new work.now) result
-        (turn_frame (acts fixed.now idle) last (frames_of frames.old.items) (env_of work.now)
-        (source_view line.entry)) }
+    ensures { Agrees
+        (λ u. state_of file.entry.path.now file.entry.bytes.now frames.new work.now) result
+        (turn_frame (acts fixed.now idle) last
+        (frames_of file.entry.path.now file.entry.bytes.now frames.old.items) (env_of work.now)
+        (line_in file.entry.path.now file.entry.bytes.now place)) }
 {
+    let line = file.line(place);
     let Some(frame) = frames.pop() else {
         return Err(stray(alloc, line));
     };
@@ -152,17 +160,21 @@ pub(crate) fn turn<'a>(
 }
 
 /// An `!endif`.
-pub(crate) fn close<'a>(
+pub(crate) fn close(
     alloc: Global,
     fixed: &ListedMacros<'_>,
     work: &Work,
-    frames: &mut Vec<Frame<'a>>,
-    line: SourceLine<'a>,
+    file: FileText<'_>,
+    frames: &mut Vec<Frame>,
+    place: LinePlace,
 ) -> Result<(), Stopped>
-    ensures { Agrees (λ u. state_of frames.new work.now) result
-        (shut (acts fixed.now idle) (frames_of frames.old.items) (env_of work.now)
-        (source_view line.entry)) }
+    ensures { Agrees
+        (λ u. state_of file.entry.path.now file.entry.bytes.now frames.new work.now) result
+        (shut (acts fixed.now idle)
+        (frames_of file.entry.path.now file.entry.bytes.now frames.old.items) (env_of work.now)
+        (line_in file.entry.path.now file.entry.bytes.now place)) }
 {
+    let line = file.line(place);
     match frames.pop() {
         Some(_) => Ok(()),
         None => Err(stray(alloc, line)),
@@ -173,13 +185,15 @@ pub(crate) fn close<'a>(
 pub(crate) fn end(
     alloc: Global,
     fixed: &ListedMacros<'_>,
-    frames: &Vec<Frame<'_>>,
+    file: FileText<'_>,
+    frames: &Vec<Frame>,
 ) -> Result<(), Stopped>
     ensures { (e : Env) → Agrees (λ u. e) result
-        (at_end (acts fixed.now idle) (outermost (frames_of frames.now.items) None) e) }
+        (at_end (acts fixed.now idle)
+        (outermost (frames_of file.entry.path.now file.entry.bytes.now frames.now.items) None) e) }
 {
     match frames.first() {
         None => Ok(()),
-        Some(frame) => Err(stray(alloc, frame.opener)),
+        Some(frame) => Err(stray(alloc, file.line(frame.opener))),
     }
 }

@@ -21,7 +21,7 @@ pub(crate) enum Located<'a> {
     Wanted(Path),
     Missing,
     OverLimit(Path),
-    There(Path, &'a [u8]),
+    There(Path, &'a Text),
 }
 
 // The first answer for a path.
@@ -44,7 +44,7 @@ fn locate_at<'a>(known: &'a [Known], path: Path) -> Located<'a>
         None => Located::Wanted(path),
         Some(Got::Absent) => Located::Missing,
         Some(Got::TooLong) => Located::OverLimit(path),
-        Some(Got::File(text)) => Located::There(path, text.bytes()),
+        Some(Got::File(text)) => Located::There(path, text),
     }
 }
 

@@ -3,11 +3,14 @@
 
 mod conditional;
 mod directive;
+pub mod document;
 pub mod expansion;
 pub mod known;
 pub mod laws;
+mod places;
 mod work;
 
+pub use document::OpenDocument;
 pub use expansion::{Turned, expand};
 pub use known::Known;
 pub use macro_expressions::{Value, evaluate};

@@ -4,7 +4,7 @@ ghost use Rattle.build_base.specs.FaultText.{fault_of};
 ghost use Rattle.macro_expressions.specs.Scopes.{scope_of};
 ghost use Rattle.macro_conditions.specs.Directives.{macro_named, directive_rest, definition_of};
 ghost use Rattle.macro_conditions.specs.Expansion.{bad, settled, is_full, fault_at, holds, names, tested, defined, written, apply_directive, scope};
-ghost use Rattle.macro_conditions.specs.Work.{source_view, env_of, Halts, Agrees};
+ghost use Rattle.macro_conditions.specs.Work.{source_view, env_of, text_at, line_in, Halts, Agrees};
 
 use crate::directive::{
     definition_of, directive_rest, directive_word, is_definition, is_directive, macro_named,
@@ -31,6 +31,21 @@ pub(crate) struct SourceLine<'a> {
     pub text: &'a [u8],
 }
 
+// A line of a file: its number, where its text begins, and how many bytes it has.
+#[derive(Clone, Copy)]
+pub(crate) struct LinePlace {
+    pub number: u64,
+    pub start: usize,
+    pub count: usize,
+}
+
+// A file: its path and its bytes.
+#[derive(Clone, Copy)]
+pub(crate) struct FileText<'a> {
+    pub path: &'a Path,
+    pub bytes: &'a [u8],
+}
+
 // What has become of a conditional: its branch is taken, none was yet, or none is any more.
 #[derive(Clone, Copy)]
 pub(crate) enum Mode {
@@ -41,8 +56,8 @@ pub(crate) enum Mode {
 
 // An open conditional: its `!if`, its mode, and whether its `!else` was seen.
 #[derive(Clone, Copy)]
-pub(crate) struct Frame<'a> {
-    pub opener: SourceLine<'a>,
+pub(crate) struct Frame {
+    pub opener: LinePlace,
     pub mode: Mode,
     pub last: bool,
 }
@@ -72,6 +87,60 @@ pub(crate) struct Work {
     pub rows: Rows<Taken>,
     pub macros: MacroTable,
     pub open_files: Vec<Path>,
+}
+
+// So many bytes behind a start, or as many as there are.
+pub(crate) fn text_at(bytes: &[u8], place: LinePlace) -> &[u8]
+    ensures { result.now ≡ text_at bytes.now place }
+{
+    let rest = &bytes[place.start.min(bytes.len())..];
+    &rest[..place.count.min(rest.len())]
+}
+
+impl<'a> FileText<'a> {
+    // The line at a place.
+    pub(crate) fn line(self, place: LinePlace) -> SourceLine<'a>
+        ensures { source_view result ≡ line_in self.entry.path.now self.entry.bytes.now place }
+    {
+        SourceLine {
+            path: self.path,
+            number: place.number,
+            text: text_at(self.bytes, place),
+        }
+    }
+}
+
+// A file that is open: its lines, which of them is the next, and its open conditionals.
+#[derive(Drop)]
+pub(crate) struct OpenFile {
+    pub path: Path,
+    pub text: Text,
+    pub lines: Vec<LinePlace>,
+    pub next: usize,
+    pub frames: Vec<Frame>,
+}
+
+// Where a file stops: at its end, at an include that opens another file, or at one whose path is
+// wanted.
+#[derive(Drop)]
+pub(crate) enum Next {
+    Ended,
+    Within(OpenFile, OpenFile),
+    Wants(OpenFile, Path),
+}
+
+// What is left of a document: the files that are open, the innermost last, and the work so far.
+#[derive(Drop)]
+pub(crate) struct Left {
+    pub work: Work,
+    pub files: Vec<OpenFile>,
+}
+
+// A document at its end, or at a path that is wanted.
+#[derive(Drop)]
+pub(crate) enum Halted {
+    Whole(Work),
+    Wants(Path, Left),
 }
 
 fn place(alloc: Global, line: SourceLine<'_>) -> Result<Place, WantOfMemory>

@@ -5,4 +5,4 @@ use Rattle.macro_conditions.proofs.expansion.expand.Goals as goal
 
 pub returns-clause-worlds : goal.returns-clause-worlds
 returns-clause-worlds c =
-    λ world agrees. in_world c.carry_out.result (answer c.args.files.now) c.args.root.now c.args.macros.now c.args.fixed.now (search rules) world agrees
+    λ world agrees. in_world c.expanded.result (answer c.args.files.now) c.args.root.now c.args.macros.now c.args.fixed.now (search rules) world agrees
