@@ -4,8 +4,10 @@
 mod adoption;
 mod job;
 pub mod laws;
+mod parked;
 mod rules;
 mod shapes;
+mod steps;
 
 pub use adoption::adopt;
 pub use document_rules::{defines, documents};
@@ -13,4 +15,5 @@ pub use image_rules::{based, images, vpd};
 pub use job::is_job;
 pub use module_rules::{modules, texts};
 pub use output_rules::{all, outputs, wanted};
+pub use parked::ParkedRules;
 pub use rules::EdkRules;

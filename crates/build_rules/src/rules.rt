@@ -1,13 +1,8 @@
 //! The steps of a build as rules of the engine.
 pub use crate::shapes::EdkRules;
+use crate::steps::{outcome_of, rank_of};
 use build_base::{Permit, WantOfMemory};
 use build_stages::{Known, StagedRules, Stop, turn_by};
-use document_rules::documents::{dec, flash, inf, platform};
-use image_rules::images::{device, file, rebased_volume, volume};
-use image_rules::vpd::vpd;
-use module_rules::modules::{choice, pcds, values};
-use module_rules::texts::{code, depex, report};
-use output_rules::all::all;
 use std::alloc::Global;
 use step_engine::{Rules, Talk, Turn};
 use step_pack::{Key, Out};
@@ -16,20 +11,7 @@ impl StagedRules for EdkRules {
     ghost use Rattle.build_rules.specs.RulesBounds.{edk_is_bounded};
 
     fn rank(&self, key: &Key) -> u64 {
-        match key {
-            Key::Dec(_) | Key::Inf(_) => 1,
-            Key::Platform => 2,
-            Key::Flash => 3,
-            Key::Choice(_) => 4,
-            Key::PlatformPcds => 5,
-            Key::Values(_) | Key::Vpd => 6,
-            Key::Code(_) | Key::Depex(_) => 7,
-            Key::File(volume, _) => 8 + 2 * *volume as u64,
-            Key::Volume(volume) | Key::Based(volume) => 9 + 2 * *volume as u64,
-            Key::Device(_) => 0x4_0000_0000,
-            Key::Report => 0x4_0000_0001,
-            Key::All => 0x4_0000_0002,
-        }
+        rank_of(key)
     }
 
     fn outcome(
@@ -39,24 +21,7 @@ impl StagedRules for EdkRules {
         known: &Known<'_, Key, Out>,
         permit: Permit,
     ) -> Result<Out, Stop<Key>> {
-        match key {
-            Key::Dec(path) => dec(alloc, known, path, permit),
-            Key::Inf(path) => inf(alloc, known, path, permit),
-            Key::Platform => platform(alloc, known, permit),
-            Key::Flash => flash(alloc, known, permit),
-            Key::Choice(module) => choice(alloc, known, module, permit),
-            Key::PlatformPcds => pcds(alloc, known, permit),
-            Key::Values(module) => values(alloc, known, module, permit),
-            Key::Code(module) => code(alloc, known, module, permit),
-            Key::Depex(module) => depex(alloc, known, module, permit),
-            Key::File(volume, item) => file(alloc, known, *volume, *item, permit),
-            Key::Volume(number) => volume(alloc, known, *number, permit),
-            Key::Based(number) => rebased_volume(alloc, known, *number, permit),
-            Key::Device(number) => device(alloc, known, *number, permit),
-            Key::Report => report(alloc, known, permit),
-            Key::All => all(alloc, known, permit),
-            Key::Vpd => vpd(alloc, known, permit),
-        }
+        outcome_of(alloc, key, known, &mut None, permit)
     }
 
     ghost bounded = { edk_is_bounded };

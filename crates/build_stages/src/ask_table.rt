@@ -4,7 +4,7 @@ ghost use Rattle.std.specs.Option.{option_copied};
 ghost use Rattle.build_stages.specs.Asks.{found_at, Notes};
 ghost use Rattle.step_engine.specs.Table.{Puts};
 
-use build_base::{Path, Rows, Same, WantOfMemory};
+use build_base::{Path, Same, WantOfMemory};
 use std::alloc::Global;
 use std::collections::BTreeMap;
 use std::marker::Model;
@@ -75,14 +75,5 @@ impl<K: StepKey, V: Drop> AskTable<K, V> {
             Ask::Field(number) => put(&mut self.fields, *number, value),
             Ask::Part(key) => self.parts.insert(key.copy(alloc)?, value),
         }
-    }
-
-    /// The paths of the files that have a value, in one pass.
-    pub fn file_paths(&self, alloc: Global) -> Result<Rows<Path>, WantOfMemory> {
-        let mut paths = Rows::new(alloc);
-        for path in self.files.keys() {
-            paths.push(path.copy(alloc)?)?;
-        }
-        Ok(paths)
     }
 }

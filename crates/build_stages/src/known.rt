@@ -5,7 +5,7 @@ ghost use Rattle.build_stages.specs.Asks.{found_at};
 ghost use Rattle.build_stages.specs.Known.{known_at, missing_at, seen_in, IsOf, AreOf, NotesAll};
 
 use crate::ask_table::AskTable;
-use build_base::{Path, Rows, Same, WantOfMemory};
+use build_base::{Rows, Same, WantOfMemory};
 use std::alloc::Global;
 use std::marker::Model;
 use step_engine::{Answer, Ask, Pair, StepKey, Talk};
@@ -60,12 +60,6 @@ impl<'a, K: StepKey, O> Known<'a, K, O> {
             Some(answer) => Some(*answer),
             None => None,
         }
-    }
-
-    /// The paths of the files that have an answer, in one pass. Whoever asks for one of them learns
-    /// from `get` what was answered.
-    pub fn file_paths(&self, alloc: Global) -> Result<Rows<Path>, WantOfMemory> {
-        self.answers.file_paths(alloc)
     }
 
     // The answers to all asks, where each is known.

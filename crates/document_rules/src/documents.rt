@@ -23,6 +23,7 @@ use document_stages::lines_of;
 use dsc_platform::read_platform;
 use flash_document::read_flash;
 use inf_docs::read_inf;
+use macro_conditions::OpenDocument;
 use shared_value::Shared;
 use std::alloc::Global;
 use step_engine::Ask;
@@ -62,12 +63,13 @@ pub fn dec(
     alloc: Global,
     known: &Known<'_, Key, Out>,
     path: &Path,
+    park: &mut Option<OpenDocument>,
     permit: Permit,
 ) -> Result<Out, Stop<Key>>
     ensures { AdvancesTo known.now (dec_stages path.now) result }
 {
     let none = Rows::new(alloc);
-    let (lines, permit) = lines_of(alloc, &EdkAnswers, known, path, &none, &none, permit)?;
+    let (lines, permit) = lines_of(alloc, &EdkAnswers, known, path, &none, &none, park, permit)?;
     Ok(Out::Dec(package_of(alloc, permit, &lines)?))
 }
 
@@ -77,12 +79,13 @@ pub fn inf(
     alloc: Global,
     known: &Known<'_, Key, Out>,
     path: &Path,
+    park: &mut Option<OpenDocument>,
     permit: Permit,
 ) -> Result<Out, Stop<Key>>
     ensures { AdvancesTo known.now (inf_stages path.now) result }
 {
     let none = Rows::new(alloc);
-    let (lines, permit) = lines_of(alloc, &EdkAnswers, known, path, &none, &none, permit)?;
+    let (lines, permit) = lines_of(alloc, &EdkAnswers, known, path, &none, &none, park, permit)?;
     Ok(Out::Inf(module_of(alloc, permit, &lines)?))
 }
 
@@ -114,13 +117,14 @@ fn platform_from(
     known: &Known<'_, Key, Out>,
     path: &Path,
     fixed: &Rows<Macro>,
+    park: &mut Option<OpenDocument>,
     permit: Permit,
 ) -> Result<Out, Stop<Key>>
     ensures { AdvancesTo known.now (document_stages out.Platform platform_of [] fixed.now path.now)
         result }
 {
     let none = Rows::new(alloc);
-    let (lines, permit) = lines_of(alloc, &EdkAnswers, known, path, &none, fixed, permit)?;
+    let (lines, permit) = lines_of(alloc, &EdkAnswers, known, path, &none, fixed, park, permit)?;
     Ok(Out::Platform(platform_of(alloc, permit, &lines)?))
 }
 
@@ -129,26 +133,28 @@ fn platform_given(
     alloc: Global,
     known: &Known<'_, Key, Out>,
     given: &Given<'_, Out>,
+    park: &mut Option<OpenDocument>,
     permit: Permit,
 ) -> Result<Out, Stop<Key>>
     ensures { AdvancesTo known.now (platform_given given.now) result }
 {
     let path = root(alloc, given)?;
     let fixed = job_macros(alloc, given)?;
-    platform_from(alloc, known, &path, &fixed, permit)
+    platform_from(alloc, known, &path, &fixed, park, permit)
 }
 
 /// The platform's description.
 pub fn platform(
     alloc: Global,
     known: &Known<'_, Key, Out>,
+    park: &mut Option<OpenDocument>,
     permit: Permit,
 ) -> Result<Out, Stop<Key>>
     ensures { AdvancesTo known.now platform_stages result }
 {
     let asks = [Ask::Field(0), Ask::Field(2), Ask::Field(3), Ask::Field(5)];
     let (given, permit) = gather(alloc, &EdkAnswers, known, &asks, permit)?;
-    platform_given(alloc, known, &given, permit)
+    platform_given(alloc, known, &given, park, permit)
 }
 
 fn platform_of_out(out: &Out) -> Result<&Shared<PlatformDoc>, Stop<Key>>
@@ -263,12 +269,13 @@ fn flash_at(
     macros: &Rows<Macro>,
     fixed: &Rows<Macro>,
     path: &Path,
+    park: &mut Option<OpenDocument>,
     permit: Permit,
 ) -> Result<Out, Stop<Key>>
     ensures { AdvancesTo known.now (document_stages out.Flash flash_of macros.now fixed.now path.now)
         result }
 {
-    let (lines, permit) = lines_of(alloc, &EdkAnswers, known, path, macros, fixed, permit)?;
+    let (lines, permit) = lines_of(alloc, &EdkAnswers, known, path, macros, fixed, park, permit)?;
     Ok(Out::Flash(flash_of(alloc, permit, &lines)?))
 }
 
@@ -279,12 +286,13 @@ fn flash_from(
     platform: &PlatformDoc,
     fixed: &Rows<Macro>,
     root: &Option<Path>,
+    park: &mut Option<OpenDocument>,
     permit: Permit,
 ) -> Result<Out, Stop<Key>>
     ensures { AdvancesTo known.now (flash_from platform.now fixed.now root.now) result }
 {
     match root {
-        Some(path) => flash_at(alloc, known, &platform.macros, fixed, path, permit),
+        Some(path) => flash_at(alloc, known, &platform.macros, fixed, path, park, permit),
         None => Ok(Out::Flash(empty_flash(alloc, platform)?)),
     }
 }
@@ -294,6 +302,7 @@ fn flash_given(
     alloc: Global,
     known: &Known<'_, Key, Out>,
     given: &Given<'_, Out>,
+    park: &mut Option<OpenDocument>,
     permit: Permit,
 ) -> Result<Out, Stop<Key>>
     ensures { AdvancesTo known.now (flash_given given.now) result }
@@ -301,11 +310,16 @@ fn flash_given(
     let platform = platform_in(given, 0)?;
     let fixed = job_macros(alloc, given)?;
     let root = flash_root(alloc, platform, given)?;
-    flash_from(alloc, known, platform, &fixed, &root, permit)
+    flash_from(alloc, known, platform, &fixed, &root, park, permit)
 }
 
 /// The flash description.
-pub fn flash(alloc: Global, known: &Known<'_, Key, Out>, permit: Permit) -> Result<Out, Stop<Key>>
+pub fn flash(
+    alloc: Global,
+    known: &Known<'_, Key, Out>,
+    park: &mut Option<OpenDocument>,
+    permit: Permit,
+) -> Result<Out, Stop<Key>>
     ensures { AdvancesTo known.now flash_stages result }
 {
     let asks = [
@@ -316,5 +330,5 @@ pub fn flash(alloc: Global, known: &Known<'_, Key, Out>, permit: Permit) -> Resu
         Ask::Field(7),
     ];
     let (given, permit) = gather(alloc, &EdkAnswers, known, &asks, permit)?;
-    flash_given(alloc, known, &given, permit)
+    flash_given(alloc, known, &given, park, permit)
 }

@@ -1,12 +1,12 @@
 //! The lines of a document from what is known of its files.
-ghost use Rattle.std.specs.Prelude.{◌≡◌, Ok, IfOk, IfSome};
+ghost use Rattle.std.specs.Prelude.{◌≡◌, [], Ok, IfOk, IfSome, IsTrue, true};
 ghost use Rattle.build_stages.specs.Gives.{GivesIn};
 ghost use Rattle.document_stages.specs.Documents.{got_in};
-ghost use Rattle.document_stages.specs.Learning.{gets, AreTold, Learns, GivesLines};
+ghost use Rattle.document_stages.specs.Learning.{gets, IsTold, AreTold, IsBegun, Learns, GivesLines};
 
 use build_base::{FILE_LIMIT, Got, Lines, Macro, Path, Permit, Rows, Same, Text, WantOfMemory};
 use build_stages::{Known as KnownAnswers, StepTypes, Stop, gather};
-use macro_conditions::{Known, Turned, expand};
+use macro_conditions::{Known, OpenDocument, Turned};
 use std::alloc::Global;
 use step_engine::{Answer, Ask};
 
@@ -64,24 +64,109 @@ fn shared_path(alloc: Global, path: &Path) -> Result<Path, WantOfMemory>
     }
 }
 
-// All files that the talk tells. With them a turn expands the document once, however many files it
-// has learnt in the turns before.
-fn all_told<S: StepTypes>(
+// Whether the same was got.
+fn same_got(one: &Got, other: &Got) -> bool
+    ensures { result ≡ true → one.now ≡ other.now }
+{
+    match (one, other) {
+        (Got::File(one), Got::File(other)) => one.same(other),
+        (Got::Absent, Got::Absent) => true,
+        (Got::TooLong, Got::TooLong) => true,
+        _ => false,
+    }
+}
+
+// Whether the talk tells what is known of a file.
+fn is_told<S: StepTypes>(
     alloc: Global,
     rules: &S,
     known: &KnownAnswers<'_, S::Key, S::Out>,
-) -> Result<Rows<Known>, WantOfMemory>
-    ensures { IfOk result (AreTold (gets S.Key.cmp S.staged.fits known.now)) }
+    file: &Known,
+) -> Result<bool, WantOfMemory>
+    ensures { IfOk result
+        (λ told. told ≡ true → IsTold (gets S.Key.cmp S.staged.fits known.now) file.now) }
 {
-    let mut files = Rows::new(alloc);
-    let paths = known.file_paths(alloc)?;
-    for path in paths.items() {
-        if let Some(got) = told_file(alloc, rules, known, path)? {
-            let path = shared_path(alloc, path)?;
-            files.push(Known { path, got })?;
+    match told_file(alloc, rules, known, &file.path)? {
+        Some(got) => Ok(same_got(&got, &file.got)),
+        None => Ok(false),
+    }
+}
+
+// Whether it tells what is known of each of these.
+fn are_told<S: StepTypes>(
+    alloc: Global,
+    rules: &S,
+    known: &KnownAnswers<'_, S::Key, S::Out>,
+    files: &[Known],
+) -> Result<bool, WantOfMemory>
+    ensures { IfOk result
+        (λ told. told ≡ true → AreTold (gets S.Key.cmp S.staged.fits known.now) files.now) }
+{
+    let mut left = files;
+    while let [file, rest @ ..] = left {
+        if !is_told(alloc, rules, known, file)? {
+            return Ok(false);
+        }
+        left = rest;
+    }
+    Ok(true)
+}
+
+// Whether a turn can begin with a document that an earlier one left.
+fn may_go_on<S: StepTypes>(
+    alloc: Global,
+    rules: &S,
+    known: &KnownAnswers<'_, S::Key, S::Out>,
+    root: &Path,
+    macros: &Rows<Macro>,
+    fixed: &Rows<Macro>,
+    document: &OpenDocument,
+) -> Result<bool, WantOfMemory>
+    ensures { IfOk result (λ may. may ≡ true → IsBegun (gets S.Key.cmp S.staged.fits known.now)
+        root.now macros.now fixed.now document.now) }
+{
+    if !document.is_of(root, macros, fixed) {
+        return Ok(false);
+    }
+    are_told(alloc, rules, known, document.files())
+}
+
+// A document of which no file is known.
+fn unread(
+    alloc: Global,
+    root: &Path,
+    macros: &Rows<Macro>,
+    fixed: &Rows<Macro>,
+) -> Result<OpenDocument, WantOfMemory>
+    ensures { IfOk result (λ d.
+        d ≡ record { root = root.now; macros = macros.now; fixed = fixed.now; files = [] }) }
+{
+    let root = shared_path(alloc, root)?;
+    let macros = macros.copy(alloc)?;
+    let fixed = fixed.copy(alloc)?;
+    Ok(OpenDocument::new(root, macros, fixed, Rows::new(alloc)))
+}
+
+// The document that an earlier turn left, where this one is told the same, else one at its
+// beginning.
+fn begun<S: StepTypes>(
+    alloc: Global,
+    rules: &S,
+    known: &KnownAnswers<'_, S::Key, S::Out>,
+    root: &Path,
+    macros: &Rows<Macro>,
+    fixed: &Rows<Macro>,
+    parked: Option<OpenDocument>,
+) -> Result<OpenDocument, WantOfMemory>
+    ensures { IfOk result (λ d. IsBegun (gets S.Key.cmp S.staged.fits known.now)
+        root.now macros.now fixed.now d) }
+{
+    if let Some(document) = parked {
+        if may_go_on(alloc, rules, known, root, macros, fixed, &document)? {
+            return Ok(document);
         }
     }
-    Ok(files)
+    unread(alloc, root, macros, fixed)
 }
 
 // Learns what was got of one path more.
@@ -89,18 +174,18 @@ fn learn<S: StepTypes>(
     alloc: Global,
     rules: &S,
     known: &KnownAnswers<'_, S::Key, S::Out>,
-    files: &mut Rows<Known>,
+    document: &mut OpenDocument,
     path: &Path,
     permit: Permit,
 ) -> Result<Permit, Stop<S::Key>>
-    ensures { Learns result (gets S.Key.cmp S.staged.fits known.now) path.now files.old files.new }
+    ensures { Learns result (gets S.Key.cmp S.staged.fits known.now) path.now
+        document.old document.new }
 {
     let mut asks = Rows::new(alloc);
     asks.push(Ask::File(path.copy(alloc)?))?;
     let (given, permit) = gather(alloc, rules, known, asks.items(), permit)?;
     let got = content_of(alloc, given.file(0)?)?;
-    let path = shared_path(alloc, path)?;
-    files.push(Known { path, got })?;
+    document.learn(shared_path(alloc, path)?, got)?;
     Ok(permit)
 }
 
@@ -109,20 +194,19 @@ fn lines_from<S: StepTypes>(
     alloc: Global,
     rules: &S,
     known: &KnownAnswers<'_, S::Key, S::Out>,
-    root: &Path,
-    macros: &Rows<Macro>,
-    fixed: &Rows<Macro>,
+    document: &mut OpenDocument,
     permit: Permit,
 ) -> Result<(Lines, Permit), Stop<S::Key>>
-    ensures { GivesLines S.Key.cmp S.staged.fits known.now root.now macros.now fixed.now result }
+    requires { AreTold (gets S.Key.cmp S.staged.fits known.now) document.old.files }
+    ensures { GivesLines S.Key.cmp S.staged.fits known.now
+        document.old.root document.old.macros document.old.fixed result }
 {
-    let mut files = all_told(alloc, rules, known)?;
     let mut permit = permit;
     loop {
-        match expand(alloc, root, macros, fixed, &files) {
+        match document.go_on(alloc) {
             Ok(Turned::Whole(lines)) => return Ok((lines, permit)),
             Ok(Turned::Need(paths)) => {
-                match learn(alloc, rules, known, &mut files, &paths.items()[0], permit) {
+                match learn(alloc, rules, known, document, &paths.items()[0], permit) {
                     Ok(again) => permit = again,
                     Err(stop) => return Err(stop),
                 }
@@ -133,8 +217,10 @@ fn lines_from<S: StepTypes>(
 }
 
 /// The lines of a document, and the permit again. Each path that an include line comes to is asked
-/// for, one after another, the document's own first. A turn begins with all files that it was told.
-/// The places of a file's lines share its path.
+/// for, one after another, the document's own first. The places of a file's lines share its path.
+///
+/// A document that stops is parked. A later turn goes on with a parked one, if it is told the same
+/// of all files that were read.
 pub fn lines_of<S: StepTypes>(
     alloc: Global,
     rules: &S,
@@ -142,10 +228,17 @@ pub fn lines_of<S: StepTypes>(
     root: &Path,
     macros: &Rows<Macro>,
     fixed: &Rows<Macro>,
+    park: &mut Option<OpenDocument>,
     permit: Permit,
 ) -> Result<(Lines, Permit), Stop<S::Key>>
     ensures { GivesLines S.Key.cmp S.staged.fits known.now root.now macros.now fixed.now result }
 {
-    let root = shared_path(alloc, root)?;
-    lines_from(alloc, rules, known, &root, macros, fixed, permit)
+    let mut document = begun(alloc, rules, known, root, macros, fixed, park.take())?;
+    match lines_from(alloc, rules, known, &mut document, permit) {
+        Ok(read) => Ok(read),
+        Err(stop) => {
+            *park = Some(document);
+            Err(stop)
+        }
+    }
 }

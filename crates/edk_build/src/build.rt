@@ -21,7 +21,7 @@ use crate::request::Request;
 use crate::status::Status;
 use crate::stop::Stop;
 use build_base::{Book, Gate, Sink, Tree};
-use build_rules::EdkRules;
+use build_rules::ParkedRules;
 use std::alloc::Global;
 use std::thread::Threads;
 use step_engine::{Cache, EngineRefusal, Outcome, bring_over};
@@ -119,10 +119,11 @@ pub(crate) fn bring_all<H: Threads + Sync, T: Tree, G: Gate>(
     ensures unedited { HasReadUnedited asked.now.edits.now (T.reads tree.old) (T.reads tree.new) }
 {
     let before = book.ran().len() as u64;
+    let rules = ParkedRules::new(host.alloc);
     let brought = match bring_over(
         host.rt,
         host.alloc,
-        &EdkRules,
+        &rules,
         Key::All,
         asked.fields,
         cache,
