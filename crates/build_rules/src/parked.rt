@@ -10,8 +10,11 @@ use std::sync::Mutex;
 use step_engine::{Answer, Ask, Rules, Talk, Turn};
 use step_pack::{Key, Out};
 
+/// The most documents that stay open at a time. Each holds the lines that it has come to.
+const MOST_OPEN: usize = 64;
+
 /// The steps of an EDK II build. A document that waits for a file stays open until its step's next
-/// turn. A turn that doesn't get hold of it begins the document anew.
+/// turn, unless many are open. A turn that doesn't get hold of it begins the document anew.
 pub struct ParkedRules {
     parks: Mutex<BTreeMap<Key, OpenDocument>>,
 }
@@ -39,7 +42,8 @@ impl ParkedRules {
         }
     }
 
-    // Keeps a document for the step's next turn, if the table is free and there is memory.
+    // Keeps a document for the step's next turn, if the table is free and has room, and there is
+    // memory.
     fn keep(&self, alloc: Global, key: &Key, park: Option<OpenDocument>) {
         let Some(document) = park else {
             return;
@@ -47,7 +51,10 @@ impl ParkedRules {
         let Ok(key) = key.copy(alloc) else {
             return;
         };
-        if let Some(mut parks) = self.parks.try_lock() {
+        let Some(mut parks) = self.parks.try_lock() else {
+            return;
+        };
+        if parks.len() < MOST_OPEN {
             let _ = parks.insert(key, document);
         }
     }
@@ -83,7 +90,9 @@ impl StagedRules for ParkedRules {
     ) -> Result<Out, Stop<Key>> {
         let mut park = self.take(key);
         let outcome = outcome_of(alloc, key, known, &mut park, permit);
-        self.keep(alloc, key, park);
+        if let Err(Stop::Wants(_, _)) = &outcome {
+            self.keep(alloc, key, park);
+        }
         outcome
     }
 
