@@ -1,1 +1,2 @@
+pub mod ComponentLemmas
 pub mod WalkLemmas

@@ -1,9 +1,8 @@
 -- Walks by parents that end at DEFAULT.
-use Rattle.std.proofs.Common.{◌≡◌, ◌∙◌, ◌≤◌, ◌+◌, ◌-◌, ℕ, zero, suc, true, false, if◌then◌else◌, List, length, Option, Some, None, codes, refl, sym, ap, subst, arith}
+use Rattle.std.proofs.Common.{◌≡◌, ◌∙◌, ◌+◌, ◌-◌, ℕ, zero, suc, List, length, Option, Some, None, codes, refl, sym, ap, arith}
 use Rattle.std.specs.Option.{option_and_then}
-use Rattle.std.specs.Str.{bytes_eq}
 use Rattle.doc_types.specs.declared.platform.Sku.{Sku}
-use Rattle.doc_types.specs.SkuWalks.{stated_parent, parent, after, EndsAtDefault}
+use Rattle.doc_types.specs.SkuWalks.{parent, after, EndsAtDefault}
 
 default_ends : (skus : List Sku) → parent skus (codes "DEFAULT") ≡ None
 unfolding parent

@@ -4,9 +4,11 @@
 pub mod arch;
 pub mod asks;
 pub mod choice;
+pub mod components;
 pub mod depex;
 pub mod flash;
 pub mod image;
+pub mod library_lines;
 pub mod module;
 pub mod module_type;
 pub mod package;

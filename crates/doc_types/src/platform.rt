@@ -1,5 +1,7 @@
 //! A platform's description (EDK II DSC specification, version 1.28).
 use crate::arch::Arch;
+use crate::components::Components;
+use crate::library_lines::LibraryLines;
 use crate::module_type::ModuleType;
 use crate::pcd::{Datum, Kind, PcdName};
 use build_base::together::three;
@@ -111,8 +113,8 @@ pub struct PlatformDoc {
     pub sku_choice: Text,
     pub flash: Option<Path>,
     pub skus: Rows<Sku>,
-    pub libraries: Rows<LibraryLine>,
-    pub components: Rows<Component>,
+    pub libraries: LibraryLines,
+    pub components: Components,
     pub pcds: Rows<PcdLine>,
     pub macros: Rows<Macro>,
 }

@@ -9,8 +9,8 @@ use Rattle.doc_types.specs.declared.arch.Arch.{Arch}
 use Rattle.doc_types.specs.declared.platform.PlatformDoc.{PlatformDoc}
 use Rattle.dsc_platform.specs.declared.reading.Added.{Added}
 use Rattle.dsc_platform.specs.declared.reading.Fields.{Fields}
-use Rattle.dsc_platform.specs.declared.reading.Listed.{Listed}
 use Rattle.dsc_platform.specs.declared.reading.Needed.{Needed}
+use Rattle.dsc_platform.specs.declared.reading.Tabled.{Tabled}
 use Rattle.dsc_platform.specs.declared.stated.Keys.{Keys}
 use Rattle.dsc_platform.specs.declared.stated.Options.{Options}
 
@@ -44,8 +44,8 @@ fields_of needed =
       flash = needed.options.flash;
     }
 
-abbrev pub joined_platform : Fields → Listed → Added → PlatformDoc
-joined_platform fields listed added =
+abbrev pub joined_platform : Fields → Tabled → Added → PlatformDoc
+joined_platform fields tabled added =
     record {
       at = record { path = added.root; line = 0 };
       name = fields.name;
@@ -55,8 +55,8 @@ joined_platform fields listed added =
       sku_choice = fields.sku_choice;
       flash = fields.flash;
       skus = added.skus;
-      libraries = listed.libraries;
-      components = listed.components;
-      pcds = listed.pcds;
+      libraries = tabled.libraries;
+      components = tabled.components;
+      pcds = tabled.pcds;
       macros = added.macros;
     }

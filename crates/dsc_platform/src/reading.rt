@@ -28,6 +28,8 @@ use build_base::{
 use doc_reading::missing::refuse_missing;
 use doc_reading::{DocumentFormat, read_whole};
 use doc_types::arch::Arch;
+use doc_types::components::Components;
+use doc_types::library_lines::LibraryLines;
 use doc_types::platform::{Component, LibraryLine, PcdLine, PlatformDoc, Sku};
 use dsc_lines::output_folder::OutputFolder;
 use dsc_lines::platform_name::PlatformName;
@@ -248,9 +250,31 @@ fn added_of(alloc: Global, lines: &Lines, skus: &[SkuLine]) -> Result<Added, Wan
     Ok(Added { root, macros, skus })
 }
 
-fn joined_platform(fields: Fields, listed: Listed, added: Added) -> NamedPlatform
+// The lines below the heads, with the tables by which they are found.
+#[derive(Drop)]
+struct Tabled {
+    libraries: LibraryLines,
+    components: Components,
+    pcds: Rows<PcdLine>,
+}
+
+fn tables_of(alloc: Global, listed: Listed) -> Result<Tabled, WantOfMemory>
+    ensures libraries { IfOk result (λ t. t.libraries ≡ listed.libraries) }
+    ensures components { IfOk result (λ t. t.components ≡ listed.components) }
+    ensures pcds { IfOk result (λ t. t.pcds ≡ listed.pcds) }
+{
+    let libraries = LibraryLines::of(alloc, listed.libraries)?;
+    let components = Components::of(alloc, listed.components)?;
+    Ok(Tabled {
+        libraries,
+        components,
+        pcds: listed.pcds,
+    })
+}
+
+fn joined_platform(fields: Fields, tabled: Tabled, added: Added) -> NamedPlatform
     requires { IsPathField fields.output }
-    ensures { result ≡ joined_platform fields listed added }
+    ensures { result ≡ joined_platform fields tabled added }
 {
     let Fields {
         name,
@@ -274,9 +298,9 @@ fn joined_platform(fields: Fields, listed: Listed, added: Added) -> NamedPlatfor
             sku_choice,
             flash,
             skus,
-            libraries: listed.libraries,
-            components: listed.components,
-            pcds: listed.pcds,
+            libraries: tabled.libraries,
+            components: tabled.components,
+            pcds: tabled.pcds,
             macros,
         },
     }
@@ -294,7 +318,8 @@ fn make_document(
 {
     let fields = fields_of(alloc, needed)?;
     let added = added_of(alloc, lines, listed.skus.items())?;
-    Ok(joined_platform(fields, listed, added))
+    let tabled = tables_of(alloc, listed)?;
+    Ok(joined_platform(fields, tabled, added))
 }
 
 // What the lines came to, when the last block of components is made.

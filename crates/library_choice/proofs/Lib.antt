@@ -9,6 +9,7 @@ pub mod LawLemmas
 pub mod LedLemmas
 pub mod MadeLemmas
 pub mod MoreLemmas
+pub mod NullLemmas
 pub mod PathLemmas
 pub mod ReachLemmas
 pub mod RoundLemmas

@@ -10,6 +10,7 @@ use Rattle.doc_types.specs.declared.module.Named.{Named}
 use Rattle.doc_types.specs.declared.platform.Component.{Component}
 use Rattle.doc_types.specs.declared.platform.LibraryLine.{LibraryLine}
 use Rattle.doc_types.specs.declared.platform.PlatformDoc.{PlatformDoc}
+use Rattle.doc_types.specs.Components.{is_component}
 use Rattle.line_ranks.specs.declared.user.Consumer.{Consumer}
 use Rattle.library_choice.specs.Found.{found_in}
 use Rattle.library_choice.specs.Lines.{covers, applies, chosen_line, Setting}
@@ -60,17 +61,13 @@ is_unknown infs path = is_none (known infs path)
 unfoldable pub is_known : List InfDoc → List ℕ → Bool
 is_known infs path = is_some (known infs path)
 
--- the module's own component, for its architecture or for all
-unfoldable pub is_component : Module → Component → Bool
-is_component user component = pointwise nat_eq component.inf user.inf
-    && covers component.arch user.arch
-
 abbrev pub libraries_of : Option Component → List LibraryLine
 libraries_of None = []
 libraries_of (Some component) = component.libraries
 
+-- those in the braces of the module's own component
 unfoldable pub own_lines : Module → List Component → List LibraryLine
-own_lines user components = libraries_of (find (is_component user) components)
+own_lines user components = libraries_of (find (is_component user.inf user.arch) components)
 
 unfoldable pub setting_of : Module → PlatformDoc → List InfDoc → InfDoc → Setting
 setting_of user platform infs inf =

@@ -76,12 +76,12 @@ fn tables_for<'a>(
 ) -> Result<Tables<'a>, WantOfMemory>
     ensures { IfOk result (λ t. t ≡ setting_of user.now platform.now infs inf.now) }
 {
-    let own = own_lines(user, platform.components.items());
+    let own = own_lines(user, &platform.components);
     let asking = Consumer {
         arch: user.arch,
         kind: inf.module_type,
     };
-    Tables::new(alloc, asking, platform.libraries.items(), own, infs)
+    Tables::new(alloc, asking, &platform.libraries, own, infs)
 }
 
 impl<'a> InstanceSearch<'a> {

@@ -10,10 +10,11 @@ ghost use Rattle.line_ranks.specs.Places.{Lines};
 use crate::known_infs::KnownInfs;
 use build_base::{Path, Rows, Same, Text, WantOfMemory};
 use doc_types::arch::covers;
+use doc_types::library_lines::LibraryLines;
 use doc_types::module::{InfDoc, Named};
 use doc_types::platform::LibraryLine;
 use indexmap::IndexMap;
-use line_ranks::{Consumer, applies, line_places, picked_line};
+use line_ranks::{Consumer, applies, best_line, line_places, picked_line};
 use shared_value::Shared;
 use std::alloc::Global;
 use std::marker::Model;
@@ -65,44 +66,45 @@ fn push_nulls(
     Ok(())
 }
 
+// The same of the lines of the sections, of which those of the class NULL are looked at alone.
+fn push_section_nulls(
+    alloc: Global,
+    user: Consumer,
+    sections: &LibraryLines,
+    paths: &mut Rows<Path>,
+) -> Result<(), WantOfMemory>
+    ensures { OnOk result (paths.new ≡ paths.old ++ filter_map (null_of user) sections.now) }
+{
+    let lines = sections.items();
+    let mut place = sections.first_place(b"NULL");
+    while place < lines.len() {
+        push_null(alloc, user, &lines[place], paths)?;
+        place = sections.next_place(place);
+    }
+    Ok(())
+}
+
 // The instances that are linked without a class.
 fn nulls(
     alloc: Global,
     user: Consumer,
-    sections: &[LibraryLine],
+    sections: &LibraryLines,
     own: &[LibraryLine],
 ) -> Result<Rows<Path>, WantOfMemory>
     ensures { IfOk result (λ paths. paths
         ≡ filter_map (null_of user) sections.now ++ filter_map (null_of user) own.now) }
 {
     let mut paths = Rows::new(alloc);
-    let (first, then) = (sections, own);
-    push_nulls(alloc, user, first, &mut paths)?;
-    push_nulls(alloc, user, then, &mut paths)?;
+    push_section_nulls(alloc, user, sections, &mut paths)?;
+    push_nulls(alloc, user, own, &mut paths)?;
     Ok(paths)
-}
-
-// For each class the place of the line that holds, of the sections and of the module's own braces.
-fn both_places(
-    alloc: Global,
-    user: Consumer,
-    sections: &[LibraryLine],
-    own: &[LibraryLine],
-) -> Result<(IndexMap<Text, usize>, IndexMap<Text, usize>), WantOfMemory>
-    ensures sections { IfOk result (λ x. Lines user false sections.now sections.now x.0) }
-    ensures own { IfOk result (λ x. Lines user true own.now own.now x.1) }
-{
-    let section_places = line_places(alloc, user, false, sections)?;
-    let own_places = line_places(alloc, user, true, own)?;
-    Ok((section_places, own_places))
 }
 
 /// What a choice is made from, with tables over it.
 pub struct Tables<'a> {
     user: Consumer,
-    sections: &'a [LibraryLine],
+    sections: &'a LibraryLines,
     own: &'a [LibraryLine],
-    section_places: IndexMap<Text, usize>,
     own_places: IndexMap<Text, usize>,
     nulls: Rows<Path>,
     infs: KnownInfs,
@@ -115,7 +117,6 @@ impl Drop for Tables<'_> {
             user: _user,
             sections: _sections,
             own: _own,
-            section_places: _section_places,
             own_places: _own_places,
             nulls: _nulls,
             infs: _infs,
@@ -124,7 +125,7 @@ impl Drop for Tables<'_> {
 }
 
 impl<'a> Model for Tables<'a> {
-    ghost use Rattle.std.specs.Prelude.{true, false, ◌≡◌, ◌++◌};
+    ghost use Rattle.std.specs.Prelude.{true, ◌≡◌, ◌++◌};
     ghost use Rattle.std.specs.List.{filter_map};
     ghost use Rattle.library_choice.specs.Closure.{null_of};
     ghost use Rattle.library_choice.specs.Lines.{Setting};
@@ -136,8 +137,7 @@ impl<'a> Model for Tables<'a> {
         record { user = t.user; sections = t.sections.now; own = t.own.now; infs = t.infs } };
 
     ghost invariant = { λ t.
-        (Lines t.user false t.sections.now t.sections.now t.section_places)
-        × (Lines t.user true t.own.now t.own.now t.own_places)
+        (Lines t.user true t.own.now t.own.now t.own_places)
         × (t.nulls ≡ filter_map (null_of t.user) t.sections.now ++ filter_map (null_of t.user) t.own.now) };
 }
 
@@ -146,7 +146,7 @@ impl<'a> Tables<'a> {
     pub fn new(
         alloc: Global,
         user: Consumer,
-        sections: &'a [LibraryLine],
+        sections: &'a LibraryLines,
         own: &'a [LibraryLine],
         infs: KnownInfs,
     ) -> Result<Tables<'a>, WantOfMemory>
@@ -154,12 +154,11 @@ impl<'a> Tables<'a> {
             (λ t. t ≡ record { user = user; sections = sections.now; own = own.now; infs = infs }) }
     {
         let nulls = nulls(alloc, user, sections, own)?;
-        let (section_places, own_places) = both_places(alloc, user, sections, own)?;
+        let own_places = line_places(alloc, user, true, own)?;
         Ok(Tables {
             user,
             sections,
             own,
-            section_places,
             own_places,
             nulls,
             infs,
@@ -179,7 +178,6 @@ impl<'a> Tables<'a> {
             user,
             sections,
             own,
-            section_places,
             own_places,
             nulls,
             infs,
@@ -189,7 +187,6 @@ impl<'a> Tables<'a> {
             user,
             sections,
             own,
-            section_places,
             own_places,
             nulls,
             infs,
@@ -218,7 +215,7 @@ impl<'a> Tables<'a> {
     {
         match picked_line(self.own, &self.own_places, class) {
             Some(line) => Some(line),
-            None => picked_line(self.sections, &self.section_places, class),
+            None => best_line(self.user, self.sections, class.bytes()),
         }
     }
 

@@ -1,42 +1,24 @@
 //! Which INF files are wanted next.
-ghost use Rattle.std.specs.Prelude.{◌≡◌, true, find, IfOk};
+ghost use Rattle.std.specs.Prelude.{◌≡◌, true, IfOk};
 ghost use Rattle.std.specs.Option.{option_copied};
-ghost use Rattle.library_choice.specs.Closure.{known, is_known, is_component, libraries_of, own_lines, wanted};
+ghost use Rattle.library_choice.specs.Closure.{known, is_known, libraries_of, own_lines, wanted};
 ghost use Rattle.library_choice.specs.Rounds.{Falls};
 
 use crate::search::InstanceSearch;
 use build_base::{Path, Rows, Same, WantOfMemory};
-use doc_types::arch::covers;
 use doc_types::choice::Module;
+use doc_types::components::Components;
 use doc_types::module::InfDoc;
-use doc_types::platform::{Component, LibraryLine, PlatformDoc};
+use doc_types::platform::{LibraryLine, PlatformDoc};
 use shared_value::Shared;
 use std::alloc::Global;
 
-#[tactic(auto, unfolding(crate::specs::Closure::is_component))]
-fn is_component(user: &Module, component: &Component) -> bool
-    ensures { result ≡ is_component user.now component.now }
-{
-    component.inf == user.inf && covers(component.arch, user.arch)
-}
-
-fn component_of<'a>(user: &Module, components: &'a [Component]) -> Option<&'a Component>
-    ensures { option_copied result ≡ find (is_component user.now) components.now }
-{
-    for component in components {
-        if is_component(user, component) {
-            return Some(component);
-        }
-    }
-    None
-}
-
 /// The lines of [LibraryClasses] in the braces of a module's own component.
 #[tactic(auto, unfolding(crate::specs::Closure::own_lines))]
-pub(crate) fn own_lines<'a>(user: &Module, components: &'a [Component]) -> &'a [LibraryLine]
+pub(crate) fn own_lines<'a>(user: &Module, components: &'a Components) -> &'a [LibraryLine]
     ensures { result.now ≡ own_lines user.now components.now }
 {
-    match component_of(user, components) {
+    match components.find(&user.inf, user.arch) {
         Some(component) => component.libraries.items(),
         None => &[],
     }

@@ -1,12 +1,16 @@
 -- Tables of places, made item by item.
-use Rattle.std.proofs.Common.{◌≡◌, ◌∙◌, ℕ, ◌+◌, ◌<◌, ◌≤◌, Bool, true, false, cond, nat_eq, nat_lt, List, [], ◌∷◌, ◌++◌, length, take, get_or, Option, Some, None, refl, sym, ap, subst, arith, add-one}
+use Rattle.std.proofs.Common.{◌≡◌, ◌∙◌, ℕ, ◌+◌, ◌<◌, ◌≤◌, Bool, true, false, cond, nat_eq, nat_lt, List, [], ◌∷◌, ◌++◌, length, take, drop, map, get_or, Option, Some, None, refl, sym, ap, subst, arith, add-one}
 use Rattle.std.specs.HashMap.{HashMap, get}
 use Rattle.std.specs.Cmp.Lexicographic.{pointwise, same_text}
 use Rattle.std.proofs.Math.Seq.{take-suc}
 use Rattle.std.proofs.lemmas.Bool.{ltb-true, ltb-false, lt-leb, le-leb, lt-ltb}
 use Rattle.std.proofs.lemmas.Option.{slice_get-get_or}
 use Rattle.build_base.specs.Best.{best, counted, over}
-use Rattle.build_base.proofs.BestLemmas.{best-append, over-none, best-counts}
+use Rattle.build_base.proofs.BestLemmas.{best-append, best_more, over-none, best-counts}
+use Rattle.build_base.specs.Digest.{digest}
+use Rattle.number_chains.specs.Chains.{IsNext}
+use Rattle.number_chains.proofs.SkipLemmas.{skipped as passed_along}
+use Rattle.doc_types.specs.LibraryLines.{class_number}
 use Rattle.doc_types.specs.declared.platform.LibraryLine.{LibraryLine}
 use Rattle.line_ranks.specs.declared.user.Consumer.{Consumer}
 use Rattle.line_ranks.specs.Lines.{rank, weight}
@@ -112,3 +116,30 @@ lines_added user own lines i line table new k h e is p o update held = λ key.
 pub lines_none : {S : Type 0} (user : Consumer) (own : Bool) (lines : List LibraryLine) (table : HashMap (List ℕ) ℕ S) → table.entries ≡ [] → Lines user own lines [] table
 unfolding best
 lines_none user own lines table e = λ key. rw e refl
+
+-- Lines of a class that are found along the places of its number.
+
+other_class : (user : Consumer) (class : List ℕ) (x : LibraryLine) (b : Bool) → pointwise nat_eq x.class class ≡ b → (class_number x ≡ digest class → ⊥) → weight user false class x ≡ 0
+other_class user class x true e differs = absurd (differs (ap digest (same_text x.class class (sym e))))
+other_class user class x false e differs = ap {B = ℕ} (λ a. cond a (rank user false x) 0) e
+
+best_adds : (w : LibraryLine → ℕ) (x : LibraryLine) (rest : List LibraryLine) → w x ≡ 0 → best w (x ∷ rest) ≡ best w rest
+unfolding best
+best_adds w x rest e = ap (λ c. over w c (best w rest)) (counted-none w x e)
+
+-- up to the next line whose class has the number, none weighs anything
+pub best_behind : (user : Consumer) (class : List ℕ) (xs : List LibraryLine) (start place : ℕ) → IsNext (map class_number xs) start (digest class) place
+    → best (weight user false class) (drop start xs) ≡ best (weight user false class) (drop place xs)
+best_behind user class xs start place h =
+    passed_along (best (weight user false class)) class_number (digest class)
+    (λ x rest differs. best_adds (weight user false class) x rest (other_class user class x (pointwise nat_eq x.class class) refl differs)) xs start place h
+
+-- one line more is looked at, and then those behind it
+pub best_step : (user : Consumer) (class : List ℕ) (xs : List LibraryLine) (place next : ℕ) (x : LibraryLine) (held : Option LibraryLine) → place < length xs → x ≡ get_or xs place x
+    → IsNext (map class_number xs) (place + 1) (digest class) next
+    → over (weight user false class) (over (weight user false class) held (counted (weight user false class) x)) (best (weight user false class) (drop next xs)) ≡ over (weight user false class) held (best (weight user false class) (drop place xs))
+best_step user class xs place next x held h e n =
+    let w = weight user false class in
+    ap (over w (over w held (counted w x))) (sym (best_behind user class xs (place + 1) next n))
+    ∙ ap (λ y. over w (over w held (counted w y)) (best w (drop (place + 1) xs))) e
+    ∙ sym (best_more w xs place x held h)

@@ -7,5 +7,5 @@ mod places;
 mod user;
 
 pub use lines::{applies, rank, same_type, type_covers};
-pub use places::{line_places, picked_line};
+pub use places::{best_line, line_places, picked_line};
 pub use user::Consumer;

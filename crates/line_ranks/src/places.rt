@@ -1,12 +1,15 @@
 //! The line that holds for each class.
-ghost use Rattle.std.specs.Prelude.{◌≡◌, ◌<◌, ◌+◌, take, length, IfOk, OnOk};
+ghost use Rattle.std.specs.Prelude.{◌≡◌, ◌<◌, ◌+◌, false, take, length, IfOk, OnOk};
 ghost use Rattle.std.specs.HashMap.{get};
 ghost use Rattle.std.specs.Option.{option_copied};
+ghost use Rattle.build_base.specs.Best.{best, counted, over};
+ghost use Rattle.line_ranks.specs.Lines.{weight};
 ghost use Rattle.line_ranks.specs.Places.{Lines, outweighs, picked_line};
 
 use crate::lines::rank;
 use crate::user::Consumer;
 use build_base::{Same, Text, WantOfMemory};
+use doc_types::library_lines::LibraryLines;
 use doc_types::platform::LibraryLine;
 use indexmap::IndexMap;
 use std::alloc::Global;
@@ -61,6 +64,59 @@ fn add_line(
         Ok(_) => Ok(()),
         Err(_) => Err(WantOfMemory),
     }
+}
+
+fn weight(user: Consumer, class: &[u8], line: &LibraryLine) -> u8
+    ensures { result ≡ weight user false class.now line.now }
+{
+    if line.class.bytes() == class {
+        return rank(user, false, line);
+    }
+    0
+}
+
+// Of what is held and a line below it the one that goes before the other.
+fn greater<'a>(
+    user: Consumer,
+    class: &[u8],
+    held: Option<&'a LibraryLine>,
+    line: &'a LibraryLine,
+) -> Option<&'a LibraryLine>
+    ensures { option_copied result ≡ over (weight user false class.now) (option_copied held.entry)
+        (counted (weight user false class.now) line.now) }
+{
+    let below = weight(user, class, line);
+    if below == 0 {
+        return held;
+    }
+    match held {
+        None => Some(line),
+        Some(above) => {
+            if weight(user, class, above) <= below {
+                Some(line)
+            } else {
+                Some(above)
+            }
+        }
+    }
+}
+
+/// Of the lines of a platform's sections the one that holds for a class.
+pub fn best_line<'a>(
+    user: Consumer,
+    lines: &'a LibraryLines,
+    class: &[u8],
+) -> Option<&'a LibraryLine>
+    ensures { option_copied result ≡ best (weight user false class.now) lines.now }
+{
+    let rows = lines.items();
+    let mut held = None;
+    let mut place = lines.first_place(class);
+    while place < rows.len() {
+        held = greater(user, class, held, &rows[place]);
+        place = lines.next_place(place);
+    }
+    held
 }
 
 /// For each class the place of the line that holds.

@@ -6,6 +6,8 @@ ghost use Rattle.packed_documents.specs.Platform.{component_first, component_fir
 use crate::pcds::PcdNameEncoding;
 use crate::words::{ArchEncoding, DatumEncoding, KindEncoding, ModuleTypeEncoding};
 use build_base::{Guid, Macro, Path, Place, Rows, Text, WantOfMemory};
+use doc_types::components::Components;
+use doc_types::library_lines::LibraryLines;
 use doc_types::platform::{Component, LibraryLine, PcdLine, PlatformDoc, Sku, Store};
 use packed_values::fields::{encode_five, encode_three};
 use packed_values::plain::encode_byte;
@@ -253,6 +255,52 @@ impl Encode for ComponentEncoding {
     }
 }
 
+// Library lines, as rows.
+struct LibraryLinesEncoding;
+
+impl Encode for LibraryLinesEncoding {
+    ghost use Rattle.packed_values.specs.Parts.{rows_encoding};
+    ghost use Rattle.packed_documents.specs.Platform.{library_line_encoding};
+
+    type Value = LibraryLines;
+
+    ghost encoding = { rows_encoding library_line_encoding };
+
+    fn encode(value: &LibraryLines, out: &mut Vec<u8>) -> Result<(), WantOfMemory> {
+        Rows::<LibraryLineEncoding>::encode(value.rows(), out)
+    }
+
+    fn decode(alloc: Global, input: &mut Input) -> Result<Option<LibraryLines>, WantOfMemory> {
+        match Rows::<LibraryLineEncoding>::decode(alloc, input)? {
+            None => Ok(None),
+            Some(rows) => Ok(Some(LibraryLines::of(alloc, rows)?)),
+        }
+    }
+}
+
+// Components, as rows.
+struct ComponentsEncoding;
+
+impl Encode for ComponentsEncoding {
+    ghost use Rattle.packed_values.specs.Parts.{rows_encoding};
+    ghost use Rattle.packed_documents.specs.Platform.{component_encoding};
+
+    type Value = Components;
+
+    ghost encoding = { rows_encoding component_encoding };
+
+    fn encode(value: &Components, out: &mut Vec<u8>) -> Result<(), WantOfMemory> {
+        Rows::<ComponentEncoding>::encode(value.rows(), out)
+    }
+
+    fn decode(alloc: Global, input: &mut Input) -> Result<Option<Components>, WantOfMemory> {
+        match Rows::<ComponentEncoding>::decode(alloc, input)? {
+            None => Ok(None),
+            Some(rows) => Ok(Some(Components::of(alloc, rows)?)),
+        }
+    }
+}
+
 /// How a value of `PlatformDoc` is encoded.
 pub struct PlatformDocEncoding;
 
@@ -261,8 +309,8 @@ type PlatformDocFirst = (Place, Text, Guid, Path);
 type PlatformDocSecond = (Rows<ArchEncoding>, Text, Option<Path>, Rows<SkuEncoding>);
 
 type PlatformDocThird = (
-    Rows<LibraryLineEncoding>,
-    Rows<ComponentEncoding>,
+    LibraryLinesEncoding,
+    ComponentsEncoding,
     Rows<PcdLineEncoding>,
     Rows<Macro>,
 );
@@ -296,7 +344,7 @@ fn encode_platform_doc_third(value: &PlatformDoc, out: &mut Vec<u8>) -> Result<(
         (IsAppended platform_doc_third_encoding out.old.items (platform_doc_third value.now)
         out.new.items) }
 {
-    encode_fields!(value, out; libraries: Rows<LibraryLineEncoding>, components: Rows<ComponentEncoding>, pcds: Rows<PcdLineEncoding>, macros: Rows<Macro>)
+    encode_fields!(value, out; libraries: LibraryLinesEncoding, components: ComponentsEncoding, pcds: Rows<PcdLineEncoding>, macros: Rows<Macro>)
 }
 
 // The record of all its fields.

@@ -1,5 +1,6 @@
 pub mod DatumLemmas
 pub mod GroupLemmas
+pub mod HomeLemmas
 pub mod NameFilterLemmas
 pub mod PassLemmas
 pub mod SkuLemmas

@@ -1,5 +1,5 @@
 -- The names of the lines of tables, and what the tables of a module hold.
-use Rattle.std.specs.Prelude.{◌≡◌, ℕ, Bool, true, List, Option, map}
+use Rattle.std.specs.Prelude.{◌≡◌, ℕ, Bool, true, List, Option, Some, map}
 use Rattle.std.specs.List.{All}
 use Rattle.doc_types.specs.declared.pcd.PcdSet.{PcdSet}
 use Rattle.doc_types.specs.declared.platform.Component.{Component}
@@ -29,6 +29,10 @@ declared_name d = full_name d.line.pcd
 
 abbrev pub at_home : Option Component → PcdLine → Stated
 at_home home line = record { home = home; line = line }
+
+-- the lines of a component
+abbrev pub lines_at : Component → List Stated
+lines_at home = map (at_home (Some home)) home.pcds
 
 -- the tables of a module hold what its parts say of marked names
 pub record IsTabled (tables : ModuleTables) : Type 0 where

@@ -9,12 +9,13 @@ ghost use Rattle.doc_types.specs.Pcds.{full_name};
 ghost use Rattle.pcd_resolve.specs.Additions.{AddsAt};
 ghost use Rattle.pcd_resolve.specs.Groups.{Grouped, GroupedAt};
 ghost use Rattle.pcd_ranks.specs.Listing.{Declared, Stated, line_from, package_lines, stated_in};
-ghost use Rattle.pcd_resolve.specs.Tables.{declared_name, stated_name, set_name, row_name, at_home};
+ghost use Rattle.pcd_resolve.specs.Tables.{declared_name, stated_name, set_name, row_name, at_home, lines_at};
 ghost use Rattle.pcd_ranks.specs.Views.{declared_view, stated_view};
 
 use crate::groups::add;
 use crate::name_filter::is_pcd_kept;
 use build_base::{Path, WantOfMemory};
+use doc_types::components::Components;
 use doc_types::package::DecPcd;
 use doc_types::parts::Package;
 use doc_types::pcd::{PcdName, PcdSet};
@@ -69,25 +70,41 @@ fn add_component<'a>(
 ) -> Result<(), WantOfMemory>
     ensures { (xs : List Stated) → GroupedAt marks.now stated_view stated_name xs table.old
         → OnOk result (GroupedAt marks.now stated_view stated_name
-        (xs ++ map (at_home (Some one.now)) one.now.pcds) table.new) }
+        (xs ++ lines_at one.now) table.new) }
 {
     add_lines(alloc, marks, table, Some(one), one.pcds.items())?;
     Ok(())
 }
 
+fn add_each<'a>(
+    alloc: Global,
+    marks: &[bool],
+    table: &mut IndexMap<Vec<u8>, Vec<StatedLine<'a>>>,
+    homes: &[&'a Component],
+) -> Result<(), WantOfMemory>
+    ensures { (xs : List Stated) → GroupedAt marks.now stated_view stated_name xs table.old
+        → OnOk result (GroupedAt marks.now stated_view stated_name
+        (xs ++ flat_map (λ one. lines_at one.now) homes.now) table.new) }
+{
+    for one in homes {
+        add_component(alloc, marks, table, *one)?;
+    }
+    Ok(())
+}
+
+// Of all components those that have lines are looked at alone.
 fn add_components<'a>(
     alloc: Global,
     marks: &[bool],
     table: &mut IndexMap<Vec<u8>, Vec<StatedLine<'a>>>,
-    homes: &'a [Component],
+    homes: &'a Components,
 ) -> Result<(), WantOfMemory>
     ensures { (xs : List Stated) → GroupedAt marks.now stated_view stated_name xs table.old
         → OnOk result (GroupedAt marks.now stated_view stated_name
-        (xs ++ flat_map (λ one. map (at_home (Some one)) one.pcds) homes.now) table.new) }
+        (xs ++ flat_map lines_at homes.now) table.new) }
 {
-    for one in homes {
-        add_component(alloc, marks, table, one)?;
-    }
+    let with_lines = homes.with_lines(alloc)?;
+    add_each(alloc, marks, table, with_lines.as_slice())?;
     Ok(())
 }
 
@@ -195,12 +212,11 @@ fn lines_of<'a>(
     alloc: Global,
     marks: &[bool],
     lines: &'a [PcdLine],
-    homes: &'a [Component],
+    homes: &'a Components,
 ) -> Result<IndexMap<Vec<u8>, Vec<StatedLine<'a>>>, WantOfMemory>
     ensures { IfOk result
         (λ table. GroupedAt marks.now stated_view stated_name
-        (map (at_home None) lines.now ++ flat_map (λ one. map (at_home (Some one)) one.pcds)
-        homes.now) table) }
+        (map (at_home None) lines.now ++ flat_map lines_at homes.now) table) }
 {
     let mut table = IndexMap::new(alloc);
     add_lines(alloc, marks, &mut table, None, lines)?;
@@ -218,12 +234,7 @@ pub fn lines_by_name<'a>(
     ensures { IfOk result
         (λ table. GroupedAt marks.now stated_view stated_name (stated_in platform.now) table) }
 {
-    lines_of(
-        alloc,
-        marks,
-        platform.pcds.items(),
-        platform.components.items(),
-    )
+    lines_of(alloc, marks, platform.pcds.items(), &platform.components)
 }
 
 /// All of the platform's lines by their names.

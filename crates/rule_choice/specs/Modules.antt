@@ -1,23 +1,18 @@
 -- The architecture of a module in a volume (EDK II FDF specification, INF statements).
-use Rattle.std.specs.Prelude.{ℕ, Bool, ◌||◌, ◌&&◌, not, nat_eq, if◌then◌else◌, List, [], ◌∷◌, Option, Some, None, Result, Ok, Err}
+use Rattle.std.specs.Prelude.{ℕ, Bool, not, find, if◌then◌else◌, List, [], ◌∷◌, Option, Some, None, Result, Ok, Err}
 use Rattle.std.specs.List.{list_any, flat_map}
-use Rattle.std.specs.Cmp.Lexicographic.{pointwise}
+use Rattle.std.specs.Option.{is_some}
 use Rattle.build_base.specs.FaultText.{fault_of}
 use Rattle.build_base.specs.declared.fault.Fault.{Fault}
 use Rattle.doc_types.specs.declared.arch.Arch.{Arch}
-use Rattle.doc_types.specs.declared.arch.Arch.TheVariants.{Common}
 use Rattle.doc_types.specs.declared.platform.Component.{Component}
 use Rattle.doc_types.specs.declared.volume.InfLine.{InfLine}
+use Rattle.doc_types.specs.Components.{is_component}
 use Rattle.rule_choice.specs.Rules.{same_arch}
 use Rattle.build_base.specs.FaultCodes.{ARCH_AMBIGUOUS, NOT_A_COMPONENT}
 
--- a component is this module, and is for this architecture or for all
-abbrev pub is_component : List ℕ → Arch → Component → Bool
-is_component inf arch component = pointwise nat_eq component.inf inf
-    && (same_arch component.arch Common || same_arch component.arch arch)
-
 abbrev pub has_component : List Component → List ℕ → Arch → Bool
-has_component components inf arch = list_any (is_component inf arch) components
+has_component components inf arch = is_some (find (is_component inf arch) components)
 
 abbrev pub having_one : List Component → List ℕ → Arch → List Arch
 having_one components inf arch = if has_component components inf arch then arch ∷ [] else []

@@ -3,49 +3,25 @@ ghost use Rattle.std.specs.Prelude.{◌≡◌, ◌++◌, ◌∷◌, [], IfOk, On
 ghost use Rattle.std.specs.List.{list_any, flat_map};
 ghost use Rattle.build_base.specs.Answer.{Answers, Finds};
 ghost use Rattle.rule_choice.specs.Rules.{same_arch};
-ghost use Rattle.rule_choice.specs.Modules.{is_component, has_component, having_one, having, other_arch, no_component, is_among, only_arch, arch_among, inf_arch};
+ghost use Rattle.rule_choice.specs.Modules.{having_one, having, other_arch, no_component, is_among, only_arch, arch_among, inf_arch};
 
 use build_base::fault_codes::{ARCH_AMBIGUOUS, NOT_A_COMPONENT};
 use build_base::{Path, Refusal, Rows, WantOfMemory, refuse};
 use doc_types::arch::{Arch, same_arch};
-use doc_types::platform::{Component, PlatformDoc};
+use doc_types::components::Components;
+use doc_types::platform::PlatformDoc;
 use doc_types::volume::InfLine;
 use std::alloc::Global;
 
-fn is_component(inf: &Path, arch: Arch, component: &Component) -> bool
-    ensures { result ≡ is_component inf.now arch component.now }
-{
-    if component.inf != *inf {
-        return false;
-    }
-    if same_arch(component.arch, Arch::Common) {
-        return true;
-    }
-    same_arch(component.arch, arch)
-}
-
-fn has_component(components: &[Component], inf: &Path, arch: Arch) -> bool
-    ensures { result ≡ has_component components.now inf.now arch }
-{
-    let mut left = components;
-    while let [component, rest @ ..] = left {
-        if is_component(inf, arch, component) {
-            return true;
-        }
-        left = rest;
-    }
-    false
-}
-
 fn push_having(
     having: &mut Rows<Arch>,
-    components: &[Component],
+    components: &Components,
     inf: &Path,
     arch: Arch,
 ) -> Result<(), WantOfMemory>
     ensures { OnOk result (having.new ≡ having.old ++ having_one components.now inf.now arch) }
 {
-    if has_component(components, inf, arch) {
+    if components.find(inf, arch).is_some() {
         return having.push(arch);
     }
     Ok(())
@@ -54,7 +30,7 @@ fn push_having(
 // The built architectures that have the component.
 fn having(
     alloc: Global,
-    components: &[Component],
+    components: &Components,
     inf: &Path,
     arches: &[Arch],
 ) -> Result<Rows<Arch>, WantOfMemory>
@@ -140,7 +116,6 @@ pub fn inf_arch(
 ) -> Result<Arch, Refusal>
     ensures { Answers result (inf_arch line.now platform.now.components arches.now) }
 {
-    let components = platform.components.items();
-    let found = having(alloc, components, &line.inf, arches.items())?;
+    let found = having(alloc, &platform.components, &line.inf, arches.items())?;
     arch_among(alloc, line, found.items())
 }

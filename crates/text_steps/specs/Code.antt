@@ -1,7 +1,6 @@
 -- What the step of a module's texts gives, once all that it asks is answered (EDK II Build
 -- specification, AutoGen files; EDK II DSC specification, FILE_GUID of a component).
-use Rattle.std.specs.Prelude.{Bool, ◌&&◌, find, if◌then◌else◌, List, [], ◌∷◌, Option, Some, None, Result, Ok, Err}
-use Rattle.std.specs.Str.{bytes_eq}
+use Rattle.std.specs.Prelude.{find, if◌then◌else◌, List, [], ◌∷◌, Option, Some, None, Result, Ok, Err}
 use Rattle.build_base.specs.First.{and_then}
 use Rattle.build_base.specs.declared.fault.Fault.{Fault}
 use Rattle.build_base.specs.declared.guid.Guid.{Guid}
@@ -16,20 +15,16 @@ use Rattle.doc_types.specs.declared.platform.Component.{Component}
 use Rattle.doc_types.specs.declared.platform.PlatformDoc.{PlatformDoc}
 use Rattle.doc_types.specs.declared.texts.Texts.{Texts}
 use Rattle.doc_types.specs.declared.values.Values.{Values}
-use Rattle.pcd_resolve.specs.Names.{covers}
-
--- the module's component: that of its INF file, for its architecture or for all; a platform has one
--- at most
-abbrev pub is_component : Module → Component → Bool
-is_component m component = bytes_eq component.inf m.inf && covers component.arch m.arch
+use Rattle.doc_types.specs.Components.{is_component}
 
 abbrev pub guid_in : Option Component → Option Guid
 guid_in None = None
 guid_in (Some component) = component.file_guid
 
--- the GUID that the component states, if it states one
+-- the GUID that the module's component states, if it states one; a platform has one component at most
+-- of an INF file for an architecture
 unfoldable pub stated_guid : PlatformDoc → Module → Option Guid
-stated_guid platform m = guid_in (find (is_component m) platform.components)
+stated_guid platform m = guid_in (find (is_component m.inf m.arch) platform.components)
 
 -- the first description is the module's own
 abbrev pub own_guid : List InfDoc → Result Guid Fault

@@ -1,49 +1,30 @@
 //! The texts of a module.
-ghost use Rattle.std.specs.Prelude.{◌≡◌, find, IfOk};
-ghost use Rattle.std.specs.Option.{option_copied};
+ghost use Rattle.std.specs.Prelude.{◌≡◌, IfOk};
 ghost use Rattle.build_base.specs.Answer.{Answers};
 ghost use Rattle.build_stages.specs.Gives.{GivesIn};
 ghost use Rattle.build_texts.specs.Code.{code_texts};
-ghost use Rattle.text_steps.specs.Code.{is_component, stated_guid, own_guid, file_guid, code_ask, code_given};
+ghost use Rattle.text_steps.specs.Code.{stated_guid, own_guid, file_guid, code_ask, code_given};
 
 use build_base::together::two;
 use build_base::{Guid, Permit, Refusal, WantOfMemory};
 use build_stages::Stop;
 use build_texts::{CodeAsk, code_texts};
-use doc_types::arch::covers;
 use doc_types::choice::{Choice, Module};
 use doc_types::module::InfDoc;
 use doc_types::parts::ModuleParts;
-use doc_types::platform::{Component, PlatformDoc};
+use doc_types::platform::PlatformDoc;
 use doc_types::texts::Texts;
 use doc_types::values::Values;
 use shared_value::Shared;
 use std::alloc::Global;
 use step_pack::Key;
 
-fn is_component(module: &Module, component: &Component) -> bool
-    ensures { result ≡ is_component «module».now component.now }
-{
-    component.inf == module.inf && covers(component.arch, module.arch)
-}
-
-fn component_of<'a>(module: &Module, components: &'a [Component]) -> Option<&'a Component>
-    ensures { option_copied result ≡ find (is_component «module».now) components.now }
-{
-    for component in components {
-        if is_component(module, component) {
-            return Some(component);
-        }
-    }
-    None
-}
-
 /// The GUID that the module's component states.
 #[tactic(auto, unfolding(crate::specs::Code::stated_guid))]
 pub fn stated_guid(platform: &PlatformDoc, module: &Module) -> Option<Guid>
     ensures { result ≡ stated_guid platform.now «module».now }
 {
-    match component_of(module, platform.components.items()) {
+    match platform.components.find(&module.inf, module.arch) {
         Some(component) => component.file_guid,
         None => None,
     }
