@@ -1,4 +1,4 @@
-use Rattle.std.proofs.Common.{rules, arith, ℕ, ◌≡◌, ◌∙◌, sym, ap, subst, map, drop, List, ◌+◌, ◌++◌, ◌∷◌, [], get_or, codes, append_assoc}
+use Rattle.std.proofs.Common.{rules, arith, ℕ, ◌∙◌, sym, ap, subst, map, drop, List, ◌+◌, ◌++◌, ◌∷◌, [], get_or, codes, append_assoc}
 use Rattle.std.proofs.lemmas.List.{length-map}
 use Rattle.std.specs.List.{filter_map}
 use Rattle.build_base.specs.Digest.{digest}

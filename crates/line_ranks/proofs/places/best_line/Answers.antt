@@ -1,4 +1,4 @@
-use Rattle.std.proofs.Common.{rules, arith, ◌≡◌, ◌∙◌, sym, ap, subst, map, drop, ◌+◌, get_or, false, Option, None}
+use Rattle.std.proofs.Common.{rules, arith, ◌∙◌, sym, ap, subst, map, drop, ◌+◌, get_or, false, Option}
 use Rattle.std.proofs.lemmas.List.{length-map}
 use Rattle.std.specs.Option.{option_copied}
 use Rattle.build_base.specs.Best.{best, over}

@@ -1,4 +1,3 @@
-use Rattle.std.proofs.Common.{map}
 use Rattle.pcd_resolve.specs.Tables.{stated_name, lines_at}
 use Rattle.pcd_ranks.specs.Views.{stated_view}
 use Rattle.pcd_resolve.proofs.GroupLemmas.{kept_by_some}
