@@ -11,18 +11,20 @@ use case_player::{Output, Stop, Wrong};
 use doc_types::asks::PlatformAsk;
 use doc_types::flash::FlashDoc;
 use doc_types::pcd::PcdSet;
+use doc_types::pcd_lines::PcdLines;
 use doc_types::platform::PlatformDoc;
 use shared_value::Shared;
 use std::alloc::Global;
 
-fn flash_of(alloc: Global, at: Place, sets: Rows<PcdSet>) -> FlashDoc {
-    FlashDoc {
+fn flash_of(alloc: Global, at: Place, sets: Rows<PcdSet>) -> Result<FlashDoc, WantOfMemory> {
+    let sets = PcdLines::of(alloc, sets)?;
+    Ok(FlashDoc {
         at,
         sets,
         devices: Rows::new(alloc),
         volumes: Rows::new(alloc),
         rule_list: Rows::new(alloc),
-    }
+    })
 }
 
 fn shared_flash(
@@ -31,7 +33,7 @@ fn shared_flash(
     sets: Rows<PcdSet>,
 ) -> Result<Shared<FlashDoc>, WantOfMemory> {
     let at = at.copy(alloc)?;
-    Shared::new(alloc, flash_of(alloc, at, sets))
+    Shared::new(alloc, flash_of(alloc, at, sets)?)
 }
 
 fn ask_with(alloc: Global, plan: Plan, platform: PlatformDoc) -> Result<PlatformAsk, WantOfMemory>

@@ -11,6 +11,7 @@ use case_calls_texts::checked_copy;
 use case_player::{Output, Page, Stop};
 use doc_types::asks::{ModuleAsk, PlatformAsk};
 use doc_types::parts::ModuleParts;
+use doc_types::pcd_lines::PcdLines;
 use doc_types::values::{PcdRow, Values};
 use pcd_resolve::{resolve_module, resolve_platform};
 use shared_value::Shared;
@@ -63,7 +64,7 @@ fn dynamic_of(alloc: Global, ask: &PlatformAsk) -> Result<Values, Stop>
 {
     match values_of(alloc, ask) {
         Err(Stop::Bad(_fault)) => Ok(Values {
-            rows: Rows::new(alloc),
+            rows: PcdLines::of(alloc, Rows::new(alloc))?,
         }),
         values => values,
     }

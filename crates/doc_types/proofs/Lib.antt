@@ -1,2 +1,3 @@
 pub mod ComponentLemmas
+pub mod NamePlaceLemmas
 pub mod WalkLemmas

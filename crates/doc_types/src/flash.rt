@@ -1,5 +1,6 @@
 //! A flash description (EDK II FDF specification).
 use crate::pcd::PcdSet;
+use crate::pcd_lines::PcdLines;
 use crate::volume::{RuleDoc, VolumePlan};
 use build_base::{Path, Place, Rows, Same, Text, WantOfMemory, all_same, copied};
 use std::alloc::Global;
@@ -51,7 +52,7 @@ impl Drop for DevicePlan {
 /// stand in the order of their numbers.
 pub struct FlashDoc {
     pub at: Place,
-    pub sets: Rows<PcdSet>,
+    pub sets: PcdLines<PcdSet>,
     pub devices: Rows<DevicePlan>,
     pub volumes: Rows<VolumePlan>,
     pub rule_list: Rows<RuleDoc>,

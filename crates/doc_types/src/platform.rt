@@ -4,6 +4,7 @@ use crate::components::Components;
 use crate::library_lines::LibraryLines;
 use crate::module_type::ModuleType;
 use crate::pcd::{Datum, Kind, PcdName};
+use crate::pcd_lines::PcdLines;
 use build_base::together::three;
 use build_base::{
     Guid, Macro, Path, Place, Rows, Same, Text, WantOfMemory, all_same, copied, copies,
@@ -115,7 +116,7 @@ pub struct PlatformDoc {
     pub skus: Rows<Sku>,
     pub libraries: LibraryLines,
     pub components: Components,
-    pub pcds: Rows<PcdLine>,
+    pub pcds: PcdLines<PcdLine>,
     pub macros: Rows<Macro>,
 }
 

@@ -1,6 +1,7 @@
 //! The values of PCDs (EDK II DSC specification, PCD sections).
 use crate::pcd::{Datum, Kind, PcdName};
-use build_base::{Rows, Same, Text, WantOfMemory, all_same, copied};
+use crate::pcd_lines::PcdLines;
+use build_base::{Same, Text, WantOfMemory, all_same, copied};
 use std::alloc::Global;
 
 /// The value that a SKU has of its own.
@@ -27,7 +28,7 @@ pub struct PcdRow {
 /// Values by their PCDs' token spaces and names, and for each PCD in the order of the chosen SKUs.
 #[derive(Drop)]
 pub struct Values {
-    pub rows: Rows<PcdRow>,
+    pub rows: PcdLines<PcdRow>,
 }
 
 impl Same for SkuRow {

@@ -18,6 +18,7 @@ use dec_docs::read_dec;
 use doc_types::flash::FlashDoc;
 use doc_types::module::InfDoc;
 use doc_types::package::DecDoc;
+use doc_types::pcd_lines::PcdLines;
 use doc_types::platform::PlatformDoc;
 use document_stages::lines_of;
 use dsc_platform::read_platform;
@@ -253,7 +254,7 @@ fn empty_flash(alloc: Global, platform: &PlatformDoc) -> Result<Shared<FlashDoc>
     let at = platform.at.copy(alloc)?;
     let flash = FlashDoc {
         at,
-        sets: Rows::new(alloc),
+        sets: PcdLines::of(alloc, Rows::new(alloc))?,
         devices: Rows::new(alloc),
         volumes: Rows::new(alloc),
         rule_list: Rows::new(alloc),

@@ -30,6 +30,7 @@ use doc_reading::{DocumentFormat, read_whole};
 use doc_types::arch::Arch;
 use doc_types::components::Components;
 use doc_types::library_lines::LibraryLines;
+use doc_types::pcd_lines::PcdLines;
 use doc_types::platform::{Component, LibraryLine, PcdLine, PlatformDoc, Sku};
 use dsc_lines::output_folder::OutputFolder;
 use dsc_lines::platform_name::PlatformName;
@@ -255,7 +256,7 @@ fn added_of(alloc: Global, lines: &Lines, skus: &[SkuLine]) -> Result<Added, Wan
 struct Tabled {
     libraries: LibraryLines,
     components: Components,
-    pcds: Rows<PcdLine>,
+    pcds: PcdLines<PcdLine>,
 }
 
 fn tables_of(alloc: Global, listed: Listed) -> Result<Tabled, WantOfMemory>
@@ -265,10 +266,11 @@ fn tables_of(alloc: Global, listed: Listed) -> Result<Tabled, WantOfMemory>
 {
     let libraries = LibraryLines::of(alloc, listed.libraries)?;
     let components = Components::of(alloc, listed.components)?;
+    let pcds = PcdLines::of(alloc, listed.pcds)?;
     Ok(Tabled {
         libraries,
         components,
-        pcds: listed.pcds,
+        pcds,
     })
 }
 

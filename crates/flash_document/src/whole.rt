@@ -26,6 +26,7 @@ use crate::volumes::{names_of, nests_of, ordered_names, volume_at, volume_plans,
 use build_base::fault_codes::VOLUME_LOOP;
 use build_base::{Path, Place, Refusal, Rows, Same, Text, WantOfMemory, refuse};
 use doc_types::flash::{DevicePlan, FlashDoc};
+use doc_types::pcd_lines::PcdLines;
 use doc_types::volume::VolumePlan;
 use fdf_words::rows::LineRead;
 use indexmap::IndexMap;
@@ -207,7 +208,7 @@ fn document_with(
         → IfOk result (λ d. d ≡ document_of root.now lines.now parts.now) }
 {
     let at = whole_file(alloc, root)?;
-    let sets = all_sets(alloc, lines)?;
+    let sets = PcdLines::of(alloc, all_sets(alloc, lines)?)?;
     let rule_list = rules_of(alloc, parts)?;
     Ok(FlashDoc {
         at,

@@ -1,1 +1,2 @@
 pub mod SkipLemmas
+pub mod MarkLemmas

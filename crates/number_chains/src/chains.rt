@@ -1,6 +1,7 @@
 //! The places of numbers.
-ghost use Rattle.std.specs.Prelude.{◌≡◌, ◌<◌, ◌+◌, length, get_or, IfOk, OnOk};
+ghost use Rattle.std.specs.Prelude.{◌≡◌, ◌<◌, ◌+◌, ◌++◌, [], ◌∷◌, ℕ, length, get_or, map, filter, IfOk, OnOk};
 ghost use Rattle.number_chains.specs.Chains.{IsNext, IsChained, IsChainedFrom, place_in};
+ghost use Rattle.number_chains.specs.Marks.{AreChained, AreMarked, has};
 
 use build_base::WantOfMemory;
 use indexmap::IndexMap;
@@ -32,6 +33,16 @@ fn add(
         Err(_) => return Err(WantOfMemory),
     }
     Ok(())
+}
+
+fn push_row<'a, T>(found: &mut Vec<&'a T>, row: &'a T) -> Result<(), WantOfMemory>
+    ensures { OnOk result (map (λ r. r.now) found.new.items
+        ≡ map (λ r. r.now) found.old.items ++ row.now ∷ []) }
+{
+    match found.push(row) {
+        Ok(()) => Ok(()),
+        Err(_) => Err(WantOfMemory),
+    }
 }
 
 impl Chains {
@@ -68,5 +79,48 @@ impl Chains {
             → IsNext numbers (place + 1) (get_or numbers place 0) result }
     {
         self.next[place]
+    }
+    // Adds the rows of a number, in their order.
+    fn push_rows<'a, T>(
+        &self,
+        rows: &'a [T],
+        number: u64,
+        found: &mut Vec<&'a T>,
+    ) -> Result<(), WantOfMemory>
+        requires chained { AreChained rows.now self.now }
+        ensures { (number_of : T → ℕ) → IsChained (map number_of rows.now) self.now
+            → OnOk result (map (λ r. r.now) found.new.items
+            ≡ map (λ r. r.now) found.old.items ++ filter (has number_of number) rows.now) }
+    {
+        let mut place = self.first(number);
+        while place < rows.len() {
+            push_row(found, &rows[place])?;
+            place = self.next(place);
+        }
+        Ok(())
+    }
+
+    /// The rows whose numbers are marked: number by number, and those of one number in their order.
+    /// The numbers of the rows are those of these chains.
+    pub fn marked_rows<'a, T>(
+        &self,
+        alloc: Global,
+        rows: &'a [T],
+        marks: &[bool],
+    ) -> Result<Vec<&'a T>, WantOfMemory>
+        requires chained { AreChained rows.now self.now }
+        ensures { (number_of : T → ℕ) → IsChained (map number_of rows.now) self.now
+            → IfOk result
+            (λ found. AreMarked number_of marks.now rows.now (map (λ r. r.now) found.items)) }
+    {
+        let mut found = Vec::new(alloc);
+        let mut number = 0;
+        while number < marks.len() {
+            if marks[number] {
+                self.push_rows(rows, number as u64, &mut found)?;
+            }
+            number += 1;
+        }
+        Ok(found)
     }
 }

@@ -7,6 +7,8 @@ use crate::pcds::PcdSetEncoding;
 use crate::volume::{RuleDocEncoding, VolumePlanEncoding};
 use build_base::{Path, Place, Rows, Text, WantOfMemory};
 use doc_types::flash::{DevicePlan, FlashDoc, Region, RegionKind};
+use doc_types::pcd::PcdSet;
+use doc_types::pcd_lines::PcdLines;
 use packed_values::fields::encode_two;
 use packed_values::plain::encode_byte;
 use packed_values::{Encode, Input, decode_fields, encode_fields};
@@ -136,6 +138,29 @@ impl Encode for DevicePlanEncoding {
     }
 }
 
+// Sets of PCDs, as rows.
+struct PcdSetsEncoding;
+
+impl Encode for PcdSetsEncoding {
+    ghost use Rattle.packed_values.specs.Parts.{rows_encoding};
+    ghost use Rattle.packed_documents.specs.Pcds.{pcd_set_encoding};
+
+    type Value = PcdLines<PcdSet>;
+
+    ghost encoding = { rows_encoding pcd_set_encoding };
+
+    fn encode(value: &PcdLines<PcdSet>, out: &mut Vec<u8>) -> Result<(), WantOfMemory> {
+        Rows::<PcdSetEncoding>::encode(value.rows(), out)
+    }
+
+    fn decode(alloc: Global, input: &mut Input) -> Result<Option<PcdLines<PcdSet>>, WantOfMemory> {
+        match Rows::<PcdSetEncoding>::decode(alloc, input)? {
+            None => Ok(None),
+            Some(rows) => Ok(Some(PcdLines::of(alloc, rows)?)),
+        }
+    }
+}
+
 /// How a value of `FlashDoc` is encoded.
 pub struct FlashDocEncoding;
 
@@ -146,11 +171,11 @@ impl Encode for FlashDocEncoding {
 
     #[tactic(auto, unfolding(crate::specs::Flash::flash_doc_encoding, packed_values::specs::Parts::pair_encoding))]
     fn encode(value: &FlashDoc, out: &mut Vec<u8>) -> Result<(), WantOfMemory> {
-        encode_fields!(value, out; at: Place, sets: Rows<PcdSetEncoding>, devices: Rows<DevicePlanEncoding>, volumes: Rows<VolumePlanEncoding>, rule_list: Rows<RuleDocEncoding>)
+        encode_fields!(value, out; at: Place, sets: PcdSetsEncoding, devices: Rows<DevicePlanEncoding>, volumes: Rows<VolumePlanEncoding>, rule_list: Rows<RuleDocEncoding>)
     }
 
     #[tactic(auto, unfolding(crate::specs::Flash::flash_doc_encoding), using(packed_values::proofs::WhereLemmas::unread_by))]
     fn decode(alloc: Global, input: &mut Input) -> Result<Option<FlashDoc>, WantOfMemory> {
-        decode_fields!(FlashDoc, alloc, input; at: Place, sets: Rows<PcdSetEncoding>, devices: Rows<DevicePlanEncoding>, volumes: Rows<VolumePlanEncoding>, rule_list: Rows<RuleDocEncoding>)
+        decode_fields!(FlashDoc, alloc, input; at: Place, sets: PcdSetsEncoding, devices: Rows<DevicePlanEncoding>, volumes: Rows<VolumePlanEncoding>, rule_list: Rows<RuleDocEncoding>)
     }
 }

@@ -1,6 +1,7 @@
 pub mod DatumLemmas
 pub mod GroupLemmas
 pub mod HomeLemmas
+pub mod MarkedLemmas
 pub mod NameFilterLemmas
 pub mod PassLemmas
 pub mod SkuLemmas

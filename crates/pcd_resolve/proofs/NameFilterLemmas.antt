@@ -1,12 +1,10 @@
 -- Marks of names.
-use Rattle.std.proofs.Common.{◌≡◌, ◌∙◌, ◌+◌, ◌-◌, ◌≤◌, ◌<◌, ◌++◌, ℕ, zero, suc, Bool, true, false, List, [], ◌∷◌, length, drop, map, set, slice_get, get_or, subst, refl, sym, ap, arith}
-use Rattle.std.specs.Prelude.{fold}
+use Rattle.std.proofs.Common.{◌≡◌, ◌<◌, ℕ, zero, suc, Bool, true, List, [], ◌∷◌, length, map, set, slice_get, get_or, subst, refl, sym, ap}
 use Rattle.std.specs.List.{All}
-use Rattle.std.proofs.lemmas.List.{length-append, drop-append-le}
-use Rattle.std.proofs.lemmas.List.Sums.{fold-append}
 use Rattle.std.proofs.lemmas.List.Elements.{All-nil, All-cons, All-head, All-tail, All-get_or, All-weaker}
 use Rattle.pcd_resolve.specs.Tables.{AllKept}
-use Rattle.pcd_resolve.specs.NameFilter.{is_kept, mark_of, place_of, step, tail_of, with_mark, with_marks}
+use Rattle.doc_types.specs.NamePlaces.{place_of}
+use Rattle.pcd_resolve.specs.NameFilter.{is_kept, mark_of, with_mark, with_marks}
 
 marked_there : (marks : List Bool) (k : ℕ) → mark_of (slice_get (set marks k true) k) ≡ true
 marked_there [] k = refl
@@ -56,36 +54,3 @@ map_twice f g (x ∷ xs) = ap (λ zs. f (g x) ∷ zs) (map_twice f g xs)
 pub kept_twice : {X Y : Type 0} (marks : List Bool) (f : Y → List ℕ) (g : X → Y) (xs : List X) (i : ℕ) (x : X) → i < length xs → x ≡ get_or xs i x → AllKept marks (map f (map g xs)) → is_kept marks (f (g x)) ≡ true
 kept_twice marks f g xs i x h e all =
     kept_at marks (λ x. f (g x)) xs i x h e (subst (AllKept marks) (map_twice f g xs) all)
-
-dropped : (front name : List ℕ) (k n : ℕ) → n ≡ length front + k → drop n (front ++ name) ≡ drop k name
-dropped [] name k n e = let same : n ≡ k = omega (arith, e) in ap (λ m. drop m name) same
-dropped (x ∷ front) name k zero e = absurd (omega (arith, e))
-dropped (x ∷ front) name k (suc n) e = let below : n ≡ length front + k = omega (arith, e) in dropped front name k n below
-
-tail_same : (front name : List ℕ) → 8 ≤ length name → tail_of (front ++ name) ≡ tail_of name
-tail_same front name h =
-    dropped front name (length name - 8) (length (front ++ name) - 8)
-    (let both : length (front ++ name) ≡ length front + length name = length-append front name in omega (arith, both, h))
-
--- the place of a name that ends in another one of eight bytes or more
-pub place_by_end : (front name : List ℕ) → 8 ≤ length name → place_of (front ++ name) ≡ place_of name
-unfolding place_of
-place_by_end front name h = ap (fold step 0) (tail_same front name h)
-
-pub kept_by_end : (marks : List Bool) (front name : List ℕ) → 8 ≤ length name → is_kept marks (front ++ name) ≡ is_kept marks name
-kept_by_end marks front name h = ap (λ place. mark_of (slice_get marks place)) (place_by_end front name h)
-
-tail_of_parts : (space name : List ℕ) → length name < 8
-    → tail_of (space ++ 46 ∷ name) ≡ drop (length space - (7 - length name)) space ++ 46 ∷ name
-tail_of_parts space name h =
-    let both : length (space ++ 46 ∷ name) ≡ length space + length (46 ∷ name) = length-append space (46 ∷ name) in
-    let at : length (space ++ 46 ∷ name) - 8 ≡ length space - (7 - length name) = omega (arith, both, h) in
-    ap (λ n. drop n (space ++ 46 ∷ name)) at
-    ∙ drop-append-le (length space - (7 - length name)) space (46 ∷ name) (omega arith)
-
--- the place of a name by its two parts
-pub place_of_parts : (space name : List ℕ) → length name < 8
-    → fold step (fold step (fold step 0 (drop (length space - (7 - length name)) space)) (46 ∷ [])) name ≡ place_of (space ++ 46 ∷ name)
-unfolding place_of
-place_of_parts space name h =
-    sym (ap (fold step 0) (tail_of_parts space name h) ∙ fold-append step 0 (drop (length space - (7 - length name)) space) (46 ∷ name))

@@ -1,17 +1,7 @@
 -- Names of which a table has the lines, by marks at places that names come to. Two names may come
 -- to one place, so a table may have lines that nothing asks for.
-use Rattle.std.specs.Prelude.{ℕ, ◌+◌, ◌-◌, ◌*◌, ◌%◌, Bool, true, List, length, drop, fold, set, slice_get, Option, Some, None}
-
--- the last bytes of a name
-abbrev pub tail_of : List ℕ → List ℕ
-tail_of name = drop (length name - 8) name
-
-abbrev pub step : ℕ → ℕ → ℕ
-step place byte = (place * 31 + byte) % 2048
-
--- the place to which a name comes, by its last bytes
-unfoldable pub place_of : List ℕ → ℕ
-place_of name = fold step 0 (tail_of name)
+use Rattle.std.specs.Prelude.{ℕ, Bool, true, List, fold, set, slice_get, Option, Some, None}
+use Rattle.doc_types.specs.NamePlaces.{place_of}
 
 -- a place that isn't among the marks counts as marked
 abbrev pub mark_of : Option Bool → Bool

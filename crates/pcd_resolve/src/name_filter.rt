@@ -1,54 +1,27 @@
 //! The names of which a table has the lines. A table of all lines of a package, made anew for each
 //! module, would cost far more than the lines that the module asks for: so the names that are asked
 //! for are marked, and a line without a mark is passed by.
-ghost use Rattle.std.specs.Prelude.{◌≡◌, ◌<◌, ◌++◌, codes, fold, length, map, slice_get, OnOk, IfOk};
+ghost use Rattle.std.specs.Prelude.{◌≡◌, length, map, slice_get, OnOk, IfOk};
 ghost use Rattle.pcd_ranks.specs.Listing.{uses_of_module};
-ghost use Rattle.pcd_resolve.specs.NameFilter.{is_kept, mark_of, place_of, step, with_mark, with_marks};
+ghost use Rattle.pcd_resolve.specs.NameFilter.{is_kept, mark_of, with_mark, with_marks};
 ghost use Rattle.doc_types.specs.Pcds.{full_name};
 ghost use Rattle.pcd_resolve.specs.Tables.{use_name, AllKept};
 ghost use Rattle.pcd_ranks.specs.Views.{at_view};
 
 use crate::uses::uses_of_module;
 use build_base::WantOfMemory;
+use doc_types::name_places::{NAME_PLACES, place_of, place_of_pcd};
 use doc_types::parts::ModuleParts;
 use doc_types::pcd::PcdName;
 use pcd_ranks::listing::UseAt;
 use std::alloc::Global;
-
-fn place_from(start: usize, bytes: &[u8]) -> usize
-    requires { start < 2048 }
-    ensures place { result ≡ fold step start bytes.now }
-    ensures below { result < 2048 }
-{
-    let mut place = start;
-    for byte in bytes {
-        place = (place * 31 + *byte as usize) % 2048;
-    }
-    place
-}
-
-#[tactic(auto, unfolding(crate::specs::NameFilter::place_of))]
-fn place_of(name: &[u8]) -> usize
-    ensures { result ≡ place_of name.now }
-{
-    place_from(0, &name[name.len().saturating_sub(8)..])
-}
-
-// The place of a PCD's name whose second part has less than eight bytes.
-fn place_of_parts(space: &[u8], name: &[u8]) -> usize
-    requires { length name.now < 8 }
-    ensures { result ≡ place_of (space.now ++ codes "." ++ name.now) }
-{
-    let tail = &space[space.len().saturating_sub(7 - name.len())..];
-    place_from(place_from(place_from(0, tail), b"."), name)
-}
 
 /// Marks where none is set.
 pub fn no_marks(alloc: Global) -> Result<Vec<bool>, WantOfMemory>
     ensures { IfOk result (λ marks. length marks.items ≡ 2048) }
 {
     let mut marks = Vec::new(alloc);
-    marks.resize(2048, false)?;
+    marks.resize(NAME_PLACES, false)?;
     Ok(marks)
 }
 
@@ -82,11 +55,7 @@ pub fn is_kept(marks: &[bool], name: &[u8]) -> bool
 pub(crate) fn is_pcd_kept(marks: &[bool], pcd: &PcdName) -> bool
     ensures { result ≡ is_kept marks.now (full_name pcd.now) }
 {
-    let name = pcd.name.bytes();
-    if name.len() < 8 {
-        return is_marked(marks, place_of_parts(pcd.space.bytes(), name));
-    }
-    is_kept(marks, name)
+    is_marked(marks, place_of_pcd(pcd))
 }
 
 /// Marks the names of a list.

@@ -28,6 +28,7 @@ use build_base::{Permit, Refusal, Rows, Text, WantOfMemory};
 use doc_types::arch::{Arch, covers};
 use doc_types::asks::PlatformAsk;
 use doc_types::pcd::{Kind, PcdSet};
+use doc_types::pcd_lines::PcdLines;
 use doc_types::platform::Sku;
 use doc_types::values::{PcdRow, Values};
 use indexmap::IndexMap;
@@ -179,7 +180,7 @@ fn sets_of_ask<'a>(
 ) -> Result<IndexMap<Vec<u8>, Vec<&'a PcdSet>>, WantOfMemory>
     ensures { IfOk result (λ table. Grouped (λ s. s.now) set_name (platform_sets ask.now) table) }
 {
-    all_sets(alloc, ask.commands.items(), ask.flash.value().sets.items())
+    all_sets(alloc, ask.commands.items(), &ask.flash.value().sets)
 }
 
 fn chosen_by<'a>(
@@ -309,6 +310,6 @@ pub fn resolve_platform(alloc: Global, permit: Permit, ask: &PlatformAsk) -> Res
 {
     let _spent = permit;
     words_known(alloc, ask)?;
-    let rows = values_of(alloc, ask)?;
+    let rows = PcdLines::of(alloc, values_of(alloc, ask)?)?;
     Ok(Values { rows })
 }

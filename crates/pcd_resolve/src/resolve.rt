@@ -19,6 +19,7 @@ use crate::used::uses_by_name;
 use build_base::{Permit, Refusal, Rows, Same, WantOfMemory};
 use doc_types::asks::ModuleAsk;
 use doc_types::pcd::PcdSet;
+use doc_types::pcd_lines::PcdLines;
 use doc_types::values::{PcdRow, Values};
 use indexmap::IndexMap;
 use pcd_ranks::listing::{StatedLine, UseLine};
@@ -103,12 +104,7 @@ fn sets_of_ask<'a>(
     ensures { IfOk result
         (λ table. GroupedAt marks.now (λ s. s.now) set_name (sets_in ask.now) table) }
 {
-    sets_by_name(
-        alloc,
-        marks,
-        ask.commands.items(),
-        ask.flash.value().sets.items(),
-    )
+    sets_by_name(alloc, marks, ask.commands.items(), &ask.flash.value().sets)
 }
 
 // The rows by the tables of the uses and of the platform's lines.
@@ -132,7 +128,7 @@ fn rows_by_lines<'a>(
 {
     let marks = tables.marks.as_slice();
     let sets = sets_of_ask(alloc, marks, ask)?;
-    let dynamic = rows_by_name(alloc, marks, ask.dynamic.value().rows.items())?;
+    let dynamic = rows_by_name(alloc, marks, &ask.dynamic.value().rows)?;
     let from = ModuleLines {
         ask,
         tables,
@@ -210,6 +206,6 @@ pub fn resolve_module(alloc: Global, permit: Permit, ask: &ModuleAsk) -> Result<
     ensures { Answers result (module_values ask.now) }
 {
     let _spent = permit;
-    let rows = values_of(alloc, ask)?;
+    let rows = PcdLines::of(alloc, values_of(alloc, ask)?)?;
     Ok(Values { rows })
 }

@@ -19,6 +19,7 @@ use doc_types::components::Components;
 use doc_types::package::DecPcd;
 use doc_types::parts::Package;
 use doc_types::pcd::{PcdName, PcdSet};
+use doc_types::pcd_lines::PcdLines;
 use doc_types::platform::{Component, PcdLine, PlatformDoc};
 use doc_types::values::PcdRow;
 use indexmap::IndexMap;
@@ -92,6 +93,45 @@ fn add_each<'a>(
     Ok(())
 }
 
+// Adds lines, each of which is lent by itself.
+fn add_lent_lines<'a>(
+    alloc: Global,
+    marks: &[bool],
+    table: &mut IndexMap<Vec<u8>, Vec<StatedLine<'a>>>,
+    lines: &[&'a PcdLine],
+) -> Result<(), WantOfMemory>
+    ensures { (xs : List Stated) → GroupedAt marks.now stated_view stated_name xs table.old
+        → OnOk result (GroupedAt marks.now stated_view stated_name
+        (xs ++ map (λ line. at_home None line.now) lines.now) table.new) }
+{
+    for line in lines {
+        let stated = StatedLine {
+            home: None,
+            line: *line,
+        };
+        add_kept(alloc, marks, table, &line.pcd, stated)?;
+    }
+    Ok(())
+}
+
+// Of many lines those of marked places are looked at alone.
+fn add_platform_lines<'a>(
+    alloc: Global,
+    marks: &[bool],
+    table: &mut IndexMap<Vec<u8>, Vec<StatedLine<'a>>>,
+    lines: &'a PcdLines<PcdLine>,
+) -> Result<(), WantOfMemory>
+    ensures { (xs : List Stated) → GroupedAt marks.now stated_view stated_name xs table.old
+        → OnOk result (GroupedAt marks.now stated_view stated_name
+        (xs ++ map (at_home None) lines.now) table.new) }
+{
+    match lines.marked(alloc, marks)? {
+        None => add_lines(alloc, marks, table, None, lines.items())?,
+        Some(marked) => add_lent_lines(alloc, marks, table, marked.as_slice())?,
+    }
+    Ok(())
+}
+
 // Of all components those that have lines are looked at alone.
 fn add_components<'a>(
     alloc: Global,
@@ -124,6 +164,41 @@ fn add_sets<'a>(
     Ok(())
 }
 
+// Adds sets, each of which is lent by itself.
+fn add_lent_sets<'a>(
+    alloc: Global,
+    marks: &[bool],
+    table: &mut IndexMap<Vec<u8>, Vec<&'a PcdSet>>,
+    sets: &[&'a PcdSet],
+) -> Result<(), WantOfMemory>
+    ensures { (xs : List Set) → GroupedAt marks.now (λ s. s.now) set_name xs table.old
+        → OnOk result (GroupedAt marks.now (λ s. s.now) set_name (xs ++ map (λ s. s.now) sets.now)
+        table.new) }
+{
+    for set in sets {
+        add_kept(alloc, marks, table, &set.pcd, *set)?;
+    }
+    Ok(())
+}
+
+// Of many sets those of marked places are looked at alone.
+fn add_flash_sets<'a>(
+    alloc: Global,
+    marks: &[bool],
+    table: &mut IndexMap<Vec<u8>, Vec<&'a PcdSet>>,
+    sets: &'a PcdLines<PcdSet>,
+) -> Result<(), WantOfMemory>
+    ensures { (xs : List Set) → GroupedAt marks.now (λ s. s.now) set_name xs table.old
+        → OnOk result (GroupedAt marks.now (λ s. s.now) set_name (xs ++ map (λ s. s) sets.now)
+        table.new) }
+{
+    match sets.marked(alloc, marks)? {
+        None => add_sets(alloc, marks, table, sets.items())?,
+        Some(marked) => add_lent_sets(alloc, marks, table, marked.as_slice())?,
+    }
+    Ok(())
+}
+
 fn add_rows<'a>(
     alloc: Global,
     marks: &[bool],
@@ -136,6 +211,41 @@ fn add_rows<'a>(
 {
     for row in rows {
         add_kept(alloc, marks, table, &row.pcd, row)?;
+    }
+    Ok(())
+}
+
+// Adds rows, each of which is lent by itself.
+fn add_lent_rows<'a>(
+    alloc: Global,
+    marks: &[bool],
+    table: &mut IndexMap<Vec<u8>, Vec<&'a PcdRow>>,
+    rows: &[&'a PcdRow],
+) -> Result<(), WantOfMemory>
+    ensures { (xs : List Row) → GroupedAt marks.now (λ r. r.now) row_name xs table.old
+        → OnOk result (GroupedAt marks.now (λ r. r.now) row_name (xs ++ map (λ r. r.now) rows.now)
+        table.new) }
+{
+    for row in rows {
+        add_kept(alloc, marks, table, &row.pcd, *row)?;
+    }
+    Ok(())
+}
+
+// Of many rows those of marked places are looked at alone.
+fn add_values<'a>(
+    alloc: Global,
+    marks: &[bool],
+    table: &mut IndexMap<Vec<u8>, Vec<&'a PcdRow>>,
+    rows: &'a PcdLines<PcdRow>,
+) -> Result<(), WantOfMemory>
+    ensures { (xs : List Row) → GroupedAt marks.now (λ r. r.now) row_name xs table.old
+        → OnOk result (GroupedAt marks.now (λ r. r.now) row_name (xs ++ map (λ r. r) rows.now)
+        table.new) }
+{
+    match rows.marked(alloc, marks)? {
+        None => add_rows(alloc, marks, table, rows.items())?,
+        Some(marked) => add_lent_rows(alloc, marks, table, marked.as_slice())?,
     }
     Ok(())
 }
@@ -157,6 +267,44 @@ fn add_declarations<'a>(
     Ok(())
 }
 
+// Adds declarations, each of which is lent by itself.
+fn add_lent_declarations<'a>(
+    alloc: Global,
+    marks: &[bool],
+    table: &mut IndexMap<Vec<u8>, Vec<DeclaredLine<'a>>>,
+    from: &'a Path,
+    lines: &[&'a DecPcd],
+) -> Result<(), WantOfMemory>
+    ensures { (xs : List Declared) → GroupedAt marks.now declared_view declared_name xs table.old
+        → OnOk result (GroupedAt marks.now declared_view declared_name
+        (xs ++ map (λ line. line_from from.now line.now) lines.now) table.new) }
+{
+    for line in lines {
+        let declared = DeclaredLine { from, line: *line };
+        add_kept(alloc, marks, table, &line.pcd, declared)?;
+    }
+    Ok(())
+}
+
+// Of many declarations those of marked places are looked at alone.
+fn add_declared<'a>(
+    alloc: Global,
+    marks: &[bool],
+    table: &mut IndexMap<Vec<u8>, Vec<DeclaredLine<'a>>>,
+    from: &'a Path,
+    lines: &'a PcdLines<DecPcd>,
+) -> Result<(), WantOfMemory>
+    ensures { (xs : List Declared) → GroupedAt marks.now declared_view declared_name xs table.old
+        → OnOk result (GroupedAt marks.now declared_view declared_name
+        (xs ++ map (line_from from.now) lines.now) table.new) }
+{
+    match lines.marked(alloc, marks)? {
+        None => add_declarations(alloc, marks, table, from, lines.items())?,
+        Some(marked) => add_lent_declarations(alloc, marks, table, from, marked.as_slice())?,
+    }
+    Ok(())
+}
+
 fn add_package<'a>(
     alloc: Global,
     marks: &[bool],
@@ -167,13 +315,7 @@ fn add_package<'a>(
         → OnOk result (GroupedAt marks.now declared_view declared_name
         (xs ++ map (line_from held.now.path) held.now.doc.pcds) table.new) }
 {
-    add_declarations(
-        alloc,
-        marks,
-        table,
-        &held.path,
-        held.doc.value().pcds.items(),
-    )?;
+    add_declared(alloc, marks, table, &held.path, &held.doc.value().pcds)?;
     Ok(())
 }
 
@@ -211,7 +353,7 @@ pub(crate) fn declared_by_name<'a>(
 fn lines_of<'a>(
     alloc: Global,
     marks: &[bool],
-    lines: &'a [PcdLine],
+    lines: &'a PcdLines<PcdLine>,
     homes: &'a Components,
 ) -> Result<IndexMap<Vec<u8>, Vec<StatedLine<'a>>>, WantOfMemory>
     ensures { IfOk result
@@ -219,7 +361,7 @@ fn lines_of<'a>(
         (map (at_home None) lines.now ++ flat_map lines_at homes.now) table) }
 {
     let mut table = IndexMap::new(alloc);
-    add_lines(alloc, marks, &mut table, None, lines)?;
+    add_platform_lines(alloc, marks, &mut table, lines)?;
     add_components(alloc, marks, &mut table, homes)?;
     Ok(table)
 }
@@ -234,7 +376,7 @@ pub fn lines_by_name<'a>(
     ensures { IfOk result
         (λ table. GroupedAt marks.now stated_view stated_name (stated_in platform.now) table) }
 {
-    lines_of(alloc, marks, platform.pcds.items(), &platform.components)
+    lines_of(alloc, marks, &platform.pcds, &platform.components)
 }
 
 /// All of the platform's lines by their names.
@@ -253,14 +395,14 @@ pub(crate) fn sets_by_name<'a>(
     alloc: Global,
     marks: &[bool],
     words: &'a [PcdSet],
-    sets: &'a [PcdSet],
+    sets: &'a PcdLines<PcdSet>,
 ) -> Result<IndexMap<Vec<u8>, Vec<&'a PcdSet>>, WantOfMemory>
     ensures { IfOk result
         (λ table. GroupedAt marks.now (λ s. s.now) set_name (words.now ++ sets.now) table) }
 {
     let mut table = IndexMap::new(alloc);
     add_sets(alloc, marks, &mut table, words)?;
-    add_sets(alloc, marks, &mut table, sets)?;
+    add_flash_sets(alloc, marks, &mut table, sets)?;
     Ok(table)
 }
 
@@ -268,7 +410,7 @@ pub(crate) fn sets_by_name<'a>(
 pub fn all_sets<'a>(
     alloc: Global,
     words: &'a [PcdSet],
-    sets: &'a [PcdSet],
+    sets: &'a PcdLines<PcdSet>,
 ) -> Result<IndexMap<Vec<u8>, Vec<&'a PcdSet>>, WantOfMemory>
     ensures { IfOk result (λ table. Grouped (λ s. s.now) set_name (words.now ++ sets.now) table) }
 {
@@ -279,11 +421,11 @@ pub fn all_sets<'a>(
 pub(crate) fn rows_by_name<'a>(
     alloc: Global,
     marks: &[bool],
-    rows: &'a [PcdRow],
+    rows: &'a PcdLines<PcdRow>,
 ) -> Result<IndexMap<Vec<u8>, Vec<&'a PcdRow>>, WantOfMemory>
     ensures { IfOk result (λ table. GroupedAt marks.now (λ r. r.now) row_name rows.now table) }
 {
     let mut table = IndexMap::new(alloc);
-    add_rows(alloc, marks, &mut table, rows)?;
+    add_values(alloc, marks, &mut table, rows)?;
     Ok(table)
 }

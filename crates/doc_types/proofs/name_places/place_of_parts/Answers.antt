@@ -1,8 +1,8 @@
 use Rattle.std.proofs.Common.{◌∙◌, ◌∷◌, [], ℕ, drop, fold, sym, ap, append_assoc}
 use Rattle.build_base.proofs.RunLemmas.{tail_is}
-use Rattle.pcd_resolve.specs.NameFilter.{step, place_of}
-use Rattle.pcd_resolve.proofs.NameFilterLemmas as lemmas
-use Rattle.pcd_resolve.proofs.name_filter.place_of_parts.Goals as goal
+use Rattle.doc_types.specs.NamePlaces.{step, place_of}
+use Rattle.doc_types.proofs.NamePlaceLemmas as lemmas
+use Rattle.doc_types.proofs.name_places.place_of_parts.Goals as goal
 
 pub returns : goal.returns
 returns c =

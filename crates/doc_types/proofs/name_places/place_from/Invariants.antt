@@ -1,6 +1,6 @@
 use Rattle.std.proofs.Common.{◌≡◌, ◌<◌, fold, drop}
-use Rattle.pcd_resolve.specs.NameFilter.{step}
-use Rattle.pcd_resolve.proofs.name_filter.place_from.Given as goal
+use Rattle.doc_types.specs.NamePlaces.{step}
+use Rattle.doc_types.proofs.name_places.place_from.Given as goal
 
 abbrev pub invariant-loop-byte : goal.invariant-loop-byte
 invariant-loop-byte l = record {

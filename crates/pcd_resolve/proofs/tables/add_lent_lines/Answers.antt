@@ -1,0 +1,10 @@
+use Rattle.std.proofs.Common.{None}
+use Rattle.std.specs.Borrow.{Bor}
+use Rattle.doc_types.specs.declared.platform.PcdLine.{PcdLine}
+use Rattle.pcd_resolve.specs.Tables.{stated_name, at_home}
+use Rattle.pcd_ranks.specs.Views.{stated_view}
+use Rattle.pcd_resolve.proofs.GroupLemmas.{kept_added, kept_by_one}
+use Rattle.pcd_resolve.proofs.tables.add_lent_lines.Goals as goal
+
+pub loop-line-preserved : goal.loop-line-preserved
+loop-line-preserved c = λ xs h. kept_by_one c.args.marks.now stated_view stated_name (λ (line : Bor PcdLine). at_home None line.now) xs c.args.lines.now c.loop-line.line-index _ c.add_kept.new.table c.loop-line-test.true c.line-item.is (kept_added c.args.marks.now stated_view stated_name _ _ c.loop-line.table c.add_kept.new.table c.in_ok-add_kept.ensures (c.loop-line.invariant xs h))
