@@ -3,12 +3,10 @@ ghost use Rattle.std.specs.Prelude.{◌≡◌, ◌++◌, OnOk};
 ghost use Rattle.packed_values.specs.Encoding.{IsAppended, IsRead, IsUnread};
 ghost use Rattle.packed_documents.specs.Flash.{device_plan_first, device_plan_first_encoding, device_plan_encoding, device_plan_of, device_plan_second, device_plan_second_encoding, flash_doc_encoding, region_encoding, region_kind_encoding};
 
-use crate::pcds::PcdSetEncoding;
+use crate::pcds::{PcdLinesEncoding, PcdSetEncoding};
 use crate::volume::{RuleDocEncoding, VolumePlanEncoding};
 use build_base::{Path, Place, Rows, Text, WantOfMemory};
 use doc_types::flash::{DevicePlan, FlashDoc, Region, RegionKind};
-use doc_types::pcd::PcdSet;
-use doc_types::pcd_lines::PcdLines;
 use packed_values::fields::encode_two;
 use packed_values::plain::encode_byte;
 use packed_values::{Encode, Input, decode_fields, encode_fields};
@@ -138,29 +136,6 @@ impl Encode for DevicePlanEncoding {
     }
 }
 
-// Sets of PCDs, as rows.
-struct PcdSetsEncoding;
-
-impl Encode for PcdSetsEncoding {
-    ghost use Rattle.packed_values.specs.Parts.{rows_encoding};
-    ghost use Rattle.packed_documents.specs.Pcds.{pcd_set_encoding};
-
-    type Value = PcdLines<PcdSet>;
-
-    ghost encoding = { rows_encoding pcd_set_encoding };
-
-    fn encode(value: &PcdLines<PcdSet>, out: &mut Vec<u8>) -> Result<(), WantOfMemory> {
-        Rows::<PcdSetEncoding>::encode(value.rows(), out)
-    }
-
-    fn decode(alloc: Global, input: &mut Input) -> Result<Option<PcdLines<PcdSet>>, WantOfMemory> {
-        match Rows::<PcdSetEncoding>::decode(alloc, input)? {
-            None => Ok(None),
-            Some(rows) => Ok(Some(PcdLines::of(alloc, rows)?)),
-        }
-    }
-}
-
 /// How a value of `FlashDoc` is encoded.
 pub struct FlashDocEncoding;
 
@@ -171,11 +146,11 @@ impl Encode for FlashDocEncoding {
 
     #[tactic(auto, unfolding(crate::specs::Flash::flash_doc_encoding, packed_values::specs::Parts::pair_encoding))]
     fn encode(value: &FlashDoc, out: &mut Vec<u8>) -> Result<(), WantOfMemory> {
-        encode_fields!(value, out; at: Place, sets: PcdSetsEncoding, devices: Rows<DevicePlanEncoding>, volumes: Rows<VolumePlanEncoding>, rule_list: Rows<RuleDocEncoding>)
+        encode_fields!(value, out; at: Place, sets: PcdLinesEncoding<PcdSetEncoding>, devices: Rows<DevicePlanEncoding>, volumes: Rows<VolumePlanEncoding>, rule_list: Rows<RuleDocEncoding>)
     }
 
     #[tactic(auto, unfolding(crate::specs::Flash::flash_doc_encoding), using(packed_values::proofs::WhereLemmas::unread_by))]
     fn decode(alloc: Global, input: &mut Input) -> Result<Option<FlashDoc>, WantOfMemory> {
-        decode_fields!(FlashDoc, alloc, input; at: Place, sets: PcdSetsEncoding, devices: Rows<DevicePlanEncoding>, volumes: Rows<VolumePlanEncoding>, rule_list: Rows<RuleDocEncoding>)
+        decode_fields!(FlashDoc, alloc, input; at: Place, sets: PcdLinesEncoding<PcdSetEncoding>, devices: Rows<DevicePlanEncoding>, volumes: Rows<VolumePlanEncoding>, rule_list: Rows<RuleDocEncoding>)
     }
 }

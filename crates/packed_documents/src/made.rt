@@ -3,12 +3,11 @@ ghost use Rattle.std.specs.Prelude.{◌≡◌, ◌++◌, OnOk};
 ghost use Rattle.packed_values.specs.Encoding.{IsAppended, IsRead, IsUnread};
 ghost use Rattle.packed_documents.specs.Made.{call_encoding, choice_encoding, file_image_encoding, module_encoding, pcd_row_first, pcd_row_first_encoding, pcd_row_encoding, pcd_row_of, pcd_row_second, pcd_row_second_encoding, texts_encoding, values_encoding, vpd_encoding, vpd_place_encoding};
 
-use crate::pcds::PcdNameEncoding;
+use crate::pcds::{PcdLinesEncoding, PcdNameEncoding};
 use crate::words::{ArchEncoding, DatumEncoding, KindEncoding};
 use build_base::{Guid, Path, Place, Rows, Text, WantOfMemory};
 use doc_types::choice::{Call, Choice, Module};
 use doc_types::image::FileImage;
-use doc_types::pcd_lines::PcdLines;
 use doc_types::texts::Texts;
 use doc_types::values::{PcdRow, Values};
 use doc_types::vpd::{Vpd, VpdPlace};
@@ -139,29 +138,6 @@ impl Encode for PcdRowEncoding {
     }
 }
 
-// Values of PCDs, as rows.
-struct PcdRowsEncoding;
-
-impl Encode for PcdRowsEncoding {
-    ghost use Rattle.packed_values.specs.Parts.{rows_encoding};
-    ghost use Rattle.packed_documents.specs.Made.{pcd_row_encoding};
-
-    type Value = PcdLines<PcdRow>;
-
-    ghost encoding = { rows_encoding pcd_row_encoding };
-
-    fn encode(value: &PcdLines<PcdRow>, out: &mut Vec<u8>) -> Result<(), WantOfMemory> {
-        Rows::<PcdRowEncoding>::encode(value.rows(), out)
-    }
-
-    fn decode(alloc: Global, input: &mut Input) -> Result<Option<PcdLines<PcdRow>>, WantOfMemory> {
-        match Rows::<PcdRowEncoding>::decode(alloc, input)? {
-            None => Ok(None),
-            Some(rows) => Ok(Some(PcdLines::of(alloc, rows)?)),
-        }
-    }
-}
-
 /// How a value of `Values` is encoded.
 pub struct ValuesEncoding;
 
@@ -172,12 +148,12 @@ impl Encode for ValuesEncoding {
 
     #[tactic(auto, unfolding(crate::specs::Made::values_encoding))]
     fn encode(value: &Values, out: &mut Vec<u8>) -> Result<(), WantOfMemory> {
-        encode_fields!(value, out; rows: PcdRowsEncoding)
+        encode_fields!(value, out; rows: PcdLinesEncoding<PcdRowEncoding>)
     }
 
     #[tactic(auto, unfolding(crate::specs::Made::values_encoding), using(packed_values::proofs::WhereLemmas::unread_by))]
     fn decode(alloc: Global, input: &mut Input) -> Result<Option<Values>, WantOfMemory> {
-        decode_fields!(Values, alloc, input; rows: PcdRowsEncoding)
+        decode_fields!(Values, alloc, input; rows: PcdLinesEncoding<PcdRowEncoding>)
     }
 }
 

@@ -3,12 +3,11 @@ ghost use Rattle.std.specs.Prelude.{◌≡◌, ◌++◌, OnOk};
 ghost use Rattle.packed_values.specs.Encoding.{IsAppended, IsRead, IsUnread};
 ghost use Rattle.packed_documents.specs.Package.{dec_doc_encoding, dec_pcd_first, dec_pcd_first_encoding, dec_pcd_encoding, dec_pcd_of, dec_pcd_second, dec_pcd_second_encoding, named_guid_encoding};
 
-use crate::pcds::PcdNameEncoding;
+use crate::pcds::{PcdLinesEncoding, PcdNameEncoding};
 use crate::words::{ArchEncoding, DatumEncoding, KindEncoding};
 use build_base::{Guid, Place, Rows, Text, WantOfMemory};
 use doc_types::depex::NamedGuid;
 use doc_types::package::{DecDoc, DecPcd};
-use doc_types::pcd_lines::PcdLines;
 use packed_values::{Encode, Input, decode_fields, encode_fields};
 use std::alloc::Global;
 
@@ -97,29 +96,6 @@ impl Encode for DecPcdEncoding {
     }
 }
 
-// Declarations, as rows.
-struct DecPcdsEncoding;
-
-impl Encode for DecPcdsEncoding {
-    ghost use Rattle.packed_values.specs.Parts.{rows_encoding};
-    ghost use Rattle.packed_documents.specs.Package.{dec_pcd_encoding};
-
-    type Value = PcdLines<DecPcd>;
-
-    ghost encoding = { rows_encoding dec_pcd_encoding };
-
-    fn encode(value: &PcdLines<DecPcd>, out: &mut Vec<u8>) -> Result<(), WantOfMemory> {
-        Rows::<DecPcdEncoding>::encode(value.rows(), out)
-    }
-
-    fn decode(alloc: Global, input: &mut Input) -> Result<Option<PcdLines<DecPcd>>, WantOfMemory> {
-        match Rows::<DecPcdEncoding>::decode(alloc, input)? {
-            None => Ok(None),
-            Some(rows) => Ok(Some(PcdLines::of(alloc, rows)?)),
-        }
-    }
-}
-
 /// How a value of `DecDoc` is encoded.
 pub struct DecDocEncoding;
 
@@ -130,11 +106,11 @@ impl Encode for DecDocEncoding {
 
     #[tactic(auto, unfolding(crate::specs::Package::dec_doc_encoding))]
     fn encode(value: &DecDoc, out: &mut Vec<u8>) -> Result<(), WantOfMemory> {
-        encode_fields!(value, out; at: Place, name: Text, guid: Guid, guids: Rows<NamedGuidEncoding>, pcds: DecPcdsEncoding)
+        encode_fields!(value, out; at: Place, name: Text, guid: Guid, guids: Rows<NamedGuidEncoding>, pcds: PcdLinesEncoding<DecPcdEncoding>)
     }
 
     #[tactic(auto, unfolding(crate::specs::Package::dec_doc_encoding), using(packed_values::proofs::WhereLemmas::unread_by))]
     fn decode(alloc: Global, input: &mut Input) -> Result<Option<DecDoc>, WantOfMemory> {
-        decode_fields!(DecDoc, alloc, input; at: Place, name: Text, guid: Guid, guids: Rows<NamedGuidEncoding>, pcds: DecPcdsEncoding)
+        decode_fields!(DecDoc, alloc, input; at: Place, name: Text, guid: Guid, guids: Rows<NamedGuidEncoding>, pcds: PcdLinesEncoding<DecPcdEncoding>)
     }
 }

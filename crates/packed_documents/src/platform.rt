@@ -3,12 +3,11 @@ ghost use Rattle.std.specs.Prelude.{◌≡◌, ◌++◌, OnOk};
 ghost use Rattle.packed_values.specs.Encoding.{IsAppended, IsRead, IsUnread};
 ghost use Rattle.packed_documents.specs.Platform.{component_first, component_first_encoding, component_encoding, component_of, component_second, component_second_encoding, library_line_encoding, pcd_line_first, pcd_line_first_encoding, pcd_line_encoding, pcd_line_of, pcd_line_second, pcd_line_second_encoding, pcd_line_third, pcd_line_third_encoding, platform_doc_first, platform_doc_first_encoding, platform_doc_encoding, platform_doc_of, platform_doc_second, platform_doc_second_encoding, platform_doc_third, platform_doc_third_encoding, sku_encoding, store_encoding};
 
-use crate::pcds::PcdNameEncoding;
+use crate::pcds::{PcdLinesEncoding, PcdNameEncoding};
 use crate::words::{ArchEncoding, DatumEncoding, KindEncoding, ModuleTypeEncoding};
 use build_base::{Guid, Macro, Path, Place, Rows, Text, WantOfMemory};
 use doc_types::components::Components;
 use doc_types::library_lines::LibraryLines;
-use doc_types::pcd_lines::PcdLines;
 use doc_types::platform::{Component, LibraryLine, PcdLine, PlatformDoc, Sku, Store};
 use packed_values::fields::{encode_five, encode_three};
 use packed_values::plain::encode_byte;
@@ -302,29 +301,6 @@ impl Encode for ComponentsEncoding {
     }
 }
 
-// Lines of PCDs, as rows.
-struct PlatformPcdsEncoding;
-
-impl Encode for PlatformPcdsEncoding {
-    ghost use Rattle.packed_values.specs.Parts.{rows_encoding};
-    ghost use Rattle.packed_documents.specs.Platform.{pcd_line_encoding};
-
-    type Value = PcdLines<PcdLine>;
-
-    ghost encoding = { rows_encoding pcd_line_encoding };
-
-    fn encode(value: &PcdLines<PcdLine>, out: &mut Vec<u8>) -> Result<(), WantOfMemory> {
-        Rows::<PcdLineEncoding>::encode(value.rows(), out)
-    }
-
-    fn decode(alloc: Global, input: &mut Input) -> Result<Option<PcdLines<PcdLine>>, WantOfMemory> {
-        match Rows::<PcdLineEncoding>::decode(alloc, input)? {
-            None => Ok(None),
-            Some(rows) => Ok(Some(PcdLines::of(alloc, rows)?)),
-        }
-    }
-}
-
 /// How a value of `PlatformDoc` is encoded.
 pub struct PlatformDocEncoding;
 
@@ -335,7 +311,7 @@ type PlatformDocSecond = (Rows<ArchEncoding>, Text, Option<Path>, Rows<SkuEncodi
 type PlatformDocThird = (
     LibraryLinesEncoding,
     ComponentsEncoding,
-    PlatformPcdsEncoding,
+    PcdLinesEncoding<PcdLineEncoding>,
     Rows<Macro>,
 );
 
@@ -368,7 +344,7 @@ fn encode_platform_doc_third(value: &PlatformDoc, out: &mut Vec<u8>) -> Result<(
         (IsAppended platform_doc_third_encoding out.old.items (platform_doc_third value.now)
         out.new.items) }
 {
-    encode_fields!(value, out; libraries: LibraryLinesEncoding, components: ComponentsEncoding, pcds: PlatformPcdsEncoding, macros: Rows<Macro>)
+    encode_fields!(value, out; libraries: LibraryLinesEncoding, components: ComponentsEncoding, pcds: PcdLinesEncoding<PcdLineEncoding>, macros: Rows<Macro>)
 }
 
 // The record of all its fields.
