@@ -2,4 +2,5 @@ pub mod Stems
 pub mod Asks
 pub mod Code
 pub mod Depex
+pub mod DepexNames
 pub mod Report

@@ -1,8 +1,10 @@
 //! The dependency expression of a module.
-ghost use Rattle.std.specs.Prelude.{◌≡◌, ◌++◌, ◌∷◌, [], filter, map, IfOk, OnOk};
+ghost use Rattle.std.specs.Prelude.{◌≡◌, ◌++◌, ◌∷◌, [], false, filter, fold, map, replicate, IfOk, OnOk};
 ghost use Rattle.std.specs.List.{flat_map};
 ghost use Rattle.build_stages.specs.Gives.{GivesIn};
-ghost use Rattle.text_steps.specs.Depex.{applies, counts, names_at, names_by, names_of, wanted_names, group_of, groups_of, own_type, depex_given};
+ghost use Rattle.text_steps.specs.Depex.{applies, own_type, depex_given};
+ghost use Rattle.text_steps.specs.DepexNames.{no_marks, with_terms, marks_of, is_used, used_at, used_by, used_of, used_names, lean_group, lean_groups};
+ghost use Rattle.pcd_resolve.specs.NameFilter.{with_marks};
 
 use build_base::{Permit, Rows, Same, Text, WantOfMemory};
 use build_stages::Stop;
@@ -12,8 +14,10 @@ use doc_types::choice::Choice;
 use doc_types::depex::{DepexGroup, DepexPart, NamedGuid};
 use doc_types::module::{InfDoc, Named};
 use doc_types::module_type::ModuleType;
+use doc_types::name_places::NAME_PLACES;
 use doc_types::parts::{ModuleParts, Package};
 use library_choice::type_covers;
+use pcd_resolve::name_filter::{is_kept, mark};
 use shared_value::Shared;
 use std::alloc::Global;
 use step_pack::Key;
@@ -58,15 +62,67 @@ fn parts_of(
     Ok(parts)
 }
 
+fn unmarked(alloc: Global, count: usize) -> Result<Vec<bool>, WantOfMemory>
+    ensures { IfOk result (λ marks. marks.items ≡ replicate count false) }
+{
+    let mut marks = Vec::new(alloc);
+    marks.resize(count, false)?;
+    Ok(marks)
+}
+
+#[tactic(auto, unfolding(crate::specs::DepexNames::no_marks))]
+fn no_marks(alloc: Global) -> Result<Vec<bool>, WantOfMemory>
+    ensures { IfOk result (λ marks. marks.items ≡ no_marks) }
+{
+    unmarked(alloc, NAME_PLACES)
+}
+
+fn mark_terms(marks: &mut Vec<bool>, terms: &[Text])
+    ensures { marks.new.items ≡ with_marks marks.old.items terms.now }
+{
+    let mut left = terms;
+    while let [term, rest @ ..] = left {
+        mark(marks, term.bytes());
+        left = rest;
+    }
+}
+
+fn mark_parts(marks: &mut Vec<bool>, parts: &[DepexPart])
+    ensures { marks.new.items ≡ fold with_terms marks.old.items parts.now }
+{
+    let mut left = parts;
+    while let [part, rest @ ..] = left {
+        mark_terms(marks, part.terms.items());
+        left = rest;
+    }
+}
+
+// The marks of the names that the terms of these sections may be.
+fn marks_of(alloc: Global, parts: &[DepexPart]) -> Result<Vec<bool>, WantOfMemory>
+    ensures { IfOk result (λ marks. marks.items ≡ marks_of parts.now) }
+{
+    let mut marks = no_marks(alloc)?;
+    mark_parts(&mut marks, parts);
+    Ok(marks)
+}
+
+fn is_used(marks: &[bool], arch: Arch, line: &NamedGuid) -> bool
+    ensures { result ≡ is_used marks.now arch line.now }
+{
+    covers(line.arch, arch) && is_kept(marks, line.name.bytes())
+}
+
 fn push_name(
     alloc: Global,
     names: &mut Rows<NamedGuid>,
+    marks: &[bool],
     arch: Arch,
     line: &NamedGuid,
 ) -> Result<(), WantOfMemory>
-    ensures { OnOk result (names.new ≡ names.old ++ filter (counts arch) (line.now ∷ [])) }
+    ensures { OnOk result (names.new ≡ names.old ++ filter (is_used marks.now arch)
+        (line.now ∷ [])) }
 {
-    if covers(line.arch, arch) {
+    if is_used(marks, arch, line) {
         return names.push(line.copy(alloc)?);
     }
     Ok(())
@@ -75,14 +131,15 @@ fn push_name(
 fn push_names(
     alloc: Global,
     names: &mut Rows<NamedGuid>,
+    marks: &[bool],
     arch: Arch,
     lines: &[NamedGuid],
 ) -> Result<(), WantOfMemory>
-    ensures { OnOk result (names.new ≡ names.old ++ filter (counts arch) lines.now) }
+    ensures { OnOk result (names.new ≡ names.old ++ filter (is_used marks.now arch) lines.now) }
 {
     let mut left = lines;
     while let [line, rest @ ..] = left {
-        push_name(alloc, names, arch, line)?;
+        push_name(alloc, names, marks, arch, line)?;
         left = rest;
     }
     Ok(())
@@ -91,14 +148,15 @@ fn push_names(
 fn push_at(
     alloc: Global,
     names: &mut Rows<NamedGuid>,
+    marks: &[bool],
     arch: Arch,
     path: &[u8],
     held: &Package,
 ) -> Result<(), WantOfMemory>
-    ensures { OnOk result (names.new ≡ names.old ++ names_at arch path.now held.now) }
+    ensures { OnOk result (names.new ≡ names.old ++ used_at marks.now arch path.now held.now) }
 {
     if held.path.bytes() == path {
-        push_names(alloc, names, arch, held.doc.value().guids.items())?;
+        push_names(alloc, names, marks, arch, held.doc.value().guids.items())?;
     }
     Ok(())
 }
@@ -106,15 +164,17 @@ fn push_at(
 fn push_each(
     alloc: Global,
     names: &mut Rows<NamedGuid>,
+    marks: &[bool],
     arch: Arch,
     path: &[u8],
     decs: &[Package],
 ) -> Result<(), WantOfMemory>
-    ensures { OnOk result (names.new ≡ names.old ++ flat_map (names_at arch path.now) decs.now) }
+    ensures { OnOk result (names.new
+        ≡ names.old ++ flat_map (used_at marks.now arch path.now) decs.now) }
 {
     let mut left = decs;
     while let [held, rest @ ..] = left {
-        push_at(alloc, names, arch, path, held)?;
+        push_at(alloc, names, marks, arch, path, held)?;
         left = rest;
     }
     Ok(())
@@ -123,65 +183,69 @@ fn push_each(
 fn push_by(
     alloc: Global,
     names: &mut Rows<NamedGuid>,
+    marks: &[bool],
     arch: Arch,
     decs: &[Package],
     named: &Named,
 ) -> Result<(), WantOfMemory>
-    ensures { OnOk result (names.new ≡ names.old ++ names_by arch decs.now named.now) }
+    ensures { OnOk result (names.new ≡ names.old ++ used_by marks.now arch decs.now named.now) }
 {
     if covers(named.arch, arch) {
-        push_each(alloc, names, arch, named.name.bytes(), decs)?;
+        push_each(alloc, names, marks, arch, named.name.bytes(), decs)?;
     }
     Ok(())
 }
 
-// The names that the packages of an INF file declare.
-#[tactic(auto, unfolding(crate::specs::Depex::names_of))]
-fn names_of(
+// The marked names that the packages of an INF file declare.
+#[tactic(auto, unfolding(crate::specs::DepexNames::used_of))]
+fn used_of(
     alloc: Global,
+    marks: &[bool],
     arch: Arch,
     decs: &[Package],
     packages: &[Named],
 ) -> Result<Rows<NamedGuid>, WantOfMemory>
-    ensures { IfOk result (λ names. names ≡ names_of arch decs.now packages.now) }
+    ensures { IfOk result (λ names. names ≡ used_of marks.now arch decs.now packages.now) }
 {
     let mut names = Rows::new(alloc);
     let mut left = packages;
     while let [named, rest @ ..] = left {
-        push_by(alloc, &mut names, arch, decs, named)?;
+        push_by(alloc, &mut names, marks, arch, decs, named)?;
         left = rest;
     }
     Ok(names)
 }
 
-// The names that these sections of an INF file may use.
-fn wanted_names(
+// The names that the terms of these sections of an INF file may be, and few others. All that the
+// sections may use would be copied for each module.
+fn used_names(
     alloc: Global,
     arch: Arch,
     decs: &[Package],
     inf: &InfDoc,
     parts: &[DepexPart],
 ) -> Result<Rows<NamedGuid>, WantOfMemory>
-    ensures { IfOk result (λ names. names ≡ wanted_names arch decs.now inf.now parts.now) }
+    ensures { IfOk result (λ names. names ≡ used_names arch decs.now inf.now parts.now) }
 {
     if parts.is_empty() {
         return Ok(Rows::new(alloc));
     }
-    names_of(alloc, arch, decs, inf.packages.items())
+    let marks = marks_of(alloc, parts)?;
+    used_of(alloc, marks.as_slice(), arch, decs, inf.packages.items())
 }
 
-#[tactic(auto, unfolding(crate::specs::Depex::group_of))]
-fn group_of(
+#[tactic(auto, unfolding(crate::specs::DepexNames::lean_group))]
+fn lean_group(
     alloc: Global,
     arch: Arch,
     kind: ModuleType,
     decs: &[Package],
     inf: &InfDoc,
 ) -> Result<DepexGroup, WantOfMemory>
-    ensures { IfOk result (λ group. group ≡ group_of arch kind decs.now inf.now) }
+    ensures { IfOk result (λ group. group ≡ lean_group arch kind decs.now inf.now) }
 {
     let parts = parts_of(alloc, arch, kind, inf.depex.items())?;
-    let guids = wanted_names(alloc, arch, decs, inf, parts.items())?;
+    let guids = used_names(alloc, arch, decs, inf, parts.items())?;
     Ok(DepexGroup { parts, guids })
 }
 
@@ -192,25 +256,25 @@ fn each_group(
     decs: &[Package],
     infs: &[Shared<InfDoc>],
 ) -> Result<Rows<DepexGroup>, WantOfMemory>
-    ensures { IfOk result (λ groups. groups ≡ map (group_of arch kind decs.now) infs.now) }
+    ensures { IfOk result (λ groups. groups ≡ map (lean_group arch kind decs.now) infs.now) }
 {
     let mut groups = Rows::new(alloc);
     let mut left = infs;
     while let [inf, rest @ ..] = left {
-        groups.push(group_of(alloc, arch, kind, decs, inf.value())?)?;
+        groups.push(lean_group(alloc, arch, kind, decs, inf.value())?)?;
         left = rest;
     }
     Ok(groups)
 }
 
 // One group for each INF file.
-#[tactic(auto, unfolding(crate::specs::Depex::groups_of))]
-fn groups_of(
+#[tactic(auto, unfolding(crate::specs::DepexNames::lean_groups))]
+fn lean_groups(
     alloc: Global,
     kind: ModuleType,
     parts: &ModuleParts,
 ) -> Result<Rows<DepexGroup>, WantOfMemory>
-    ensures { IfOk result (λ groups. groups ≡ groups_of kind parts.now) }
+    ensures { IfOk result (λ groups. groups ≡ lean_groups kind parts.now) }
 {
     each_group(
         alloc,
@@ -231,7 +295,7 @@ fn own_type(infs: &[Shared<InfDoc>]) -> Result<ModuleType, Stop<Key>>
 }
 
 /// The bytes of a module's expression, none for a library.
-#[tactic(auto, unfolding(crate::specs::Depex::depex_given))]
+#[tactic(auto, unfolding(crate::specs::Depex::depex_given), using(crate::proofs::DepexNameLemmas::same_bytes))]
 pub fn depex_given(
     alloc: Global,
     permit: Permit,
@@ -244,6 +308,6 @@ pub fn depex_given(
         return Ok(Text::of(alloc, b"")?);
     }
     let kind = own_type(parts.infs.items())?;
-    let groups = groups_of(alloc, kind, parts)?;
+    let groups = lean_groups(alloc, kind, parts)?;
     Ok(compile(alloc, permit, kind, &groups)?)
 }
