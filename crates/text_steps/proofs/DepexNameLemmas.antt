@@ -24,7 +24,7 @@ use Rattle.doc_types.specs.declared.module.Named.{Named}
 use Rattle.doc_types.specs.declared.module_type.ModuleType.{ModuleType}
 use Rattle.doc_types.specs.declared.parts.ModuleParts.{ModuleParts}
 use Rattle.doc_types.specs.declared.parts.Package.{Package}
-use Rattle.pcd_resolve.specs.NameFilter.{is_kept, with_marks}
+use Rattle.pcd_resolve.specs.NameFilter.{is_kept}
 use Rattle.pcd_resolve.specs.Names.{covers}
 use Rattle.pcd_resolve.specs.Tables.{AllKept}
 use Rattle.pcd_resolve.proofs.NameFilterLemmas.{stays, each_kept}
