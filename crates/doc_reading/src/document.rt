@@ -34,7 +34,7 @@ fn scopes_entered<F: Format>(
     ensures { AnswersAs (λ scopes. scopes.items) result
         (heads_entered F.grammar line.now heads.now) }
 {
-    let mut gathered = LineResult::new(alloc);
+    let mut gathered = LineResult::new(alloc, heads.len());
     for head in heads {
         gathered.add(format.enter(line, head))?;
     }
@@ -62,7 +62,7 @@ fn rows_below<F: Format>(
     ensures { (above : List (Read F.Scope F.Row)) → F.holds above format.now →
         AnswersAs (λ rows. rows.items) result (rows_given F.grammar above line.now scopes.now) }
 {
-    let mut gathered = LineResult::new(alloc);
+    let mut gathered = LineResult::new(alloc, scopes.len());
     for scope in scopes {
         gathered.add(format.read_line(line, scope))?;
     }
