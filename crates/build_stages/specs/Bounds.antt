@@ -8,7 +8,7 @@ use Rattle.build_base.specs.First.{and_then}
 use Rattle.build_base.specs.declared.fault.Fault.{Fault}
 use Rattle.step_engine.specs.declared.talk.Ask.{Ask}
 use Rattle.step_engine.specs.declared.talk.Answer.{Answer}
-use Rattle.build_stages.specs.Stages.{Stages, end, stage, bind, Fits, Known, first_stop, unless_stopped, run, gather, advance, AreLower, IsWithin}
+use Rattle.build_stages.specs.Stages.{Stages, end, stage, with_answers, bind, Fits, Known, first_stop, unless_stopped, run, gather, advance, AreLower, IsWithin}
 use Rattle.build_stages.specs.Writing.{attempt, when}
 
 pub attempt_lower : {K O A B : Type 0} (rank : K → ℕ) (bound : ℕ) (r : Result A Fault)
@@ -29,7 +29,7 @@ pub bind_lower : {K O A B : Type 0} (rank : K → ℕ) (bound : ℕ) (s : Stages
 bind_lower rank bound (end (Ok x)) f l h = h x
 bind_lower rank bound (end (Err fault)) f l h = tt
 bind_lower rank bound (stage asks next) f l h =
-    (l.0, λ answers. bind_lower rank bound (next answers) f (l.1 answers) h)
+    (l.0, λ given. bind_lower rank bound (next given) f (l.1 given) h)
 
 -- fewer batches are also within more
 pub within_more : {K O A : Type 0} (fits : Fits K O) (n m : ℕ) (s : Stages K O A) → n ≤ m
@@ -38,7 +38,8 @@ within_more fits n m (end r) l w = tt
 within_more fits n m (stage asks next) l w = (
   let some : 0 < n = w.0 in omega (arith, l, some),
   λ answers fit.
-      within_more fits (n - 1) (m - 1) (next answers) (omega (arith, l)) (w.1 answers fit),
+      within_more fits (n - 1) (m - 1) (next (with_answers asks answers)) (omega (arith, l))
+      (w.1 answers fit),
 )
 
 pub bind_within : {K O A B : Type 0} (fits : Fits K O) (n m : ℕ) (s : Stages K O A)
@@ -49,9 +50,9 @@ bind_within fits n m (end (Err fault)) f w h = tt
 bind_within {K} {O} {A} {B} fits n m (stage asks next) f w h = (
   let some : 0 < n = w.0 in omega (arith, some),
   λ answers fit.
-      within_more fits ((n - 1) + m) ((n + m) - 1) (bind (next answers) f)
+      within_more fits ((n - 1) + m) ((n + m) - 1) (bind (next (with_answers asks answers)) f)
       (let some : 0 < n = w.0 in omega (arith, some))
-      (bind_within fits (n - 1) m (next answers) f (w.1 answers fit) h),
+      (bind_within fits (n - 1) m (next (with_answers asks answers)) f (w.1 answers fit) h),
 )
 
 -- what one after the other gives by known answers, and in a world
@@ -63,10 +64,10 @@ advance_bind same fits known (end (Ok x)) f = refl
 advance_bind same fits known (end (Err fault)) f = refl
 advance_bind {K} {O} {A} {B} same fits known (stage asks next) f =
     elim (gather same fits known asks)
-    as (λ g. and_then g (λ answers. advance same fits known (bind (next answers) f))
-    ≡ and_then (and_then g (λ answers. advance same fits known (next answers)))
+    as (λ g. and_then g (λ given. advance same fits known (bind (next given) f))
+    ≡ and_then (and_then g (λ given. advance same fits known (next given)))
     (λ x. advance same fits known (f x))) [
-      | Ok answers ↦ advance_bind same fits known (next answers) f
+      | Ok given ↦ advance_bind same fits known (next given) f
       | Err h ↦ refl
     ]
 
@@ -77,11 +78,12 @@ run_bind fits answers (end (Ok x)) f = refl
 run_bind fits answers (end (Err fault)) f = refl
 run_bind {K} {O} {A} {B} fits answers (stage asks next) f =
     elim (first_stop fits asks (map answers asks))
-    as (λ q. unless_stopped q Err (run fits answers (bind (next (map answers asks)) f))
-    ≡ and_then (unless_stopped q Err (run fits answers (next (map answers asks))))
+    as (λ q. unless_stopped q Err
+    (run fits answers (bind (next (with_answers asks (map answers asks))) f))
+    ≡ and_then (unless_stopped q Err (run fits answers (next (with_answers asks (map answers asks)))))
     (λ x. run fits answers (f x))) [
       | Some fault ↦ refl
-      | None ↦ run_bind fits answers (next (map answers asks)) f
+      | None ↦ run_bind fits answers (next (with_answers asks (map answers asks))) f
     ]
 
 -- short lists of asks

@@ -5,7 +5,7 @@ use Rattle.build_base.specs.declared.refusal.Refusal.{Refusal}
 use Rattle.build_base.specs.declared.refusal.Refusal.TheVariants as refusal
 use Rattle.step_engine.specs.declared.talk.Answer.{Answer}
 use Rattle.step_engine.specs.declared.talk.Ask.{Ask}
-use Rattle.build_stages.specs.Stages.{Fits, Halt, wants, fails, impossible_answer, first_stop, judged}
+use Rattle.build_stages.specs.Stages.{Fits, Halt, wants, fails, impossible_answer, first_stop, judged, with_answers}
 use Rattle.build_stages.specs.declared.stop.Stop.{Stop}
 use Rattle.build_stages.specs.declared.stop.Stop.TheVariants as stop
 
@@ -39,4 +39,6 @@ GivesIn view (Err s) r = StopsIn s r
 -- it stops at the first answer that ends the step
 abbrev pub Judges : {A K O : Type 0} → Fits K O → List (Ask K) → List (Answer O) → Result A (Stop K)
     → Type 0
-Judges fits asks answers r = Gives (λ _. answers) r (judged (first_stop fits asks answers) answers)
+Judges fits asks answers r =
+    Gives (λ _. with_answers asks answers) r
+    (judged (first_stop fits asks answers) (with_answers asks answers))

@@ -51,7 +51,7 @@ abbrev pub missing_at : {K O : Type 0} → (K → K → Ordering) → Table K O 
 missing_at cmp t asks = missing (same_ask cmp) (known_at cmp t) asks
 
 abbrev pub gathered_at : {K O : Type 0} → (K → K → Ordering) → Fits K O → Table K O → List (Ask K)
-    → Result (List (Answer O)) (Halt K)
+    → Result (List (Pair K O)) (Halt K)
 gathered_at cmp fits t asks = gather (same_ask cmp) fits (known_at cmp t) asks
 
 -- what stages give by a table

@@ -17,17 +17,24 @@ use Rattle.step_engine.specs.declared.talk.Pair.{Pair}
 use Rattle.step_engine.specs.declared.talk.Batch.{Batch}
 use Rattle.build_stages.specs.Asks.{same_ask}
 
--- the end with a result or a fault, or asks and what comes after their answers, which stand in the
--- order of the asks
+-- the end with a result or a fault, or asks and what comes after their answers: each ask with its
+-- answer
 pub data Stages (K O A : Type 0) : Type 0 where
   end : Result A Fault → Stages K O A
-  stage : List (Ask K) → (List (Answer O) → Stages K O A) → Stages K O A
+  stage : List (Ask K) → (List (Pair K O) → Stages K O A) → Stages K O A
+
+-- each ask with the answer at its place
+abbrev pub with_answers : {K O : Type 0} → List (Ask K) → List (Answer O) → List (Pair K O)
+with_answers [] answers = []
+with_answers (a ∷ asks) [] = []
+with_answers (a ∷ asks) (x ∷ answers) =
+    record { ask = a; answer = x } ∷ with_answers asks answers
 
 -- one after the other
 abbrev pub bind : {K O A B : Type 0} → Stages K O A → (A → Stages K O B) → Stages K O B
 bind (end (Ok x)) f = f x
 bind (end (Err fault)) f = end (Err fault)
-bind (stage asks next) f = stage asks (λ answers. bind (next answers) f)
+bind (stage asks next) f = stage asks (λ given. bind (next given) f)
 
 -- which answers are known
 abbrev pub Known : Type 0 → Type 0 → Type 0
@@ -72,7 +79,7 @@ abbrev pub run : {K O A : Type 0} → Fits K O → (Ask K → Answer O) → Stag
 run fits answers (end r) = r
 run fits answers (stage asks next) =
     unless_stopped (first_stop fits asks (map answers asks)) Err
-    (run fits answers (next (map answers asks)))
+    (run fits answers (next (with_answers asks (map answers asks))))
 
 abbrev pub cons_both : {A : Type 0} → Option A → Option (List A) → Option (List A)
 cons_both (Some x) (Some xs) = Some (x ∷ xs)
@@ -98,19 +105,19 @@ abbrev pub missing : {K O : Type 0} → (Ask K → Ask K → Bool) → Known K O
     → List (Ask K)
 missing same known asks = unseen same (λ a. is_some (known a)) asks
 
-abbrev pub judged : {K O : Type 0} → Option Fault → List (Answer O)
-    → Result (List (Answer O)) (Halt K)
-judged (Some fault) answers = Err (fails fault)
-judged None answers = Ok answers
+abbrev pub judged : {A K : Type 0} → Option Fault → A → Result A (Halt K)
+judged (Some fault) x = Err (fails fault)
+judged None x = Ok x
 
 abbrev pub gathered : {K O : Type 0} → Fits K O → List (Ask K) → List (Ask K)
-    → Option (List (Answer O)) → Result (List (Answer O)) (Halt K)
-gathered fits asks wanted (Some answers) = judged (first_stop fits asks answers) answers
+    → Option (List (Answer O)) → Result (List (Pair K O)) (Halt K)
+gathered fits asks wanted (Some answers) =
+    judged (first_stop fits asks answers) (with_answers asks answers)
 gathered fits asks wanted None = Err (wants wanted)
 
--- the answers to asks, or why there are none
+-- asks with their answers, or why there are none
 abbrev pub gather : {K O : Type 0} → (Ask K → Ask K → Bool) → Fits K O → Known K O → List (Ask K)
-    → Result (List (Answer O)) (Halt K)
+    → Result (List (Pair K O)) (Halt K)
 gather same fits known asks = gathered fits asks (missing same known asks) (answered known asks)
 
 abbrev pub ended : {A K : Type 0} → Result A Fault → Result A (Halt K)
@@ -122,7 +129,7 @@ abbrev pub advance : {K O A : Type 0} → (Ask K → Ask K → Bool) → Fits K 
     → Result A (Halt K)
 advance same fits known (end r) = ended r
 advance same fits known (stage asks next) =
-    and_then (gather same fits known asks) (λ answers. advance same fits known (next answers))
+    and_then (gather same fits known asks) (λ given. advance same fits known (next given))
 
 -- the answers of pairs, the first of each ask
 abbrev pub known_pairs : {K O : Type 0} → (Ask K → Ask K → Bool) → List (Pair K O) → Known K O
@@ -148,15 +155,14 @@ IsLower rank bound _ = Unit {0}
 abbrev pub AreLower : {K O A : Type 0} → (K → ℕ) → ℕ → Stages K O A → Type 0
 AreLower rank bound (end r) = Unit {0}
 AreLower {K} {O} {A} rank bound (stage asks next) =
-    All (IsLower rank bound) asks
-    × ((answers : List (Answer O)) → AreLower rank bound (next answers))
+    All (IsLower rank bound) asks × ((given : List (Pair K O)) → AreLower rank bound (next given))
 
 -- so many batches are asked at most
 abbrev pub IsWithin : {K O A : Type 0} → Fits K O → ℕ → Stages K O A → Type 0
 IsWithin fits n (end r) = Unit {0}
 IsWithin {K} {O} {A} fits n (stage asks next) =
     (0 < n) × ((answers : List (Answer O)) → first_stop fits asks answers ≡ None
-    → IsWithin fits (n - 1) (next answers))
+    → IsWithin fits (n - 1) (next (with_answers asks answers)))
 
 abbrev pub left_with : {K O : Type 0} → Fits K O → ℕ → List (Ask K) → (List (Answer O) → ℕ)
     → Option (List (Answer O)) → ℕ
@@ -168,7 +174,7 @@ left_with fits n asks rest (Some answers) =
 abbrev pub left_at : {K O A : Type 0} → Fits K O → Known K O → ℕ → Stages K O A → ℕ
 left_at fits known n (end r) = 0
 left_at fits known n (stage asks next) =
-    left_with fits n asks (λ answers. left_at fits known (n - 1) (next answers))
+    left_with fits n asks (λ answers. left_at fits known (n - 1) (next (with_answers asks answers)))
     (answered known asks)
 
 -- Rules that are written as stages: what each key asks, its rank, how many batches it asks at most,

@@ -13,7 +13,7 @@ use Rattle.step_engine.specs.declared.talk.Answer.{Answer}
 use Rattle.step_engine.specs.declared.talk.Answer.TheVariants as answer
 use Rattle.step_engine.specs.declared.talk.Outcome.{Outcome}
 use Rattle.step_engine.specs.declared.talk.Outcome.TheVariants.{Bad}
-use Rattle.build_stages.specs.Stages.{outcome_of, Stages, end, stage, Known, Fits, fails, impossible_answer, first_stop, unless_stopped, run, cons_both, answered, missing, judged, gathered, advance, IsLower, AreLower, Staged, oracle, value_by, meaning_of, AreBounded}
+use Rattle.build_stages.specs.Stages.{outcome_of, Stages, end, stage, Known, Fits, fails, impossible_answer, with_answers, first_stop, unless_stopped, run, cons_both, answered, missing, judged, gathered, advance, IsLower, AreLower, Staged, oracle, value_by, meaning_of, AreBounded}
 
 -- what a key gives by right answers depends on those to asks of lower rank alone
 maps_same : {K O : Type 0} (rank : K → ℕ) (bound : ℕ) (f g : Ask K → Answer O)
@@ -33,7 +33,8 @@ run_same fits rank bound f g e (end r) h = refl
 run_same {K} {O} {A} fits rank bound f g e (stage asks next) h =
     rw (maps_same rank bound f g e asks h.0) (
     ap (λ (r : Result A Fault). unless_stopped (first_stop fits asks (map g asks)) Err r)
-    (run_same fits rank bound f g e (next (map g asks)) (h.1 (map g asks))))
+    (run_same fits rank bound f g e (next (with_answers asks (map g asks)))
+    (h.1 (with_answers asks (map g asks)))))
 
 -- so more falls of ranks than needed change nothing
 stable_at : {K O : Type 0} (c : Staged K O) → AreBounded c → (n m : ℕ) (w : World) (k : K)
@@ -135,19 +136,20 @@ advance_run same fits known f g (end (Err fault)) r e = absurd (cc)
 advance_run {K} {O} {A} same fits known f g (stage asks next) r e =
     (elim (answered known asks) as (λ o. answered known asks ≡ o
     → and_then (gathered fits asks (missing same known asks) o)
-    (λ answers. advance same fits known (next answers)) ≡ Ok r
+    (λ given. advance same fits known (next given)) ≡ Ok r
     → run fits f (stage asks next) ≡ Ok r) [
       | None ↦ λ o e. absurd (cc)
       | Some answers ↦ λ o e.
           let is : answers ≡ map f asks = answered_map known f g asks answers o in
           (elim (first_stop fits asks answers)
           as (λ q. first_stop fits asks answers ≡ q
-          → and_then (judged q answers) (λ answers. advance same fits known (next answers))
-          ≡ Ok r → run fits f (stage asks next) ≡ Ok r) [
+          → and_then (judged q (with_answers asks answers))
+          (λ given. advance same fits known (next given)) ≡ Ok r
+          → run fits f (stage asks next) ≡ Ok r) [
             | Some fault ↦ λ q e. absurd (cc)
             | None ↦ λ q e.
-                let h : run fits f (next answers) ≡ Ok r =
-                advance_run same fits known f g (next answers) r e in
+                let h : run fits f (next (with_answers asks answers)) ≡ Ok r =
+                advance_run same fits known f g (next (with_answers asks answers)) r e in
                 rw (← is) (rw q h)
           ]) refl e
     ]) refl e
@@ -161,19 +163,20 @@ advance_fails same fits known f g (end (Err other)) fault e =
 advance_fails {K} {O} {A} same fits known f g (stage asks next) fault e =
     (elim (answered known asks) as (λ o. answered known asks ≡ o
     → and_then (gathered fits asks (missing same known asks) o)
-    (λ answers. advance same fits known (next answers)) ≡ Err (fails fault)
+    (λ given. advance same fits known (next given)) ≡ Err (fails fault)
     → run fits f (stage asks next) ≡ Err fault) [
       | None ↦ λ o e. absurd (cc)
       | Some answers ↦ λ o e.
           let is : answers ≡ map f asks = answered_map known f g asks answers o in
           (elim (first_stop fits asks answers)
           as (λ q. first_stop fits asks answers ≡ q
-          → and_then (judged q answers) (λ answers. advance same fits known (next answers))
-          ≡ Err (fails fault) → run fits f (stage asks next) ≡ Err fault) [
+          → and_then (judged q (with_answers asks answers))
+          (λ given. advance same fits known (next given)) ≡ Err (fails fault)
+          → run fits f (stage asks next) ≡ Err fault) [
             | Some other ↦ λ q e. let same : other ≡ fault = cc in rw (← is) (rw q (rw same refl))
             | None ↦ λ q e.
-                let h : run fits f (next answers) ≡ Err fault =
-                advance_fails same fits known f g (next answers) fault e in
+                let h : run fits f (next (with_answers asks answers)) ≡ Err fault =
+                advance_fails same fits known f g (next (with_answers asks answers)) fault e in
                 rw (← is) (rw q h)
           ]) refl e
     ]) refl e

@@ -10,7 +10,7 @@ use Rattle.step_engine.specs.declared.talk.Answer.{Answer}
 use Rattle.step_engine.specs.declared.talk.Pair.{Pair}
 use Rattle.step_engine.specs.declared.talk.Batch.{Batch}
 use Rattle.std.specs.Option.{is_some}
-use Rattle.build_stages.specs.Stages.{Stages, end, stage, Known, Fits, wants, first_stop, unless_stopped, cons_both, answered, either, unseen, missing, judged, gathered, advance, known_pairs, all_pairs, known_in, IsLower, AreLower, IsWithin, left_with, left_at}
+use Rattle.build_stages.specs.Stages.{Stages, end, stage, with_answers, Known, Fits, wants, first_stop, unless_stopped, cons_both, answered, either, unseen, missing, judged, gathered, advance, known_pairs, all_pairs, known_in, IsLower, AreLower, IsWithin, left_with, left_at}
 use Rattle.build_stages.specs.StagesLaws.{Agrees}
 
 -- two asks are the same exactly where the test says so
@@ -115,17 +115,17 @@ wants_new same fits known (end (Err fault)) asks e a c = absurd (cc)
 wants_new {K} {O} {A} same fits known (stage here next) asks e a c =
     (elim (answered known here)
     as (λ o. and_then (gathered fits here (missing same known here) o)
-    (λ answers. advance same fits known (next answers)) ≡ Err (wants asks)
+    (λ given. advance same fits known (next given)) ≡ Err (wants asks)
     → is_some (known a) ≡ false) [
       | None ↦ λ e. let is : missing same known here ≡ asks =
           cc in unseen_new same (λ a. is_some (known a)) here a
           (subst (λ (l : List (Ask K)). Contains l a) (sym is) c)
       | Some answers ↦ λ e.
           (elim (first_stop fits here answers)
-          as (λ q. and_then (judged q answers) (λ answers. advance same fits known (next answers))
-          ≡ Err (wants asks) → is_some (known a) ≡ false) [
+          as (λ q. and_then (judged q (with_answers here answers))
+          (λ given. advance same fits known (next given)) ≡ Err (wants asks) → is_some (known a) ≡ false) [
             | Some fault ↦ λ e. absurd (cc)
-            | None ↦ λ e. wants_new same fits known (next answers) asks e a c
+            | None ↦ λ e. wants_new same fits known (next (with_answers here answers)) asks e a c
           ]) e
     ]) e
 
@@ -138,17 +138,19 @@ wants_lower same fits rank bound known (end (Err fault)) asks l e a c = absurd (
 wants_lower {K} {O} {A} same fits rank bound known (stage here next) asks l e a c =
     (elim (answered known here)
     as (λ o. and_then (gathered fits here (missing same known here) o)
-    (λ answers. advance same fits known (next answers)) ≡ Err (wants asks)
+    (λ given. advance same fits known (next given)) ≡ Err (wants asks)
     → IsLower rank bound a) [
       | None ↦ λ e. let is : missing same known here ≡ asks =
           cc in unseen_keeps (IsLower rank bound) same (λ a. is_some (known a)) here l.0 a
           (subst (λ (l : List (Ask K)). Contains l a) (sym is) c)
       | Some answers ↦ λ e.
           (elim (first_stop fits here answers)
-          as (λ q. and_then (judged q answers) (λ answers. advance same fits known (next answers))
-          ≡ Err (wants asks) → IsLower rank bound a) [
+          as (λ q. and_then (judged q (with_answers here answers))
+          (λ given. advance same fits known (next given)) ≡ Err (wants asks) → IsLower rank bound a) [
             | Some fault ↦ λ e. absurd (cc)
-            | None ↦ λ e. wants_lower same fits rank bound known (next answers) asks (l.1 answers) e a c
+            | None ↦ λ e.
+                wants_lower same fits rank bound known (next (with_answers here answers)) asks
+                (l.1 (with_answers here answers)) e a c
           ]) e
     ]) e
 
@@ -291,14 +293,14 @@ left_most : {K O A : Type 0} (fits : Fits K O) (known : Known K O) (n : ℕ) (s 
 left_most fits known n (end r) = omega arith
 left_most {K} {O} {A} fits known n (stage asks next) =
     elim (answered known asks)
-    as (λ o. left_with fits n asks (λ answers. left_at fits known (n - 1) (next answers)) o ≤ n) [
+    as (λ o. left_with fits n asks (λ answers. left_at fits known (n - 1) (next (with_answers asks answers))) o ≤ n) [
       | None ↦ omega arith
       | Some answers ↦
           (elim (first_stop fits asks answers)
-          as (λ q. unless_stopped q (λ fault. 0) (left_at fits known (n - 1) (next answers)) ≤ n) [
+          as (λ q. unless_stopped q (λ fault. 0) (left_at fits known (n - 1) (next (with_answers asks answers))) ≤ n) [
             | Some fault ↦ omega arith
-            | None ↦ let h : left_at fits known (n - 1) (next answers) ≤ n - 1 =
-                left_most fits known (n - 1) (next answers) in omega (arith, h)
+            | None ↦ let h : left_at fits known (n - 1) (next (with_answers asks answers)) ≤ n - 1 =
+                left_most fits known (n - 1) (next (with_answers asks answers)) in omega (arith, h)
           ])
     ]
 
@@ -313,10 +315,10 @@ left_falls same exact fits known known' g n (end (Ok out)) asks w e h = absurd (
 left_falls same exact fits known known' g n (end (Err fault)) asks w e h = absurd (cc)
 left_falls {K} {O} {A} same exact fits known known' g n (stage here next) asks w e h =
     let rest : Known K O → List (Answer O) → ℕ =
-    λ k answers. left_at fits k (n - 1) (next answers) in
+    λ k answers. left_at fits k (n - 1) (next (with_answers here answers)) in
     (elim (answered known here) as (λ o. answered known here ≡ o
     → and_then (gathered fits here (missing same known here) o)
-    (λ answers. advance same fits known (next answers)) ≡ Err (wants asks)
+    (λ given. advance same fits known (next given)) ≡ Err (wants asks)
     → left_with fits n here (rest known') (answered known' here)
     < left_with fits n here (rest known) o) [
       | None ↦ λ o e.
@@ -332,20 +334,21 @@ left_falls {K} {O} {A} same exact fits known known' g n (stage here next) asks w
                 (elim (first_stop fits here answers)
                 as (λ q. unless_stopped q (λ fault. 0) (rest known' answers) < n) [
                   | Some fault ↦ w.0
-                  | None ↦ let m : left_at fits known' (n - 1) (next answers) ≤ n - 1 =
-                      left_most fits known' (n - 1) (next answers) in let some : 0 < n =
-                      w.0 in omega (arith, m, some)
+                  | None ↦
+                      let m : left_at fits known' (n - 1) (next (with_answers here answers)) ≤ n - 1 =
+                      left_most fits known' (n - 1) (next (with_answers here answers)) in
+                      let some : 0 < n = w.0 in omega (arith, m, some)
                 ])
           ]) refl
       | Some answers ↦ λ o e. rw (answered_grows known known' g here answers o) (
           (elim (first_stop fits here answers)
           as (λ q. first_stop fits here answers ≡ q
-          → and_then (judged q answers) (λ answers. advance same fits known (next answers))
-          ≡ Err (wants asks) → unless_stopped q (λ fault. 0) (rest known' answers)
+          → and_then (judged q (with_answers here answers))
+          (λ given. advance same fits known (next given)) ≡ Err (wants asks) → unless_stopped q (λ fault. 0) (rest known' answers)
           < unless_stopped q (λ fault. 0) (rest known answers)) [
             | Some fault ↦ λ q e. absurd (cc)
-            | None ↦ λ q e. left_falls same exact fits known known' g (n - 1) (next answers) asks
-                (w.1 answers q) e h
+            | None ↦ λ q e. left_falls same exact fits known known' g (n - 1)
+                (next (with_answers here answers)) asks (w.1 answers q) e h
           ]) refl e)
     ]) refl e
 

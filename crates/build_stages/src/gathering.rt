@@ -46,23 +46,23 @@ fn judge<S: StepTypes>(
     Ok(())
 }
 
-/// The answers to the asks of a stage, in their order, and the permit again. Those that aren't
+/// The answers to the asks of a stage, by their asks, and the permit again. Those that aren't
 /// known are wanted, each once; of the known ones the first that no world gives, or that is the
 /// fault of a part, stops the step.
 pub fn gather<'a, S: StepTypes>(
     alloc: Global,
     rules: &S,
     known: &Known<'a, S::Key, S::Out>,
-    asks: &[Ask<S::Key>],
+    asks: &'a [Ask<S::Key>],
     permit: Permit,
-) -> Result<(Given<'a, S::Out>, Permit), Stop<S::Key>>
+) -> Result<(Given<'a, S::Key, S::Out>, Permit), Stop<S::Key>>
     ensures { Gives (λ x. x.0) result (gathered_at S.Key.cmp S.staged.fits known.now asks.now) }
 {
     match known.all(alloc, asks)? {
         None => Err(Stop::Wants(known.missing(alloc, asks)?, permit)),
         Some(answers) => {
             judge(alloc, rules, asks, answers.as_slice())?;
-            Ok((Given::of(answers), permit))
+            Ok((Given::of(asks, answers), permit))
         }
     }
 }
