@@ -1,9 +1,7 @@
 -- Where an ask stands, its answer stands.
 use Rattle.std.proofs.Common.{◌≡◌, ℕ, zero, suc, ◌<◌, ◌≤◌, ◌+◌, arith, Bool, true, false, cond, List, [], ◌∷◌, length, get_or, drop, map, slice_get, Option, Some, None, MatchOption, refl, sym, ap, ◌∙◌, subst, Bor}
-use Rattle.std.specs.Prelude.{nat_eq, ◌==◌}
 use Rattle.std.specs.Option.{option_map, option_and_then, option_copied}
 use Rattle.std.specs.List.{position, position_or_len}
-use Rattle.std.specs.Cmp.Lexicographic.{pointwise, same_text}
 use Rattle.std.specs.declared.cmp.Ordering.{Ordering}
 use Rattle.std.proofs.lemmas.Bool.Decides.{nat_tests}
 use Rattle.std.proofs.lemmas.List.Quantifiers.{position-Some}
@@ -11,14 +9,14 @@ use Rattle.std.proofs.lemmas.List.{length-map}
 use Rattle.std.proofs.lemmas.Option.{slice_get-get_or}
 use Rattle.std.proofs.lemmas.List.Sums.{fails_before_first}
 use Rattle.std.proofs.lemmas.Map.Lookups.{CmpEqualImpliesEq}
-use Rattle.std.proofs.lemmas.Map.Views.{tells_apart}
 use Rattle.step_engine.specs.declared.talk.Ask.{Ask}
 use Rattle.step_engine.specs.declared.talk.Ask.TheVariants as ask
 use Rattle.step_engine.specs.declared.talk.Answer.{Answer}
 use Rattle.build_stages.specs.Answered.{AreAnswered, IsPlace, is_wanted}
 use Rattle.build_stages.specs.Known.{shown}
 use Rattle.build_stages.specs.Stages.{Known, with_answers, answered, cons_both}
-use Rattle.build_stages.specs.Writing.{is_file, is_field, is_part, answer_where}
+use Rattle.build_stages.specs.Told.{file_is, field_is, part_is}
+use Rattle.build_stages.specs.Writing.{answer_where}
 use Rattle.build_stages.specs.declared.given.Wanted.{Wanted}
 use Rattle.build_stages.specs.declared.given.Wanted.TheVariants as wanted
 use Rattle.build_stages.proofs.GatherLemmas.{answered_length}
@@ -27,21 +25,6 @@ use Rattle.build_stages.proofs.GatherLemmas.{answered_length}
 
 abbrev IsOne : {K : Type 0} → (Ask K → Bool) → Type 0
 IsOne {K} is = (a b : Ask K) → is a ≡ true → is b ≡ true → a ≡ b
-
-file_is : {K : Type 0} (path : List ℕ) (a : Ask K) → is_file path a ≡ true → a ≡ ask.File path
-file_is path (ask.File q) e = ap ask.File (sym (same_text path q (sym e)))
-file_is path (ask.Field i) e = absurd cc
-file_is path (ask.Part k) e = absurd cc
-
-field_is : {K : Type 0} (n : ℕ) (a : Ask K) → is_field n a ≡ true → a ≡ ask.Field n
-field_is n (ask.File q) e = absurd cc
-field_is n (ask.Field i) e = let same : n ≡ i = grind (arith, nat_tests, e) in ap ask.Field (sym same)
-field_is n (ask.Part k) e = absurd cc
-
-part_is : {K : Type 0} (cmp : K → K → Ordering) → CmpEqualImpliesEq cmp → (k : K) (a : Ask K) → is_part cmp k a ≡ true → a ≡ ask.Part k
-part_is cmp key k (ask.File q) e = absurd cc
-part_is cmp key k (ask.Field i) e = absurd cc
-part_is cmp key k (ask.Part l) e = ap ask.Part (sym (tells_apart key k l e))
 
 pub wanted_is_one : {K : Type 0} (cmp : K → K → Ordering) → CmpEqualImpliesEq cmp → (w : Wanted K) → IsOne (is_wanted cmp w)
 wanted_is_one cmp key (wanted.File path) = λ a b e f. file_is path.now a e ∙ sym (file_is path.now b f)

@@ -1,5 +1,5 @@
 -- A document begins with the files that are told already, and comes to the same.
-use Rattle.std.proofs.Common.{◌≡◌, ℕ, zero, suc, ◌<◌, ◌≤◌, ◌-◌, arith, refl, sym, ap, ◌∙◌, subst, Bool, true, List, [], ◌∷◌, Option, Some, None, Result, Ok, Err}
+use Rattle.std.proofs.Common.{◌≡◌, ℕ, zero, suc, ◌<◌, ◌≤◌, ◌-◌, arith, refl, sym, ap, ◌∙◌, subst, Bool, true, cond, List, [], ◌∷◌, Option, Some, None, Result, Ok, Err}
 use Rattle.std.proofs.lemmas.List.Elements.{All-nil, All-append, All-weaker}
 use Rattle.build_base.specs.First.{and_then, or_else}
 use Rattle.build_base.specs.World.{file_limit}
@@ -18,35 +18,44 @@ use Rattle.step_engine.specs.declared.talk.Ask.{Ask}
 use Rattle.step_engine.specs.declared.talk.Ask.TheVariants as ask
 use Rattle.step_engine.specs.declared.talk.Answer.{Answer}
 use Rattle.step_engine.specs.declared.talk.Answer.TheVariants as answers
+use Rattle.step_engine.specs.declared.talk.Pair.{Pair}
 use Rattle.build_stages.specs.Stages.{Fits, Halt, gather, gathered, missing, judged, cons_both, stop_of, fault_in, ended, advance, Known as Answers}
-use Rattle.build_stages.specs.Writing.{file_at}
+use Rattle.build_stages.specs.Writing.{file_of, given_file}
+use Rattle.build_stages.specs.Told.{file_itself}
 use Rattle.build_stages.specs.Bounds.{all_one}
 use Rattle.document_stages.specs.Documents.{got_in, got_step, lines_after, most_files}
 use Rattle.document_stages.specs.Learning.{IsTold, AreTold}
 use Rattle.document_stages.proofs.AnswerLemmas.{answered_by, none_more, one_more, both_more}
 use Rattle.document_stages.proofs.DocumentSteps.{Goes, at_end, at_bad, after_need, some_left, got_small, left_most}
 
-told_answer : {K O : Type 0} (x : Answer O) (got : Got) → got_in x ≡ Ok got
-    → and_then (judged {K = K} (or_else (fault_in x) None) (x ∷ [])) (λ given. and_then (ended (file_at given 0)) (λ x. ended (got_in x))) ≡ Ok got
-told_answer {K} (answers.Bytes bytes) got e = ap (ended {K = K}) e
-told_answer {K} answers.Absent got e = ap (ended {K = K}) e
-told_answer {K} answers.TooLong got e = ap (ended {K = K}) e
-told_answer (answers.Field text) got e = absurd (cc)
-told_answer (answers.Part outcome) got e = absurd (cc)
+-- one file with its answer
+abbrev told_one : {K O : Type 0} → List ℕ → Answer O → List (Pair K O)
+told_one path x = record { ask = ask.File path; answer = x } ∷ []
+
+abbrev got_by : {K O : Type 0} → Answer O → Bool → Result Got (Halt K)
+got_by {K} {O} x b = and_then (ended (file_of (cond b (Some x) None))) (λ x. ended {K = K} (got_in x))
+
+told_answer : {K O : Type 0} (path : List ℕ) (x : Answer O) (got : Got) → got_in x ≡ Ok got
+    → and_then (judged {K = K} (or_else (fault_in x) None) (told_one {K = K} path x)) (λ given. and_then (ended (given_file given path)) (λ x. ended (got_in x))) ≡ Ok got
+told_answer {K} {O} path (answers.Bytes bytes) got e = ap (got_by {K = K} {O = O} (answers.Bytes bytes)) (file_itself {K = K} path) ∙ ap (ended {K = K}) e
+told_answer {K} {O} path answers.Absent got e = ap (got_by {K = K} {O = O} answers.Absent) (file_itself {K = K} path) ∙ ap (ended {K = K}) e
+told_answer {K} {O} path answers.TooLong got e = ap (got_by {K = K} {O = O} answers.TooLong) (file_itself {K = K} path) ∙ ap (ended {K = K}) e
+told_answer path (answers.Field text) got e = absurd (cc)
+told_answer path (answers.Part outcome) got e = absurd (cc)
 
 -- what is known of a file and fits is got
 pub told_is : {K O : Type 0} (same : Ask K → Ask K → Bool) (fits : Fits K O) (known : Answers K O) (path : List ℕ) (x : Answer O) (got : Got)
     → known (ask.File path) ≡ Some x → fits (ask.File path) x ≡ true → got_in x ≡ Ok got → got_step same fits known path ≡ Ok got
 told_is {K} {O} same fits known path x got k f e =
-    ap (λ (o : Option (Answer O)). and_then (gathered fits (ask.File path ∷ []) (missing same known (ask.File path ∷ [])) (cons_both o (Some []))) (λ given. and_then (ended (file_at given 0)) (λ x. ended (got_in x)))) k
-    ∙ ap (λ (b : Bool). and_then (judged {K = K} (or_else (stop_of b x) None) (x ∷ [])) (λ given. and_then (ended (file_at given 0)) (λ x. ended (got_in x)))) f
-    ∙ told_answer x got e
+    ap (λ (o : Option (Answer O)). and_then (gathered fits (ask.File path ∷ []) (missing same known (ask.File path ∷ [])) (cons_both o (Some []))) (λ given. and_then (ended (given_file given path)) (λ x. ended (got_in x)))) k
+    ∙ ap (λ (b : Bool). and_then (judged {K = K} (or_else (stop_of b x) None) (told_one {K = K} path x)) (λ given. and_then (ended (given_file given path)) (λ x. ended (got_in x)))) f
+    ∙ told_answer path x got e
 
 got_within : {K O : Type 0} (same : Ask K → Ask K → Bool) (fits : Fits K O) (known : Answers K O) (path : List ℕ) (got : Got) → got_step same fits known path ≡ Ok got → IsWithin file_limit got
 got_within {K} {O} same fits known path got e =
-    (elim (gather same fits known (ask.File path ∷ [])) as (λ g. and_then g (λ given. and_then (ended (file_at given 0)) (λ x. ended (got_in x))) ≡ Ok got → IsWithin file_limit got) [
+    (elim (gather same fits known (ask.File path ∷ [])) as (λ g. and_then g (λ given. and_then (ended (given_file given path)) (λ x. ended (got_in x))) ≡ Ok got → IsWithin file_limit got) [
       | Err h ↦ λ e. absurd (cc)
-      | Ok given ↦ (elim (file_at given 0) as (λ r. and_then (ended {K = K} r) (λ x. ended (got_in x)) ≡ Ok got → IsWithin file_limit got) [
+      | Ok given ↦ (elim (given_file given path) as (λ r. and_then (ended {K = K} r) (λ x. ended (got_in x)) ≡ Ok got → IsWithin file_limit got) [
         | Err fault ↦ λ e. absurd (cc)
         | Ok x ↦ (elim (got_in x) as (λ r. got_in x ≡ r → ended {K = K} r ≡ Ok got → IsWithin file_limit got) [
           | Err fault ↦ λ i e. absurd (cc)

@@ -8,7 +8,7 @@ use Rattle.macro_conditions.specs.Expansion.{Stop, bad, need, expansion}
 use Rattle.macro_conditions.specs.Counting.{with_answer}
 use Rattle.step_engine.specs.declared.talk.Ask.TheVariants as ask
 use Rattle.build_stages.specs.Stages.{Stages, Fits, IsLower, AreLower, IsWithin}
-use Rattle.build_stages.specs.Writing.{attempt, file_at}
+use Rattle.build_stages.specs.Writing.{attempt, given_file}
 use Rattle.build_stages.specs.Bounds.{attempt_lower, attempt_within, all_one}
 use Rattle.document_stages.specs.Documents.{by_stop, got_in, lines_after}
 
@@ -29,7 +29,7 @@ lines_lower {K} O rank bound (suc n) root macros fixed files =
     stop_lower rank bound (expansion (answer files) root macros fixed) _ (λ path. (
       all_one (IsLower rank bound) (ask.File path) tt,
       λ given.
-          attempt_lower rank bound (file_at given 0) _
+          attempt_lower rank bound (given_file given path) _
           (λ x. attempt_lower rank bound (got_in x) _
           (λ got. lines_lower O rank bound n root macros fixed (with_answer files path got))),
     ))
@@ -53,11 +53,11 @@ lines_within {K} {O} fits (suc n) root macros fixed files =
       λ given fit.
           subst
           (λ m. IsWithin fits m
-          (attempt (file_at given 0)
+          (attempt (given_file given path)
           (λ x. attempt (got_in x)
           (λ got. lines_after n root macros fixed (with_answer files path got)))))
           (let same : n ≡ suc n - 1 = omega arith in same)
-          (attempt_within fits n (file_at given 0) _
+          (attempt_within fits n (given_file given path) _
           (λ x. attempt_within fits n (got_in x) _
           (λ got. lines_within fits n root macros fixed (with_answer files path got)))),
     ))

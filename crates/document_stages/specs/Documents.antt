@@ -16,7 +16,7 @@ use Rattle.step_engine.specs.declared.talk.Ask.TheVariants as ask
 use Rattle.step_engine.specs.declared.talk.Answer.{Answer}
 use Rattle.step_engine.specs.declared.talk.Answer.TheVariants as answers
 use Rattle.build_stages.specs.Stages.{Stages, end, stage, impossible_answer, Fits, Halt, gather, ended, Known as Answers}
-use Rattle.build_stages.specs.Writing.{attempt, file_at}
+use Rattle.build_stages.specs.Writing.{attempt, given_file}
 
 abbrev pub if_small : Bool → List ℕ → Result Got Fault
 if_small true bytes = Ok (File bytes)
@@ -32,7 +32,7 @@ got_in _ = Err impossible_answer
 -- one file is asked for
 abbrev pub ask_file : {K O A : Type 0} → List ℕ → (Got → Stages K O A) → Stages K O A
 ask_file path next =
-    stage (ask.File path ∷ []) (λ given. attempt (file_at given 0) (λ x. attempt (got_in x) next))
+    stage (ask.File path ∷ []) (λ given. attempt (given_file given path) (λ x. attempt (got_in x) next))
 
 -- lines and faults end, a path that is wanted is asked
 abbrev pub by_stop : {K O : Type 0} → Result Lines Stop → (List ℕ → Stages K O Lines)
@@ -63,4 +63,4 @@ abbrev pub got_step : {K O : Type 0} → (Ask K → Ask K → Bool) → Fits K O
     → Result Got (Halt K)
 got_step same fits known path =
     and_then (gather same fits known (ask.File path ∷ []))
-    (λ given. and_then (ended (file_at given 0)) (λ x. ended (got_in x)))
+    (λ given. and_then (ended (given_file given path)) (λ x. ended (got_in x)))

@@ -184,7 +184,7 @@ fn learn<S: StepTypes>(
     let mut asks = Rows::new(alloc);
     asks.push(Ask::File(path.copy(alloc)?))?;
     let (given, permit) = gather(alloc, rules, known, asks.items(), permit)?;
-    let got = content_of(alloc, given.file(0)?)?;
+    let got = content_of(alloc, given.file(path)?)?;
     document.learn(shared_path(alloc, path)?, got)?;
     Ok(permit)
 }

@@ -144,28 +144,28 @@ fn with_field(alloc: Global, key: u32, file: &Answer<Text>, more: &Text) -> Resu
     }
 }
 
-fn file_given(alloc: Global, key: u32, given: &Given<'_, Text>) -> Result<Text, Stop<u32>>
+fn file_given(alloc: Global, key: u32, given: &Given<'_, u32, Text>) -> Result<Text, Stop<u32>>
     ensures { GivesIn (λ text. text) result (file_given key given.now) }
 {
-    let file = given.file(0)?;
-    let more = given.field(1)?;
+    let file = given.file(&path(alloc, key)?)?;
+    let more = given.field(key as u8)?;
     with_field(alloc, key, file, more)
 }
 
-fn parts_given(alloc: Global, given: &Given<'_, Text>) -> Result<Text, Stop<u32>>
-    ensures { GivesIn (λ text. text) result (parts_given given.now) }
+fn parts_given(alloc: Global, key: u32, given: &Given<'_, u32, Text>) -> Result<Text, Stop<u32>>
+    ensures { GivesIn (λ text. text) result (parts_given key given.now) }
 {
-    let first = given.part(0)?;
-    let second = given.part(1)?;
+    let first = given.part(&0)?;
+    let second = given.part(&(key - 1))?;
     Ok(join_texts(alloc, first, second)?)
 }
 
-fn step_given(alloc: Global, key: u32, given: &Given<'_, Text>) -> Result<Text, Stop<u32>>
+fn step_given(alloc: Global, key: u32, given: &Given<'_, u32, Text>) -> Result<Text, Stop<u32>>
     ensures { GivesIn (λ text. text) result (step_given key given.now) }
 {
     if key < 2 {
         file_given(alloc, key, given)
     } else {
-        parts_given(alloc, given)
+        parts_given(alloc, key, given)
     }
 }
