@@ -1,19 +1,15 @@
 -- The libraries of a module in a world.
 use Rattle.std.specs.Prelude.{nat_eq, ◌||◌, filter}
 use Rattle.std.specs.Cmp.Lexicographic.{pointwise, same_text}
-use Rattle.std.specs.List.{flat_map}
 use Rattle.std.proofs.Common.{◌≡◌, ℕ, zero, suc, ◌<◌, ◌≤◌, ◌-◌, arith, Bool, true, false, List, [], ◌∷◌, ◌++◌, length, map, Option, Some, None, Result, Ok, Err, refl, sym, ap, ◌∙◌, subst, cond}
 use Rattle.std.proofs.lemmas.Cmp.{nat_list_eq_equiv}
-use Rattle.build_base.specs.First.{and_then, or_else, or_fault, with_front, all_ok}
+use Rattle.build_base.specs.First.{and_then, or_fault, with_front, all_ok}
 use Rattle.build_base.specs.World.{World}
 use Rattle.build_base.specs.declared.fault.Fault.{Fault}
 use Rattle.step_engine.specs.Meaning.{right, IsWorld}
-use Rattle.step_engine.specs.declared.talk.Answer.TheVariants as answer
-use Rattle.step_engine.specs.declared.talk.Outcome.{Outcome}
 use Rattle.build_stages.specs.Bounds.{run_bind}
-use Rattle.build_stages.specs.Stages.{fault_in, outcome_of, meaning_of}
+use Rattle.build_stages.specs.Stages.{outcome_of, meaning_of}
 use Rattle.build_stages.specs.StagesLaws.{value_is}
-use Rattle.build_stages.specs.Writing.{attempt}
 use Rattle.doc_types.specs.declared.choice.Module.{Module}
 use Rattle.doc_types.specs.declared.module.InfDoc.{InfDoc}
 use Rattle.doc_types.specs.declared.platform.PlatformDoc.{PlatformDoc}
@@ -24,33 +20,28 @@ use Rattle.library_choice.specs.Rounds.{unknown_left, left_for, rounds_left}
 use Rattle.library_choice.proofs.RoundLemmas.{falls}
 use Rattle.step_pack.specs.Keys.{key_cmp}
 use Rattle.step_pack.specs.declared.key.Key.TheVariants as key
-use Rattle.step_pack.specs.declared.out.Out.{Out}
 use Rattle.step_pack.specs.declared.out.Out.TheVariants as out
 use Rattle.module_steps.specs.Asks.{inf_asks}
-use Rattle.module_steps.specs.Choices.{alone, behind}
-use Rattle.module_steps.specs.Parts.{one, inf_at, inf_of_path, taken}
+use Rattle.module_steps.specs.Choices.{alone, own_inf, behind, with_more}
+use Rattle.module_steps.specs.Parts.{inf_of_out, inf_in, infs_from}
 use Rattle.module_steps.proofs.KnownLemmas.{first_known, still_known, known_behind}
-use Rattle.module_steps.proofs.TakenLemmas.{then_made}
 use Rattle.document_rules.specs.Fits.{fits}
 use Rattle.module_rules.specs.ModuleTrees.{round_stages, choice_round, choice_after, most_rounds, module_first, choice_given, choice_stages}
 use Rattle.build_laws.specs.ModuleValues.{infs_value, chosen_by, chosen_after, choice_value}
 use Rattle.build_rules.specs.Rules.{edk, value_in}
 use Rattle.build_rules.specs.RulesBounds.{edk_is_bounded}
-use Rattle.document_rules.specs.Trees.{given_as}
+use Rattle.document_rules.specs.Trees.{given_as, platform_in}
 use Rattle.build_rules.specs.Values.{inf_value, platform_value}
-use Rattle.build_rules.proofs.Asked.{fault_asked}
+use Rattle.build_rules.proofs.Asked.{given_in, fault_asked, step_told}
 use Rattle.build_laws.proofs.DescriptionLemmas.{described_path}
-use Rattle.build_rules.proofs.KindLemmas.{stage_run}
-use Rattle.build_laws.proofs.ToldLemmas.{comes, part_answers, infs_tells, step_answers, told_run, named_path}
+use Rattle.build_laws.proofs.ToldLemmas.{comes, infs_read, then_reads, reads_run, named_path, platform_told, asked_run, read_run, stops_first, fields_stop}
 use Rattle.build_rules.proofs.ValueLemmas.{inf_is, platform_is}
 
 -- a round makes its descriptions known
 round_run : (w : World) (infs : List InfDoc) (paths : List (List ℕ)) → comes w (round_stages infs paths) ≡ and_then (infs_value w paths) (behind infs)
 round_run w infs paths =
-    told_run w (λ paths. length (flat_map (part_answers w key.Inf) paths)) (λ given i paths. and_then (taken one inf_at given i paths) (behind infs)) (λ paths. flat_map (part_answers w key.Inf) paths)
-    (λ paths. and_then (infs_value w paths) (behind infs))
-    (then_made (λ paths. length (flat_map (part_answers w key.Inf) paths)) (taken one inf_at) (λ paths. flat_map (part_answers w key.Inf) paths) (infs_value w) (λ paths. behind infs) (λ paths more. infs ++ more) (λ paths more. refl) (infs_tells w))
-    (inf_asks paths) paths (step_answers w key.Inf paths)
+    reads_run w inf_asks (with_more infs) (λ paths. and_then (infs_value w paths) (behind infs))
+    (then_reads w inf_asks infs_from (infs_value w) (λ paths. paths) (λ paths. behind infs) (λ paths more. infs ++ more) (λ paths more. refl) (infs_read w)) paths
 
 -- each of some paths is known once their descriptions are there
 known_of : (w : World) (paths : List (List ℕ)) (more : List InfDoc) → infs_value w paths ≡ Ok more → (path : List ℕ) → is_in same_path paths path ≡ true → is_known more path ≡ true
@@ -117,40 +108,37 @@ choice_run w zero m platform infs l = absurd (omega (arith, l))
 choice_run w (suc n) m platform infs l =
     wanted_run w n m platform infs (wanted m platform infs) refl (λ more less. choice_run w n m platform more (omega (arith, l, less)))
 
--- the libraries by what the platform's step and the module's own gave
-abbrev by_pair : World → Module → Outcome Out → Outcome Out → Result Out Fault
-by_pair w m p v =
-    or_fault (or_else (fault_in (answer.Part p)) (or_else (fault_in (answer.Part v)) None))
-    (comes w (choice_given m (answer.Part p ∷ answer.Part v ∷ [])))
-
-by_pair_is : (w : World) (m : Module) (p : Result PlatformDoc Fault) (r : Result InfDoc Fault) → ((inf : InfDoc) → r ≡ Ok inf → inf_of_path m.inf inf ≡ Ok inf)
-    → by_pair w m (outcome_of (given_as out.Platform p)) (outcome_of (given_as out.Inf r))
-    ≡ and_then p (λ platform. and_then (and_then r alone) (λ infs. comes w (choice_after most_rounds m platform infs)))
-by_pair_is w m (Ok platform) (Ok inf) h =
-    ap (λ (r : Result InfDoc Fault). comes w (attempt (and_then r alone) (λ infs. choice_after most_rounds m platform infs))) (h inf refl)
-by_pair_is w m (Ok platform) (Err fault) h = refl
-by_pair_is w m (Err fault) (Ok inf) h = refl
-by_pair_is w m (Err fault) (Err other) h = refl
-
 enough : (m : Module) (platform : PlatformDoc) (infs : List InfDoc) → rounds_left m platform infs < most_rounds
 unfolding most_rounds
 enough m platform infs = let few = few_left m platform infs in omega (arith, few)
 
-made_same : (w : World) (m : Module) (p : Result PlatformDoc Fault) (r : Result (List InfDoc) Fault)
-    → and_then p (λ platform. and_then r (λ infs. comes w (choice_after most_rounds m platform infs)))
-    ≡ given_as out.Choice (and_then p (λ platform. and_then r (λ infs. chosen_after w most_rounds m platform infs)))
-made_same w m (Ok platform) (Ok infs) = choice_run w most_rounds m platform infs (enough m platform infs)
-made_same w m (Ok platform) (Err fault) = refl
-made_same w m (Err fault) r = refl
+-- the fault of the module's own description
+alone_then : {B : Type 0} (r : Result InfDoc Fault) (f : List InfDoc → Result B Fault) → and_then (and_then r alone) f ≡ and_then r (λ inf. f (inf ∷ []))
+alone_then (Ok inf) f = refl
+alone_then (Err fault) f = refl
+
+alone_stops : {B : Type 0} (w : World) (path : List ℕ) (f : List InfDoc → Result B Fault)
+    → or_fault (fault_asked w (inf_asks (path ∷ []))) (and_then (and_then (inf_value w path) alone) f) ≡ and_then (and_then (inf_value w path) alone) f
+alone_stops {B} w path f =
+    ap (λ (t : Result B Fault). or_fault (fault_asked w (inf_asks (path ∷ []))) t) (alone_then (inf_value w path) f)
+    ∙ stops_first w (key.Inf path) out.Inf (inf_value w path) [] (λ inf. f (inf ∷ [])) (inf_is w path) (λ inf. fields_stop w [] (f (inf ∷ [])))
+    ∙ sym (alone_then (inf_value w path) f)
+
+own_told : (w : World) (m : Module) → fault_asked w (module_first m) ≡ None → inf_in (given_in w (module_first m)) m.inf ≡ inf_value w m.inf
+unfolding inf_in
+own_told w m none =
+    step_told w (module_first m) (key.Inf m.inf) out.Inf (inf_value w m.inf) (inf_of_out m.inf) none (1, omega arith, refl) (inf_is w m.inf)
+    (λ inf i. named_path m.inf inf (described_path w m.inf inf i))
 
 stages_run : (w : World) (m : Module) → IsWorld (meaning_of key_cmp edk) w → comes w (choice_stages m) ≡ given_as out.Choice (choice_value w m)
-unfolding choice_value fault_asked
+unfolding choice_value
 stages_run w m e =
-    stage_run w (module_first m) (choice_given m)
-    ∙ ap (λ (p : Outcome Out). by_pair w m p (value_in w (key.Inf m.inf))) (platform_is w e)
-    ∙ ap (by_pair w m (outcome_of (given_as out.Platform (platform_value w)))) (inf_is w m.inf)
-    ∙ by_pair_is w m (platform_value w) (inf_value w m.inf) (λ inf i. named_path m.inf inf (described_path w m.inf inf i))
-    ∙ made_same w m (platform_value w) (and_then (inf_value w m.inf) alone)
+    asked_run w out.Choice (module_first m) (choice_given m) (choice_value w m) (λ none.
+    read_run w out.Choice (platform_in (given_in w (module_first m))) (platform_value w) _ (λ platform. and_then (and_then (inf_value w m.inf) alone) (λ infs. chosen_after w most_rounds m platform infs))
+    (platform_told w (module_first m) e none (0, omega arith, refl)) (λ platform is.
+    read_run w out.Choice (own_inf (given_in w (module_first m)) m.inf) (and_then (inf_value w m.inf) alone) _ (λ infs. chosen_after w most_rounds m platform infs)
+    (ap (λ (r : Result InfDoc Fault). and_then r alone) (own_told w m none)) (λ infs is. choice_run w most_rounds m platform infs (enough m platform infs))))
+    (stops_first w key.Platform out.Platform (platform_value w) (inf_asks (m.inf ∷ [])) _ (platform_is w e) (λ platform. alone_stops w m.inf (λ infs. chosen_after w most_rounds m platform infs)))
 
 pub choice_is : (w : World) (m : Module) → IsWorld (meaning_of key_cmp edk) w → value_in w (key.Choice m) ≡ outcome_of (given_as out.Choice (choice_value w m))
 choice_is w m e = value_is key_cmp edk edk_is_bounded w (key.Choice m) ∙ ap outcome_of (stages_run w m e)

@@ -1,7 +1,8 @@
 -- What stages come to in a world, and the value of the flash description.
 use Rattle.std.specs.Prelude.{◌==◌, if◌then◌else◌}
 use Rattle.std.specs.Option.{is_some}
-use Rattle.std.proofs.Common.{◌≡◌, ℕ, Bool, true, false, List, [], ◌∷◌, length, refl, ap, ◌∙◌, Result, Ok, Err, Option, Some, None}
+use Rattle.std.specs.Result.{result_err}
+use Rattle.std.proofs.Common.{◌≡◌, ℕ, Bool, true, false, List, [], ◌∷◌, length, Contains, refl, ap, ◌∙◌, Result, Ok, Err, Option, Some, None}
 use Rattle.build_base.specs.First.{and_then, or_else, or_fault}
 use Rattle.build_base.specs.Path.{path_field}
 use Rattle.build_base.specs.World.{World, field}
@@ -9,13 +10,13 @@ use Rattle.build_base.specs.declared.fault.Fault.{Fault}
 use Rattle.step_engine.specs.Meaning.{right, IsWorld}
 use Rattle.step_engine.specs.declared.talk.Ask.{Ask}
 use Rattle.step_engine.specs.declared.talk.Ask.TheVariants as ask
-use Rattle.step_engine.specs.declared.talk.Answer.{Answer}
 use Rattle.step_engine.specs.declared.talk.Answer.TheVariants as answer
 use Rattle.step_engine.specs.declared.talk.Outcome.{Outcome}
+use Rattle.step_engine.specs.declared.talk.Pair.{Pair}
 use Rattle.build_stages.specs.Bounds.{both_hold}
 use Rattle.build_stages.specs.Stages.{end, stage, run, fault_in, outcome_of, meaning_of}
 use Rattle.build_stages.specs.StagesLaws.{value_is}
-use Rattle.build_stages.specs.Writing.{attempt, when}
+use Rattle.build_stages.specs.Writing.{attempt, when, given_part}
 use Rattle.doc_types.specs.declared.flash.FlashDoc.{FlashDoc}
 use Rattle.doc_types.specs.declared.platform.PlatformDoc.{PlatformDoc}
 use Rattle.flash_document.specs.Flash.{flash_of}
@@ -26,11 +27,11 @@ use Rattle.step_pack.specs.declared.key.Key.TheVariants as key
 use Rattle.step_pack.specs.declared.out.Out.{Out}
 use Rattle.step_pack.specs.declared.out.Out.TheVariants as out
 use Rattle.document_rules.specs.Fits.{fits}
-use Rattle.document_rules.specs.Trees.{flash_in, EdkStages, given_as, some_path, path_named, flash_named, flash_asks, flash_from, flash_given, flash_stages}
+use Rattle.document_rules.specs.Trees.{platform_of_out, flash_of_out, flash_in, EdkStages, given_as, some_path, path_named, flash_named, flash_asks, flash_from, flash_given, flash_stages}
 use Rattle.build_rules.specs.Rules.{edk, is_path_or_empty, value_in}
 use Rattle.build_rules.specs.RulesBounds.{edk_is_bounded}
 use Rattle.build_rules.specs.Values.{job_macros, platform_value, flash_file, flash_of_file, flash_value}
-use Rattle.build_rules.proofs.Asked.{answers_in, fault_asked, by_answers}
+use Rattle.build_rules.proofs.Asked.{given_in, fault_asked, by_answers, in_here, step_told, step_fault, or_value, else_none}
 use Rattle.build_laws.proofs.FlashShape.{flash_shape}
 use Rattle.build_rules.proofs.KindLemmas.{stage_run}
 use Rattle.build_rules.proofs.ValueLemmas.{document_run, path_some, platform_is}
@@ -65,10 +66,10 @@ passed_run w true s e = refl
 passed_run w false s e = absurd cc
 
 -- a last stage
-pub last_run : {A : Type 0} (w : World) (variant : A → Out) (asks : List (Ask Key)) (f : List (Answer Out) → Result A Fault)
+pub last_run : {A : Type 0} (w : World) (variant : A → Out) (asks : List (Ask Key)) (f : List (Pair Key Out) → Result A Fault)
     → gives w (stage asks (λ given. end (given_as variant (f given)))) ≡ given_as variant (by_answers w asks f)
 last_run w variant asks f =
-    stage_run w asks (λ given. end (given_as variant (f given))) ∙ given_or variant (fault_asked w asks) (f (answers_in w asks))
+    stage_run w asks (λ given. end (given_as variant (f given))) ∙ given_or variant (fault_asked w asks) (f (given_in w asks))
 
 -- two steps that are tried one after the other, and so on
 pub step_run : {A B : Type 0} (w : World) (variant : B → Out) (r : Result A Fault) (next : A → EdkStages) (f : A → Result B Fault)
@@ -81,6 +82,23 @@ pub found_run : {A B : Type 0} (w : World) (variant : B → Out) (r : Result A F
     → ((x : A) → r ≡ Ok x → gives w (next x) ≡ given_as variant (f x)) → gives w (attempt r next) ≡ given_as variant (and_then r f)
 found_run w variant (Ok x) next f h = h x refl
 found_run w variant (Err fault) next f h = refl
+
+-- a step that is asked
+
+-- its fault is that of its value
+pub part_fault : {X : Type 0} (w : World) (k : Key) (variant : X → Out) (r : Result X Fault) → value_in w k ≡ outcome_of (given_as variant r) → or_else (fault_in (answer.Part (value_in w k))) None ≡ result_err r
+part_fault w k variant r v =
+    else_none (fault_in (answer.Part (value_in w k))) ∙ ap (λ (x : Outcome Out). fault_in (answer.Part x)) v ∙ step_fault variant r
+
+-- what follows its value, where no other step has a fault
+after_value : {X : Type 0} (w : World) (asks : List (Ask Key)) (k : Key) (variant : X → Out) (r : Result X Fault) (unwrap : Out → Result X Fault) (next : X → EdkStages)
+    → fault_asked w asks ≡ result_err r → Contains asks (ask.Part k) → value_in w k ≡ outcome_of (given_as variant r) → ((x : X) → r ≡ Ok x → unwrap (variant x) ≡ Ok x)
+    → or_fault (fault_asked w asks) (gives w (attempt (and_then (given_part key_cmp (given_in w asks) k) unwrap) next)) ≡ and_then r (λ x. gives w (next x))
+after_value {X} w asks k variant r unwrap next q c v h =
+    let told : Result X Fault = and_then (given_part key_cmp (given_in w asks) k) unwrap in
+    ap (λ (f : Option Fault). or_fault f (gives w (attempt told next))) q
+    ∙ or_value r (gives w (attempt told next)) (λ x. gives w (next x)) (λ x found.
+    ap (λ (t : Result X Fault). gives w (attempt t next)) (step_told w asks k variant r unwrap (q ∙ ap result_err found) c v h ∙ found))
 
 -- the flash description
 
@@ -97,22 +115,12 @@ root_run : (w : World) (platform : PlatformDoc) (root : Option (List ℕ)) → g
 root_run w platform None = refl
 root_run w platform (Some path) = document_run w out.Flash flash_of platform.macros (job_macros w) path
 
--- the stage by what the platform's step gave
-abbrev by_platform : World → Outcome Out → Result Out Fault
-by_platform w v =
-    or_fault (or_else (fault_in (answer.Part v)) None)
-    (gives w (flash_given (answer.Part v ∷ answer.Field (field w 2) ∷ answer.Field (field w 3) ∷ answer.Field (field w 5) ∷ answer.Field (field w 7) ∷ [])))
-
-by_platform_is : (w : World) (r : Result PlatformDoc Fault) → by_platform w (outcome_of (given_as out.Platform r)) ≡ and_then r (λ platform. gives w (attempt (flash_named platform.flash (field w 7)) (λ root. flash_from platform (job_macros w) root)))
-by_platform_is w (Ok platform) = refl
-by_platform_is w (Err fault) = refl
-
 flash_run : (w : World) → IsWorld (meaning_of key_cmp edk) w → is_path_or_empty (field w 7) ≡ true → gives w flash_stages ≡ given_as out.Flash (flash_value w)
 unfolding flash_value fault_asked
 flash_run w is_world e =
     stage_run w flash_asks flash_given
-    ∙ ap (by_platform w) (platform_is w is_world)
-    ∙ by_platform_is w (platform_value w)
+    ∙ after_value w flash_asks key.Platform out.Platform (platform_value w) platform_of_out _
+    (part_fault w key.Platform out.Platform (platform_value w) (platform_is w is_world)) (in_here (ask.Part key.Platform) _) (platform_is w is_world) (λ platform found. refl)
     ∙ then_same (platform_value w) _ (λ platform. given_as out.Flash (flash_of_file w platform (flash_file platform.flash (field w 7)))) (λ platform.
     ap (λ (r : Result (Option (List ℕ)) Fault). gives w (attempt r (λ root. flash_from platform (job_macros w) root))) (path_or_empty (field w 7) e platform.flash)
     ∙ root_run w platform (flash_file platform.flash (field w 7)))
@@ -127,21 +135,15 @@ flash_is w e = value_is key_cmp edk edk_is_bounded w key.Flash ∙ ap outcome_of
 
 -- the flash description, and what follows it
 
-abbrev by_flash : World → (FlashDoc → EdkStages) → Outcome Out → Result Out Fault
-by_flash w next v = or_fault (or_else (fault_in (answer.Part v)) None) (gives w (attempt (flash_in (answer.Part v ∷ []) 0) next))
-
-by_flash_is : (w : World) (next : FlashDoc → EdkStages) (r : Result FlashDoc Fault) → by_flash w next (outcome_of (given_as out.Flash r)) ≡ and_then r (λ flash. gives w (next flash))
-by_flash_is w next (Ok flash) = refl
-by_flash_is w next (Err fault) = refl
-
 pub after_flash : {A : Type 0} (w : World) → IsWorld (meaning_of key_cmp edk) w → (variant : A → Out) (next : FlashDoc → EdkStages) (f : FlashDoc → Result A Fault)
     → ((flash : FlashDoc) → HasShape flash → gives w (next flash) ≡ given_as variant (f flash))
-    → gives w (stage (ask.Part key.Flash ∷ []) (λ given. attempt (flash_in given 0) next)) ≡ given_as variant (and_then (flash_value w) f)
+    → gives w (stage (ask.Part key.Flash ∷ []) (λ given. attempt (flash_in given) next)) ≡ given_as variant (and_then (flash_value w) f)
 unfolding fault_asked
 after_flash w e variant next f h =
-    stage_run w (ask.Part key.Flash ∷ []) (λ given. attempt (flash_in given 0) next)
-    ∙ ap (by_flash w next) (flash_is w e)
-    ∙ by_flash_is w next (flash_value w)
+    let asks : List (Ask Key) = ask.Part key.Flash ∷ [] in
+    stage_run w asks (λ given. attempt (flash_in given) next)
+    ∙ after_value w asks key.Flash out.Flash (flash_value w) flash_of_out next
+    (part_fault w key.Flash out.Flash (flash_value w) (flash_is w e)) (in_here (ask.Part key.Flash) []) (flash_is w e) (λ flash found. refl)
     ∙ then_found (flash_value w) (λ flash. gives w (next flash)) (λ flash. given_as variant (f flash)) (λ flash found. h flash (flash_shape w flash found))
     ∙ given_then variant (flash_value w) f
 
@@ -157,8 +159,3 @@ pub both_found : {A P Q : Type 0} (variant : A → Out) (p : Result P Fault) (r 
 both_found variant (Ok x) (Ok y) f g h = h x y refl refl
 both_found variant (Ok x) (Err fault) f g h = refl
 both_found variant (Err fault) r f g h = refl
-
-pub both_same : {A P Q : Type 0} (variant : A → Out) (p : Result P Fault) (r : Result Q Fault) (f : P → Q → Result Out Fault) (g : P → Q → Result A Fault)
-    → ((x : P) (y : Q) → f x y ≡ given_as variant (g x y))
-    → and_then p (λ x. and_then r (λ y. f x y)) ≡ given_as variant (and_then p (λ x. and_then r (λ y. g x y)))
-both_same variant p r f g h = both_found variant p r f g (λ x y found also. h x y)

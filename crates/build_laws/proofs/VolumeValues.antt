@@ -1,8 +1,8 @@
 -- Files and volumes in a world.
-use Rattle.std.specs.Prelude.{not, if◌then◌else◌}
-use Rattle.std.proofs.Common.{◌≡◌, ℕ, ◌+◌, Bool, true, false, List, [], ◌∷◌, ◌++◌, map, Option, Some, None, Result, Ok, Err, refl, sym, ap, ◌∙◌}
-use Rattle.std.proofs.lemmas.List.{map-append}
-use Rattle.build_base.specs.First.{and_then, or_else, or_fault, first_of, with_front, all_ok}
+use Rattle.std.specs.Prelude.{if◌then◌else◌}
+use Rattle.std.specs.Result.{result_err}
+use Rattle.std.proofs.Common.{◌≡◌, ℕ, Bool, true, false, List, [], ◌∷◌, map, Result, Ok, Err, refl, sym, ap, subst, ◌∙◌}
+use Rattle.build_base.specs.First.{and_then, or_fault, first_of, all_ok}
 use Rattle.build_base.specs.World.{World}
 use Rattle.build_base.specs.declared.fault.Fault.{Fault}
 use Rattle.doc_types.specs.declared.flash.FlashDoc.{FlashDoc}
@@ -15,19 +15,19 @@ use Rattle.doc_types.specs.declared.volume_head.VolumeHead.{VolumeHead}
 use Rattle.flash_document.specs.Shape.{ItemFits}
 use Rattle.step_engine.specs.Meaning.{IsWorld}
 use Rattle.step_engine.specs.declared.talk.Ask.TheVariants as ask
-use Rattle.step_engine.specs.declared.talk.Answer.{Answer}
-use Rattle.step_engine.specs.declared.talk.Answer.TheVariants as answer
-use Rattle.step_engine.specs.declared.talk.Outcome.{Outcome}
-use Rattle.build_stages.specs.Stages.{fault_in, outcome_of, meaning_of}
+use Rattle.step_engine.specs.declared.talk.Pair.{Pair}
+use Rattle.build_stages.specs.Stages.{outcome_of, meaning_of}
 use Rattle.build_stages.specs.StagesLaws.{value_is}
 use Rattle.build_stages.specs.Writing.{attempt}
 use Rattle.step_pack.specs.Keys.{key_cmp}
+use Rattle.step_pack.specs.declared.key.Key.{Key}
 use Rattle.step_pack.specs.declared.key.Key.TheVariants as key
 use Rattle.step_pack.specs.declared.out.Out.{Out}
 use Rattle.step_pack.specs.declared.out.Out.TheVariants as out
-use Rattle.image_steps.specs.Asks.{is_based, is_apriori, files_where, file_asks, item_asks, sections_below}
+use Rattle.image_steps.specs.Asks.{is_based, file_order, file_asks, item_asks, sections_below}
 use Rattle.image_steps.specs.Files.{file_given}
-use Rattle.image_steps.specs.Volumes.{image_given, images_from, composed_volume, volume_given}
+use Rattle.image_steps.specs.Volumes.{file_in, image_of, images_of, composed_volume, volume_given}
+use Rattle.image_steps.proofs.OrderLemmas.{number_asks, asks_in_order}
 use Rattle.image_rules.specs.Based.{rebased_image, based_given}
 use Rattle.image_rules.specs.ImageTrees.{volume_at, item_at, image_by, sections_stages, module_stages, item_stages, file_stages, volume_stages}
 use Rattle.module_images.specs.Apriori.{apriori_given}
@@ -38,11 +38,12 @@ use Rattle.document_rules.specs.Trees.{given_as}
 use Rattle.build_rules.specs.Rules.{edk, value_in}
 use Rattle.build_rules.specs.RulesBounds.{edk_is_bounded}
 use Rattle.build_rules.specs.Values.{flash_value}
-use Rattle.build_laws.specs.ImageValues.{plan_value, planned_file, item_value, file_value, numbers_where, file_order, volume_files, volume_by, planned_value, volume_value}
-use Rattle.build_rules.proofs.Asked.{answers_in, fault_asked, by_answers, answers_append, or_and}
+use Rattle.build_laws.specs.ImageValues.{plan_value, planned_file, item_value, file_value, volume_files, volume_by, planned_value, volume_value}
+use Rattle.build_rules.proofs.Asked.{given_in, fault_asked, by_answers, AreIn, in_whole, in_one, step_told, each_told, err_each, fault_each, or_and}
 use Rattle.build_laws.proofs.FlashShape.{item_fits, sections_fit}
-use Rattle.build_laws.proofs.ImageValues.{gives, after_flash, step_run, found_run, passed_run, last_run, or_then, then_same}
+use Rattle.build_laws.proofs.ImageValues.{gives, after_flash, step_run, found_run, passed_run, last_run, part_fault, or_then, then_same}
 use Rattle.build_rules.proofs.KindLemmas.{stage_run}
+use Rattle.build_rules.proofs.StandLemmas.{or_same}
 use Rattle.build_laws.proofs.RuleValues.{plan_same, planned_same, apriori_same}
 use Rattle.build_laws.proofs.StatementValues.{placed_plan, placed_volume, placed_run, statement_same}
 
@@ -53,9 +54,9 @@ module_run : (w : World) (flash : FlashDoc) (head : VolumeHead) (line : InfLine)
 module_run w flash head line e =
     stage_run w (line_asks line) (λ given. attempt (plan_given flash line given) (sections_stages head))
     ∙ ap (λ (r : Result Out Fault). or_fault (fault_asked w (line_asks line)) r)
-    (step_run w out.File (plan_given flash line (answers_in w (line_asks line))) (sections_stages head) (planned_file w head) (λ plan.
+    (step_run w out.File (plan_given flash line (given_in w (line_asks line))) (sections_stages head) (planned_file w head) (λ plan.
     last_run w out.File (plan_asks plan) (module_given head plan) ∙ ap (λ (r : Result FileImage Fault). given_as out.File r) (planned_same w head plan e)))
-    ∙ or_then out.File (fault_asked w (line_asks line)) (plan_given flash line (answers_in w (line_asks line))) (planned_file w head)
+    ∙ or_then out.File (fault_asked w (line_asks line)) (plan_given flash line (given_in w (line_asks line))) (planned_file w head)
     ∙ ap (λ r. given_as out.File (and_then r (planned_file w head))) (plan_same w flash line e)
 
 item_run : (w : World) (v : ℕ) (flash : FlashDoc) (head : VolumeHead) → IsWorld (meaning_of key_cmp edk) w → (it : Item) → ItemFits v it
@@ -79,47 +80,24 @@ file_is w v i e = value_is key_cmp edk edk_is_bounded w (key.File v i) ∙ ap ou
 
 -- The files of a volume.
 
-abbrev file_answers : World → ℕ → List ℕ → List (Answer Out)
-file_answers w v numbers = map (λ i. answer.Part (value_in w (key.File v i))) numbers
+order_fault : (w : World) (v : ℕ) → IsWorld (meaning_of key_cmp edk) w → (numbers : List ℕ) → fault_asked w (number_asks v numbers) ≡ first_of (map (λ i. result_err (file_value w v i)) numbers)
+unfolding fault_asked
+order_fault w v e numbers =
+    fault_each w (λ (i : ℕ). ask.Part (key.File v i) ∷ []) (λ i. result_err (file_value w v i)) (λ i. part_fault w (key.File v i) out.File (file_value w v i) (file_is w v i e)) numbers
 
-where_answers : (w : World) (choose : Item → Bool) (v n : ℕ) (items : List Item) → answers_in w (files_where choose v n items) ≡ file_answers w v (numbers_where choose n items)
-unfolding files_where numbers_where
-where_answers w choose v n [] = refl
-where_answers w choose v n (it ∷ items) =
-    elim (choose it) as (λ b. answers_in w (if b then ask.Part (key.File v n) ∷ files_where choose v (n + 1) items else files_where choose v (n + 1) items)
-    ≡ file_answers w v (if b then n ∷ numbers_where choose (n + 1) items else numbers_where choose (n + 1) items)) [
-      | true ↦ ap (λ (l : List (Answer Out)). answer.Part (value_in w (key.File v n)) ∷ l) (where_answers w choose v (n + 1) items)
-      | false ↦ where_answers w choose v (n + 1) items
-    ]
-
-order_answers : (w : World) (v : ℕ) (items : List Item) → answers_in w (item_asks v items) ≡ file_answers w v (file_order items)
-order_answers w v items =
-    let others : Item → Bool = λ it. not (is_apriori it) in
-    answers_append w (files_where is_apriori v 0 items) (files_where others v 0 items)
-    ∙ ap (λ (l : List (Answer Out)). l ++ answers_in w (files_where others v 0 items)) (where_answers w is_apriori v 0 items)
-    ∙ ap (λ (l : List (Answer Out)). file_answers w v (numbers_where is_apriori 0 items) ++ l) (where_answers w others v 0 items)
-    ∙ sym (map-append (λ i. answer.Part (value_in w (key.File v i))) (numbers_where is_apriori 0 items) (numbers_where others 0 items))
-
-abbrev file_stepped : Outcome Out → Option Fault → Result (List FileImage) Fault → Result (List FileImage) Fault
-file_stepped x q t = or_fault (or_else (fault_in (answer.Part x)) q) (and_then (image_given (answer.Part x)) (λ y. with_front (y ∷ []) t))
-
-front_or : {A : Type 0} (y : A) (q : Option Fault) (t : Result (List A) Fault) → or_fault q (with_front (y ∷ []) t) ≡ with_front (y ∷ []) (or_fault q t)
-front_or y None t = refl
-front_or y (Some fault) t = refl
-
-stepped_is : (r : Result FileImage Fault) (q : Option Fault) (t : Result (List FileImage) Fault) → file_stepped (outcome_of (given_as out.File r)) q t ≡ and_then r (λ y. with_front (y ∷ []) (or_fault q t))
-stepped_is (Ok y) q t = front_or y q t
-stepped_is (Err fault) q t = refl
-
-images_same : (w : World) (v : ℕ) → IsWorld (meaning_of key_cmp edk) w → (numbers : List ℕ)
-    → or_fault (first_of (map fault_in (file_answers w v numbers))) (all_ok (map image_given (file_answers w v numbers))) ≡ all_ok (map (file_value w v) numbers)
-images_same w v e [] = refl
-images_same w v e (n ∷ numbers) =
-    let q = first_of (map fault_in (file_answers w v numbers)) in
-    let t = all_ok (map image_given (file_answers w v numbers)) in
-    ap (λ (x : Outcome Out). file_stepped x q t) (file_is w v n e)
-    ∙ stepped_is (file_value w v n) q t
-    ∙ ap (λ (t : Result (List FileImage) Fault). and_then (file_value w v n) (λ y. with_front (y ∷ []) t)) (images_same w v e numbers)
+images_same : (w : World) (v : ℕ) (items : List Item) → IsWorld (meaning_of key_cmp edk) w
+    → or_fault (fault_asked w (item_asks v items)) (images_of (given_in w (item_asks v items)) v items) ≡ volume_files w v items
+unfolding images_of
+images_same w v items e =
+    let asks = item_asks v items in
+    let order = file_order items in
+    let ordered : number_asks v order ≡ asks = asks_in_order v items order refl in
+    let faults = ap (fault_asked w) (sym ordered) ∙ order_fault w v e order in
+    or_same (fault_asked w asks) (first_of (map (λ i. result_err (file_value w v i)) order)) (all_ok (map (image_of (given_in w asks) v) order)) (all_ok (map (file_value w v) order)) faults
+    (λ none. each_told asks (λ (i : ℕ). ask.Part (key.File v i) ∷ []) (image_of (given_in w asks) v) (file_value w v) (λ i own.
+    step_told w asks (key.File v i) out.File (file_value w v i) file_in (faults ∙ none) (in_one (ask.Part (key.File v i)) [] asks own) (file_is w v i e) (λ file found. refl))
+    order (subst (λ l. AreIn (number_asks v order) l) ordered (in_whole (number_asks v order))))
+    ∙ err_each (file_value w v) order
 
 -- A volume.
 
@@ -129,21 +107,19 @@ choose_then true (Err fault) f g = refl
 choose_then false (Ok x) f g = refl
 choose_then false (Err fault) f g = refl
 
-image_same : (moved : Bool) (head : VolumeHead) (given : List (Answer Out)) → image_by moved head given ≡ and_then (images_from given 0) (volume_by moved head)
+image_same : (moved : Bool) (v : ℕ) (plan : VolumePlan) (given : List (Pair Key Out)) → image_by moved v plan given ≡ and_then (images_of given v plan.items) (volume_by moved plan.head)
 unfolding volume_given based_given
-image_same true head given = choose_then (is_based head) (images_from given 0) (rebased_image head) (composed_volume head)
-image_same false head given = refl
+image_same true v plan given = choose_then (is_based plan.head) (images_of given v plan.items) (rebased_image plan.head) (composed_volume plan.head)
+image_same false v plan given = refl
 
 volume_made : (w : World) (moved : Bool) (v : ℕ) (plan : VolumePlan) → IsWorld (meaning_of key_cmp edk) w
-    → by_answers w (item_asks v plan.items) (image_by moved plan.head) ≡ and_then (volume_files w v plan.items) (volume_by moved plan.head)
-unfolding fault_asked images_from
+    → by_answers w (item_asks v plan.items) (image_by moved v plan) ≡ and_then (volume_files w v plan.items) (volume_by moved plan.head)
 volume_made w moved v plan e =
-    let given = answers_in w (item_asks v plan.items) in
+    let asks = item_asks v plan.items in
     let make : List FileImage → Result (List ℕ) Fault = volume_by moved plan.head in
-    ap (λ (r : Result (List ℕ) Fault). or_fault (first_of (map fault_in given)) r) (image_same moved plan.head given)
-    ∙ or_and (first_of (map fault_in given)) (all_ok (map image_given given)) make
-    ∙ ap (λ (l : List (Answer Out)). and_then (or_fault (first_of (map fault_in l)) (all_ok (map image_given l))) make) (order_answers w v plan.items)
-    ∙ ap (λ (r : Result (List FileImage) Fault). and_then r make) (images_same w v e (file_order plan.items))
+    ap (λ (r : Result (List ℕ) Fault). or_fault (fault_asked w asks) r) (image_same moved v plan (given_in w asks))
+    ∙ or_and (fault_asked w asks) (images_of (given_in w asks) v plan.items) make
+    ∙ ap (λ (r : Result (List FileImage) Fault). and_then r make) (images_same w v plan.items e)
 
 volume_same : (w : World) (moved : Bool) (v : ℕ) → IsWorld (meaning_of key_cmp edk) w → placed_volume w moved v ≡ volume_value w moved v
 unfolding volume_value

@@ -1,7 +1,7 @@
 -- The values of the steps of files, volumes and devices in a world: what their sections, items and
 -- regions hold, by the files of the world and by the values of other steps (EDK II FDF
 -- specification; UEFI PI specification, volume 3).
-use Rattle.std.specs.Prelude.{◌≡◌, ℕ, ◌+◌, Bool, true, false, not, if◌then◌else◌, List, [], ◌∷◌, ◌++◌, map, slice_get, Option, Some, None, Result, Ok, Err}
+use Rattle.std.specs.Prelude.{◌≡◌, ℕ, Bool, true, false, if◌then◌else◌, List, [], map, slice_get, Option, Some, None, Result, Ok, Err}
 use Rattle.std.specs.List.{filter_map}
 use Rattle.std.specs.Result.{result_err}
 use Rattle.build_base.specs.First.{and_then, or_else, first_of, or_fault, all_ok}
@@ -41,7 +41,7 @@ use Rattle.step_pack.specs.declared.out.Out.{Out}
 use Rattle.step_pack.specs.declared.out.Out.TheVariants as out
 use Rattle.rule_choice.specs.Modules.{inf_arch}
 use Rattle.module_steps.specs.Settings.{arches_built}
-use Rattle.image_steps.specs.Asks.{is_based, is_apriori, is_vpd, volume_step}
+use Rattle.image_steps.specs.Asks.{is_based, file_order, is_vpd, volume_step}
 use Rattle.image_steps.specs.Contents.{file_absent, section_absent, volume_given, words_bytes}
 use Rattle.image_steps.specs.Files.{file_name, image_plan}
 use Rattle.image_steps.specs.Parts.{as_is, file_shaped, header_guid, part_with}
@@ -245,17 +245,6 @@ file_value w v i =
     and_then (item_at flash plan i) (λ it. item_value w flash plan.head it)))
 
 -- Volumes.
-
--- the numbers of the items that are chosen, from one on
-unfoldable pub numbers_where : (Item → Bool) → ℕ → List Item → List ℕ
-numbers_where choose n [] = []
-numbers_where choose n (it ∷ items) =
-    if choose it then n ∷ numbers_where choose (n + 1) items else numbers_where choose (n + 1) items
-
--- the order of the files of a volume: a priori files first
-abbrev pub file_order : List Item → List ℕ
-file_order items =
-    numbers_where is_apriori 0 items ++ numbers_where (λ it. not (is_apriori it)) 0 items
 
 -- the files of a volume in their order, or the first fault of one
 abbrev pub volume_files : World → ℕ → List Item → Result (List FileImage) Fault

@@ -11,9 +11,10 @@ use Rattle.step_engine.specs.Meaning.{right}
 use Rattle.step_engine.specs.declared.talk.Ask.{Ask}
 use Rattle.step_engine.specs.declared.talk.Ask.TheVariants as ask
 use Rattle.step_engine.specs.declared.talk.Answer.{Answer}
+use Rattle.step_engine.specs.declared.talk.Pair.{Pair}
 use Rattle.step_engine.specs.declared.talk.Answer.TheVariants as answer
 use Rattle.step_engine.specs.declared.talk.Outcome.{Outcome}
-use Rattle.build_stages.specs.Stages.{Stages, end, stage, bind, run, first_stop, unless_stopped, stop_of, fault_in, outcome_of, meaning_of}
+use Rattle.build_stages.specs.Stages.{Stages, end, stage, with_answers, bind, run, first_stop, unless_stopped, stop_of, fault_in, outcome_of, meaning_of}
 use Rattle.build_stages.specs.StagesLaws.{value_is}
 use Rattle.build_stages.specs.Writing.{attempt, when}
 use Rattle.document_stages.specs.Documents.{lines_of}
@@ -37,7 +38,7 @@ use Rattle.doc_types.specs.declared.module.InfDoc.{InfDoc}
 use Rattle.library_choice.specs.Choices.{choice}
 use Rattle.library_choice.specs.Closure.{wanted}
 use Rattle.module_steps.specs.Choices.{own_inf}
-use Rattle.module_steps.specs.Parts.{choice_at}
+use Rattle.module_steps.specs.Parts.{choice_in}
 use Rattle.module_steps.specs.Pcds.{pcds_given, values_given}
 use Rattle.module_steps.specs.Skus.{skus_end}
 use Rattle.image_steps.specs.Asks.{sections_below, regions_below, fits_u16}
@@ -54,21 +55,21 @@ use Rattle.output_rules.specs.Outputs.{outputs_of}
 use Rattle.module_rules.specs.TextTrees.{told_modules_in, heading_in}
 use Rattle.text_steps.specs.Code.{code_given}
 use Rattle.text_steps.specs.Depex.{depex_given}
-use Rattle.text_steps.specs.Report.{values_at, report_given}
+use Rattle.text_steps.specs.Report.{values_in, report_given}
 use Rattle.document_rules.specs.Trees.{EdkStages, given_as, document_stages, root_in, macros_in, platform_in, flash_root, flash_from, flash_in}
 use Rattle.image_rules.specs.ImageTrees.{volume_at, item_at, device_at, vpd_in, item_stages}
-use Rattle.image_rules.specs.VpdTree.{arches_at, placed_vpd}
+use Rattle.image_rules.specs.VpdTree.{arches_in, placed_vpd}
 use Rattle.document_rules.specs.VpdLines.{has_vpd}
 use Rattle.build_rules.specs.Rules.{edk, stages_of}
 use Rattle.build_rules.specs.RulesBounds.{edk_is_bounded}
-use Rattle.build_rules.proofs.Asked.{answers_in, fault_asked}
+use Rattle.build_rules.proofs.Asked.{answers_in, given_in, fault_asked}
 use Rattle.build_rules.proofs.ValueLemmas.{file_fits}
 
 -- each end that is no fault is of this kind
 abbrev pub AreOfKind : ℕ → EdkStages → Type 0
 AreOfKind n (end (Ok given)) = kind_of given ≡ n
 AreOfKind n (end (Err fault)) = Unit {0}
-AreOfKind n (stage asks next) = (given : List (Answer Out)) → AreOfKind n (next given)
+AreOfKind n (stage asks next) = (given : List (Pair Key Out)) → AreOfKind n (next given)
 
 bind_kind : {A : Type 0} (n : ℕ) (s : Stages Key Out A) (f : A → EdkStages) → ((x : A) → AreOfKind n (f x)) → AreOfKind n (bind s f)
 bind_kind n (end (Ok x)) f h = h x
@@ -119,42 +120,42 @@ of_kind (key.Inf path) = document_kind 1 out.Inf (λ x. refl) module_of [] [] pa
 of_kind key.Platform =
     λ given. attempt_kind 2 (root_in given) _ (λ path. attempt_kind 2 (macros_in given) _ (λ fixed. document_kind 2 out.Platform (λ x. refl) platform_of [] fixed path))
 of_kind key.Flash =
-    λ given. attempt_kind 3 (platform_in given 0) _ (λ platform. attempt_kind 3 (macros_in given) _ (λ fixed. attempt_kind 3 (flash_root platform given) _ (λ root. flash_kind platform fixed root)))
+    λ given. attempt_kind 3 (platform_in given) _ (λ platform. attempt_kind 3 (macros_in given) _ (λ fixed. attempt_kind 3 (flash_root platform given) _ (λ root. flash_kind platform fixed root)))
 of_kind (key.Choice m) =
-    λ given. attempt_kind 4 (platform_in given 0) _ (λ platform. attempt_kind 4 (own_inf given 1 m.inf) _ (λ infs. after_kind most_rounds m platform infs))
+    λ given. attempt_kind 4 (platform_in given) _ (λ platform. attempt_kind 4 (own_inf given m.inf) _ (λ infs. after_kind most_rounds m platform infs))
 of_kind key.PlatformPcds =
-    λ given. attempt_kind 5 (platform_in given 0) _ (λ platform. when_kind 5 (skus_end platform.skus) _ (attempt_kind 5 (flash_in given 1) _ (λ flash.
+    λ given. attempt_kind 5 (platform_in given) _ (λ platform. when_kind 5 (skus_end platform.skus) _ (attempt_kind 5 (flash_in given) _ (λ flash.
     attempt_kind 5 (setting_in platform given) _ (λ setting. bind_kind 5 (modules_parts setting.modules) _ (λ modules.
     given_kind 5 out.Values (λ x. refl) (pcds_given platform flash setting modules))))))
 of_kind (key.Values m) =
-    λ given. attempt_kind 5 (platform_in given 0) _ (λ platform. attempt_kind 5 (flash_in given 1) _ (λ flash. attempt_kind 5 (values_at given 2) _ (λ dynamic.
-    attempt_kind 5 (choice_at given 3) _ (λ choice. attempt_kind 5 (commands_in platform given 4) _ (λ commands. bind_kind 5 (module_parts m choice) _ (λ parts.
+    λ given. attempt_kind 5 (platform_in given) _ (λ platform. attempt_kind 5 (flash_in given) _ (λ flash. attempt_kind 5 (values_in given key.PlatformPcds) _ (λ dynamic.
+    attempt_kind 5 (choice_in given m) _ (λ choice. attempt_kind 5 (commands_in platform given) _ (λ commands. bind_kind 5 (module_parts m choice) _ (λ parts.
     given_kind 5 out.Values (λ x. refl) (values_given platform flash commands dynamic parts)))))))
 of_kind (key.Code m) =
-    λ given. attempt_kind 6 (platform_in given 0) _ (λ platform. attempt_kind 6 (choice_at given 1) _ (λ choice. attempt_kind 6 (values_at given 2) _ (λ values.
+    λ given. attempt_kind 6 (platform_in given) _ (λ platform. attempt_kind 6 (choice_in given m) _ (λ choice. attempt_kind 6 (values_in given (key.Values m)) _ (λ values.
     bind_kind 6 (module_parts m choice) _ (λ parts. given_kind 6 out.Code (λ x. refl) (code_given platform choice values parts)))))
 of_kind (key.Depex m) =
-    λ given. attempt_kind 7 (choice_at given 0) _ (λ choice. bind_kind 7 (module_parts m choice) _ (λ parts. given_kind 7 out.Depex (λ x. refl) (depex_given choice parts)))
+    λ given. attempt_kind 7 (choice_in given m) _ (λ choice. bind_kind 7 (module_parts m choice) _ (λ parts. given_kind 7 out.Depex (λ x. refl) (depex_given choice parts)))
 of_kind (key.File v i) =
-    λ given. attempt_kind 8 (flash_in given 0) _ (λ flash. attempt_kind 8 (volume_at flash v) _ (λ plan. attempt_kind 8 (item_at flash plan i) _ (λ it. item_kind v flash plan.head it)))
+    λ given. attempt_kind 8 (flash_in given) _ (λ flash. attempt_kind 8 (volume_at flash v) _ (λ plan. attempt_kind 8 (item_at flash plan i) _ (λ it. item_kind v flash plan.head it)))
 of_kind (key.Volume v) =
-    λ given. attempt_kind 9 (flash_in given 0) _ (λ flash. attempt_kind 9 (volume_at flash v) _ (λ plan.
+    λ given. attempt_kind 9 (flash_in given) _ (λ flash. attempt_kind 9 (volume_at flash v) _ (λ plan.
     when_kind 9 (fits_u16 (length plan.items)) _ (λ files. given_kind 9 out.Volume (λ x. refl) (volume_given plan.head files))))
 of_kind (key.Based v) =
-    λ given. attempt_kind 9 (flash_in given 0) _ (λ flash. attempt_kind 9 (volume_at flash v) _ (λ plan.
+    λ given. attempt_kind 9 (flash_in given) _ (λ flash. attempt_kind 9 (volume_at flash v) _ (λ plan.
     when_kind 9 (fits_u16 (length plan.items)) _ (λ files. given_kind 9 out.Volume (λ x. refl) (based_given plan.head files))))
 of_kind key.Vpd =
-    λ given. attempt_kind 13 (platform_in given 0) _ (λ platform. attempt_kind 13 (values_at given 1) _ (λ values. attempt_kind 13 (arches_at platform given) _ (λ arches.
+    λ given. attempt_kind 13 (platform_in given) _ (λ platform. attempt_kind 13 (values_in given key.PlatformPcds) _ (λ values. attempt_kind 13 (arches_in platform given) _ (λ arches.
     given_kind 13 out.Vpd (λ x. refl) (placed_vpd platform values arches))))
 of_kind (key.Device d) =
-    λ given. attempt_kind 10 (flash_in given 0) _ (λ flash. attempt_kind 10 (platform_in given 1) _ (λ platform. attempt_kind 10 (vpd_in platform given) _ (λ vpd.
+    λ given. attempt_kind 10 (flash_in given) _ (λ flash. attempt_kind 10 (platform_in given) _ (λ platform. attempt_kind 10 (vpd_in platform given) _ (λ vpd.
     attempt_kind 10 (device_at flash d) _ (λ plan.
     when_kind 10 (regions_below plan.regions) _ (λ parts. given_kind 10 out.Device (λ x. refl) (device_given vpd plan parts))))))
 of_kind key.Report =
-    λ given. attempt_kind 11 (platform_in given 0) _ (λ platform. attempt_kind 11 (told_modules_in platform given) _ (λ modules. attempt_kind 11 (heading_in platform given) _ (λ heading.
+    λ given. attempt_kind 11 (platform_in given) _ (λ platform. attempt_kind 11 (told_modules_in platform given) _ (λ modules. attempt_kind 11 (heading_in platform given) _ (λ heading.
     λ told. given_kind 11 out.Report (λ x. refl) (report_given platform heading modules told))))
 of_kind key.All =
-    λ given. attempt_kind 12 (platform_in given 0) _ (λ platform. attempt_kind 12 (flash_in given 1) _ (λ flash. attempt_kind 12 (folder_in platform given) _ (λ folder.
+    λ given. attempt_kind 12 (platform_in given) _ (λ platform. attempt_kind 12 (flash_in given) _ (λ flash. attempt_kind 12 (folder_in platform given) _ (λ folder.
     attempt_kind 12 (modules_in platform given) _ (λ modules. attempt_kind 12 (wanted_in flash given) _ (λ wanted. attempt_kind 12 (report_in given) _ (λ report.
     when_kind 12 (fits_u16 (length flash.volumes) && fits_u16 (length flash.devices)) _ (λ files. given_kind 12 out.All (λ x. refl) (outputs_of (has_vpd platform) folder modules flash wanted report files))))))))
 
@@ -162,9 +163,9 @@ run_kind : (n : ℕ) (o : Ask Key → Answer Out) (s : EdkStages) → AreOfKind 
 run_kind n o (end (Ok given)) h = h
 run_kind n o (end (Err fault)) h = tt
 run_kind n o (stage asks next) h =
-    elim (first_stop fits asks (map o asks)) as (λ q. IfOk (unless_stopped q Err (run fits o (next (map o asks)))) (λ given. kind_of given ≡ n)) [
+    elim (first_stop fits asks (map o asks)) as (λ q. IfOk (unless_stopped q Err (run fits o (next (with_answers asks (map o asks))))) (λ given. kind_of given ≡ n)) [
       | Some fault ↦ tt
-      | None ↦ run_kind n o (next (map o asks)) (h (map o asks))
+      | None ↦ run_kind n o (next (with_answers asks (map o asks))) (h (with_answers asks (map o asks)))
     ]
 
 result_fits : (k : Key) (r : Result Out Fault) → IfOk r (λ given. kind_of given ≡ kind_at k) → fits (ask.Part k) (answer.Part (outcome_of r)) ≡ true
@@ -190,9 +191,9 @@ stopped_or (Some fault) r = refl
 stopped_or None r = refl
 
 -- a stage in a world: the first fault among the steps that are asked, or what comes of the answers
-pub stage_run : {A : Type 0} (w : World) (asks : List (Ask Key)) (next : List (Answer Out) → Stages Key Out A)
-    → run fits (right (meaning_of key_cmp edk) w) (stage asks next) ≡ or_fault (fault_asked w asks) (run fits (right (meaning_of key_cmp edk) w) (next (answers_in w asks)))
+pub stage_run : {A : Type 0} (w : World) (asks : List (Ask Key)) (next : List (Pair Key Out) → Stages Key Out A)
+    → run fits (right (meaning_of key_cmp edk) w) (stage asks next) ≡ or_fault (fault_asked w asks) (run fits (right (meaning_of key_cmp edk) w) (next (given_in w asks)))
 unfolding fault_asked
 stage_run w asks next =
-    ap (λ (q : Option Fault). unless_stopped q Err (run fits (right (meaning_of key_cmp edk) w) (next (answers_in w asks)))) (stop_is w asks)
-    ∙ stopped_or (first_of (map fault_in (answers_in w asks))) (run fits (right (meaning_of key_cmp edk) w) (next (answers_in w asks)))
+    ap (λ (q : Option Fault). unless_stopped q Err (run fits (right (meaning_of key_cmp edk) w) (next (given_in w asks)))) (stop_is w asks)
+    ∙ stopped_or (first_of (map fault_in (answers_in w asks))) (run fits (right (meaning_of key_cmp edk) w) (next (given_in w asks)))

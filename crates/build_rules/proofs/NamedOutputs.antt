@@ -1,7 +1,7 @@
 -- Each output of the whole build names a step that the build asks for.
 use Rattle.std.specs.Prelude.{◌&&◌}
 use Rattle.std.proofs.Common.{◌≡◌, inl, inr, ℕ, ◌+◌, Bool, true, false, List, [], ◌∷◌, ◌++◌, length, Option, Some, None, Result, Ok, Err, IfOk, All, Contains, refl, sym, ap, ◌∙◌, subst}
-use Rattle.std.proofs.lemmas.List.Elements.{All-nil, All-cons, All-append, All-weaker, Contains-append_left, Contains-append_right}
+use Rattle.std.proofs.lemmas.List.Elements.{All-nil, All-cons, All-append, All-weaker}
 use Rattle.build_base.specs.First.{and_then, or_fault, with_front}
 use Rattle.build_base.specs.World.{World}
 use Rattle.build_base.specs.declared.fault.Fault.{Fault}
@@ -12,8 +12,8 @@ use Rattle.doc_types.specs.declared.volume.VolumePlan.{VolumePlan}
 use Rattle.step_engine.specs.Meaning.{right, Asks}
 use Rattle.step_engine.specs.declared.talk.Ask.{Ask}
 use Rattle.step_engine.specs.declared.talk.Ask.TheVariants as ask
-use Rattle.step_engine.specs.declared.talk.Answer.{Answer}
 use Rattle.step_engine.specs.declared.talk.Outcome.TheVariants.{Good}
+use Rattle.step_engine.specs.declared.talk.Pair.{Pair}
 use Rattle.build_stages.specs.Stages.{end, stage, run, outcome_of, meaning_of}
 use Rattle.build_stages.specs.StagesLaws.{value_is}
 use Rattle.build_stages.specs.Writing.{attempt, when}
@@ -30,14 +30,14 @@ use Rattle.document_rules.specs.Folders.{path_below}
 use Rattle.document_rules.specs.Trees.{EdkStages, given_as, platform_in, flash_in}
 use Rattle.document_rules.specs.VpdLines.{has_vpd}
 use Rattle.output_rules.specs.AllTree.{step_where, steps_from, device_step, report_part, build_asks, all_asks, all_given, all_stages, folder_in, modules_in, wanted_in, report_in}
-use Rattle.output_rules.specs.Outputs.{image_output, image_where, file_output, c_output, h_output, code_outputs, depex_outputs, module_folder, module_outputs, bytes_at, named_at, outputs_at, modules_outputs, volume_outputs, device_outputs, vpd_outputs, report_output, outputs_of}
+use Rattle.output_rules.specs.Outputs.{image_output, image_where, file_output, c_output, h_output, code_outputs, depex_outputs, module_folder, module_outputs, bytes_in, named_in, outputs_in, modules_outputs, volume_outputs, device_outputs, vpd_outputs, report_output, outputs_of}
 use Rattle.output_rules.specs.Wanted.{is_marked}
 use Rattle.output_rules.specs.declared.wanted.Wanted.{Wanted}
 use Rattle.build_rules.specs.Rules.{edk, value_in}
 use Rattle.build_rules.specs.RulesBounds.{edk_is_bounded}
-use Rattle.build_rules.proofs.Asked.{answers_in, fault_asked}
+use Rattle.build_rules.proofs.Asked.{given_in, fault_asked, AreIn, in_here, in_there, in_first, in_behind, in_one, in_more}
 use Rattle.build_rules.proofs.KindLemmas.{stage_run}
-use Rattle.build_rules.proofs.ReachedLemmas.{Reaches, reached_asked, here, there}
+use Rattle.build_rules.proofs.ReachedLemmas.{Reaches, reached_asked}
 
 -- Outcomes that are there.
 
@@ -127,44 +127,33 @@ image_made P true folder name extension from h =
 abbrev AskedIn : List (Ask Key) → Key → ℕ → Type 0
 AskedIn asks k part = Contains asks (ask.Part k)
 
-abbrev AreIn : List (Ask Key) → List (Ask Key) → Type 0
-AreIn some asks = (a : Ask Key) → Contains some a → Contains asks a
-
 -- the step of what is wanted is among the asks
 pub wanted_step : (b : Bool) (k : Key) → b ≡ true → Contains (step_where b k) (ask.Part k)
-wanted_step true k e = here (ask.Part k) [] (ask.Part k) refl
+wanted_step true k e = in_here (ask.Part k) []
 wanted_step false k e = absurd cc
 
-pub code_asked : (m : Module) → Contains (built_asks m) (ask.Part (key.Code m))
-code_asked m =
-    let code = ask.Part (key.Code m) in
-    let depex = ask.Part (key.Depex m) in
-    there (ask.Part (key.Inf m.inf)) (code ∷ depex ∷ []) code (here code (depex ∷ []) code refl)
-
-pub depex_asked : (m : Module) → Contains (built_asks m) (ask.Part (key.Depex m))
-depex_asked m =
-    let code = ask.Part (key.Code m) in
-    let depex = ask.Part (key.Depex m) in
-    there (ask.Part (key.Inf m.inf)) (code ∷ depex ∷ []) depex (there code (depex ∷ []) depex (here depex [] depex refl))
-
-module_named : (asks : List (Ask Key)) (folder : List ℕ) (given : List (Answer Out)) (i : ℕ) (m : Module) → AreIn (built_asks m) asks → IfOk (outputs_at folder given i m) (AreOf (AskedIn asks))
-unfolding outputs_at
-module_named asks folder given i m sub =
+module_named : (asks : List (Ask Key)) (folder : List ℕ) (given : List (Pair Key Out)) (m : Module) → AreIn (built_asks m) asks → IfOk (outputs_in folder given m) (AreOf (AskedIn asks))
+unfolding outputs_in
+module_named asks folder given m sub =
     let P = AskedIn asks in
-    let c = sub (ask.Part (key.Code m)) (code_asked m) in
-    let d = sub (ask.Part (key.Depex m)) (depex_asked m) in
-    if_then (λ (x : List ℕ × Bool). Unit {0}) (AreOf P) (named_at given i) (λ x. and_then (bytes_at given (i + 2)) (λ depex. module_outputs folder m x.0 x.1 depex)) (any_ok (named_at given i)) (λ x u.
-    if_then (λ (b : Bool). Unit {0}) (AreOf P) (bytes_at given (i + 2)) (λ depex. module_outputs folder m x.0 x.1 depex) (any_ok (bytes_at given (i + 2))) (λ depex v.
+    let inf = ask.Part (key.Inf m.inf) in
+    let code = ask.Part (key.Code m) in
+    let depex = ask.Part (key.Depex m) in
+    let behind = in_more inf (code ∷ depex ∷ []) asks sub in
+    let c = in_one code (depex ∷ []) asks behind in
+    let d = in_one depex [] asks (in_more code (depex ∷ []) asks behind) in
+    if_then (λ (x : List ℕ × Bool). Unit {0}) (AreOf P) (named_in given m) (λ x. and_then (bytes_in given m) (λ depex. module_outputs folder m x.0 x.1 depex)) (any_ok (named_in given m)) (λ x u.
+    if_then (λ (b : Bool). Unit {0}) (AreOf P) (bytes_in given m) (λ depex. module_outputs folder m x.0 x.1 depex) (any_ok (bytes_in given m)) (λ depex v.
     module_made P folder m x.0 x.1 depex (λ t. (c, c)) (λ t. d)))
 
-modules_named : (asks : List (Ask Key)) (folder : List ℕ) (given : List (Answer Out)) (i : ℕ) (modules : List Module) → AreIn (build_module_asks modules) asks
-    → IfOk (modules_outputs folder given i modules) (AreOf (AskedIn asks))
+modules_named : (asks : List (Ask Key)) (folder : List ℕ) (given : List (Pair Key Out)) (modules : List Module) → AreIn (build_module_asks modules) asks
+    → IfOk (modules_outputs folder given modules) (AreOf (AskedIn asks))
 unfolding modules_outputs
-modules_named asks folder given i [] sub = none_are (AskedIn asks)
-modules_named asks folder given i (m ∷ modules) sub =
-    next_are (AskedIn asks) (outputs_at folder given i m) (modules_outputs folder given (i + 3) modules)
-    (module_named asks folder given i m (λ a c. sub a (Contains-append_left (built_asks m) (build_module_asks modules) a c)))
-    (modules_named asks folder given (i + 3) modules (λ a c. sub a (Contains-append_right (built_asks m) (build_module_asks modules) a c)))
+modules_named asks folder given [] sub = none_are (AskedIn asks)
+modules_named asks folder given (m ∷ modules) sub =
+    next_are (AskedIn asks) (outputs_in folder given m) (modules_outputs folder given modules)
+    (module_named asks folder given m (in_first (built_asks m) (build_module_asks modules) asks sub))
+    (modules_named asks folder given modules (in_behind (built_asks m) (build_module_asks modules) asks sub))
 
 volumes_named : (asks : List (Ask Key)) (folder : List ℕ) (marks : List Bool) (n : ℕ) (plans : List VolumePlan) → AreIn (steps_from volume_key marks n plans) asks
     → IfOk (volume_outputs folder marks n plans) (AreOf (AskedIn asks))
@@ -173,9 +162,10 @@ volumes_named asks folder marks n [] sub = none_are (AskedIn asks)
 volumes_named asks folder marks n (plan ∷ plans) sub =
     let b = is_marked marks n in
     let k = volume_key n plan in
+    let rest = steps_from volume_key marks (n + 1) plans in
     next_are (AskedIn asks) (image_where b folder plan.head.name _ k) (volume_outputs folder marks (n + 1) plans)
-    (image_made (AskedIn asks) b folder plan.head.name _ k (λ t. sub (ask.Part k) (Contains-append_left (step_where b k) (steps_from volume_key marks (n + 1) plans) (ask.Part k) (wanted_step b k t))))
-    (volumes_named asks folder marks (n + 1) plans (λ a c. sub a (Contains-append_right (step_where b k) (steps_from volume_key marks (n + 1) plans) a c)))
+    (image_made (AskedIn asks) b folder plan.head.name _ k (λ t. in_first (step_where b k) rest asks sub (ask.Part k) (wanted_step b k t)))
+    (volumes_named asks folder marks (n + 1) plans (in_behind (step_where b k) rest asks sub))
 
 devices_named : (asks : List (Ask Key)) (folder : List ℕ) (marks : List Bool) (n : ℕ) (plans : List DevicePlan) → AreIn (steps_from device_step marks n plans) asks
     → IfOk (device_outputs folder marks n plans) (AreOf (AskedIn asks))
@@ -184,16 +174,17 @@ devices_named asks folder marks n [] sub = none_are (AskedIn asks)
 devices_named asks folder marks n (plan ∷ plans) sub =
     let b = is_marked marks n in
     let k = key.Device n in
+    let rest = steps_from device_step marks (n + 1) plans in
     next_are (AskedIn asks) (image_where b folder plan.name _ k) (device_outputs folder marks (n + 1) plans)
-    (image_made (AskedIn asks) b folder plan.name _ k (λ t. sub (ask.Part k) (Contains-append_left (step_where b k) (steps_from device_step marks (n + 1) plans) (ask.Part k) (wanted_step b k t))))
-    (devices_named asks folder marks (n + 1) plans (λ a c. sub a (Contains-append_right (step_where b k) (steps_from device_step marks (n + 1) plans) a c)))
+    (image_made (AskedIn asks) b folder plan.name _ k (λ t. in_first (step_where b k) rest asks sub (ask.Part k) (wanted_step b k t)))
+    (devices_named asks folder marks (n + 1) plans (in_behind (step_where b k) rest asks sub))
 
 vpd_named : (asks : List (Ask Key)) (folder : List ℕ) (vpd : Bool) → AreIn (step_where vpd key.Vpd) asks → IfOk (vpd_outputs vpd folder) (AreOf (AskedIn asks))
 unfolding vpd_outputs
 vpd_named asks folder false sub = none_are (AskedIn asks)
 vpd_named asks folder true sub =
     let P = AskedIn asks in
-    let has : Contains asks (ask.Part key.Vpd) = sub (ask.Part key.Vpd) (here (ask.Part key.Vpd) [] (ask.Part key.Vpd) refl) in
+    let has : Contains asks (ask.Part key.Vpd) = in_one (ask.Part key.Vpd) [] asks sub in
     if_then (λ (o : Output). P o.from o.part) (AreOf P) (file_output folder _ key.Vpd 0) (λ image. and_then (file_output folder _ key.Vpd 1) (λ map_. Ok (image ∷ map_ ∷ [])))
     (file_made P folder _ key.Vpd 0 has) (λ image p.
     if_then (λ (o : Output). P o.from o.part) (AreOf P) (file_output folder _ key.Vpd 1) (λ map_. Ok (image ∷ map_ ∷ [])) (file_made P folder _ key.Vpd 1 has) (λ map_ q.
@@ -201,10 +192,9 @@ vpd_named asks folder true sub =
 
 report_named_in : (asks : List (Ask Key)) (report : Option (List ℕ)) → AreIn (report_part report) asks → AreOf (AskedIn asks) (report_output report)
 report_named_in asks None sub = none_are (AskedIn asks)
-report_named_in asks (Some path) sub =
-    one_are (AskedIn asks) (record { path = path; from = key.Report; part = 0 }) (sub (ask.Part key.Report) (here (ask.Part key.Report) [] (ask.Part key.Report) refl))
+report_named_in asks (Some path) sub = one_are (AskedIn asks) (record { path = path; from = key.Report; part = 0 }) (in_one (ask.Part key.Report) [] asks sub)
 
-outputs_named : (vpd : Bool) (folder : List ℕ) (modules : List Module) (flash : FlashDoc) (wanted : Wanted) (report : Option (List ℕ)) (given : List (Answer Out))
+outputs_named : (vpd : Bool) (folder : List ℕ) (modules : List Module) (flash : FlashDoc) (wanted : Wanted) (report : Option (List ℕ)) (given : List (Pair Key Out))
     → IfOk (outputs_of vpd folder modules flash wanted report given) (AreOf (AskedIn (build_asks vpd modules flash wanted report)))
 unfolding outputs_of
 outputs_named vpd folder modules flash wanted report given =
@@ -215,25 +205,25 @@ outputs_named vpd folder modules flash wanted report given =
     let ds = steps_from device_step wanted.devices 0 flash.devices in
     let p = step_where vpd key.Vpd in
     let r = report_part report in
-    let first : AreIn (((m ++ (vs ++ ds)) ++ p) ++ r) asks = λ a c. there (ask.Part key.PlatformPcds) (((m ++ (vs ++ ds)) ++ p) ++ r) a c in
-    let left : AreIn ((m ++ (vs ++ ds)) ++ p) asks = λ a c. first a (Contains-append_left ((m ++ (vs ++ ds)) ++ p) r a c) in
-    let both : AreIn (m ++ (vs ++ ds)) asks = λ a c. left a (Contains-append_left (m ++ (vs ++ ds)) p a c) in
-    let images : AreIn (vs ++ ds) asks = λ a c. both a (Contains-append_right m (vs ++ ds) a c) in
-    let texts_made = modules_outputs folder given 1 modules in
+    let all : AreIn (((m ++ (vs ++ ds)) ++ p) ++ r) asks = in_there (ask.Part key.PlatformPcds) (((m ++ (vs ++ ds)) ++ p) ++ r) in
+    let left = in_first ((m ++ (vs ++ ds)) ++ p) r asks all in
+    let both = in_first (m ++ (vs ++ ds)) p asks left in
+    let images = in_behind m (vs ++ ds) asks both in
+    let texts_made = modules_outputs folder given modules in
     let volumes_made = volume_outputs folder wanted.volumes 0 flash.volumes in
     let devices_made = device_outputs folder wanted.devices 0 flash.devices in
     let vpd_made = vpd_outputs vpd folder in
     let last = report_output report in
     if_then (AreOf P) (AreOf P) texts_made
     (λ texts. and_then (with_front texts volumes_made) (λ volumes. and_then (with_front volumes devices_made) (λ images. and_then (with_front images vpd_made) (λ outputs. Ok (outputs ++ last)))))
-    (modules_named asks folder given 1 modules (λ a c. both a (Contains-append_left m (vs ++ ds) a c))) (λ texts h.
+    (modules_named asks folder given modules (in_first m (vs ++ ds) asks both)) (λ texts h.
     if_then (AreOf P) (AreOf P) (with_front texts volumes_made) (λ volumes. and_then (with_front volumes devices_made) (λ images. and_then (with_front images vpd_made) (λ outputs. Ok (outputs ++ last))))
-    (front_are P texts volumes_made h (volumes_named asks folder wanted.volumes 0 flash.volumes (λ a c. images a (Contains-append_left vs ds a c)))) (λ volumes h.
+    (front_are P texts volumes_made h (volumes_named asks folder wanted.volumes 0 flash.volumes (in_first vs ds asks images))) (λ volumes h.
     if_then (AreOf P) (AreOf P) (with_front volumes devices_made) (λ images. and_then (with_front images vpd_made) (λ outputs. Ok (outputs ++ last)))
-    (front_are P volumes devices_made h (devices_named asks folder wanted.devices 0 flash.devices (λ a c. images a (Contains-append_right vs ds a c)))) (λ images_made h.
+    (front_are P volumes devices_made h (devices_named asks folder wanted.devices 0 flash.devices (in_behind vs ds asks images))) (λ images_made h.
     if_then (AreOf P) (AreOf P) (with_front images_made vpd_made) (λ outputs. Ok (outputs ++ last))
-    (front_are P images_made vpd_made h (vpd_named asks folder vpd (λ a c. left a (Contains-append_right (m ++ (vs ++ ds)) p a c)))) (λ outputs h.
-    All-append (λ (o : Output). P o.from o.part) outputs last h (report_named_in asks report (λ a c. first a (Contains-append_right ((m ++ (vs ++ ds)) ++ p) r a c)))))))
+    (front_are P images_made vpd_made h (vpd_named asks folder vpd (in_behind (m ++ (vs ++ ds)) p asks left))) (λ outputs h.
+    All-append (λ (o : Output). P o.from o.part) outputs last h (report_named_in asks report (in_behind ((m ++ (vs ++ ds)) ++ p) r asks all))))))
 
 -- What stages come to in a world names steps that the stages ask for.
 
@@ -251,26 +241,26 @@ when_named : (w : World) (b : Bool) (s : EdkStages) → NamesReached w s → Nam
 when_named w true s h = h
 when_named w false s h = λ outputs e. absurd cc
 
-stage_named : (w : World) (asks : List (Ask Key)) (next : List (Answer Out) → EdkStages) → NamesReached w (next (answers_in w asks)) → NamesReached w (stage asks next)
+stage_named : (w : World) (asks : List (Ask Key)) (next : List (Pair Key Out) → EdkStages) → NamesReached w (next (given_in w asks)) → NamesReached w (stage asks next)
 stage_named w asks next h = λ outputs e.
-    let both = fault_ok (fault_asked w asks) (gives w (next (answers_in w asks))) (out.All outputs) (sym (stage_run w asks next) ∙ e) in
-    All-weaker (λ (o : Output). Reaches w (ask.Part o.from) (next (answers_in w asks))) (λ (o : Output). Reaches w (ask.Part o.from) (stage asks next)) (λ o r. inr (both.0, r)) outputs (h outputs both.1)
+    let both = fault_ok (fault_asked w asks) (gives w (next (given_in w asks))) (out.All outputs) (sym (stage_run w asks next) ∙ e) in
+    All-weaker (λ (o : Output). Reaches w (ask.Part o.from) (next (given_in w asks))) (λ (o : Output). Reaches w (ask.Part o.from) (stage asks next)) (λ o r. inr (both.0, r)) outputs (h outputs both.1)
 
 given_all : (r : Result (List Output) Fault) (outputs : List Output) → given_as out.All r ≡ Ok (out.All outputs) → r ≡ Ok outputs
 given_all (Ok xs) outputs e = let same : xs ≡ outputs = cc in ap (λ (l : List Output). Ok l) same
 given_all (Err fault) outputs e = absurd cc
 
-last_named : (w : World) (asks : List (Ask Key)) (f : List (Answer Out) → Result (List Output) Fault) → ((given : List (Answer Out)) → IfOk (f given) (AreOf (AskedIn asks)))
+last_named : (w : World) (asks : List (Ask Key)) (f : List (Pair Key Out) → Result (List Output) Fault) → ((given : List (Pair Key Out)) → IfOk (f given) (AreOf (AskedIn asks)))
     → NamesReached w (stage asks (λ given. end (given_as out.All (f given))))
 last_named w asks f h = λ outputs e.
-    let next = λ (given : List (Answer Out)). end (given_as out.All (f given)) in
-    let both = fault_ok (fault_asked w asks) (given_as out.All (f (answers_in w asks))) (out.All outputs) (sym (stage_run w asks next) ∙ e) in
+    let next = λ (given : List (Pair Key Out)). end (given_as out.All (f given)) in
+    let both = fault_ok (fault_asked w asks) (given_as out.All (f (given_in w asks))) (out.All outputs) (sym (stage_run w asks next) ∙ e) in
     All-weaker (λ (o : Output). Contains asks (ask.Part o.from)) (λ (o : Output). Reaches w (ask.Part o.from) (stage asks next)) (λ o c. inl c) outputs
-    (if_ok (AreOf (AskedIn asks)) (f (answers_in w asks)) outputs (given_all (f (answers_in w asks)) outputs both.1) (h (answers_in w asks)))
+    (if_ok (AreOf (AskedIn asks)) (f (given_in w asks)) outputs (given_all (f (given_in w asks)) outputs both.1) (h (given_in w asks)))
 
-given_named : (w : World) (given : List (Answer Out)) → NamesReached w (all_given given)
+given_named : (w : World) (given : List (Pair Key Out)) → NamesReached w (all_given given)
 given_named w given =
-    attempt_named w (platform_in given 0) _ (λ platform. attempt_named w (flash_in given 1) _ (λ flash. attempt_named w (folder_in platform given) _ (λ folder.
+    attempt_named w (platform_in given) _ (λ platform. attempt_named w (flash_in given) _ (λ flash. attempt_named w (folder_in platform given) _ (λ folder.
     attempt_named w (modules_in platform given) _ (λ modules. attempt_named w (wanted_in flash given) _ (λ wanted. attempt_named w (report_in given) _ (λ report.
     when_named w (fits_u16 (length flash.volumes) && fits_u16 (length flash.devices)) _
     (last_named w (build_asks (has_vpd platform) modules flash wanted report) (outputs_of (has_vpd platform) folder modules flash wanted report) (outputs_named (has_vpd platform) folder modules flash wanted report))))))))
@@ -285,4 +275,4 @@ pub outputs_asked : (w : World) (outputs : List Output) → value_in w key.All �
 outputs_asked w outputs e =
     let is : gives w all_stages ≡ Ok (out.All outputs) = good_given (gives w all_stages) (out.All outputs) (sym (value_is key_cmp edk edk_is_bounded w key.All) ∙ e) in
     All-weaker (λ (o : Output). Reaches w (ask.Part o.from) all_stages) (λ (o : Output). Asks (meaning_of key_cmp edk) w key.All (ask.Part o.from))
-    (λ o r. reached_asked w (ask.Part o.from) r) outputs (stage_named w all_asks all_given (given_named w (answers_in w all_asks)) outputs is)
+    (λ o r. reached_asked w (ask.Part o.from) r) outputs (stage_named w all_asks all_given (given_named w (given_in w all_asks)) outputs is)

@@ -29,13 +29,13 @@ use Rattle.document_rules.specs.Trees.{EdkStages}
 use Rattle.output_rules.specs.AllTree.{all_asks, all_stages}
 use Rattle.build_rules.specs.Rules.{edk}
 use Rattle.build_rules.specs.RulesBounds.{edk_is_bounded}
-use Rattle.build_rules.proofs.Asked.{answers_in, fault_asked}
+use Rattle.build_rules.proofs.Asked.{answers_in, given_in, fault_asked}
 use Rattle.build_rules.proofs.KindLemmas.{stop_is}
 
 -- in the stages this is asked in a world
 abbrev pub Reaches : World → Ask Key → EdkStages → Type 0
 Reaches w a (end r) = ⊥
-Reaches w a (stage asks next) = Contains asks a ⊎ ((fault_asked w asks ≡ None) × Reaches w a (next (answers_in w asks)))
+Reaches w a (stage asks next) = Contains asks a ⊎ ((fault_asked w asks ≡ None) × Reaches w a (next (given_in w asks)))
 
 nothing : {A : Type 0} (a : A) → Contains [] a → ⊥
 nothing a c = absurd (omega (arith, c.1))
@@ -89,19 +89,19 @@ reached_known : (w : World) (known : Known Key Out) (a : Ask Key) → Agrees kno
 reached_known w known a g (end r) e h = absurd h
 reached_known w known a g (stage asks next) e h =
     (elim (answered known asks) as (λ o. answered known asks ≡ o
-    → wanted_in (and_then (gathered fits asks (missing (same_ask key_cmp) known asks) o) (λ answers. advance (same_ask key_cmp) fits known (next answers))) ≡ None → is_some (known a) ≡ true) [
+    → wanted_in (and_then (gathered fits asks (missing (same_ask key_cmp) known asks) o) (λ given. advance (same_ask key_cmp) fits known (next given))) ≡ None → is_some (known a) ≡ true) [
       | None ↦ λ o e. absurd (cc)
       | Some answers ↦ λ o e.
           (elim h as (λ _. is_some (known a) ≡ true) [
             | inl c ↦ answered_known known asks answers o a c
             | inr q ↦
                 let is : answers ≡ answers_in w asks = answered_right known (right (meaning_of key_cmp edk) w) g asks answers o in
-                let goes : (l : List (Answer Out)) → answers ≡ l → wanted_in (and_then (judged (first_stop fits asks l) l) (λ answers. advance (same_ask key_cmp) fits known (next answers))) ≡ None =
-                λ l i. subst (λ (l : List (Answer Out)). wanted_in (and_then (judged (first_stop fits asks l) l) (λ answers. advance (same_ask key_cmp) fits known (next answers))) ≡ None) i e in
+                let goes : (l : List (Answer Out)) → answers ≡ l → wanted_in (and_then (judged (first_stop fits asks l) (with_answers asks l)) (λ given. advance (same_ask key_cmp) fits known (next given))) ≡ None =
+                λ l i. subst (λ (l : List (Answer Out)). wanted_in (and_then (judged (first_stop fits asks l) (with_answers asks l)) (λ given. advance (same_ask key_cmp) fits known (next given))) ≡ None) i e in
                 let none : first_stop fits asks (answers_in w asks) ≡ None = no_stop w asks q.0 in
-                let goes_on : wanted_in (advance (same_ask key_cmp) fits known (next (answers_in w asks))) ≡ None =
-                subst (λ (t : Option Fault). wanted_in (and_then (judged t (answers_in w asks)) (λ answers. advance (same_ask key_cmp) fits known (next answers))) ≡ None) none (goes (answers_in w asks) is) in
-                reached_known w known a g (next (answers_in w asks)) goes_on q.1
+                let goes_on : wanted_in (advance (same_ask key_cmp) fits known (next (given_in w asks))) ≡ None =
+                subst (λ (t : Option Fault). wanted_in (and_then (judged t (given_in w asks)) (λ given. advance (same_ask key_cmp) fits known (next given))) ≡ None) none (goes (answers_in w asks) is) in
+                reached_known w known a g (next (given_in w asks)) goes_on q.1
           ])
     ]) refl e
 

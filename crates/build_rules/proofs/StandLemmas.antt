@@ -1,43 +1,7 @@
--- Where the answers to some asks stand among those of a stage, and the first fault among answers.
-use Rattle.std.proofs.Common.{◌≡◌, ℕ, ◌+◌, List, [], ◌∷◌, ◌++◌, length, map, slice_get, Option, Some, None, Result, refl, sym, ap, ◌∙◌, append_assoc, append-nil, length-append}
+-- The first fault among some, and what follows it.
+use Rattle.std.proofs.Common.{◌≡◌, List, [], ◌∷◌, ◌++◌, map, Option, Some, None, Result, refl, ap, ◌∙◌}
 use Rattle.build_base.specs.declared.fault.Fault.{Fault}
 use Rattle.build_base.specs.First.{and_then, or_else, or_fault, first_of, with_front}
-
--- some items stand among others from a place on
-pub record Stand {A : Type 0} (given : List A) (i : ℕ) (xs : List A) : Type 0 where
-  pub front : List A
-  pub rest : List A
-  pub whole : given ≡ front ++ (xs ++ rest)
-  pub place : i ≡ length front
-
-pub stand_whole : {A : Type 0} (xs : List A) → Stand xs 0 xs
-stand_whole {A} xs = record { front = []; rest = []; whole = sym (append-nil xs); place = refl }
-
-behind : {A : Type 0} (front : List A) (x : A) (rest : List A) → slice_get (front ++ x ∷ rest) (length front) ≡ Some x
-behind [] x rest = refl
-behind (y ∷ front) x rest = behind front x rest
-
--- the first of them
-pub stand_at : {A : Type 0} (given : List A) (i : ℕ) (x : A) (xs : List A) → Stand given i (x ∷ xs) → slice_get given i ≡ Some x
-stand_at given i x xs s =
-    ap (λ l. slice_get l i) s.whole ∙ ap (λ n. slice_get (s.front ++ x ∷ (xs ++ s.rest)) n) s.place ∙ behind s.front x (xs ++ s.rest)
-
--- a beginning of them, and those behind it
-pub stand_first : {A : Type 0} (given : List A) (i : ℕ) (xs ys : List A) → Stand given i (xs ++ ys) → Stand given i xs
-stand_first given i xs ys s = record {
-  front = s.front;
-  rest = ys ++ s.rest;
-  whole = s.whole ∙ ap (λ l. s.front ++ l) (append_assoc xs ys s.rest);
-  place = s.place;
-}
-
-pub stand_behind : {A : Type 0} (given : List A) (i n : ℕ) (xs ys : List A) → length xs ≡ n → Stand given i (xs ++ ys) → Stand given (i + n) ys
-stand_behind given i n xs ys e s = record {
-  front = s.front ++ xs;
-  rest = s.rest;
-  whole = s.whole ∙ ap (λ l. s.front ++ l) (append_assoc xs ys s.rest) ∙ sym (append_assoc s.front xs (ys ++ s.rest));
-  place = ap (λ j. j + n) s.place ∙ ap (λ j. length s.front + j) (sym e) ∙ sym (length-append s.front xs);
-}
 
 -- the first of two
 

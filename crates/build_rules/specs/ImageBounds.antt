@@ -27,7 +27,7 @@ use Rattle.step_pack.specs.declared.key.Key.{Key}
 use Rattle.step_pack.specs.declared.key.Key.TheVariants as key
 use Rattle.std.proofs.Common.{Option, Some, None, slice_get, refl}
 use Rattle.image_steps.specs.Asks.{is_based, volume_key, step_by, volume_step, source_file, source_volume, section_files, section_volumes, body_asks, source_below, sections_below, is_apriori, files_where, is_vpd, tree_asks, kind_asks, region_asks, kind_below, regions_below, fits_u16}
-use Rattle.text_steps.specs.Report.{values_at}
+use Rattle.text_steps.specs.Report.{values_in}
 use Rattle.document_rules.specs.VpdLines.{has_vpd}
 use Rattle.text_steps.specs.Asks.{built_asks, build_module_asks}
 use Rattle.module_images.specs.declared.plans.ModulePlan.{ModulePlan}
@@ -35,12 +35,11 @@ use Rattle.module_images.specs.Asks.{line_asks, member_asks, members_asks, is_pa
 use Rattle.module_images.specs.Modules.{plan_given}
 use Rattle.document_rules.specs.Trees.{platform_in, flash_in}
 use Rattle.image_rules.specs.ImageTrees.{volume_at, item_at, device_at, item_stages, file_stages, plan_stages, volume_stages, vpd_in, device_stages}
-use Rattle.image_rules.specs.VpdTree.{arches_at, vpd_stages}
+use Rattle.image_rules.specs.VpdTree.{arches_in, vpd_stages}
 use Rattle.output_rules.specs.AllTree.{step_where, steps_from, device_step, folder_in, modules_in, wanted_in, report_in, image_asks, report_part, files_stages, all_stages}
 use Rattle.output_rules.specs.Wanted.{is_marked}
 use Rattle.output_rules.specs.declared.wanted.Wanted.{Wanted}
 use Rattle.build_rules.specs.Rules.{rank_of}
-use Rattle.document_rules.specs.Fits.{fits}
 
 source_file_lower : (bound : ℕ) (s : SectionSource) → All (IsLower rank_of bound) (source_file s)
 source_file_lower bound (source.Tree path) = all_one (IsLower rank_of bound) (ask.File path) tt
@@ -172,29 +171,29 @@ item_lower v flash head (item.Inf line) = (
 pub file_lower : (v i : ℕ) → AreLower rank_of (8 + 2 * v) (file_stages v i)
 file_lower v i = (
   all_one (IsLower rank_of (8 + 2 * v)) (ask.Part key.Flash) (omega arith),
-  λ given. attempt_lower rank_of (8 + 2 * v) (flash_in given 0) _
+  λ given. attempt_lower rank_of (8 + 2 * v) (flash_in given) _
       (λ flash. attempt_lower rank_of (8 + 2 * v) (volume_at flash v) _ (λ plan.
       attempt_lower rank_of (8 + 2 * v) (item_at flash plan i) _
       (λ it. item_lower v flash plan.head it))),
 )
 
 item_within : (v : ℕ) (flash : FlashDoc) (head : VolumeHead) (i : Item)
-    → IsWithin fits 2 (item_stages v flash head i)
+    → IsWithin 2 (item_stages v flash head i)
 item_within v flash head (item.File plan) =
-    when_within fits 2 (sections_below v plan.sections) _ (omega arith, λ given fit. tt)
-item_within v flash head (item.Apriori at pei members) = (omega arith, λ given fit. tt)
+    when_within 2 (sections_below v plan.sections) _ (omega arith, λ given. tt)
+item_within v flash head (item.Apriori at pei members) = (omega arith, λ given. tt)
 item_within v flash head (item.Inf line) = (
   omega arith,
-  λ given fit. attempt_within fits 1 (plan_given flash line given) _
-      (λ plan. (omega arith, λ answers fit_too. tt)),
+  λ given. attempt_within 1 (plan_given flash line given) _
+      (λ plan. (omega arith, λ answers. tt)),
 )
 
-pub file_within : (v i : ℕ) → IsWithin fits 3 (file_stages v i)
+pub file_within : (v i : ℕ) → IsWithin 3 (file_stages v i)
 file_within v i = (
   omega arith,
-  λ given fit. attempt_within fits 2 (flash_in given 0) _
-      (λ flash. attempt_within fits 2 (volume_at flash v) _ (λ plan.
-      attempt_within fits 2 (item_at flash plan i) _ (λ it. item_within v flash plan.head it))),
+  λ given. attempt_within 2 (flash_in given) _
+      (λ flash. attempt_within 2 (volume_at flash v) _ (λ plan.
+      attempt_within 2 (item_at flash plan i) _ (λ it. item_within v flash plan.head it))),
 )
 
 chosen_lower : (b : Bool) (v n : ℕ) (rest : List (Ask Key)) → All (IsLower rank_of (9 + 2 * v)) rest
@@ -225,17 +224,17 @@ plan_lower moved v plan =
 pub volume_lower : (moved : Bool) (v : ℕ) → AreLower rank_of (9 + 2 * v) (volume_stages moved v)
 volume_lower moved v = (
   all_one (IsLower rank_of (9 + 2 * v)) (ask.Part key.Flash) (omega arith),
-  λ given. attempt_lower rank_of (9 + 2 * v) (flash_in given 0) _
+  λ given. attempt_lower rank_of (9 + 2 * v) (flash_in given) _
       (λ flash. attempt_lower rank_of (9 + 2 * v) (volume_at flash v) _
       (λ plan. plan_lower moved v plan)),
 )
 
-pub volume_within : (moved : Bool) (v : ℕ) → IsWithin fits 2 (volume_stages moved v)
+pub volume_within : (moved : Bool) (v : ℕ) → IsWithin 2 (volume_stages moved v)
 volume_within moved v = (
   omega arith,
-  λ given fit. attempt_within fits 1 (flash_in given 0) _
-      (λ flash. attempt_within fits 1 (volume_at flash v) _ (λ plan.
-      when_within fits 1 (fits_u16 (length plan.items)) _ (omega arith, λ images fit_too. tt))),
+  λ given. attempt_within 1 (flash_in given) _
+      (λ flash. attempt_within 1 (volume_at flash v) _ (λ plan.
+      when_within 1 (fits_u16 (length plan.items)) _ (omega arith, λ images. tt))),
 )
 
 tree_lower : (b : Bool) (path : List ℕ) → All (IsLower rank_of 0x400000000) (tree_asks b path)
@@ -269,22 +268,22 @@ device_lower d = (
       (All-cons (IsLower rank_of 0x400000000) (ask.Part key.Platform)
       (ask.Field 2 ∷ ask.Field 3 ∷ []) (omega arith)
       (all_two (IsLower rank_of 0x400000000) (ask.Field 2) (ask.Field 3) tt tt)),
-  λ given. attempt_lower rank_of 0x400000000 (flash_in given 0) _
-      (λ flash. attempt_lower rank_of 0x400000000 (platform_in given 1) _ (λ platform.
+  λ given. attempt_lower rank_of 0x400000000 (flash_in given) _
+      (λ flash. attempt_lower rank_of 0x400000000 (platform_in given) _ (λ platform.
       attempt_lower rank_of 0x400000000 (vpd_in platform given) _
       (λ vpd. attempt_lower rank_of 0x400000000 (device_at flash d) _ (λ plan.
       when_lower rank_of 0x400000000 (regions_below plan.regions) _
       (λ e. (regions_lower flash.volumes vpd plan.regions e, λ parts. tt)))))),
 )
 
-pub device_within : (d : ℕ) → IsWithin fits 2 (device_stages d)
+pub device_within : (d : ℕ) → IsWithin 2 (device_stages d)
 device_within d = (
   omega arith,
-  λ given fit. attempt_within fits 1 (flash_in given 0) _
-      (λ flash. attempt_within fits 1 (platform_in given 1) _ (λ platform.
-      attempt_within fits 1 (vpd_in platform given) _
-      (λ vpd. attempt_within fits 1 (device_at flash d) _ (λ plan.
-      when_within fits 1 (regions_below plan.regions) _ (omega arith, λ parts fit_too. tt))))),
+  λ given. attempt_within 1 (flash_in given) _
+      (λ flash. attempt_within 1 (platform_in given) _ (λ platform.
+      attempt_within 1 (vpd_in platform given) _
+      (λ vpd. attempt_within 1 (device_at flash d) _ (λ plan.
+      when_within 1 (regions_below plan.regions) _ (omega arith, λ parts. tt))))),
 )
 
 -- vital product data asks once
@@ -293,17 +292,17 @@ vpd_lower = (
   All-cons (IsLower rank_of 6) (ask.Part key.Platform)
       (ask.Part key.PlatformPcds ∷ ask.Field 1 ∷ []) (omega arith)
       (all_two (IsLower rank_of 6) (ask.Part key.PlatformPcds) (ask.Field 1) (omega arith) tt),
-  λ given. attempt_lower rank_of 6 (platform_in given 0) _
-      (λ platform. attempt_lower rank_of 6 (values_at given 1) _ (λ values.
-      attempt_lower rank_of 6 (arches_at platform given) _ (λ arches. tt))),
+  λ given. attempt_lower rank_of 6 (platform_in given) _
+      (λ platform. attempt_lower rank_of 6 (values_in given key.PlatformPcds) _ (λ values.
+      attempt_lower rank_of 6 (arches_in platform given) _ (λ arches. tt))),
 )
 
-pub vpd_within : IsWithin fits 1 vpd_stages
+pub vpd_within : IsWithin 1 vpd_stages
 vpd_within = (
   omega arith,
-  λ given fit. attempt_within fits 0 (platform_in given 0) _
-      (λ platform. attempt_within fits 0 (values_at given 1) _ (λ values.
-      attempt_within fits 0 (arches_at platform given) _ (λ arches. tt))),
+  λ given. attempt_within 0 (platform_in given) _
+      (λ platform. attempt_within 0 (values_in given key.PlatformPcds) _ (λ values.
+      attempt_within 0 (arches_in platform given) _ (λ arches. tt))),
 )
 
 where_asked : (b : Bool) (step : Key) → rank_of step < 0x400000002
@@ -400,8 +399,8 @@ all_lower = (
       (ask.Field 1 ∷ ask.Field 2 ∷ ask.Field 3 ∷ ask.Field 7 ∷ ask.Field 8 ∷ ask.Field 9 ∷ [])
       (all_two (IsLower rank_of 0x400000002) (ask.Part key.Platform) (ask.Part key.Flash)
       (omega arith) (omega arith)) (fields_lower 0x400000002),
-  λ given. attempt_lower rank_of 0x400000002 (platform_in given 0) _
-      (λ platform. attempt_lower rank_of 0x400000002 (flash_in given 1) _ (λ flash.
+  λ given. attempt_lower rank_of 0x400000002 (platform_in given) _
+      (λ platform. attempt_lower rank_of 0x400000002 (flash_in given) _ (λ flash.
       attempt_lower rank_of 0x400000002 (folder_in platform given) _
       (λ folder. attempt_lower rank_of 0x400000002 (modules_in platform given) _ (λ modules.
       attempt_lower rank_of 0x400000002 (wanted_in flash given) _
@@ -409,15 +408,15 @@ all_lower = (
       build_lower (has_vpd platform) folder modules flash wanted report)))))),
 )
 
-pub all_within : IsWithin fits 2 all_stages
+pub all_within : IsWithin 2 all_stages
 all_within = (
   omega arith,
-  λ given fit. attempt_within fits 1 (platform_in given 0) _
-      (λ platform. attempt_within fits 1 (flash_in given 1) _ (λ flash.
-      attempt_within fits 1 (folder_in platform given) _
-      (λ folder. attempt_within fits 1 (modules_in platform given) _ (λ modules.
-      attempt_within fits 1 (wanted_in flash given) _
-      (λ wanted. attempt_within fits 1 (report_in given) _ (λ report.
-      when_within fits 1 (fits_u16 (length flash.volumes) && fits_u16 (length flash.devices)) _
-      (omega arith, λ files fit_too. tt))))))),
+  λ given. attempt_within 1 (platform_in given) _
+      (λ platform. attempt_within 1 (flash_in given) _ (λ flash.
+      attempt_within 1 (folder_in platform given) _
+      (λ folder. attempt_within 1 (modules_in platform given) _ (λ modules.
+      attempt_within 1 (wanted_in flash given) _
+      (λ wanted. attempt_within 1 (report_in given) _ (λ report.
+      when_within 1 (fits_u16 (length flash.volumes) && fits_u16 (length flash.devices)) _
+      (omega arith, λ files. tt))))))),
 )

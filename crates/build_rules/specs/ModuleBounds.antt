@@ -18,13 +18,12 @@ use Rattle.module_steps.specs.declared.parts.Linked.{Linked}
 use Rattle.module_steps.specs.declared.settings.Setting.{Setting}
 use Rattle.module_steps.specs.Asks.{linked_asks, package_asks}
 use Rattle.module_steps.specs.Choices.{own_inf}
-use Rattle.module_steps.specs.Parts.{choice_at, linked_module}
+use Rattle.module_steps.specs.Parts.{choice_in, linked_module}
 use Rattle.module_steps.specs.Skus.{skus_end}
-use Rattle.text_steps.specs.Report.{values_at}
+use Rattle.text_steps.specs.Report.{values_in}
 use Rattle.document_rules.specs.Trees.{EdkStages, platform_in, flash_in}
 use Rattle.module_rules.specs.ModuleTrees.{round_stages, choice_round, choice_after, most_rounds, choice_given, choice_stages, linked_stages, described_stages, modules_parts, setting_in, pcds_from, pcds_stages, one_described, module_parts, commands_in, values_stages}
 use Rattle.build_rules.specs.Rules.{rank_of}
-use Rattle.document_rules.specs.Fits.{fits}
 
 -- a step for each of some things
 pub parts_lower : {A : Type 0} (bound : ℕ) (step : A → Key) → ((x : A) → rank_of (step x) < bound)
@@ -72,26 +71,26 @@ pub choice_lower : (m : Module) → AreLower rank_of 4 (choice_stages m)
 choice_lower m = (
   all_two (IsLower rank_of 4) (ask.Part key.Platform) (ask.Part (key.Inf m.inf)) (omega arith)
       (omega arith),
-  λ given. attempt_lower rank_of 4 (platform_in given 0) _
-      (λ platform. attempt_lower rank_of 4 (own_inf given 1 m.inf) _ (λ infs.
+  λ given. attempt_lower rank_of 4 (platform_in given) _
+      (λ platform. attempt_lower rank_of 4 (own_inf given m.inf) _ (λ infs.
       after_lower most_rounds m platform infs)),
 )
 
 round_within : (n : ℕ) (m : Module) (platform : PlatformDoc) (infs : List InfDoc)
     (w : List (List ℕ)) (next : List InfDoc → EdkStages)
-    → ((more : List InfDoc) → IsWithin fits n (next more))
-    → IsWithin fits (1 + n) (choice_round m platform infs w next)
+    → ((more : List InfDoc) → IsWithin n (next more))
+    → IsWithin (1 + n) (choice_round m platform infs w next)
 round_within n m platform infs [] next h = tt
 round_within n m platform infs (path ∷ paths) next h =
-    bind_within fits 1 n (round_stages infs (path ∷ paths)) next (omega arith, λ given fit. tt) h
+    bind_within 1 n (round_stages infs (path ∷ paths)) next (omega arith, λ given. tt) h
 
 after_within : (n : ℕ) (m : Module) (platform : PlatformDoc) (infs : List InfDoc)
-    → IsWithin fits n (choice_after n m platform infs)
+    → IsWithin n (choice_after n m platform infs)
 unfolding choice_after
 after_within zero m platform infs = tt
 after_within (suc n) m platform infs =
     subst
-    (λ k. IsWithin fits k
+    (λ k. IsWithin k
     (choice_round m platform infs (wanted m platform infs) (choice_after n m platform)))
     (let same : 1 + n ≡ suc n = omega arith in same)
     (round_within n m platform infs (wanted m platform infs) (choice_after n m platform)
@@ -101,12 +100,12 @@ after_within (suc n) m platform infs =
 rounds_left : most_rounds ≡ (1 + most_rounds) - 1
 rounds_left = omega arith
 
-pub choice_within : (m : Module) → IsWithin fits (1 + most_rounds) (choice_stages m)
+pub choice_within : (m : Module) → IsWithin (1 + most_rounds) (choice_stages m)
 choice_within m = (
   omega arith,
-  λ given fit. subst (λ k. IsWithin fits k (choice_given m given)) rounds_left
-      (attempt_within fits most_rounds (platform_in given 0) _
-      (λ platform. attempt_within fits most_rounds (own_inf given 1 m.inf) _ (λ infs.
+  λ given. subst (λ k. IsWithin k (choice_given m given)) rounds_left
+      (attempt_within most_rounds (platform_in given) _
+      (λ platform. attempt_within most_rounds (own_inf given m.inf) _ (λ infs.
       after_within most_rounds m platform infs))),
 )
 
@@ -120,11 +119,11 @@ modules_lower modules =
     (linked_lower 5 (omega arith) linked, λ given. tt) (λ described.
     (packages_lower 5 (omega arith) described, λ given. tt)))
 
-modules_within : (modules : List Module) → IsWithin fits 3 (modules_parts modules)
+modules_within : (modules : List Module) → IsWithin 3 (modules_parts modules)
 modules_within modules =
-    bind_within fits 1 2 (linked_stages modules) _ (omega arith, λ given fit. tt) (λ linked.
-    bind_within fits 1 1 (described_stages linked) _ (omega arith, λ given fit. tt)
-    (λ described. (omega arith, λ given fit. tt)))
+    bind_within 1 2 (linked_stages modules) _ (omega arith, λ given. tt) (λ linked.
+    bind_within 1 1 (described_stages linked) _ (omega arith, λ given. tt)
+    (λ described. (omega arith, λ given. tt)))
 
 from_lower : (platform : PlatformDoc) (flash : FlashDoc) (setting : Setting)
     → AreLower rank_of 5 (pcds_from platform flash setting)
@@ -133,9 +132,9 @@ from_lower platform flash setting =
     (λ modules. tt)
 
 from_within : (platform : PlatformDoc) (flash : FlashDoc) (setting : Setting)
-    → IsWithin fits 3 (pcds_from platform flash setting)
+    → IsWithin 3 (pcds_from platform flash setting)
 from_within platform flash setting =
-    bind_within fits 3 0 (modules_parts setting.modules) _ (modules_within setting.modules)
+    bind_within 3 0 (modules_parts setting.modules) _ (modules_within setting.modules)
     (λ modules. tt)
 
 pub pcds_lower : AreLower rank_of 5 pcds_stages
@@ -146,20 +145,20 @@ pcds_lower = (
       (ask.Field 1 ∷ ask.Field 4 ∷ ask.Field 6 ∷ []) (omega arith)
       (All-cons (IsLower rank_of 5) (ask.Field 1) (ask.Field 4 ∷ ask.Field 6 ∷ []) tt
       (all_two (IsLower rank_of 5) (ask.Field 4) (ask.Field 6) tt tt))),
-  λ given. attempt_lower rank_of 5 (platform_in given 0) _
+  λ given. attempt_lower rank_of 5 (platform_in given) _
       (λ platform. when_lower rank_of 5 (skus_end platform.skus) _ (λ e.
-      attempt_lower rank_of 5 (flash_in given 1) _
+      attempt_lower rank_of 5 (flash_in given) _
       (λ flash. attempt_lower rank_of 5 (setting_in platform given) _
       (λ setting. from_lower platform flash setting)))),
 )
 
-pub pcds_within : IsWithin fits 4 pcds_stages
+pub pcds_within : IsWithin 4 pcds_stages
 pcds_within = (
   omega arith,
-  λ given fit. attempt_within fits 3 (platform_in given 0) _
-      (λ platform. when_within fits 3 (skus_end platform.skus) _
-      (attempt_within fits 3 (flash_in given 1) _
-      (λ flash. attempt_within fits 3 (setting_in platform given) _
+  λ given. attempt_within 3 (platform_in given) _
+      (λ platform. when_within 3 (skus_end platform.skus) _
+      (attempt_within 3 (flash_in given) _
+      (λ flash. attempt_within 3 (setting_in platform given) _
       (λ setting. from_within platform flash setting)))),
 )
 
@@ -173,10 +172,10 @@ module_lower bound h m choice =
     (λ described.
     (parts_lower bound key.Dec (λ path. h) described.packages, λ given. tt))
 
-pub module_within : (m : Module) (choice : Choice) → IsWithin fits 2 (module_parts m choice)
+pub module_within : (m : Module) (choice : Choice) → IsWithin 2 (module_parts m choice)
 module_within m choice =
-    bind_within fits 1 1 (one_described (linked_module m choice)) _ (omega arith, λ given fit. tt)
-    (λ described. (omega arith, λ given fit. tt))
+    bind_within 1 1 (one_described (linked_module m choice)) _ (omega arith, λ given. tt)
+    (λ described. (omega arith, λ given. tt))
 
 pub values_lower : (m : Module) → AreLower rank_of 6 (values_stages m)
 values_lower m = (
@@ -188,22 +187,22 @@ values_lower m = (
       (All-cons (IsLower rank_of 6) (ask.Part key.PlatformPcds)
       (ask.Part (key.Choice m) ∷ ask.Field 6 ∷ []) (omega arith)
       (all_two (IsLower rank_of 6) (ask.Part (key.Choice m)) (ask.Field 6) (omega arith) tt))),
-  λ given. attempt_lower rank_of 6 (platform_in given 0) _
-      (λ platform. attempt_lower rank_of 6 (flash_in given 1) _ (λ flash.
-      attempt_lower rank_of 6 (values_at given 2) _
-      (λ dynamic. attempt_lower rank_of 6 (choice_at given 3) _ (λ choice.
-      attempt_lower rank_of 6 (commands_in platform given 4) _ (λ commands.
+  λ given. attempt_lower rank_of 6 (platform_in given) _
+      (λ platform. attempt_lower rank_of 6 (flash_in given) _ (λ flash.
+      attempt_lower rank_of 6 (values_in given key.PlatformPcds) _
+      (λ dynamic. attempt_lower rank_of 6 (choice_in given m) _ (λ choice.
+      attempt_lower rank_of 6 (commands_in platform given) _ (λ commands.
       bind_lower rank_of 6 (module_parts m choice) _ (module_lower 6 (omega arith) m choice)
       (λ parts. tt)))))),
 )
 
-pub values_within : (m : Module) → IsWithin fits 3 (values_stages m)
+pub values_within : (m : Module) → IsWithin 3 (values_stages m)
 values_within m = (
   omega arith,
-  λ given fit. attempt_within fits 2 (platform_in given 0) _
-      (λ platform. attempt_within fits 2 (flash_in given 1) _ (λ flash.
-      attempt_within fits 2 (values_at given 2) _
-      (λ dynamic. attempt_within fits 2 (choice_at given 3) _ (λ choice.
-      attempt_within fits 2 (commands_in platform given 4) _ (λ commands.
-      bind_within fits 2 0 (module_parts m choice) _ (module_within m choice) (λ parts. tt)))))),
+  λ given. attempt_within 2 (platform_in given) _
+      (λ platform. attempt_within 2 (flash_in given) _ (λ flash.
+      attempt_within 2 (values_in given key.PlatformPcds) _
+      (λ dynamic. attempt_within 2 (choice_in given m) _ (λ choice.
+      attempt_within 2 (commands_in platform given) _ (λ commands.
+      bind_within 2 0 (module_parts m choice) _ (module_within m choice) (λ parts. tt)))))),
 )

@@ -5,8 +5,8 @@ use Rattle.build_stages.specs.Stages.{bind, end, stage}
 use Rattle.build_stages.specs.Writing.{attempt}
 use Rattle.doc_types.specs.declared.choice.Choice.{Choice}
 use Rattle.doc_types.specs.declared.choice.Module.{Module}
-use Rattle.module_steps.specs.Parts.{choice_at}
-use Rattle.step_engine.specs.declared.talk.Answer.{Answer}
+use Rattle.module_steps.specs.Parts.{choice_in}
+use Rattle.step_engine.specs.declared.talk.Pair.{Pair}
 use Rattle.step_pack.specs.declared.key.Key.{Key}
 use Rattle.step_pack.specs.declared.key.Key.TheVariants as key
 use Rattle.step_pack.specs.declared.out.Out.{Out}
@@ -22,8 +22,8 @@ older_depex_from m choice =
     bind (module_parts m choice)
     (λ parts. end (given_as out.Depex (older_depex_given choice parts)))
 
-abbrev pub older_depex_first : Module → List (Answer Out) → EdkStages
-older_depex_first m given = attempt (choice_at given 0) (λ choice. older_depex_from m choice)
+abbrev pub older_depex_first : Module → List (Pair Key Out) → EdkStages
+older_depex_first m given = attempt (choice_in given m) (λ choice. older_depex_from m choice)
 
 abbrev pub older_depex_stages : Module → EdkStages
 older_depex_stages m = stage (depex_asks m) (older_depex_first m)

@@ -17,7 +17,6 @@ use Rattle.step_pack.specs.declared.out.Out.{Out}
 use Rattle.step_pack.specs.declared.out.Out.TheVariants as out
 use Rattle.dec_docs.specs.Package.{package_of}
 use Rattle.inf_docs.specs.Modules.{module_of}
-use Rattle.document_rules.specs.Fits.{fits}
 use Rattle.doc_types.specs.declared.platform.PlatformDoc.{PlatformDoc}
 use Rattle.flash_document.specs.Flash.{flash_of}
 use Rattle.build_rules.specs.ImageBounds.{file_lower, volume_lower, device_lower, vpd_lower, all_lower, file_within, volume_within, device_within, vpd_within, all_within}
@@ -36,13 +35,13 @@ document_lower variant read bound macros fixed path =
 
 document_within : {A : Type 0} (variant : A → Out) (read : Lines → Result A Fault)
     (macros fixed : List Macro) (path : List ℕ)
-    → IsWithin fits most_files (document_stages variant read macros fixed path)
+    → IsWithin most_files (document_stages variant read macros fixed path)
 document_within variant read macros fixed path =
-    within_more fits (most_files + 0) most_files (document_stages variant read macros fixed path)
+    within_more (most_files + 0) most_files (document_stages variant read macros fixed path)
     (omega arith)
-    (bind_within fits most_files 0 (lines_of path macros fixed)
+    (bind_within most_files 0 (lines_of path macros fixed)
     (λ lines. end (given_as variant (read lines)))
-    (lines_within fits most_files path macros fixed []) (λ lines. tt))
+    (lines_within Key Out most_files path macros fixed []) (λ lines. tt))
 
 flash_lower : (platform : PlatformDoc) (fixed : List Macro) (root : Option (List ℕ))
     → AreLower rank_of 3 (flash_from platform fixed root)
@@ -51,7 +50,7 @@ flash_lower platform fixed (Some path) =
     document_lower out.Flash flash_of 3 platform.macros fixed path
 
 flash_within : (platform : PlatformDoc) (fixed : List Macro) (root : Option (List ℕ))
-    → IsWithin fits most_files (flash_from platform fixed root)
+    → IsWithin most_files (flash_from platform fixed root)
 flash_within platform fixed None = tt
 flash_within platform fixed (Some path) =
     document_within out.Flash flash_of platform.macros fixed path
@@ -77,7 +76,7 @@ lower key.Flash = (
       (All-cons (IsLower rank_of 3) (ask.Field 2) (ask.Field 3 ∷ ask.Field 5 ∷ ask.Field 7 ∷ []) tt
       (All-cons (IsLower rank_of 3) (ask.Field 3) (ask.Field 5 ∷ ask.Field 7 ∷ []) tt
       (all_two (IsLower rank_of 3) (ask.Field 5) (ask.Field 7) tt tt))),
-  λ given. attempt_lower rank_of 3 (platform_in given 0) _
+  λ given. attempt_lower rank_of 3 (platform_in given) _
       (λ platform. attempt_lower rank_of 3 (macros_in given) _ (λ fixed.
       attempt_lower rank_of 3 (flash_root platform given) _
       (λ root. flash_lower platform fixed root))),
@@ -95,22 +94,22 @@ lower key.All = all_lower
 lower key.Vpd = vpd_lower
 lower (key.Based v) = volume_lower true v
 
-within : (k : Key) → IsWithin fits (most_of k) (stages_of k)
+within : (k : Key) → IsWithin (most_of k) (stages_of k)
 within (key.Dec path) = document_within out.Dec package_of [] [] path
 within (key.Inf path) = document_within out.Inf module_of [] [] path
 within key.Platform = (
   omega arith,
-  λ given fit. subst (λ m. IsWithin fits m (platform_given given)) first_of_two
-      (attempt_within fits most_files (root_in given) _
-      (λ path. attempt_within fits most_files (macros_in given) _ (λ fixed.
+  λ given. subst (λ m. IsWithin m (platform_given given)) first_of_two
+      (attempt_within most_files (root_in given) _
+      (λ path. attempt_within most_files (macros_in given) _ (λ fixed.
       document_within out.Platform platform_of [] fixed path))),
 )
 within key.Flash = (
   omega arith,
-  λ given fit. subst (λ m. IsWithin fits m (flash_given given)) first_of_two
-      (attempt_within fits most_files (platform_in given 0) _
-      (λ platform. attempt_within fits most_files (macros_in given) _ (λ fixed.
-      attempt_within fits most_files (flash_root platform given) _
+  λ given. subst (λ m. IsWithin m (flash_given given)) first_of_two
+      (attempt_within most_files (platform_in given) _
+      (λ platform. attempt_within most_files (macros_in given) _ (λ fixed.
+      attempt_within most_files (flash_root platform given) _
       (λ root. flash_within platform fixed root)))),
 )
 within (key.Choice m) = choice_within m

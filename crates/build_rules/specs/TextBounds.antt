@@ -8,15 +8,14 @@ use Rattle.build_stages.specs.Stages.{IsLower, AreLower, IsWithin}
 use Rattle.build_stages.specs.Bounds.{all_one, all_two, attempt_lower, attempt_within, bind_lower, bind_within}
 use Rattle.doc_types.specs.declared.choice.Module.{Module}
 use Rattle.step_pack.specs.declared.key.Key.TheVariants as key
-use Rattle.module_steps.specs.Parts.{choice_at}
+use Rattle.module_steps.specs.Parts.{choice_in}
 use Rattle.text_steps.specs.Asks.{told_asks}
-use Rattle.text_steps.specs.Report.{values_at}
+use Rattle.text_steps.specs.Report.{values_in}
 use Rattle.document_rules.specs.Trees.{platform_in}
 use Rattle.module_rules.specs.ModuleTrees.{module_parts}
 use Rattle.build_rules.specs.ModuleBounds.{module_lower, module_within}
 use Rattle.module_rules.specs.TextTrees.{code_stages, depex_stages, told_modules_in, heading_in, report_stages}
 use Rattle.build_rules.specs.Rules.{rank_of}
-use Rattle.document_rules.specs.Fits.{fits}
 
 pub code_lower : (m : Module) → AreLower rank_of 7 (code_stages m)
 code_lower m = (
@@ -24,35 +23,35 @@ code_lower m = (
       (ask.Part (key.Choice m) ∷ ask.Part (key.Values m) ∷ []) (omega arith)
       (all_two (IsLower rank_of 7) (ask.Part (key.Choice m)) (ask.Part (key.Values m)) (omega arith)
       (omega arith)),
-  λ given. attempt_lower rank_of 7 (platform_in given 0) _
-      (λ platform. attempt_lower rank_of 7 (choice_at given 1) _ (λ choice.
-      attempt_lower rank_of 7 (values_at given 2) _ (λ values.
+  λ given. attempt_lower rank_of 7 (platform_in given) _
+      (λ platform. attempt_lower rank_of 7 (choice_in given m) _ (λ choice.
+      attempt_lower rank_of 7 (values_in given (key.Values m)) _ (λ values.
       bind_lower rank_of 7 (module_parts m choice) _ (module_lower 7 (omega arith) m choice)
       (λ parts. tt)))),
 )
 
-pub code_within : (m : Module) → IsWithin fits 3 (code_stages m)
+pub code_within : (m : Module) → IsWithin 3 (code_stages m)
 code_within m = (
   omega arith,
-  λ given fit. attempt_within fits 2 (platform_in given 0) _
-      (λ platform. attempt_within fits 2 (choice_at given 1) _ (λ choice.
-      attempt_within fits 2 (values_at given 2) _ (λ values.
-      bind_within fits 2 0 (module_parts m choice) _ (module_within m choice) (λ parts. tt)))),
+  λ given. attempt_within 2 (platform_in given) _
+      (λ platform. attempt_within 2 (choice_in given m) _ (λ choice.
+      attempt_within 2 (values_in given (key.Values m)) _ (λ values.
+      bind_within 2 0 (module_parts m choice) _ (module_within m choice) (λ parts. tt)))),
 )
 
 pub depex_lower : (m : Module) → AreLower rank_of 7 (depex_stages m)
 depex_lower m = (
   all_one (IsLower rank_of 7) (ask.Part (key.Choice m)) (omega arith),
-  λ given. attempt_lower rank_of 7 (choice_at given 0) _ (λ choice.
+  λ given. attempt_lower rank_of 7 (choice_in given m) _ (λ choice.
       bind_lower rank_of 7 (module_parts m choice) _ (module_lower 7 (omega arith) m choice)
       (λ parts. tt)),
 )
 
-pub depex_within : (m : Module) → IsWithin fits 3 (depex_stages m)
+pub depex_within : (m : Module) → IsWithin 3 (depex_stages m)
 depex_within m = (
   omega arith,
-  λ given fit. attempt_within fits 2 (choice_at given 0) _ (λ choice.
-      bind_within fits 2 0 (module_parts m choice) _ (module_within m choice) (λ parts. tt)),
+  λ given. attempt_within 2 (choice_in given m) _ (λ choice.
+      bind_within 2 0 (module_parts m choice) _ (module_within m choice) (λ parts. tt)),
 )
 
 told_lower : (bound : ℕ) → 6 < bound → (modules : List Module)
@@ -72,7 +71,7 @@ report_lower bound h = (
       tt
       (All-cons (IsLower rank_of bound) (ask.Field 2) (ask.Field 3 ∷ ask.Field 4 ∷ []) tt
       (all_two (IsLower rank_of bound) (ask.Field 3) (ask.Field 4) tt tt))),
-  λ given. attempt_lower rank_of bound (platform_in given 0) _
+  λ given. attempt_lower rank_of bound (platform_in given) _
       (λ platform. attempt_lower rank_of bound (told_modules_in platform given) _ (λ modules.
       attempt_lower rank_of bound (heading_in platform given) _ (λ heading. (
         All-cons (IsLower rank_of bound) (ask.Part key.PlatformPcds) (flat_map told_asks modules)
@@ -81,11 +80,11 @@ report_lower bound h = (
       )))),
 )
 
-pub report_within : IsWithin fits 2 report_stages
+pub report_within : IsWithin 2 report_stages
 report_within = (
   omega arith,
-  λ given fit. attempt_within fits 1 (platform_in given 0) _
-      (λ platform. attempt_within fits 1 (told_modules_in platform given) _ (λ modules.
-      attempt_within fits 1 (heading_in platform given) _
-      (λ heading. (omega arith, λ told fit_too. tt)))),
+  λ given. attempt_within 1 (platform_in given) _
+      (λ platform. attempt_within 1 (told_modules_in platform given) _ (λ modules.
+      attempt_within 1 (heading_in platform given) _
+      (λ heading. (omega arith, λ told. tt)))),
 )

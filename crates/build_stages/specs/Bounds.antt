@@ -17,11 +17,11 @@ pub attempt_lower : {K O A B : Type 0} (rank : K → ℕ) (bound : ℕ) (r : Res
 attempt_lower rank bound (Ok x) next h = h x
 attempt_lower rank bound (Err fault) next h = tt
 
-pub attempt_within : {K O A B : Type 0} (fits : Fits K O) (n : ℕ) (r : Result A Fault)
-    (next : A → Stages K O B) → ((x : A) → IsWithin fits n (next x))
-    → IsWithin fits n (attempt r next)
-attempt_within fits n (Ok x) next h = h x
-attempt_within fits n (Err fault) next h = tt
+pub attempt_within : {K O A B : Type 0} (n : ℕ) (r : Result A Fault)
+    (next : A → Stages K O B) → ((x : A) → IsWithin n (next x))
+    → IsWithin n (attempt r next)
+attempt_within n (Ok x) next h = h x
+attempt_within n (Err fault) next h = tt
 
 pub bind_lower : {K O A B : Type 0} (rank : K → ℕ) (bound : ℕ) (s : Stages K O A)
     (f : A → Stages K O B) → AreLower rank bound s → ((x : A) → AreLower rank bound (f x))
@@ -32,27 +32,25 @@ bind_lower rank bound (stage asks next) f l h =
     (l.0, λ given. bind_lower rank bound (next given) f (l.1 given) h)
 
 -- fewer batches are also within more
-pub within_more : {K O A : Type 0} (fits : Fits K O) (n m : ℕ) (s : Stages K O A) → n ≤ m
-    → IsWithin fits n s → IsWithin fits m s
-within_more fits n m (end r) l w = tt
-within_more fits n m (stage asks next) l w = (
+pub within_more : {K O A : Type 0} (n m : ℕ) (s : Stages K O A) → n ≤ m
+    → IsWithin n s → IsWithin m s
+within_more n m (end r) l w = tt
+within_more n m (stage asks next) l w = (
   let some : 0 < n = w.0 in omega (arith, l, some),
-  λ answers fit.
-      within_more fits (n - 1) (m - 1) (next (with_answers asks answers)) (omega (arith, l))
-      (w.1 answers fit),
+  λ given. within_more (n - 1) (m - 1) (next given) (omega (arith, l)) (w.1 given),
 )
 
-pub bind_within : {K O A B : Type 0} (fits : Fits K O) (n m : ℕ) (s : Stages K O A)
-    (f : A → Stages K O B) → IsWithin fits n s → ((x : A) → IsWithin fits m (f x))
-    → IsWithin fits (n + m) (bind s f)
-bind_within fits n m (end (Ok x)) f w h = within_more fits m (n + m) (f x) (omega arith) (h x)
-bind_within fits n m (end (Err fault)) f w h = tt
-bind_within {K} {O} {A} {B} fits n m (stage asks next) f w h = (
+pub bind_within : {K O A B : Type 0} (n m : ℕ) (s : Stages K O A)
+    (f : A → Stages K O B) → IsWithin n s → ((x : A) → IsWithin m (f x))
+    → IsWithin (n + m) (bind s f)
+bind_within n m (end (Ok x)) f w h = within_more m (n + m) (f x) (omega arith) (h x)
+bind_within n m (end (Err fault)) f w h = tt
+bind_within n m (stage asks next) f w h = (
   let some : 0 < n = w.0 in omega (arith, some),
-  λ answers fit.
-      within_more fits ((n - 1) + m) ((n + m) - 1) (bind (next (with_answers asks answers)) f)
+  λ given.
+      within_more ((n - 1) + m) ((n + m) - 1) (bind (next given) f)
       (let some : 0 < n = w.0 in omega (arith, some))
-      (bind_within fits (n - 1) m (next (with_answers asks answers)) f (w.1 answers fit) h),
+      (bind_within (n - 1) m (next given) f (w.1 given) h),
 )
 
 -- what one after the other gives by known answers, and in a world
@@ -99,10 +97,10 @@ pub choose_lower : {K O A : Type 0} (rank : K → ℕ) (bound : ℕ) (b : Bool) 
 choose_lower rank bound true s t h k = h
 choose_lower rank bound false s t h k = k
 
-pub choose_within : {K O A : Type 0} (fits : Fits K O) (n : ℕ) (b : Bool) (s t : Stages K O A)
-    → IsWithin fits n s → IsWithin fits n t → IsWithin fits n (if b then s else t)
-choose_within fits n true s t h k = h
-choose_within fits n false s t h k = k
+pub choose_within : {K O A : Type 0} (n : ℕ) (b : Bool) (s t : Stages K O A)
+    → IsWithin n s → IsWithin n t → IsWithin n (if b then s else t)
+choose_within n true s t h k = h
+choose_within n false s t h k = k
 
 -- what holds may be taken for granted
 pub when_lower : {K O A : Type 0} (rank : K → ℕ) (bound : ℕ) (b : Bool) (s : Stages K O A)
@@ -110,10 +108,10 @@ pub when_lower : {K O A : Type 0} (rank : K → ℕ) (bound : ℕ) (b : Bool) (s
 when_lower rank bound true s h = h refl
 when_lower rank bound false s h = tt
 
-pub when_within : {K O A : Type 0} (fits : Fits K O) (n : ℕ) (b : Bool) (s : Stages K O A)
-    → IsWithin fits n s → IsWithin fits n (when b s)
-when_within fits n true s w = w
-when_within fits n false s w = tt
+pub when_within : {K O A : Type 0} (n : ℕ) (b : Bool) (s : Stages K O A)
+    → IsWithin n s → IsWithin n (when b s)
+when_within n true s w = w
+when_within n false s w = tt
 
 pub both_hold : (a b : Bool) → (a && b) ≡ true → (a ≡ true) × (b ≡ true)
 both_hold true b e = (refl, e)

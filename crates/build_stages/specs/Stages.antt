@@ -158,11 +158,10 @@ AreLower {K} {O} {A} rank bound (stage asks next) =
     All (IsLower rank bound) asks × ((given : List (Pair K O)) → AreLower rank bound (next given))
 
 -- so many batches are asked at most
-abbrev pub IsWithin : {K O A : Type 0} → Fits K O → ℕ → Stages K O A → Type 0
-IsWithin fits n (end r) = Unit {0}
-IsWithin {K} {O} {A} fits n (stage asks next) =
-    (0 < n) × ((answers : List (Answer O)) → first_stop fits asks answers ≡ None
-    → IsWithin fits (n - 1) (next (with_answers asks answers)))
+abbrev pub IsWithin : {K O A : Type 0} → ℕ → Stages K O A → Type 0
+IsWithin n (end r) = Unit {0}
+IsWithin {K} {O} {A} n (stage asks next) =
+    (0 < n) × ((given : List (Pair K O)) → IsWithin (n - 1) (next given))
 
 abbrev pub left_with : {K O : Type 0} → Fits K O → ℕ → List (Ask K) → (List (Answer O) → ℕ)
     → Option (List (Answer O)) → ℕ
@@ -223,4 +222,4 @@ meaning_of cmp c = record {
 -- what the stages of each key have to meet
 pub record AreBounded {K O : Type 0} (c : Staged K O) : Type 0 where
   pub lower : (k : K) → AreLower c.rank (c.rank k) (c.stages k)
-  pub within : (k : K) → IsWithin c.fits (c.most k) (c.stages k)
+  pub within : (k : K) → IsWithin (c.most k) (c.stages k)

@@ -307,7 +307,7 @@ left_most {K} {O} {A} fits known n (stage asks next) =
 -- the number falls with each batch that is answered
 pub left_falls : {K O A : Type 0} (same : Ask K → Ask K → Bool) → IsExact same
     → (fits : Fits K O) (known known' : Known K O) → Grows known known'
-    → (n : ℕ) (s : Stages K O A) (asks : List (Ask K)) → IsWithin fits n s
+    → (n : ℕ) (s : Stages K O A) (asks : List (Ask K)) → IsWithin n s
     → advance same fits known s ≡ Err (wants asks)
     → ((a : Ask K) → Contains asks a → is_some (known' a) ≡ true)
     → left_at fits known' n s < left_at fits known n s
@@ -348,7 +348,7 @@ left_falls {K} {O} {A} same exact fits known known' g n (stage here next) asks w
           < unless_stopped q (λ fault. 0) (rest known answers)) [
             | Some fault ↦ λ q e. absurd (cc)
             | None ↦ λ q e. left_falls same exact fits known known' g (n - 1)
-                (next (with_answers here answers)) asks (w.1 answers q) e h
+                (next (with_answers here answers)) asks (w.1 (with_answers here answers)) e h
           ]) refl e)
     ]) refl e
 

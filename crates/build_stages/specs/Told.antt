@@ -35,11 +35,11 @@ part_is cmp key k (ask.File q) e = absurd cc
 part_is cmp key k (ask.Field i) e = absurd cc
 part_is cmp key k (ask.Part l) e = ap ask.Part (sym (tells_apart key k l e))
 
-pub file_itself : {K : Type 0} (path : List ℕ) → is_file {K = K} path (ask.File path) ≡ true
-file_itself path = nat_list_eq_equiv.refl path
+pub file_itself : (K : Type 0) (path : List ℕ) → is_file {K = K} path (ask.File path) ≡ true
+file_itself K path = nat_list_eq_equiv.refl path
 
-pub field_itself : {K : Type 0} (n : ℕ) → is_field {K = K} n (ask.Field n) ≡ true
-field_itself n = grind (arith, nat_tests)
+pub field_itself : (K : Type 0) (n : ℕ) → is_field {K = K} n (ask.Field n) ≡ true
+field_itself K n = grind (arith, nat_tests)
 
 pub part_itself : {K : Type 0} (cmp : K → K → Ordering) → IsTotalOrder cmp → (k : K)
     → is_part cmp k (ask.Part k) ≡ true
@@ -63,12 +63,14 @@ told_first {K} {O} is a one itself f (b ∷ asks) (suc i, l, e) =
 pub told_file : {K O : Type 0} (f : Ask K → Answer O) (asks : List (Ask K)) (path : List ℕ)
     → Contains asks (ask.File path)
     → answer_where (is_file path) (with_answers asks (map f asks)) ≡ Some (f (ask.File path))
-told_file f asks path c = told_first (is_file path) (ask.File path) (file_is path) (file_itself path) f asks c
+told_file {K} {O} f asks path c =
+    told_first (is_file path) (ask.File path) (file_is path) (file_itself K path) f asks c
 
 pub told_field : {K O : Type 0} (f : Ask K → Answer O) (asks : List (Ask K)) (n : ℕ)
     → Contains asks (ask.Field n)
     → answer_where (is_field n) (with_answers asks (map f asks)) ≡ Some (f (ask.Field n))
-told_field f asks n c = told_first (is_field n) (ask.Field n) (field_is n) (field_itself n) f asks c
+told_field {K} {O} f asks n c =
+    told_first (is_field n) (ask.Field n) (field_is n) (field_itself K n) f asks c
 
 pub told_part : {K O : Type 0} (cmp : K → K → Ordering) → IsTotalOrder cmp → CmpEqualImpliesEq cmp
     → (f : Ask K → Answer O) (asks : List (Ask K)) (k : K) → Contains asks (ask.Part k)

@@ -52,7 +52,7 @@ fn judge<S: StepTypes>(
 pub fn gather<'a, S: StepTypes>(
     alloc: Global,
     rules: &S,
-    known: &Known<'a, S::Key, S::Out>,
+    known: &'a Known<'_, S::Key, S::Out>,
     asks: &'a [Ask<S::Key>],
     permit: Permit,
 ) -> Result<(Given<'a, S::Key, S::Out>, Permit), Stop<S::Key>>

@@ -63,11 +63,11 @@ impl<'a, K: StepKey, O> Known<'a, K, O> {
     }
 
     // The answers to all asks, where each is known.
-    pub(crate) fn all(
-        &self,
+    pub(crate) fn all<'b>(
+        &'b self,
         alloc: Global,
         asks: &[Ask<K>],
-    ) -> Result<Option<Vec<&'a Answer<O>>>, WantOfMemory>
+    ) -> Result<Option<Vec<&'b Answer<O>>>, WantOfMemory>
         ensures { IfOk result (AreOf K.cmp self.now asks.now) }
     {
         let mut answers = Vec::new(alloc);

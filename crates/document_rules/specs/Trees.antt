@@ -7,9 +7,9 @@ use Rattle.build_base.specs.Path.{path_field}
 use Rattle.build_base.specs.declared.lines.Macro.{Macro}
 use Rattle.step_engine.specs.declared.talk.Ask.{Ask}
 use Rattle.step_engine.specs.declared.talk.Ask.TheVariants as ask
-use Rattle.step_engine.specs.declared.talk.Answer.{Answer}
+use Rattle.step_engine.specs.declared.talk.Pair.{Pair}
 use Rattle.dsc_platform.specs.Platform.{platform_of}
-use Rattle.build_stages.specs.Writing.{attempt, field_at, part_at}
+use Rattle.build_stages.specs.Writing.{attempt, given_field, given_part}
 use Rattle.document_rules.specs.Defines.{macros_of_job}
 use Rattle.build_base.specs.declared.fault.Fault.{Fault}
 use Rattle.build_base.specs.declared.lines.Lines.{Lines}
@@ -59,21 +59,21 @@ abbrev pub path_named : Option (List ℕ) → Result (List ℕ) Fault
 path_named (Some path) = Ok path
 path_named None = Err impossible_answer
 
-abbrev pub root_in : List (Answer Out) → Result (List ℕ) Fault
-root_in given = and_then (field_at given 0) (λ text. path_named (path_field text))
+abbrev pub root_in : List (Pair Key Out) → Result (List ℕ) Fault
+root_in given = and_then (given_field given 0) (λ text. path_named (path_field text))
 
--- the macros of the target, the tool chain's tag and the words, which stand behind the first answer
-abbrev pub macros_in : List (Answer Out) → Result (List Macro) Fault
+-- the macros of the target, the tool chain's tag and the words
+abbrev pub macros_in : List (Pair Key Out) → Result (List Macro) Fault
 macros_in given =
-    and_then (field_at given 1) (λ target.
-    and_then (field_at given 2) (λ tag.
-    and_then (field_at given 3) (λ texts. Ok (macros_of_job target tag texts))))
+    and_then (given_field given 2) (λ target.
+    and_then (given_field given 3) (λ tag.
+    and_then (given_field given 5) (λ texts. Ok (macros_of_job target tag texts))))
 
 -- the platform's path, the target, the tag and the macros
 abbrev pub platform_asks : List (Ask Key)
 platform_asks = ask.Field 0 ∷ ask.Field 2 ∷ ask.Field 3 ∷ ask.Field 5 ∷ []
 
-abbrev pub platform_given : List (Answer Out) → EdkStages
+abbrev pub platform_given : List (Pair Key Out) → EdkStages
 platform_given given =
     attempt (root_in given) (λ path.
     attempt (macros_in given) (λ fixed. document_stages out.Platform platform_of [] fixed path))
@@ -85,17 +85,17 @@ abbrev pub platform_of_out : Out → Result PlatformDoc Fault
 platform_of_out (out.Platform document) = Ok document
 platform_of_out _ = Err impossible_answer
 
--- the platform that stands at a place among answers
-abbrev pub platform_in : List (Answer Out) → ℕ → Result PlatformDoc Fault
-platform_in given i = and_then (part_at given i) platform_of_out
+-- the platform's description among answers
+abbrev pub platform_in : List (Pair Key Out) → Result PlatformDoc Fault
+platform_in given = and_then (given_part key_cmp given key.Platform) platform_of_out
 
 abbrev pub flash_of_out : Out → Result FlashDoc Fault
 flash_of_out (out.Flash document) = Ok document
 flash_of_out _ = Err impossible_answer
 
--- the flash description that stands at a place among answers
-abbrev pub flash_in : List (Answer Out) → ℕ → Result FlashDoc Fault
-flash_in given i = and_then (part_at given i) flash_of_out
+-- the flash description among answers
+abbrev pub flash_in : List (Pair Key Out) → Result FlashDoc Fault
+flash_in given = and_then (given_part key_cmp given key.Flash) flash_of_out
 
 -- the platform, the macros as above behind it, and the file of the flash description
 abbrev pub flash_asks : List (Ask Key)
@@ -110,8 +110,8 @@ unfoldable pub flash_named : Option (List ℕ) → List ℕ → Result (Option (
 flash_named stated text = if length text == 0 then Ok stated
     else some_path (path_named (path_field text))
 
-abbrev pub flash_root : PlatformDoc → List (Answer Out) → Result (Option (List ℕ)) Fault
-flash_root platform given = and_then (field_at given 4) (flash_named platform.flash)
+abbrev pub flash_root : PlatformDoc → List (Pair Key Out) → Result (Option (List ℕ)) Fault
+flash_root platform given = and_then (given_field given 7) (flash_named platform.flash)
 
 -- the flash description of a platform that has none
 abbrev pub empty_flash : PlatformDoc → FlashDoc
@@ -124,9 +124,9 @@ flash_from platform fixed (Some path) =
     document_stages out.Flash flash_of platform.macros fixed path
 flash_from platform fixed None = end (Ok (out.Flash (empty_flash platform)))
 
-abbrev pub flash_given : List (Answer Out) → EdkStages
+abbrev pub flash_given : List (Pair Key Out) → EdkStages
 flash_given given =
-    attempt (platform_in given 0) (λ platform.
+    attempt (platform_in given) (λ platform.
     attempt (macros_in given) (λ fixed.
     attempt (flash_root platform given) (λ root. flash_from platform fixed root)))
 

@@ -82,14 +82,14 @@ impl StepTypes for EdkAnswers {
     }
 }
 
-/// The answers to these asks, as `gather` gives them; the asks are let go.
+/// The answers to these asks, as `gather` gives them.
 pub fn answers_to<'a>(
     alloc: Global,
-    known: &Known<'a, Key, Out>,
-    asks: Rows<Ask<Key>>,
+    known: &'a Known<'_, Key, Out>,
+    asks: &'a Rows<Ask<Key>>,
     permit: Permit,
-) -> Result<(Given<'a, Out>, Permit), Stop<Key>>
-    ensures { Gives (λ x. x.0) result (gathered_at key_cmp fits known.now asks) }
+) -> Result<(Given<'a, Key, Out>, Permit), Stop<Key>>
+    ensures { Gives (λ x. x.0) result (gathered_at key_cmp fits known.now asks.now) }
 {
     gather(alloc, &EdkAnswers, known, asks.items(), permit)
 }

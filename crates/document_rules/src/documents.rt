@@ -90,8 +90,8 @@ pub fn inf(
     Ok(Out::Inf(module_of(alloc, permit, &lines)?))
 }
 
-// The file that the first answer names.
-fn root(alloc: Global, given: &Given<'_, Out>) -> Result<Path, Stop<Key>>
+// The file that the job names.
+fn root(alloc: Global, given: &Given<'_, Key, Out>) -> Result<Path, Stop<Key>>
     ensures { GivesIn (λ path. path) result (root_in given.now) }
 {
     let text = given.field(0)?;
@@ -101,13 +101,13 @@ fn root(alloc: Global, given: &Given<'_, Out>) -> Result<Path, Stop<Key>>
     }
 }
 
-// The macros of the three fields behind the first answer.
-fn job_macros(alloc: Global, given: &Given<'_, Out>) -> Result<Rows<Macro>, Stop<Key>>
+// The macros of the job: its target, its tool chain's tag and its words.
+fn job_macros(alloc: Global, given: &Given<'_, Key, Out>) -> Result<Rows<Macro>, Stop<Key>>
     ensures { GivesIn (λ macros. macros) result (macros_in given.now) }
 {
-    let target = given.field(1)?;
-    let tag = given.field(2)?;
-    let texts = given.field(3)?;
+    let target = given.field(2)?;
+    let tag = given.field(3)?;
+    let texts = given.field(5)?;
     Ok(macros_of_job(alloc, target.bytes(), tag.bytes(), texts.bytes())?)
 }
 
@@ -133,7 +133,7 @@ fn platform_from(
 fn platform_given(
     alloc: Global,
     known: &Known<'_, Key, Out>,
-    given: &Given<'_, Out>,
+    given: &Given<'_, Key, Out>,
     park: &mut Option<OpenDocument>,
     permit: Permit,
 ) -> Result<Out, Stop<Key>>
@@ -167,21 +167,20 @@ fn platform_of_out(out: &Out) -> Result<&Shared<PlatformDoc>, Stop<Key>>
     }
 }
 
-/// The platform that stands at a place among answers, as it is shared.
+/// The platform's description among answers, as it is shared.
 pub fn shared_platform<'a>(
-    given: &Given<'a, Out>,
-    place: usize,
+    given: &Given<'a, Key, Out>,
 ) -> Result<&'a Shared<PlatformDoc>, Stop<Key>>
-    ensures { GivesIn (λ document. document.now) result (platform_in given.now place) }
+    ensures { GivesIn (λ document. document.now) result (platform_in given.now) }
 {
-    platform_of_out(given.part(place)?)
+    platform_of_out(given.part(&Key::Platform)?)
 }
 
-/// The platform that stands at a place among answers.
-pub fn platform_in<'a>(given: &Given<'a, Out>, place: usize) -> Result<&'a PlatformDoc, Stop<Key>>
-    ensures { GivesIn (λ document. document.now) result (platform_in given.now place) }
+/// The platform's description among answers.
+pub fn platform_in<'a>(given: &Given<'a, Key, Out>) -> Result<&'a PlatformDoc, Stop<Key>>
+    ensures { GivesIn (λ document. document.now) result (platform_in given.now) }
 {
-    Ok(shared_platform(given, place)?.value())
+    Ok(shared_platform(given)?.value())
 }
 
 fn flash_of_out(out: &Out) -> Result<&Shared<FlashDoc>, Stop<Key>>
@@ -193,21 +192,18 @@ fn flash_of_out(out: &Out) -> Result<&Shared<FlashDoc>, Stop<Key>>
     }
 }
 
-/// The flash description that stands at a place among answers, as it is shared.
-pub fn shared_flash<'a>(
-    given: &Given<'a, Out>,
-    place: usize,
-) -> Result<&'a Shared<FlashDoc>, Stop<Key>>
-    ensures { GivesIn (λ document. document.now) result (flash_in given.now place) }
+/// The flash description among answers, as it is shared.
+pub fn shared_flash<'a>(given: &Given<'a, Key, Out>) -> Result<&'a Shared<FlashDoc>, Stop<Key>>
+    ensures { GivesIn (λ document. document.now) result (flash_in given.now) }
 {
-    flash_of_out(given.part(place)?)
+    flash_of_out(given.part(&Key::Flash)?)
 }
 
-/// The flash description that stands at a place among answers.
-pub fn flash_in<'a>(given: &Given<'a, Out>, place: usize) -> Result<&'a FlashDoc, Stop<Key>>
-    ensures { GivesIn (λ document. document.now) result (flash_in given.now place) }
+/// The flash description among answers.
+pub fn flash_in<'a>(given: &Given<'a, Key, Out>) -> Result<&'a FlashDoc, Stop<Key>>
+    ensures { GivesIn (λ document. document.now) result (flash_in given.now) }
 {
-    Ok(shared_flash(given, place)?.value())
+    Ok(shared_flash(given)?.value())
 }
 
 fn copy_stated(alloc: Global, path: &Option<Path>) -> Result<Option<Path>, WantOfMemory>
@@ -240,11 +236,11 @@ pub fn flash_named(
 fn flash_root(
     alloc: Global,
     platform: &PlatformDoc,
-    given: &Given<'_, Out>,
+    given: &Given<'_, Key, Out>,
 ) -> Result<Option<Path>, Stop<Key>>
     ensures { GivesIn (λ root. root) result (flash_root platform.now given.now) }
 {
-    let text = given.field(4)?;
+    let text = given.field(7)?;
     flash_named(alloc, &platform.flash, text.bytes())
 }
 
@@ -302,13 +298,13 @@ fn flash_from(
 fn flash_given(
     alloc: Global,
     known: &Known<'_, Key, Out>,
-    given: &Given<'_, Out>,
+    given: &Given<'_, Key, Out>,
     park: &mut Option<OpenDocument>,
     permit: Permit,
 ) -> Result<Out, Stop<Key>>
     ensures { AdvancesTo known.now (flash_given given.now) result }
 {
-    let platform = platform_in(given, 0)?;
+    let platform = platform_in(given)?;
     let fixed = job_macros(alloc, given)?;
     let root = flash_root(alloc, platform, given)?;
     flash_from(alloc, known, platform, &fixed, &root, park, permit)

@@ -37,9 +37,9 @@ got_by {K} {O} x b = and_then (ended (file_of (cond b (Some x) None))) (λ x. en
 
 told_answer : {K O : Type 0} (path : List ℕ) (x : Answer O) (got : Got) → got_in x ≡ Ok got
     → and_then (judged {K = K} (or_else (fault_in x) None) (told_one {K = K} path x)) (λ given. and_then (ended (given_file given path)) (λ x. ended (got_in x))) ≡ Ok got
-told_answer {K} {O} path (answers.Bytes bytes) got e = ap (got_by {K = K} {O = O} (answers.Bytes bytes)) (file_itself {K = K} path) ∙ ap (ended {K = K}) e
-told_answer {K} {O} path answers.Absent got e = ap (got_by {K = K} {O = O} answers.Absent) (file_itself {K = K} path) ∙ ap (ended {K = K}) e
-told_answer {K} {O} path answers.TooLong got e = ap (got_by {K = K} {O = O} answers.TooLong) (file_itself {K = K} path) ∙ ap (ended {K = K}) e
+told_answer {K} {O} path (answers.Bytes bytes) got e = ap (got_by {K = K} {O = O} (answers.Bytes bytes)) (file_itself K path) ∙ ap (ended {K = K}) e
+told_answer {K} {O} path answers.Absent got e = ap (got_by {K = K} {O = O} answers.Absent) (file_itself K path) ∙ ap (ended {K = K}) e
+told_answer {K} {O} path answers.TooLong got e = ap (got_by {K = K} {O = O} answers.TooLong) (file_itself K path) ∙ ap (ended {K = K}) e
 told_answer path (answers.Field text) got e = absurd (cc)
 told_answer path (answers.Part outcome) got e = absurd (cc)
 

@@ -7,7 +7,7 @@ use Rattle.macro_conditions.specs.Sources.{answer}
 use Rattle.macro_conditions.specs.Expansion.{Stop, bad, need, expansion}
 use Rattle.macro_conditions.specs.Counting.{with_answer}
 use Rattle.step_engine.specs.declared.talk.Ask.TheVariants as ask
-use Rattle.build_stages.specs.Stages.{Stages, Fits, IsLower, AreLower, IsWithin}
+use Rattle.build_stages.specs.Stages.{Stages, IsLower, AreLower, IsWithin}
 use Rattle.build_stages.specs.Writing.{attempt, given_file}
 use Rattle.build_stages.specs.Bounds.{attempt_lower, attempt_within, all_one}
 use Rattle.document_stages.specs.Documents.{by_stop, got_in, lines_after}
@@ -34,30 +34,30 @@ lines_lower {K} O rank bound (suc n) root macros fixed files =
           (λ got. lines_lower O rank bound n root macros fixed (with_answer files path got))),
     ))
 
-stop_within : {K O : Type 0} (fits : Fits K O) (n : ℕ) (r : Result Lines Stop)
-    (more : List ℕ → Stages K O Lines) → ((path : List ℕ) → IsWithin fits n (more path))
-    → IsWithin fits n (by_stop r more)
-stop_within fits n (Ok lines) more h = tt
-stop_within fits n (Err (bad fault)) more h = tt
-stop_within fits n (Err (need path)) more h = h path
+stop_within : {K O : Type 0} (n : ℕ) (r : Result Lines Stop)
+    (more : List ℕ → Stages K O Lines) → ((path : List ℕ) → IsWithin n (more path))
+    → IsWithin n (by_stop r more)
+stop_within n (Ok lines) more h = tt
+stop_within n (Err (bad fault)) more h = tt
+stop_within n (Err (need path)) more h = h path
 
-pub lines_within : {K O : Type 0} (fits : Fits K O) (n : ℕ) (root : List ℕ)
+pub lines_within : (K O : Type 0) (n : ℕ) (root : List ℕ)
     (macros fixed : List Macro) (files : List Known)
-    → IsWithin fits n (lines_after n root macros fixed files)
+    → IsWithin n (lines_after {K = K} {O = O} n root macros fixed files)
 unfolding lines_after
-lines_within fits zero root macros fixed files =
-    stop_within fits zero (expansion (answer files) root macros fixed) _ (λ path. tt)
-lines_within {K} {O} fits (suc n) root macros fixed files =
-    stop_within fits (suc n) (expansion (answer files) root macros fixed) _ (λ path. (
+lines_within K O zero root macros fixed files =
+    stop_within zero (expansion (answer files) root macros fixed) _ (λ path. tt)
+lines_within K O (suc n) root macros fixed files =
+    stop_within (suc n) (expansion (answer files) root macros fixed) _ (λ path. (
       omega arith,
-      λ given fit.
+      λ given.
           subst
-          (λ m. IsWithin fits m
+          (λ m. IsWithin m
           (attempt (given_file given path)
           (λ x. attempt (got_in x)
-          (λ got. lines_after n root macros fixed (with_answer files path got)))))
+          (λ got. lines_after {K = K} {O = O} n root macros fixed (with_answer files path got)))))
           (let same : n ≡ suc n - 1 = omega arith in same)
-          (attempt_within fits n (given_file given path) _
-          (λ x. attempt_within fits n (got_in x) _
-          (λ got. lines_within fits n root macros fixed (with_answer files path got)))),
+          (attempt_within n (given_file given path) _
+          (λ x. attempt_within n (got_in x) _
+          (λ got. lines_within K O n root macros fixed (with_answer files path got)))),
     ))

@@ -24,5 +24,5 @@ small_is_bounded = record {
         (first_lower k (is_file k) refl) (second_lower k (is_file k) refl),
     λ given. tt,
   );
-  within = λ k. (omega arith, λ given none. tt);
+  within = λ k. (omega arith, λ given. tt);
 }

@@ -7,7 +7,7 @@ use Rattle.build_base.specs.declared.fault.Fault.{Fault}
 use Rattle.build_base.specs.declared.fault.Place.{Place}
 use Rattle.step_engine.specs.declared.talk.Ask.{Ask}
 use Rattle.step_engine.specs.declared.talk.Ask.TheVariants as ask
-use Rattle.step_engine.specs.declared.talk.Answer.{Answer}
+use Rattle.step_engine.specs.declared.talk.Pair.{Pair}
 use Rattle.doc_types.specs.declared.flash.DevicePlan.{DevicePlan}
 use Rattle.doc_types.specs.declared.flash.FlashDoc.{FlashDoc}
 use Rattle.doc_types.specs.declared.platform.PlatformDoc.{PlatformDoc}
@@ -18,7 +18,7 @@ use Rattle.doc_types.specs.declared.volume.Member.{Member}
 use Rattle.doc_types.specs.declared.volume.VolumePlan.{VolumePlan}
 use Rattle.doc_types.specs.declared.volume_head.VolumeHead.{VolumeHead}
 use Rattle.build_stages.specs.Stages.{end, stage}
-use Rattle.build_stages.specs.Writing.{attempt, when, field_at}
+use Rattle.build_stages.specs.Writing.{attempt, when, given_field}
 use Rattle.step_pack.specs.declared.key.Key.{Key}
 use Rattle.step_pack.specs.declared.key.Key.TheVariants as key
 use Rattle.step_pack.specs.declared.out.Out.{Out}
@@ -57,7 +57,7 @@ abbrev pub sections_stages : VolumeHead → ModulePlan → EdkStages
 sections_stages head plan =
     stage (plan_asks plan) (λ given. end (given_as out.File (module_given head plan given)))
 
-abbrev pub module_from : FlashDoc → VolumeHead → InfLine → List (Answer Out) → EdkStages
+abbrev pub module_from : FlashDoc → VolumeHead → InfLine → List (Pair Key Out) → EdkStages
 module_from flash head line given = attempt (plan_given flash line given) (sections_stages head)
 
 -- the module of an INF statement, and then its file
@@ -79,9 +79,9 @@ item_stages v flash head (item.File plan) =
 item_stages v flash head (item.Apriori at pei members) = apriori_stages head at pei members
 item_stages v flash head (item.Inf line) = module_stages flash head line
 
-abbrev pub file_from : ℕ → ℕ → List (Answer Out) → EdkStages
+abbrev pub file_from : ℕ → ℕ → List (Pair Key Out) → EdkStages
 file_from v i given =
-    attempt (flash_in given 0) (λ flash.
+    attempt (flash_in given) (λ flash.
     attempt (volume_at flash v) (λ plan.
     attempt (item_at flash plan i) (λ item. item_stages v flash plan.head item)))
 
@@ -89,20 +89,20 @@ abbrev pub file_stages : ℕ → ℕ → EdkStages
 file_stages v i = stage (ask.Part key.Flash ∷ []) (file_from v i)
 
 -- the image of a volume as it stands, or moved to its base
-abbrev pub image_by : Bool → VolumeHead → List (Answer Out) → Result (List ℕ) Fault
-image_by true head given = based_given head given
-image_by false head given = volume_given head given
+abbrev pub image_by : Bool → ℕ → VolumePlan → List (Pair Key Out) → Result (List ℕ) Fault
+image_by true v plan given = based_given v plan given
+image_by false v plan given = volume_given v plan given
 
 -- the files of a volume, and then the volume
 abbrev pub plan_stages : Bool → ℕ → VolumePlan → EdkStages
 plan_stages moved v plan =
     when (fits_u16 (length plan.items))
     (stage (item_asks v plan.items)
-    (λ given. end (given_as out.Volume (image_by moved plan.head given))))
+    (λ given. end (given_as out.Volume (image_by moved v plan given))))
 
-abbrev pub volume_from : Bool → ℕ → List (Answer Out) → EdkStages
+abbrev pub volume_from : Bool → ℕ → List (Pair Key Out) → EdkStages
 volume_from moved v given =
-    attempt (flash_in given 0)
+    attempt (flash_in given)
     (λ flash. attempt (volume_at flash v) (λ plan. plan_stages moved v plan))
 
 abbrev pub volume_stages : Bool → ℕ → EdkStages
@@ -119,26 +119,27 @@ abbrev pub vpd_path : PlatformDoc → List ℕ → List ℕ → Result (Option (
 vpd_path platform target tag =
     vpd_where (has_vpd platform) (output_folder platform.output target tag)
 
--- its target and its tag stand behind the first two answers
-abbrev pub vpd_in : PlatformDoc → List (Answer Out) → Result (Option (List ℕ)) Fault
+-- by the job's target and tag
+abbrev pub vpd_in : PlatformDoc → List (Pair Key Out) → Result (Option (List ℕ)) Fault
 vpd_in platform given =
-    and_then (field_at given 2) (λ target. and_then (field_at given 3) (vpd_path platform target))
+    and_then (given_field given 2) (λ target.
+    and_then (given_field given 3) (vpd_path platform target))
 
 -- what the regions of a device hold, and then the device
 abbrev pub regions_stages : List VolumePlan → Option (List ℕ) → DevicePlan → EdkStages
 regions_stages volumes vpd plan =
     when (regions_below plan.regions)
     (stage (region_asks volumes vpd plan.regions)
-    (λ given. end (given_as out.Device (device_given vpd plan given))))
+    (λ given. end (given_as out.Device (device_given vpd volumes plan given))))
 
 -- the flash description, the platform, the target and the tag
 abbrev pub device_asks : List (Ask Key)
 device_asks = ask.Part key.Flash ∷ ask.Part key.Platform ∷ ask.Field 2 ∷ ask.Field 3 ∷ []
 
-abbrev pub device_from : ℕ → List (Answer Out) → EdkStages
+abbrev pub device_from : ℕ → List (Pair Key Out) → EdkStages
 device_from d given =
-    attempt (flash_in given 0) (λ flash.
-    attempt (platform_in given 1) (λ platform.
+    attempt (flash_in given) (λ flash.
+    attempt (platform_in given) (λ platform.
     attempt (vpd_in platform given) (λ vpd.
     attempt (device_at flash d) (λ plan. regions_stages flash.volumes vpd plan))))
 

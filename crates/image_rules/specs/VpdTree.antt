@@ -5,9 +5,9 @@ use Rattle.build_base.specs.First.{and_then}
 use Rattle.build_base.specs.declared.fault.Fault.{Fault}
 use Rattle.step_engine.specs.declared.talk.Ask.{Ask}
 use Rattle.step_engine.specs.declared.talk.Ask.TheVariants as ask
-use Rattle.step_engine.specs.declared.talk.Answer.{Answer}
+use Rattle.step_engine.specs.declared.talk.Pair.{Pair}
 use Rattle.build_stages.specs.Stages.{end, stage}
-use Rattle.build_stages.specs.Writing.{attempt, field_at}
+use Rattle.build_stages.specs.Writing.{attempt, given_field}
 use Rattle.doc_types.specs.declared.arch.Arch.{Arch}
 use Rattle.doc_types.specs.declared.platform.PlatformDoc.{PlatformDoc}
 use Rattle.doc_types.specs.declared.values.Values.{Values}
@@ -17,7 +17,7 @@ use Rattle.step_pack.specs.declared.key.Key.TheVariants as key
 use Rattle.step_pack.specs.declared.out.Out.{Out}
 use Rattle.step_pack.specs.declared.out.Out.TheVariants as out
 use Rattle.module_steps.specs.Settings.{arches_built}
-use Rattle.text_steps.specs.Report.{values_at}
+use Rattle.text_steps.specs.Report.{values_in}
 use Rattle.vpd_image.specs.Vpd.{vpd_of}
 use Rattle.document_rules.specs.Trees.{EdkStages, given_as, platform_in}
 
@@ -29,14 +29,14 @@ abbrev pub placed_vpd : PlatformDoc → Values → List Arch → Result Vpd Faul
 placed_vpd platform values arches =
     vpd_of (record { platform = platform; values = values; arches = arches })
 
-abbrev pub arches_at : PlatformDoc → List (Answer Out) → Result (List Arch) Fault
-arches_at platform given = and_then (field_at given 2) (arches_built platform)
+abbrev pub arches_in : PlatformDoc → List (Pair Key Out) → Result (List Arch) Fault
+arches_in platform given = and_then (given_field given 1) (arches_built platform)
 
-abbrev pub vpd_from : List (Answer Out) → EdkStages
+abbrev pub vpd_from : List (Pair Key Out) → EdkStages
 vpd_from given =
-    attempt (platform_in given 0) (λ platform.
-    attempt (values_at given 1) (λ values.
-    attempt (arches_at platform given)
+    attempt (platform_in given) (λ platform.
+    attempt (values_in given key.PlatformPcds) (λ values.
+    attempt (arches_in platform given)
     (λ arches. end (given_as out.Vpd (placed_vpd platform values arches)))))
 
 abbrev pub vpd_stages : EdkStages

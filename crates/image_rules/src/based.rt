@@ -1,5 +1,5 @@
 //! A volume that is moved to its base, by the answers of its step.
-ghost use Rattle.std.specs.Prelude.{◌≡◌, true};
+ghost use Rattle.std.specs.Prelude.{◌≡◌, ◌<◌, length, true};
 ghost use Rattle.build_base.specs.Answer.{AnswersAs};
 ghost use Rattle.build_stages.specs.Gives.{GivesIn};
 ghost use Rattle.fv_compose.specs.Files.{AreAligned};
@@ -11,10 +11,11 @@ ghost use Rattle.image_rules.specs.Based.{rebased_image, based_given};
 use build_base::{Image, Permit, Refusal, Rows};
 use build_stages::{Given, Stop};
 use doc_types::image::FileImage;
+use doc_types::volume::VolumePlan;
 use doc_types::volume_head::VolumeHead;
 use fv_compose::{are_aligned, has_shape};
 use image_rebase::rebase_volume;
-use image_steps::volumes::images;
+use image_steps::volumes::images_of;
 use image_steps::{is_based, volume_given};
 use std::alloc::Global;
 use step_pack::{Key, Out};
@@ -52,19 +53,21 @@ fn rebased_image(
     Err(Stop::ImpossibleAnswer)
 }
 
-/// The volume of a head, whose files the answers are, moved to its base where it is to be.
+/// The volume of a number and a plan, by its files, moved to its base where it is to be.
 #[tactic(auto, unfolding(crate::specs::Based::based_given))]
 pub fn based_given(
     alloc: Global,
     permit: Permit,
-    head: &VolumeHead,
-    given: &Given<'_, Out>,
+    number: u32,
+    plan: &VolumePlan,
+    given: &Given<'_, Key, Out>,
 ) -> Result<Image, Stop<Key>>
-    ensures { GivesIn (λ image. image) result (based_given head.now given.now) }
+    requires { length plan.now.items < 65536 }
+    ensures { GivesIn (λ image. image) result (based_given number plan.now given.now) }
 {
-    if is_based(head) {
-        let files = images(alloc, given)?;
-        return rebased_image(alloc, permit, head, &files);
+    if is_based(&plan.head) {
+        let files = images_of(alloc, given, number, plan.items.items())?;
+        return rebased_image(alloc, permit, &plan.head, &files);
     }
-    volume_given(alloc, permit, head, given)
+    volume_given(alloc, permit, number, plan, given)
 }

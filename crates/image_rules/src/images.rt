@@ -1,5 +1,5 @@
 //! The steps of files, volumes and devices.
-ghost use Rattle.std.specs.Prelude.{◌≡◌, true, false, Err, length, slice_get};
+ghost use Rattle.std.specs.Prelude.{◌≡◌, ◌<◌, true, false, Err, length, slice_get};
 ghost use Rattle.std.specs.Option.{option_copied};
 ghost use Rattle.build_base.specs.FaultText.{fault_of};
 ghost use Rattle.build_stages.specs.Gives.{GivesIn};
@@ -91,7 +91,7 @@ fn statement(
         return Err(Stop::ImpossibleAnswer);
     }
     let asks = file_asks(alloc, flash.volumes.items(), plan)?;
-    let (given, permit) = answers_to(alloc, known, asks, permit)?;
+    let (given, permit) = answers_to(alloc, known, &asks, permit)?;
     Ok(Out::File(file_given(alloc, permit, flash, head, plan, &given)?))
 }
 
@@ -106,7 +106,7 @@ fn module_sections(
     ensures { AdvancesTo known.now (sections_stages head.now plan.now) result }
 {
     let asks = plan_asks(alloc, plan)?;
-    let (given, permit) = answers_to(alloc, known, asks, permit)?;
+    let (given, permit) = answers_to(alloc, known, &asks, permit)?;
     Ok(Out::File(module_given(alloc, permit, head, plan, &given)?))
 }
 
@@ -117,7 +117,7 @@ fn module_from(
     flash: &FlashDoc,
     head: &VolumeHead,
     line: &InfLine,
-    given: &Given<'_, Out>,
+    given: &Given<'_, Key, Out>,
     permit: Permit,
 ) -> Result<Out, Stop<Key>>
     ensures { AdvancesTo known.now (module_from flash.now head.now line.now given.now) result }
@@ -138,7 +138,7 @@ fn module_file(
     ensures { AdvancesTo known.now (module_stages flash.now head.now line.now) result }
 {
     let asks = line_asks(alloc, line)?;
-    let (given, permit) = answers_to(alloc, known, asks, permit)?;
+    let (given, permit) = answers_to(alloc, known, &asks, permit)?;
     module_from(alloc, known, flash, head, line, &given, permit)
 }
 
@@ -155,7 +155,7 @@ fn apriori_file(
     ensures { AdvancesTo known.now (apriori_stages head.now at.now pei members.now) result }
 {
     let asks = members_asks(alloc, members)?;
-    let (given, permit) = answers_to(alloc, known, asks, permit)?;
+    let (given, permit) = answers_to(alloc, known, &asks, permit)?;
     Ok(Out::File(apriori_given(alloc, permit, head, at, pei, members, &given)?))
 }
 
@@ -186,12 +186,12 @@ fn file_from(
     known: &Known<'_, Key, Out>,
     volume: u32,
     item: u32,
-    given: &Given<'_, Out>,
+    given: &Given<'_, Key, Out>,
     permit: Permit,
 ) -> Result<Out, Stop<Key>>
     ensures { AdvancesTo known.now (file_from volume item given.now) result }
 {
-    let flash = flash_in(given, 0)?;
+    let flash = flash_in(given)?;
     let plan = volume_at(alloc, flash, volume)?;
     let item = item_at(alloc, flash, plan, item)?;
     item_file(alloc, known, volume, flash, &plan.head, item, permit)
@@ -217,15 +217,17 @@ fn image_by(
     alloc: Global,
     permit: Permit,
     moved: bool,
-    head: &VolumeHead,
-    given: &Given<'_, Out>,
+    number: u32,
+    plan: &VolumePlan,
+    given: &Given<'_, Key, Out>,
 ) -> Result<Image, Stop<Key>>
-    ensures { GivesIn (λ image. image) result (image_by moved head.now given.now) }
+    requires { length plan.now.items < 65536 }
+    ensures { GivesIn (λ image. image) result (image_by moved number plan.now given.now) }
 {
     if moved {
-        return based_given(alloc, permit, head, given);
+        return based_given(alloc, permit, number, plan, given);
     }
-    volume_given(alloc, permit, head, given)
+    volume_given(alloc, permit, number, plan, given)
 }
 
 // The volume of a plan.
@@ -244,8 +246,8 @@ fn volume_of_plan(
         return Err(Stop::ImpossibleAnswer);
     }
     let asks = item_asks(alloc, number, items)?;
-    let (given, permit) = answers_to(alloc, known, asks, permit)?;
-    Ok(Out::Volume(image_by(alloc, permit, moved, &plan.head, &given)?))
+    let (given, permit) = answers_to(alloc, known, &asks, permit)?;
+    Ok(Out::Volume(image_by(alloc, permit, moved, number, plan, &given)?))
 }
 
 // The volume of a number, by the answer of the flash description.
@@ -254,12 +256,12 @@ fn volume_from(
     known: &Known<'_, Key, Out>,
     moved: bool,
     number: u32,
-    given: &Given<'_, Out>,
+    given: &Given<'_, Key, Out>,
     permit: Permit,
 ) -> Result<Out, Stop<Key>>
     ensures { AdvancesTo known.now (volume_from moved number given.now) result }
 {
-    let flash = flash_in(given, 0)?;
+    let flash = flash_in(given)?;
     let plan = volume_at(alloc, flash, number)?;
     volume_of_plan(alloc, known, moved, number, plan, permit)
 }
@@ -321,7 +323,7 @@ fn vpd_path(
 fn vpd_in(
     alloc: Global,
     platform: &PlatformDoc,
-    given: &Given<'_, Out>,
+    given: &Given<'_, Key, Out>,
 ) -> Result<Option<Path>, Stop<Key>>
     ensures { GivesIn (λ vpd. vpd) result (vpd_in platform.now given.now) }
 {
@@ -346,8 +348,8 @@ fn with_regions(
         return Err(Stop::ImpossibleAnswer);
     }
     let asks = region_asks(alloc, volumes, vpd, regions)?;
-    let (given, permit) = answers_to(alloc, known, asks, permit)?;
-    Ok(Out::Device(device_given(alloc, permit, vpd, plan, &given)?))
+    let (given, permit) = answers_to(alloc, known, &asks, permit)?;
+    Ok(Out::Device(device_given(alloc, permit, vpd, volumes, plan, &given)?))
 }
 
 // The device of a number, by the answers of the documents and of the fields.
@@ -355,13 +357,13 @@ fn device_from(
     alloc: Global,
     known: &Known<'_, Key, Out>,
     number: u32,
-    given: &Given<'_, Out>,
+    given: &Given<'_, Key, Out>,
     permit: Permit,
 ) -> Result<Out, Stop<Key>>
     ensures { AdvancesTo known.now (device_from number given.now) result }
 {
-    let flash = flash_in(given, 0)?;
-    let platform = platform_in(given, 1)?;
+    let flash = flash_in(given)?;
+    let platform = platform_in(given)?;
     let vpd = vpd_in(alloc, platform, given)?;
     let plan = device_at(alloc, flash, number)?;
     with_regions(alloc, known, flash.volumes.items(), &vpd, plan, permit)

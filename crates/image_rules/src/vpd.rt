@@ -1,10 +1,7 @@
 //! The step of the image of vital product data.
-ghost use Rattle.build_stages.specs.Gives.{Gives, GivesIn};
-ghost use Rattle.build_stages.specs.Known.{gathered_at};
-ghost use Rattle.document_rules.specs.Fits.{fits};
+ghost use Rattle.build_stages.specs.Gives.{GivesIn};
 ghost use Rattle.document_rules.specs.Trees.{AdvancesTo};
-ghost use Rattle.step_pack.specs.Keys.{key_cmp};
-ghost use Rattle.image_rules.specs.VpdTree.{arches_at, placed_vpd, vpd_asks, vpd_stages};
+ghost use Rattle.image_rules.specs.VpdTree.{arches_in, placed_vpd, vpd_stages};
 
 use build_base::{Permit, Rows, Same};
 use build_stages::{Given, Known, Stop, gather};
@@ -20,7 +17,7 @@ use shared_value::Shared;
 use std::alloc::Global;
 use step_engine::Ask;
 use step_pack::{Key, Out};
-use text_steps::report::values_at;
+use text_steps::report::values_in;
 use vpd_image::{VpdAsk, vpd_of};
 
 fn placed_vpd(
@@ -40,40 +37,29 @@ fn placed_vpd(
     Ok(vpd_of(alloc, permit, &ask)?)
 }
 
-fn arches_at(
+fn arches_in(
     alloc: Global,
     platform: &PlatformDoc,
-    given: &Given<'_, Out>,
+    given: &Given<'_, Key, Out>,
 ) -> Result<Rows<Arch>, Stop<Key>>
-    ensures { GivesIn (λ arches. arches) result (arches_at platform.now given.now) }
+    ensures { GivesIn (λ arches. arches) result (arches_in platform.now given.now) }
 {
-    let text = given.field(2)?;
+    let text = given.field(1)?;
     arches_built(alloc, platform, text.bytes())
-}
-
-// The platform, the rows of dynamic PCDs and the words' architectures.
-fn vpd_answers<'a>(
-    alloc: Global,
-    known: &Known<'a, Key, Out>,
-    permit: Permit,
-) -> Result<(Given<'a, Out>, Permit), Stop<Key>>
-    ensures { Gives (λ x. x.0) result (gathered_at key_cmp fits known.now vpd_asks) }
-{
-    let asks = [
-        Ask::Part(Key::Platform),
-        Ask::Part(Key::PlatformPcds),
-        Ask::Field(1),
-    ];
-    gather(alloc, &EdkAnswers, known, &asks, permit)
 }
 
 /// The image of vital product data, its map and its places.
 pub fn vpd(alloc: Global, known: &Known<'_, Key, Out>, permit: Permit) -> Result<Out, Stop<Key>>
     ensures { AdvancesTo known.now vpd_stages result }
 {
-    let (given, permit) = vpd_answers(alloc, known, permit)?;
-    let platform = shared_platform(&given, 0)?;
-    let values = values_at(&given, 1)?;
-    let arches = arches_at(alloc, platform.value(), &given)?;
+    let asks = [
+        Ask::Part(Key::Platform),
+        Ask::Part(Key::PlatformPcds),
+        Ask::Field(1),
+    ];
+    let (given, permit) = gather(alloc, &EdkAnswers, known, &asks, permit)?;
+    let platform = shared_platform(&given)?;
+    let values = values_in(&given, &Key::PlatformPcds)?;
+    let arches = arches_in(alloc, platform.value(), &given)?;
     Ok(Out::Vpd(placed_vpd(alloc, permit, platform, values, arches)?))
 }

@@ -1,1 +1,1 @@
-pub mod VolumeLemmas
+pub mod OrderLemmas

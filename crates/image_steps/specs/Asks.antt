@@ -97,6 +97,17 @@ item_asks volume items =
     files_where is_apriori volume 0 items
     ++ files_where (λ item. not (is_apriori item)) volume 0 items
 
+-- the numbers of the items that are chosen, from one on
+unfoldable pub numbers_where : (Item → Bool) → ℕ → List Item → List ℕ
+numbers_where choose n [] = []
+numbers_where choose n (it ∷ items) =
+    if choose it then n ∷ numbers_where choose (n + 1) items else numbers_where choose (n + 1) items
+
+-- the order of the files of a volume: a priori files first
+abbrev pub file_order : List Item → List ℕ
+file_order items =
+    numbers_where is_apriori 0 items ++ numbers_where (λ it. not (is_apriori it)) 0 items
+
 -- a volume has at most so many items, and a flash description so many volumes
 abbrev pub most_items : ℕ
 most_items = 65535

@@ -10,8 +10,12 @@ use Rattle.build_base.specs.First.{and_then}
 use Rattle.doc_types.specs.Standard.{EFI_SECTION_VERSION}
 use Rattle.step_engine.specs.declared.talk.Answer.{Answer}
 use Rattle.step_engine.specs.declared.talk.Answer.TheVariants as answer
+use Rattle.step_engine.specs.declared.talk.Pair.{Pair}
 use Rattle.build_stages.specs.Stages.{impossible_answer}
-use Rattle.build_stages.specs.Writing.{file_at, part_at}
+use Rattle.build_stages.specs.Writing.{given_file, given_part}
+use Rattle.step_pack.specs.Keys.{key_cmp}
+use Rattle.step_pack.specs.declared.key.Key.{Key}
+use Rattle.step_pack.specs.declared.key.Key.TheVariants as key
 use Rattle.step_pack.specs.declared.out.Out.{Out}
 use Rattle.step_pack.specs.declared.out.Out.TheVariants as out
 use Rattle.build_base.specs.FaultCodes.{FILE_ABSENT, FILE_TOO_LONG, SECTION_ABSENT}
@@ -34,25 +38,25 @@ required absent path answer.TooLong = Err (fault_of FILE_TOO_LONG (whole_file pa
 required absent path (answer.Field text) = Err impossible_answer
 required absent path (answer.Part outcome) = Err impossible_answer
 
--- of the file that was asked for at a place
-abbrev pub file_content : List (Answer Out) → ℕ → Fault → List ℕ → Result (List ℕ) Fault
-file_content given i absent path = and_then (file_at given i) (required absent path)
+-- of a file that was asked for
+abbrev pub file_content : List (Pair Key Out) → Fault → List ℕ → Result (List ℕ) Fault
+file_content given absent path = and_then (given_file given path) (required absent path)
 
 -- the image that the step of a volume gives
 abbrev pub volume_given : Out → Result (List ℕ) Fault
 volume_given (out.Volume image) = Ok image
 volume_given _ = Err impossible_answer
 
-abbrev pub volume_content : List (Answer Out) → ℕ → Result (List ℕ) Fault
-volume_content given i = and_then (part_at given i) volume_given
+abbrev pub volume_content : List (Pair Key Out) → Key → Result (List ℕ) Fault
+volume_content given k = and_then (given_part key_cmp given k) volume_given
 
 -- the image of vital product data that its step gives
 abbrev pub vpd_given : Out → Result (List ℕ) Fault
 vpd_given (out.Vpd vpd) = Ok vpd.image
 vpd_given _ = Err impossible_answer
 
-abbrev pub vpd_content : List (Answer Out) → ℕ → Result (List ℕ) Fault
-vpd_content given i = and_then (part_at given i) vpd_given
+abbrev pub vpd_content : List (Pair Key Out) → Result (List ℕ) Fault
+vpd_content given = and_then (given_part key_cmp given key.Vpd) vpd_given
 
 -- a text of 16-bit units, and a final zero
 unfoldable pub wide_text : List ℕ → List ℕ

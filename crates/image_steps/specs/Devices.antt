@@ -1,15 +1,17 @@
 -- A flash device by the answers of its step (EDK II FDF specification, FD regions).
-use Rattle.std.specs.Prelude.{ℕ, ◌+◌, Bool, true, false, List, [], ◌∷◌, Option, Result, Ok, Err}
+use Rattle.std.specs.Prelude.{ℕ, Bool, true, false, List, [], map, Option, Result, Ok, Err}
 use Rattle.build_base.specs.declared.fault.Fault.{Fault}
-use Rattle.build_base.specs.First.{and_then, with_front}
-use Rattle.step_engine.specs.declared.talk.Answer.{Answer}
+use Rattle.build_base.specs.First.{and_then, all_ok}
+use Rattle.step_engine.specs.declared.talk.Pair.{Pair}
 use Rattle.doc_types.specs.declared.flash.DevicePlan.{DevicePlan}
 use Rattle.doc_types.specs.declared.flash.Region.{Region}
 use Rattle.doc_types.specs.declared.flash.RegionKind.{RegionKind}
 use Rattle.doc_types.specs.declared.flash.RegionKind.TheVariants as kind
+use Rattle.doc_types.specs.declared.volume.VolumePlan.{VolumePlan}
 use Rattle.fd_regions.specs.Device.{device_of}
+use Rattle.step_pack.specs.declared.key.Key.{Key}
 use Rattle.step_pack.specs.declared.out.Out.{Out}
-use Rattle.image_steps.specs.Asks.{is_vpd}
+use Rattle.image_steps.specs.Asks.{is_vpd, volume_step}
 use Rattle.image_steps.specs.Contents.{file_absent, file_content, volume_content, vpd_content}
 use Rattle.image_steps.specs.declared.devices.Held.{Held}
 use Rattle.image_steps.specs.declared.devices.Held.TheVariants as held
@@ -20,34 +22,27 @@ held_bytes held.Nothing = []
 held_bytes (held.Bytes text) = text.now
 held_bytes (held.Image image) = image.now
 
--- what a region holds, where its answer, if it asks, stands at this place
-abbrev pub tree_content : Bool → List (Answer Out) → ℕ → List ℕ → Result (List ℕ) Fault
-tree_content true given i path = vpd_content given i
-tree_content false given i path = file_content given i (file_absent path) path
+-- what a region of a path holds, which may be the image of vital product data
+abbrev pub tree_content : Bool → List (Pair Key Out) → List ℕ → Result (List ℕ) Fault
+tree_content true given path = vpd_content given
+tree_content false given path = file_content given (file_absent path) path
 
-abbrev pub region_content : Option (List ℕ) → List (Answer Out) → ℕ → RegionKind
+-- what a region holds; the path of the image of vital product data, where there is one, names what
+-- its step gives
+abbrev pub region_content : Option (List ℕ) → List VolumePlan → List (Pair Key Out) → RegionKind
     → Result (List ℕ) Fault
-region_content vpd given i kind.Empty = Ok []
-region_content vpd given i (kind.Bytes bytes) = Ok bytes
-region_content vpd given i (kind.Tree path) = tree_content (is_vpd vpd path) given i path
-region_content vpd given i (kind.Volume n) = volume_content given i
+region_content vpd volumes given kind.Empty = Ok []
+region_content vpd volumes given (kind.Bytes bytes) = Ok bytes
+region_content vpd volumes given (kind.Tree path) = tree_content (is_vpd vpd path) given path
+region_content vpd volumes given (kind.Volume n) = volume_content given (volume_step volumes n)
 
--- how many asks it has
-abbrev pub asks_of : RegionKind → ℕ
-asks_of kind.Empty = 0
-asks_of (kind.Bytes bytes) = 0
-asks_of (kind.Tree path) = 1
-asks_of (kind.Volume n) = 1
-
-unfoldable pub contents_from : Option (List ℕ) → List (Answer Out) → ℕ → List Region
+unfoldable pub contents_of : Option (List ℕ) → List VolumePlan → List (Pair Key Out) → List Region
     → Result (List (List ℕ)) Fault
-contents_from vpd given i [] = Ok []
-contents_from vpd given i (region ∷ regions) =
-    and_then (region_content vpd given i region.kind) (λ bytes.
-    with_front (bytes ∷ []) (contents_from vpd given (i + asks_of region.kind) regions))
+contents_of vpd volumes given regions =
+    all_ok (map (λ region. region_content vpd volumes given region.kind) regions)
 
--- the device of a plan, whose regions hold what the answers tell; the path of the image of vital
--- product data, where there is one, names what its step gives
-unfoldable pub device_given : Option (List ℕ) → DevicePlan → List (Answer Out)
+-- the device of a plan, whose regions hold what the answers tell
+unfoldable pub device_given : Option (List ℕ) → List VolumePlan → DevicePlan → List (Pair Key Out)
     → Result (List ℕ) Fault
-device_given vpd plan given = and_then (contents_from vpd given 0 plan.regions) (device_of plan)
+device_given vpd volumes plan given =
+    and_then (contents_of vpd volumes given plan.regions) (device_of plan)

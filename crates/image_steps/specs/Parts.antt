@@ -1,10 +1,10 @@
 -- The sections of a file (UEFI PI specification, volume 1, TE images; volume 3, section 2.2.4; EDK
 -- II FDF specification, FILE statements).
-use Rattle.std.specs.Prelude.{ℕ, ◌+◌, ◌-◌, ◌/◌, ◌%◌, ◌^◌, ◌==◌, List, [], ◌∷◌, ◌++◌, length, drop, max, codes, decimal, Option, Some, None, slice_get, Result, Ok, Err, if◌then◌else◌}
+use Rattle.std.specs.Prelude.{ℕ, ◌-◌, ◌/◌, ◌%◌, ◌^◌, ◌==◌, List, [], ◌∷◌, ◌++◌, length, drop, map, max, codes, decimal, Option, Some, None, slice_get, Result, Ok, Err, if◌then◌else◌}
 use Rattle.build_base.specs.declared.fault.Fault.{Fault}
 use Rattle.build_base.specs.declared.guid.Guid.{Guid}
 use Rattle.build_base.specs.FaultText.{fault_of}
-use Rattle.build_base.specs.First.{and_then, with_front}
+use Rattle.build_base.specs.First.{and_then, all_ok}
 use Rattle.doc_types.specs.Standard.{EFI_SECTION_TE, EFI_SECTION_FREEFORM_SUBTYPE_GUID}
 use Rattle.doc_types.specs.declared.flash.FlashDoc.{FlashDoc}
 use Rattle.doc_types.specs.declared.image.Part.{Part}
@@ -19,9 +19,11 @@ use Rattle.te_images.specs.declared.fault.PeFault.TheVariants as pe
 use Rattle.te_images.specs.declared.te.TeHead.{TeHead}
 use Rattle.te_images.specs.Pe.{section_alignment_of, file_alignment_of}
 use Rattle.te_images.specs.Te.{te_of, te_bytes}
-use Rattle.step_engine.specs.declared.talk.Answer.{Answer}
+use Rattle.step_engine.specs.declared.talk.Pair.{Pair}
 use Rattle.build_stages.specs.Stages.{impossible_answer}
+use Rattle.step_pack.specs.declared.key.Key.{Key}
 use Rattle.step_pack.specs.declared.out.Out.{Out}
+use Rattle.image_steps.specs.Asks.{volume_step}
 use Rattle.image_steps.specs.Contents.{whole_file, section_absent, file_content, volume_content, words_bytes}
 use Rattle.image_steps.specs.declared.parts.Shaped.{Shaped}
 use Rattle.build_base.specs.FaultCodes.{ALIGNMENTS_DIFFER, HEADER_TOO_LONG, NOT_PE, SUBSYSTEM_TOO_LARGE, TOO_MANY_SECTIONS, TRUNCATED}
@@ -65,34 +67,18 @@ abbrev pub file_shaped : ℕ → List ℕ → List ℕ → Result Shaped Fault
 file_shaped kind path bytes = if kind == EFI_SECTION_TE then te_shaped path bytes (te_of bytes)
     else Ok (as_is bytes)
 
--- what a section holds, where the answer of the next file and that of the next volume stand at
--- these places; the other forms stand in rules alone
-abbrev pub content_at : List (Answer Out) → ℕ → ℕ → SectionPlan → SectionSource
+-- what a section holds, by the answers; the other forms stand in rules alone
+abbrev pub content_of : List VolumePlan → List (Pair Key Out) → SectionPlan → SectionSource
     → Result Shaped Fault
-content_at given f v section (source.Tree path) =
-    and_then (file_content given f (section_absent section.at path) path)
+content_of volumes given section (source.Tree path) =
+    and_then (file_content given (section_absent section.at path) path)
     (file_shaped section.kind path)
-content_at given f v section (source.Template text) = Err impossible_answer
-content_at given f v section (source.Volume n) =
-    and_then (volume_content given v) (λ bytes. Ok (as_is bytes))
-content_at given f v section (source.Words text) =
+content_of volumes given section (source.Template text) = Err impossible_answer
+content_of volumes given section (source.Volume n) =
+    and_then (volume_content given (volume_step volumes n)) (λ bytes. Ok (as_is bytes))
+content_of volumes given section (source.Words text) =
     Ok (as_is (words_bytes section.kind section.number text))
-content_at given f v section (source.Refused text) = Err impossible_answer
-
--- how many files and how many volumes it asks for
-abbrev pub files_of : SectionSource → ℕ
-files_of (source.Tree path) = 1
-files_of (source.Template text) = 0
-files_of (source.Volume n) = 0
-files_of (source.Words text) = 0
-files_of (source.Refused text) = 0
-
-abbrev pub volumes_of : SectionSource → ℕ
-volumes_of (source.Tree path) = 0
-volumes_of (source.Template text) = 0
-volumes_of (source.Volume n) = 1
-volumes_of (source.Words text) = 0
-volumes_of (source.Refused text) = 0
+content_of volumes given section (source.Refused text) = Err impossible_answer
 
 -- the alignment of a volume, whose exponent stands in bits 16 to 20 of its attributes
 abbrev pub volume_align : Option VolumePlan → ℕ
@@ -136,40 +122,30 @@ part_with flash section content guid = record {
 }
 
 -- a section with its content
-unfoldable pub part_at : FlashDoc → List (Answer Out) → ℕ → ℕ → SectionPlan → Result Part Fault
-part_at flash given f v section =
-    and_then (content_at given f v section section.source) (λ content.
+unfoldable pub part_of : FlashDoc → List (Pair Key Out) → SectionPlan → Result Part Fault
+part_of flash given section =
+    and_then (content_of flash.volumes given section section.source) (λ content.
     and_then (header_guid section.kind section.guid)
     (λ guid. Ok (part_with flash section content guid)))
 
 -- all sections, or the first fault of one
-unfoldable pub parts_from : FlashDoc → List (Answer Out) → ℕ → ℕ → List SectionPlan
+unfoldable pub parts_of : FlashDoc → List (Pair Key Out) → List SectionPlan
     → Result (List Part) Fault
-parts_from flash given f v [] = Ok []
-parts_from flash given f v (section ∷ sections) =
-    and_then (part_at flash given f v section)
-    (λ part. with_front (part ∷ [])
-    (parts_from flash given (f + files_of section.source) (v + volumes_of section.source)
-    sections))
+parts_of flash given sections = all_ok (map (part_of flash given) sections)
 
 -- whether the file of a section is there
-abbrev pub source_checked : List (Answer Out) → ℕ → SectionPlan → SectionSource
+abbrev pub source_checked : List (Pair Key Out) → SectionPlan → SectionSource
     → Result (Unit {0}) Fault
-source_checked given f section (source.Tree path) =
-    and_then (file_content given f (section_absent section.at path) path) (λ bytes. Ok tt)
-source_checked given f section (source.Template text) = Ok tt
-source_checked given f section (source.Volume n) = Ok tt
-source_checked given f section (source.Words text) = Ok tt
-source_checked given f section (source.Refused text) = Ok tt
+source_checked given section (source.Tree path) =
+    and_then (file_content given (section_absent section.at path) path) (λ bytes. Ok tt)
+source_checked given section (source.Template text) = Ok tt
+source_checked given section (source.Volume n) = Ok tt
+source_checked given section (source.Words text) = Ok tt
+source_checked given section (source.Refused text) = Ok tt
 
 -- the first fault of the files of sections
-unfoldable pub files_checked : List (Answer Out) → ℕ → List SectionPlan → Result (Unit {0}) Fault
-files_checked given f [] = Ok tt
-files_checked given f (section ∷ sections) =
-    and_then (source_checked given f section section.source)
-    (λ checked. files_checked given (f + files_of section.source) sections)
-
--- how many files sections ask for
-unfoldable pub file_count : List SectionPlan → ℕ
-file_count [] = 0
-file_count (section ∷ sections) = files_of section.source + file_count sections
+unfoldable pub files_checked : List (Pair Key Out) → List SectionPlan → Result (Unit {0}) Fault
+files_checked given [] = Ok tt
+files_checked given (section ∷ sections) =
+    and_then (source_checked given section section.source)
+    (λ checked. files_checked given sections)

@@ -2,7 +2,7 @@
 ghost use Rattle.std.specs.Prelude.{◌≡◌, ◌++◌, ◌∷◌, [], ◌<◌, not, length, slice_get, IfOk, OnOk};
 ghost use Rattle.std.specs.Option.{option_copied};
 ghost use Rattle.image_steps.specs.Asks.{is_based, volume_key, step_by, volume_step, source_file, source_volume, section_files, section_volumes, body_asks, file_asks, source_below, sections_below};
-ghost use Rattle.image_steps.specs.Asks.{is_apriori, files_where, item_asks, fits_u16, is_vpd, kind_asks, region_asks, kind_below, regions_below};
+ghost use Rattle.image_steps.specs.Asks.{is_apriori, numbers_where, file_order, item_asks, fits_u16, is_vpd, kind_asks, region_asks, kind_below, regions_below};
 
 use build_base::{Path, Rows, Same, WantOfMemory};
 use doc_types::flash::{Region, RegionKind};
@@ -174,17 +174,17 @@ pub fn fits_u16(count: usize) -> bool
     count < 0x1_0000
 }
 
-// The a priori files of a volume, from an item on.
-#[tactic(auto, unfolding(crate::specs::Asks::files_where))]
-fn push_apriori(asks: &mut Rows<Ask<Key>>, volume: u32, items: &[Item]) -> Result<(), WantOfMemory>
+// The numbers of the a priori files of a volume.
+#[tactic(auto, unfolding(crate::specs::Asks::numbers_where))]
+fn push_apriori(order: &mut Rows<u32>, items: &[Item]) -> Result<(), WantOfMemory>
     requires { length items.now < 65536 }
-    ensures { OnOk result (asks.new ≡ asks.old ++ files_where is_apriori volume 0 items.now) }
+    ensures { OnOk result (order.new ≡ order.old ++ numbers_where is_apriori 0 items.now) }
 {
     let mut number: u32 = 0;
     let mut left = items;
     while let [item, rest @ ..] = left {
         if is_apriori(item) {
-            asks.push(Ask::Part(Key::File(volume, number)))?;
+            order.push(number)?;
         }
         number += 1;
         left = rest;
@@ -192,18 +192,18 @@ fn push_apriori(asks: &mut Rows<Ask<Key>>, volume: u32, items: &[Item]) -> Resul
     Ok(())
 }
 
-// Its other files.
-#[tactic(auto, unfolding(crate::specs::Asks::files_where))]
-fn push_others(asks: &mut Rows<Ask<Key>>, volume: u32, items: &[Item]) -> Result<(), WantOfMemory>
+// Those of its other files.
+#[tactic(auto, unfolding(crate::specs::Asks::numbers_where))]
+fn push_others(order: &mut Rows<u32>, items: &[Item]) -> Result<(), WantOfMemory>
     requires { length items.now < 65536 }
-    ensures { OnOk result (asks.new ≡ asks.old
-        ++ files_where (λ item. not (is_apriori item)) volume 0 items.now) }
+    ensures { OnOk result (order.new ≡ order.old
+        ++ numbers_where (λ item. not (is_apriori item)) 0 items.now) }
 {
     let mut number: u32 = 0;
     let mut left = items;
     while let [item, rest @ ..] = left {
         if !is_apriori(item) {
-            asks.push(Ask::Part(Key::File(volume, number)))?;
+            order.push(number)?;
         }
         number += 1;
         left = rest;
@@ -211,14 +211,31 @@ fn push_others(asks: &mut Rows<Ask<Key>>, volume: u32, items: &[Item]) -> Result
     Ok(())
 }
 
-/// The files of a volume in the order in which they stand in it: a priori files first.
+/// The numbers of the files of a volume in the order in which they stand in it: a priori files
+/// first.
+pub(crate) fn file_order(alloc: Global, items: &[Item]) -> Result<Rows<u32>, WantOfMemory>
+    requires { length items.now < 65536 }
+    ensures { IfOk result (λ order. order ≡ file_order items.now) }
+{
+    let mut order = Rows::new(alloc);
+    push_apriori(&mut order, items)?;
+    push_others(&mut order, items)?;
+    Ok(order)
+}
+
+/// The files of a volume in the order in which they stand in it.
+#[tactic(auto, using(crate::proofs::OrderLemmas::asks_in_order))]
 pub fn item_asks(alloc: Global, volume: u32, items: &[Item]) -> Result<Rows<Ask<Key>>, WantOfMemory>
     requires { length items.now < 65536 }
     ensures { IfOk result (λ asks. asks ≡ item_asks volume items.now) }
 {
+    let order = file_order(alloc, items)?;
     let mut asks = Rows::new(alloc);
-    push_apriori(&mut asks, volume, items)?;
-    push_others(&mut asks, volume, items)?;
+    let mut left = order.items();
+    while let [number, rest @ ..] = left {
+        asks.push(Ask::Part(Key::File(volume, *number)))?;
+        left = rest;
+    }
     Ok(asks)
 }
 

@@ -4,12 +4,15 @@ ghost use Rattle.std.specs.List.{flat_map};
 ghost use Rattle.build_base.specs.Answer.{Finds};
 ghost use Rattle.build_base.specs.FaultText.{fault_of};
 ghost use Rattle.build_stages.specs.Gives.{GivesIn};
+ghost use Rattle.image_steps.specs.Asks.{volume_step};
 ghost use Rattle.image_steps.specs.Contents.{whole_file, file_content, file_absent, section_absent, volume_content, volume_given, vpd_content, vpd_given, wide_text, words_bytes};
 
+use crate::asks::volume_step;
 use build_base::fault_codes::{FILE_ABSENT, FILE_TOO_LONG, SECTION_ABSENT};
 use build_base::{Image, Path, Place, Refusal, Same, Text, WantOfMemory, refuse};
 use build_stages::{Given, Stop};
 use doc_types::standard::EFI_SECTION_VERSION;
+use doc_types::volume::VolumePlan;
 use std::alloc::Global;
 use step_engine::Answer;
 use step_pack::{Key, Out};
@@ -33,18 +36,16 @@ pub fn refuse_file(alloc: Global, code: u16, path: &Path, detail: &[u8]) -> Refu
     }
 }
 
-/// The bytes of the file at a place among the answers, which is a whole body or the content of a
-/// region.
+/// The bytes of a file that was asked for, which is a whole body or the content of a region.
 pub(crate) fn whole_content<'a>(
     alloc: Global,
-    given: &Given<'a, Out>,
-    place: usize,
+    given: &Given<'a, Key, Out>,
     path: &Path,
 ) -> Result<&'a Text, Stop<Key>>
     ensures { GivesIn (λ text. text.now) result
-        (file_content given.now place (file_absent path.now) path.now) }
+        (file_content given.now (file_absent path.now) path.now) }
 {
-    match given.file(place)? {
+    match given.file(path)? {
         Answer::Bytes(bytes) => Ok(bytes.value()),
         Answer::Absent => Err(Stop::from(refuse_file(alloc, FILE_ABSENT, path, path.bytes()))),
         Answer::TooLong => Err(Stop::from(refuse_file(alloc, FILE_TOO_LONG, path, path.bytes()))),
@@ -52,18 +53,17 @@ pub(crate) fn whole_content<'a>(
     }
 }
 
-/// The bytes of the file at a place among the answers, which is a section's.
+/// The bytes of a file that was asked for, which is a section's.
 pub(crate) fn section_content<'a>(
     alloc: Global,
-    given: &Given<'a, Out>,
-    place: usize,
+    given: &Given<'a, Key, Out>,
     at: &Place,
     path: &Path,
 ) -> Result<&'a Text, Stop<Key>>
     ensures { GivesIn (λ text. text.now) result
-        (file_content given.now place (section_absent at.now path.now) path.now) }
+        (file_content given.now (section_absent at.now path.now) path.now) }
 {
-    match given.file(place)? {
+    match given.file(path)? {
         Answer::Bytes(bytes) => Ok(bytes.value()),
         Answer::Absent => Err(Stop::from(refuse(alloc, SECTION_ABSENT, at, path.bytes()))),
         Answer::TooLong => Err(Stop::from(refuse_file(alloc, FILE_TOO_LONG, path, path.bytes()))),
@@ -80,14 +80,26 @@ fn volume_of(out: &Out) -> Result<&Image, Stop<Key>>
     }
 }
 
-/// The volume at a place among the answers.
-pub(crate) fn volume_content<'a>(
-    given: &Given<'a, Out>,
-    place: usize,
+// The volume of a step that was asked for.
+fn volume_content<'a>(
+    given: &Given<'a, Key, Out>,
+    key: &Key,
 ) -> Result<&'a Image, Stop<Key>>
-    ensures { GivesIn (λ image. image.now) result (volume_content given.now place) }
+    ensures { GivesIn (λ image. image.now) result (volume_content given.now key.now) }
 {
-    volume_of(given.part(place)?)
+    volume_of(given.part(key)?)
+}
+
+/// The volume of a number, which may be moved to its base.
+pub(crate) fn nested_volume<'a>(
+    volumes: &[VolumePlan],
+    given: &Given<'a, Key, Out>,
+    number: u32,
+) -> Result<&'a Image, Stop<Key>>
+    ensures { GivesIn (λ image. image.now) result
+        (volume_content given.now (volume_step volumes.now number)) }
+{
+    volume_content(given, &volume_step(volumes, number))
 }
 
 fn vpd_of(out: &Out) -> Result<&Text, Stop<Key>>
@@ -99,11 +111,11 @@ fn vpd_of(out: &Out) -> Result<&Text, Stop<Key>>
     }
 }
 
-/// The image of vital product data at a place among the answers.
-pub(crate) fn vpd_content<'a>(given: &Given<'a, Out>, place: usize) -> Result<&'a Text, Stop<Key>>
-    ensures { GivesIn (λ text. text.now) result (vpd_content given.now place) }
+/// The image of vital product data.
+pub(crate) fn vpd_content<'a>(given: &Given<'a, Key, Out>) -> Result<&'a Text, Stop<Key>>
+    ensures { GivesIn (λ text. text.now) result (vpd_content given.now) }
 {
-    vpd_of(given.part(place)?)
+    vpd_of(given.part(&Key::Vpd)?)
 }
 
 fn push_unit(out: &mut Vec<u8>, byte: u8) -> Result<(), WantOfMemory>

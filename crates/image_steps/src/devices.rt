@@ -4,13 +4,14 @@ ghost use Rattle.build_base.specs.Answer.{AnswersAs};
 ghost use Rattle.build_stages.specs.Gives.{GivesIn};
 ghost use Rattle.fd_regions.specs.Device.{device_of};
 ghost use Rattle.image_steps.specs.Asks.{is_vpd};
-ghost use Rattle.image_steps.specs.Devices.{tree_content, region_content, asks_of, contents_from, device_given};
+ghost use Rattle.image_steps.specs.Devices.{tree_content, region_content, contents_of, device_given};
 
 use crate::asks::is_vpd;
-use crate::contents::{volume_content, vpd_content, whole_content};
+use crate::contents::{nested_volume, vpd_content, whole_content};
 use build_base::{Image, Path, Permit, Refusal, Rows, RunWriter, Same, Text, WantOfMemory};
 use build_stages::{Given, Stop};
 use doc_types::flash::{DevicePlan, Region, RegionKind};
+use doc_types::volume::VolumePlan;
 use fd_regions::{Contents, device};
 use std::alloc::Global;
 use std::marker::Model;
@@ -116,68 +117,58 @@ impl<'a> Contents for RegionParts<'a> {
 fn tree_content<'a>(
     alloc: Global,
     vpd: &Option<Path>,
-    given: &Given<'a, Out>,
-    place: usize,
+    given: &Given<'a, Key, Out>,
     path: &Path,
 ) -> Result<&'a Text, Stop<Key>>
     ensures { GivesIn (λ text. text.now) result
-        (tree_content (is_vpd vpd.now path.now) given.now place path.now) }
+        (tree_content (is_vpd vpd.now path.now) given.now path.now) }
 {
     if is_vpd(vpd, path) {
-        return vpd_content(given, place);
+        return vpd_content(given);
     }
-    whole_content(alloc, given, place, path)
+    whole_content(alloc, given, path)
 }
 
 fn region_content<'a>(
     alloc: Global,
     vpd: &Option<Path>,
-    given: &Given<'a, Out>,
-    place: usize,
+    volumes: &[VolumePlan],
+    given: &Given<'a, Key, Out>,
     kind: &'a RegionKind,
 ) -> Result<RegionPart<'a>, Stop<Key>>
-    ensures { GivesIn (λ part. part) result (region_content vpd.now given.now place kind.now) }
+    ensures { GivesIn (λ part. part) result
+        (region_content vpd.now volumes.now given.now kind.now) }
 {
     match kind {
         RegionKind::Empty => Ok(RegionPart::nothing()),
         RegionKind::Bytes(bytes) => Ok(RegionPart::of_text(bytes)),
         RegionKind::Tree(path) => {
-            let bytes = tree_content(alloc, vpd, given, place, path)?;
+            let bytes = tree_content(alloc, vpd, given, path)?;
             Ok(RegionPart::of_text(bytes))
         }
-        RegionKind::Volume(_) => {
-            let image = volume_content(given, place)?;
+        RegionKind::Volume(number) => {
+            let image = nested_volume(volumes, given, *number)?;
             Ok(RegionPart::of_image(image))
         }
     }
 }
 
-fn asks_of(kind: &RegionKind) -> usize
-    ensures { result ≡ asks_of kind.now }
-{
-    match kind {
-        RegionKind::Empty | RegionKind::Bytes(_) => 0,
-        RegionKind::Tree(_) | RegionKind::Volume(_) => 1,
-    }
-}
-
-#[tactic(auto, unfolding(crate::specs::Devices::contents_from))]
-fn contents<'a>(
+#[tactic(auto, unfolding(crate::specs::Devices::contents_of))]
+fn contents_of<'a>(
     alloc: Global,
     vpd: &Option<Path>,
-    given: &Given<'a, Out>,
+    volumes: &[VolumePlan],
+    given: &Given<'a, Key, Out>,
     regions: &'a [Region],
 ) -> Result<Rows<RegionPart<'a>>, Stop<Key>>
     ensures value { GivesIn (λ parts. parts) result
-        (contents_from vpd.now given.now 0 regions.now) }
+        (contents_of vpd.now volumes.now given.now regions.now) }
     ensures count { IfOk result (λ parts. length regions.now ≡ length parts) }
 {
     let mut parts = Rows::new(alloc);
-    let mut place = 0;
     let mut left = regions;
     while let [region, rest @ ..] = left {
-        parts.push(region_content(alloc, vpd, given, place, &region.kind)?)?;
-        place += asks_of(&region.kind);
+        parts.push(region_content(alloc, vpd, volumes, given, &region.kind)?)?;
         left = rest;
     }
     Ok(parts)
@@ -205,11 +196,13 @@ pub fn device_given(
     alloc: Global,
     permit: Permit,
     vpd: &Option<Path>,
+    volumes: &[VolumePlan],
     plan: &DevicePlan,
-    given: &Given<'_, Out>,
+    given: &Given<'_, Key, Out>,
 ) -> Result<Image, Stop<Key>>
-    ensures { GivesIn (λ image. image) result (device_given vpd.now plan.now given.now) }
+    ensures { GivesIn (λ image. image) result
+        (device_given vpd.now volumes.now plan.now given.now) }
 {
-    let parts = contents(alloc, vpd, given, plan.regions.items())?;
+    let parts = contents_of(alloc, vpd, volumes, given, plan.regions.items())?;
     Ok(image(alloc, permit, plan, &RegionParts { parts })?)
 }

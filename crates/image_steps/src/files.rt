@@ -8,7 +8,7 @@ ghost use Rattle.ffs_sections.specs.File.{file_of};
 ghost use Rattle.ffs_sections.specs.LentPlans.{lent_body};
 
 use crate::contents::whole_content;
-use crate::parts::{file_count, files_checked, parts};
+use crate::parts::{files_checked, parts_of};
 use build_base::{Guid, Permit, Refusal, Same, WantOfMemory};
 use build_stages::{Given, Stop};
 use doc_types::flash::FlashDoc;
@@ -33,7 +33,7 @@ fn body_given<'a>(
     alloc: Global,
     flash: &FlashDoc,
     plan: &FilePlan,
-    given: &Given<'a, Out>,
+    given: &Given<'a, Key, Out>,
 ) -> Result<LentBody<'a>, Stop<Key>>
     ensures value { GivesIn (λ body. lent_body body) result
         (body_given flash.now plan.now plan.now.whole given.now) }
@@ -42,12 +42,12 @@ fn body_given<'a>(
     let sections = plan.sections.items();
     match &plan.whole {
         Some(path) => {
-            let bytes = whole_content(alloc, given, 0, path)?;
+            let bytes = whole_content(alloc, given, path)?;
             Ok(LentBody::Whole(bytes.bytes()))
         }
         None => {
             files_checked(alloc, given, sections)?;
-            let parts = parts(alloc, flash, given, file_count(sections), sections)?;
+            let parts = parts_of(alloc, flash, given, sections)?;
             Ok(LentBody::Sections(parts))
         }
     }
@@ -137,8 +137,7 @@ fn lent_image(
     file_of_lent(alloc, permit, &lent)
 }
 
-/// The file of a statement in a volume with this head. The answers of its files stand before those
-/// of its volumes.
+/// The file of a statement in a volume with this head.
 #[tactic(auto, unfolding(crate::specs::Files::file_given))]
 pub fn file_given(
     alloc: Global,
@@ -146,7 +145,7 @@ pub fn file_given(
     flash: &FlashDoc,
     head: &VolumeHead,
     plan: &FilePlan,
-    given: &Given<'_, Out>,
+    given: &Given<'_, Key, Out>,
 ) -> Result<FileImage, Stop<Key>>
     ensures { GivesIn (λ file. file) result (file_given flash.now head.now plan.now given.now) }
 {

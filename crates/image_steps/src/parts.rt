@@ -1,15 +1,16 @@
 //! The sections of a file.
 ghost use Rattle.std.specs.Prelude.{◌≡◌, ◌++◌, ◌==◌, ◌≤◌, ◌^◌, ◌/◌, ◌%◌, true, false, IfOk, OnOk, Some, is_some, All, decimal, length, codes};
 ghost use Rattle.std.specs.Option.{option_copied};
-ghost use Rattle.image_steps.specs.Contents.{words_bytes};
+ghost use Rattle.image_steps.specs.Contents.{file_content, section_absent, words_bytes};
 ghost use Rattle.build_base.specs.Answer.{Answers, Finds};
+ghost use Rattle.build_base.specs.First.{and_then};
 ghost use Rattle.doc_types.specs.Standard.{EFI_SECTION_FREEFORM_SUBTYPE_GUID};
 ghost use Rattle.build_stages.specs.Gives.{GivesIn};
 ghost use Rattle.te_images.specs.Pe.{file_alignment_of, section_alignment_of};
 ghost use Rattle.te_images.specs.Te.{te_of};
-ghost use Rattle.image_steps.specs.Parts.{alignments_text, pe_code, pe_detail, pe_fault, as_is, te_content, te_shaped, file_shaped, content_at, files_of, volumes_of, volume_align, unset_align, section_align, some_guid, without_guid, header_guid, part_with, part_at, parts_from, source_checked, files_checked, file_count};
+ghost use Rattle.image_steps.specs.Parts.{alignments_text, pe_code, pe_detail, pe_fault, as_is, te_content, te_shaped, file_shaped, content_of, volume_align, unset_align, section_align, some_guid, without_guid, header_guid, part_with, part_of, parts_of, source_checked, files_checked};
 
-use crate::contents::{refuse_file, section_content, volume_content, words_bytes};
+use crate::contents::{nested_volume, refuse_file, section_content, words_bytes};
 use crate::lent::LentShaped;
 use build_base::fault_codes::{
     ALIGNMENTS_DIFFER, HEADER_TOO_LONG, NOT_PE, SUBSYSTEM_TOO_LARGE, TOO_MANY_SECTIONS, TRUNCATED,
@@ -148,15 +149,15 @@ pub fn file_shaped(alloc: Global, kind: u8, path: &Path, file: &Text) -> Result<
 
 fn file_content<'a>(
     alloc: Global,
-    given: &Given<'a, Out>,
-    place: usize,
+    given: &Given<'a, Key, Out>,
     section: &SectionPlan,
     path: &Path,
 ) -> Result<LentShaped<'a>, Stop<Key>>
     ensures { GivesIn (λ s. s) result
-        (content_at given.now place 0 section.now (SectionSource.Tree path.now)) }
+        (and_then (file_content given.now (section_absent section.now.at path.now) path.now)
+        (file_shaped section.now.kind path.now)) }
 {
-    let bytes = section_content(alloc, given, place, &section.at, path)?;
+    let bytes = section_content(alloc, given, &section.at, path)?;
     Ok(LentShaped::of_file(alloc, section.kind, path, bytes)?)
 }
 
@@ -172,48 +173,23 @@ fn words_content<'a>(
     Ok(LentShaped::of_text(bytes))
 }
 
-fn content_at<'a>(
+fn content_of<'a>(
     alloc: Global,
-    given: &Given<'a, Out>,
-    file: usize,
-    volume: usize,
+    volumes: &[VolumePlan],
+    given: &Given<'a, Key, Out>,
     section: &SectionPlan,
 ) -> Result<LentShaped<'a>, Stop<Key>>
     ensures { GivesIn (λ s. s) result
-        (content_at given.now file volume section.now section.now.source) }
+        (content_of volumes.now given.now section.now section.now.source) }
 {
     match &section.source {
-        SectionSource::Tree(path) => file_content(alloc, given, file, section, path),
-        SectionSource::Volume(_) => {
-            let image = volume_content(given, volume)?;
+        SectionSource::Tree(path) => file_content(alloc, given, section, path),
+        SectionSource::Volume(number) => {
+            let image = nested_volume(volumes, given, *number)?;
             Ok(LentShaped::of_image(image)?)
         }
         SectionSource::Words(text) => Ok(words_content(alloc, section, text)?),
         SectionSource::Template(_) | SectionSource::Refused(_) => Err(Stop::ImpossibleAnswer),
-    }
-}
-
-fn files_of(source: &SectionSource) -> usize
-    ensures { result ≡ files_of source.now }
-{
-    match source {
-        SectionSource::Tree(_) => 1,
-        SectionSource::Template(_)
-        | SectionSource::Volume(_)
-        | SectionSource::Words(_)
-        | SectionSource::Refused(_) => 0,
-    }
-}
-
-fn volumes_of(source: &SectionSource) -> usize
-    ensures { result ≡ volumes_of source.now }
-{
-    match source {
-        SectionSource::Volume(_) => 1,
-        SectionSource::Tree(_)
-        | SectionSource::Template(_)
-        | SectionSource::Words(_)
-        | SectionSource::Refused(_) => 0,
     }
 }
 
@@ -307,49 +283,38 @@ fn part_with<'a>(
     }
 }
 
-#[tactic(auto, unfolding(crate::specs::Parts::part_at))]
-fn part_at<'a>(
+#[tactic(auto, unfolding(crate::specs::Parts::part_of))]
+fn part_of<'a>(
     alloc: Global,
     flash: &FlashDoc,
-    given: &Given<'a, Out>,
-    file: usize,
-    volume: usize,
+    given: &Given<'a, Key, Out>,
     section: &SectionPlan,
 ) -> Result<LentPart<'a>, Stop<Key>>
-    ensures value { GivesIn (λ part. part) result
-        (part_at flash.now given.now file volume section.now) }
+    ensures value { GivesIn (λ part. part) result (part_of flash.now given.now section.now) }
     ensures guid { IfOk result (λ part. is_some part.guid
         ≡ (part.kind == EFI_SECTION_FREEFORM_SUBTYPE_GUID)) }
 {
-    let content = content_at(alloc, given, file, volume, section)?;
+    let content = content_of(alloc, flash.volumes.items(), given, section)?;
     let guid = header_guid(section.kind, section.guid)?;
     Ok(part_with(flash, section, content, guid))
 }
 
-/// All sections, whose contents are lent, or the first fault of one. The answers of the files begin
-/// at 0, those of the volumes at `volumes`.
-#[tactic(auto, unfolding(crate::specs::Parts::parts_from))]
-pub fn parts<'a>(
+/// All sections, whose contents are lent, or the first fault of one.
+#[tactic(auto, unfolding(crate::specs::Parts::parts_of))]
+pub fn parts_of<'a>(
     alloc: Global,
     flash: &FlashDoc,
-    given: &Given<'a, Out>,
-    volumes: usize,
+    given: &Given<'a, Key, Out>,
     sections: &[SectionPlan],
 ) -> Result<Rows<LentPart<'a>>, Stop<Key>>
-    requires { volumes ≤ length sections.now }
-    ensures value { GivesIn (λ parts. parts) result
-        (parts_from flash.now given.now 0 volumes sections.now) }
+    ensures value { GivesIn (λ parts. parts) result (parts_of flash.now given.now sections.now) }
     ensures guids { IfOk result
         (All (λ part. is_some part.guid ≡ (part.kind == EFI_SECTION_FREEFORM_SUBTYPE_GUID))) }
 {
     let mut parts = Rows::new(alloc);
-    let mut file = 0;
-    let mut volume = volumes;
     let mut left = sections;
     while let [section, rest @ ..] = left {
-        parts.push(part_at(alloc, flash, given, file, volume, section)?)?;
-        file += files_of(&section.source);
-        volume += volumes_of(&section.source);
+        parts.push(part_of(alloc, flash, given, section)?)?;
         left = rest;
     }
     Ok(parts)
@@ -357,16 +322,15 @@ pub fn parts<'a>(
 
 fn source_checked(
     alloc: Global,
-    given: &Given<'_, Out>,
-    file: usize,
+    given: &Given<'_, Key, Out>,
     section: &SectionPlan,
 ) -> Result<(), Stop<Key>>
     ensures { GivesIn (λ _. tt) result
-        (source_checked given.now file section.now section.now.source) }
+        (source_checked given.now section.now section.now.source) }
 {
     match &section.source {
         SectionSource::Tree(path) => {
-            section_content(alloc, given, file, &section.at, path)?;
+            section_content(alloc, given, &section.at, path)?;
             Ok(())
         }
         SectionSource::Template(_)
@@ -380,32 +344,15 @@ fn source_checked(
 #[tactic(auto, unfolding(crate::specs::Parts::files_checked))]
 pub fn files_checked(
     alloc: Global,
-    given: &Given<'_, Out>,
+    given: &Given<'_, Key, Out>,
     sections: &[SectionPlan],
 ) -> Result<(), Stop<Key>>
-    ensures { GivesIn (λ _. tt) result (files_checked given.now 0 sections.now) }
+    ensures { GivesIn (λ _. tt) result (files_checked given.now sections.now) }
 {
-    let mut file = 0;
     let mut left = sections;
     while let [section, rest @ ..] = left {
-        source_checked(alloc, given, file, section)?;
-        file += files_of(&section.source);
+        source_checked(alloc, given, section)?;
         left = rest;
     }
     Ok(())
-}
-
-/// How many files sections ask for.
-#[tactic(auto, unfolding(crate::specs::Parts::file_count))]
-pub fn file_count(sections: &[SectionPlan]) -> usize
-    ensures count { result ≡ file_count sections.now }
-    ensures most { result ≤ length sections.now }
-{
-    let mut count = 0;
-    let mut left = sections;
-    while let [section, rest @ ..] = left {
-        count += files_of(&section.source);
-        left = rest;
-    }
-    count
 }

@@ -1,13 +1,16 @@
 //! A volume by the answers of its step.
+ghost use Rattle.std.specs.Prelude.{◌<◌, length};
 ghost use Rattle.build_base.specs.Answer.{AnswersAs};
 ghost use Rattle.build_stages.specs.Gives.{GivesIn};
 ghost use Rattle.fv_compose.specs.Files.{AreAligned};
 ghost use Rattle.fv_compose.specs.Volume.{HasShape, volume_of};
-ghost use Rattle.image_steps.specs.Volumes.{file_in, image_at, images_from, composed_volume, volume_given};
+ghost use Rattle.image_steps.specs.Volumes.{file_in, image_of, images_of, composed_volume, volume_given};
 
+use crate::asks::file_order;
 use build_base::{Image, Permit, Refusal, Rows, Same};
 use build_stages::{Given, Stop};
 use doc_types::image::FileImage;
+use doc_types::volume::{Item, VolumePlan};
 use doc_types::volume_head::VolumeHead;
 use fv_compose::{are_aligned, compose, has_shape};
 use std::alloc::Global;
@@ -22,21 +25,35 @@ fn file_in(out: &Out) -> Result<&FileImage, Stop<Key>>
     }
 }
 
-fn image_at(alloc: Global, given: &Given<'_, Out>, place: usize) -> Result<FileImage, Stop<Key>>
-    ensures { GivesIn (λ file. file) result (image_at given.now place) }
+fn image_of(
+    alloc: Global,
+    given: &Given<'_, Key, Out>,
+    volume: u32,
+    item: u32,
+) -> Result<FileImage, Stop<Key>>
+    ensures { GivesIn (λ file. file) result (image_of given.now volume item) }
 {
-    let file = file_in(given.part(place)?)?;
+    let file = file_in(given.part(&Key::File(volume, item))?)?;
     Ok(file.copy(alloc)?)
 }
 
-/// The files that the answers are, in their order.
-#[tactic(auto, using(crate::proofs::VolumeLemmas::images_more))]
-pub fn images(alloc: Global, given: &Given<'_, Out>) -> Result<Rows<FileImage>, Stop<Key>>
-    ensures { GivesIn (λ images. images) result (images_from given.now 0) }
+/// The files of the items of a volume, in the order in which they stand in it.
+#[tactic(auto, unfolding(crate::specs::Volumes::images_of))]
+pub fn images_of(
+    alloc: Global,
+    given: &Given<'_, Key, Out>,
+    volume: u32,
+    items: &[Item],
+) -> Result<Rows<FileImage>, Stop<Key>>
+    requires { length items.now < 65536 }
+    ensures { GivesIn (λ images. images) result (images_of given.now volume items.now) }
 {
+    let order = file_order(alloc, items)?;
     let mut images = Rows::new(alloc);
-    for place in 0..given.count() {
-        images.push(image_at(alloc, given, place)?)?;
+    let mut left = order.items();
+    while let [number, rest @ ..] = left {
+        images.push(image_of(alloc, given, volume, *number)?)?;
+        left = rest;
     }
     Ok(images)
 }
@@ -72,16 +89,18 @@ fn composed_volume(
     Err(Stop::ImpossibleAnswer)
 }
 
-/// The volume of a head, whose files the answers are, in their order.
+/// The volume of a number and a plan, by its files.
 #[tactic(auto, unfolding(crate::specs::Volumes::volume_given))]
 pub fn volume_given(
     alloc: Global,
     permit: Permit,
-    head: &VolumeHead,
-    given: &Given<'_, Out>,
+    number: u32,
+    plan: &VolumePlan,
+    given: &Given<'_, Key, Out>,
 ) -> Result<Image, Stop<Key>>
-    ensures { GivesIn (λ image. image) result (volume_given head.now given.now) }
+    requires { length plan.now.items < 65536 }
+    ensures { GivesIn (λ image. image) result (volume_given number plan.now given.now) }
 {
-    let files = images(alloc, given)?;
-    composed_volume(alloc, permit, head, &files)
+    let files = images_of(alloc, given, number, plan.items.items())?;
+    composed_volume(alloc, permit, &plan.head, &files)
 }

@@ -1,12 +1,13 @@
 -- A priori files, which name the files that are to be dispatched first (UEFI PI specification,
 -- volume 1, section 10.3; volume 2, section 10.3; EDK II FDF specification, APRIORI).
-use Rattle.std.specs.Prelude.{ℕ, ◌+◌, Bool, false, if◌then◌else◌, List, [], ◌∷◌, None, Result, Ok}
+use Rattle.std.specs.Prelude.{ℕ, Bool, false, if◌then◌else◌, List, [], ◌∷◌, map, None, Result, Ok}
 use Rattle.std.specs.List.{flat_map}
 use Rattle.build_base.specs.declared.fault.Fault.{Fault}
 use Rattle.build_base.specs.declared.fault.Place.{Place}
 use Rattle.build_base.specs.declared.guid.Guid.{Guid}
-use Rattle.build_base.specs.First.{and_then}
-use Rattle.step_engine.specs.declared.talk.Answer.{Answer}
+use Rattle.build_base.specs.First.{and_then, all_ok}
+use Rattle.step_engine.specs.declared.talk.Pair.{Pair}
+use Rattle.step_pack.specs.declared.key.Key.{Key}
 use Rattle.step_pack.specs.declared.out.Out.{Out}
 use Rattle.doc_types.specs.Standard.{EFI_FV_FILETYPE_FREEFORM, EFI_SECTION_RAW}
 use Rattle.doc_types.specs.declared.image.Body.TheVariants as body
@@ -21,8 +22,8 @@ use Rattle.doc_types.specs.declared.volume.Member.TheVariants as member
 use Rattle.doc_types.specs.declared.volume_head.VolumeHead.{VolumeHead}
 use Rattle.ffs_sections.specs.File.{file_of}
 use Rattle.rule_choice.specs.Modules.{inf_arch}
-use Rattle.module_steps.specs.Parts.{inf_at, taken}
-use Rattle.module_images.specs.Modules.{platform_at, arches_at}
+use Rattle.module_steps.specs.Parts.{inf_in}
+use Rattle.module_images.specs.Modules.{platform_in, arches_in}
 use Rattle.module_images.specs.Names.{module_guid}
 use Rattle.module_images.specs.Plans.{module_of}
 
@@ -40,35 +41,29 @@ EFI_APRIORI_GUID = 0xE7 ∷ 0x0E ∷ 0x51 ∷ 0xFC ∷ 0xDC ∷ 0xFF ∷ 0xD4 �
 abbrev pub apriori_name : Bool → Guid
 apriori_name pei = record { 0 = if pei then PEI_APRIORI_FILE_NAME_GUID else EFI_APRIORI_GUID }
 
--- the name of the file of a statement's module, by the architectures, whose answer stands at this
--- place
-unfoldable pub name_described : List (Answer Out) → ℕ → InfLine → PlatformDoc → InfDoc
+-- the name of the file of a statement's module, by the architectures
+unfoldable pub name_described : List (Pair Key Out) → InfLine → PlatformDoc → InfDoc
     → Result Guid Fault
-name_described given i line platform inf =
-    and_then (arches_at platform given i) (λ arches.
+name_described given line platform inf =
+    and_then (arches_in platform given) (λ arches.
     and_then (inf_arch line platform.components arches)
     (λ arch. Ok (module_guid platform (module_of line arch) inf)))
 
 -- by the module's description before it
-unfoldable pub name_below : List (Answer Out) → ℕ → InfLine → PlatformDoc → Result Guid Fault
-name_below given i line platform =
-    and_then (inf_at given i line.inf) (name_described given (i + 1) line platform)
+unfoldable pub name_below : List (Pair Key Out) → InfLine → PlatformDoc → Result Guid Fault
+name_below given line platform =
+    and_then (inf_in given line.inf) (name_described given line platform)
 
 -- by what the statement asks, the platform first
-unfoldable pub line_name : List (Answer Out) → ℕ → InfLine → Result Guid Fault
-line_name given i line = and_then (platform_at given i) (name_below given (i + 1) line)
+unfoldable pub line_name : List (Pair Key Out) → InfLine → Result Guid Fault
+line_name given line = and_then (platform_in given) (name_below given line)
 
-abbrev pub member_name : List (Answer Out) → ℕ → Member → Result Guid Fault
-member_name given i (member.Inf line) = line_name given i line
-member_name given i (member.File name) = Ok name
+abbrev pub member_name : List (Pair Key Out) → Member → Result Guid Fault
+member_name given (member.Inf line) = line_name given line
+member_name given (member.File name) = Ok name
 
--- how many answers a member has
-abbrev pub member_count : Member → ℕ
-member_count (member.Inf line) = 5
-member_count (member.File name) = 0
-
-abbrev pub names_given : List (Answer Out) → ℕ → List Member → Result (List Guid) Fault
-names_given given i members = taken member_count member_name given i members
+abbrev pub names_given : List (Pair Key Out) → List Member → Result (List Guid) Fault
+names_given given members = all_ok (map (member_name given) members)
 
 -- one section of the names
 abbrev pub names_part : List Guid → Part
@@ -96,7 +91,7 @@ apriori_plan head at pei names = record {
 }
 
 -- the a priori file of a statement in a volume with this head
-unfoldable pub apriori_given : VolumeHead → Place → Bool → List Member → List (Answer Out)
+unfoldable pub apriori_given : VolumeHead → Place → Bool → List Member → List (Pair Key Out)
     → Result FileImage Fault
 apriori_given head at pei members given =
-    and_then (names_given given 0 members) (λ names. file_of (apriori_plan head at pei names))
+    and_then (names_given given members) (λ names. file_of (apriori_plan head at pei names))

@@ -1,5 +1,5 @@
 -- What the steps of modules in volumes ask; the rule is this project's own.
-use Rattle.std.specs.Prelude.{ℕ, ◌+◌, Bool, false, nat_eq, if◌then◌else◌, List, [], ◌∷◌, ◌++◌}
+use Rattle.std.specs.Prelude.{ℕ, Bool, false, nat_eq, if◌then◌else◌, List, [], ◌∷◌, ◌++◌}
 use Rattle.std.specs.Cmp.Lexicographic.{pointwise}
 use Rattle.std.specs.List.{flat_map, list_any}
 use Rattle.step_engine.specs.declared.talk.Ask.{Ask}
@@ -43,18 +43,6 @@ source_file depex (source.Refused text) = []
 
 abbrev pub section_files : List ℕ → List SectionPlan → List (Ask Key)
 section_files depex sections = flat_map (λ section. source_file depex section.source) sections
-
--- how many files it asks for
-abbrev pub files_of : List ℕ → SectionSource → ℕ
-files_of depex (source.Tree path) = if is_path_of depex path then 0 else 1
-files_of depex (source.Template text) = 0
-files_of depex (source.Volume n) = 0
-files_of depex (source.Words text) = 0
-files_of depex (source.Refused text) = 0
-
-unfoldable pub file_count : List ℕ → List SectionPlan → ℕ
-file_count depex [] = 0
-file_count depex (section ∷ sections) = files_of depex section.source + file_count depex sections
 
 abbrev pub is_source_of : List ℕ → SectionSource → Bool
 is_source_of path (source.Tree other) = is_path_of path other

@@ -1,14 +1,18 @@
 -- The sections of a module's file, by the answers of its step (UEFI PI specification, volume 1, TE
 -- images; volume 3, section 2.2.4; EDK II FDF specification, [Rule] sections).
-use Rattle.std.specs.Prelude.{◌≡◌, ℕ, ◌+◌, ◌==◌, ◌&&◌, is_some, if◌then◌else◌, List, [], ◌∷◌, length, Option, Some, None, Result, Ok, Err}
+use Rattle.std.specs.Prelude.{◌≡◌, ℕ, ◌==◌, ◌&&◌, is_some, if◌then◌else◌, List, [], ◌∷◌, length, Option, Some, None, Result, Ok, Err}
 use Rattle.build_base.specs.declared.fault.Fault.{Fault}
 use Rattle.build_base.specs.declared.guid.Guid.{Guid}
 use Rattle.build_base.specs.FaultText.{fault_of}
 use Rattle.build_base.specs.First.{and_then, unless, with_front}
 use Rattle.build_stages.specs.Stages.{impossible_answer}
-use Rattle.build_stages.specs.Writing.{file_at, part_at}
+use Rattle.build_stages.specs.Writing.{given_file, given_part}
 use Rattle.step_engine.specs.declared.talk.Answer.{Answer}
 use Rattle.step_engine.specs.declared.talk.Answer.TheVariants as answer
+use Rattle.step_engine.specs.declared.talk.Pair.{Pair}
+use Rattle.step_pack.specs.Keys.{key_cmp}
+use Rattle.step_pack.specs.declared.key.Key.{Key}
+use Rattle.step_pack.specs.declared.key.Key.TheVariants as key
 use Rattle.step_pack.specs.declared.out.Out.{Out}
 use Rattle.step_pack.specs.declared.out.Out.TheVariants as out
 use Rattle.doc_types.specs.Standard.{EFI_SECTION_FIRMWARE_VOLUME_IMAGE, EFI_SECTION_FREEFORM_SUBTYPE_GUID}
@@ -24,8 +28,9 @@ use Rattle.image_steps.specs.declared.parts.Shaped.{Shaped}
 use Rattle.image_steps.specs.Contents.{whole_file, section_absent, words_bytes}
 use Rattle.image_steps.specs.Files.{file_align}
 use Rattle.image_steps.specs.Parts.{as_is, file_shaped, header_guid, pe_fault}
-use Rattle.module_images.specs.Asks.{is_path_of, files_of, file_count, takes_depex}
+use Rattle.module_images.specs.Asks.{is_path_of, takes_depex}
 use Rattle.module_images.specs.Required.{requiring}
+use Rattle.module_images.specs.declared.plans.ModulePlan.{ModulePlan}
 use Rattle.build_base.specs.FaultCodes.{FILE_TOO_LONG}
 
 -- What is absent.
@@ -48,35 +53,35 @@ got_checked sections path answer.TooLong = Err (too_long path)
 got_checked sections path (answer.Field text) = Err impossible_answer
 got_checked sections path (answer.Part outcome) = Err impossible_answer
 
--- the file of a section among these, where the answer of the next file stands at this place
-abbrev pub source_checked : List ℕ → List (Answer Out) → ℕ → List SectionPlan → SectionSource
+-- the file of a section among these
+abbrev pub source_checked : List ℕ → List (Pair Key Out) → List SectionPlan → SectionSource
     → Result (Unit {0}) Fault
-source_checked depex given f sections (source.Tree path) =
-    if is_path_of depex path then Ok tt else and_then (file_at given f) (got_checked sections path)
-source_checked depex given f sections (source.Template text) = Ok tt
-source_checked depex given f sections (source.Volume n) = Ok tt
-source_checked depex given f sections (source.Words text) = Ok tt
-source_checked depex given f sections (source.Refused text) = Ok tt
+source_checked depex given sections (source.Tree path) =
+    if is_path_of depex path then Ok tt
+    else and_then (given_file given path) (got_checked sections path)
+source_checked depex given sections (source.Template text) = Ok tt
+source_checked depex given sections (source.Volume n) = Ok tt
+source_checked depex given sections (source.Words text) = Ok tt
+source_checked depex given sections (source.Refused text) = Ok tt
 
 -- The first fault of the files of some of the sections, in the order in which they are asked for:
 -- each may be required by any of the sections that name it.
-unfoldable pub files_checked : List ℕ → List (Answer Out) → List SectionPlan → ℕ → List SectionPlan
+unfoldable pub files_checked : List ℕ → List (Pair Key Out) → List SectionPlan → List SectionPlan
     → Result (Unit {0}) Fault
-files_checked depex given all f [] = Ok tt
-files_checked depex given all f (section ∷ sections) =
-    and_then (source_checked depex given f all section.source) (λ checked.
-    files_checked depex given all (f + files_of depex section.source) sections)
+files_checked depex given all [] = Ok tt
+files_checked depex given all (section ∷ sections) =
+    and_then (source_checked depex given all section.source)
+    (λ checked. files_checked depex given all sections)
 
 abbrev pub depex_of_out : Out → Result (List ℕ) Fault
 depex_of_out (out.Depex bytes) = Ok bytes
 depex_of_out _ = Err impossible_answer
 
--- the module's own expression, which is asked for behind the files where a section holds it
-unfoldable pub own_expression : List ℕ → List SectionPlan → List (Answer Out)
-    → Result (List ℕ) Fault
-own_expression depex sections given =
-    if takes_depex depex sections then and_then (part_at given (file_count depex sections))
-    depex_of_out else Ok []
+-- the module's own expression, which is asked for where a section holds it
+unfoldable pub own_expression : ModulePlan → List (Pair Key Out) → Result (List ℕ) Fault
+own_expression plan given =
+    if takes_depex plan.depex plan.file.sections
+    then and_then (given_part key_cmp given (key.Depex plan.«module»)) depex_of_out else Ok []
 
 -- an expression without bytes is absent
 abbrev pub expression_fault : List ℕ → List SectionPlan → List ℕ → Option Fault
@@ -154,29 +159,28 @@ words_part section text =
     if section.optional && length text == 0 then Ok None
     else some_part (plain_part section (words_bytes section.kind section.number text))
 
--- a section, unless it is left out, where the answer of the next file stands at this place
-abbrev pub source_part : List ℕ → List ℕ → List (Answer Out) → ℕ → SectionPlan → SectionSource
+-- a section, unless it is left out
+abbrev pub source_part : List ℕ → List ℕ → List (Pair Key Out) → SectionPlan → SectionSource
     → Result (Option Part) Fault
-source_part depex expression given f section (source.Tree path) =
+source_part depex expression given section (source.Tree path) =
     if is_path_of depex path then expression_part section path expression
-    else and_then (file_at given f) (got_part section path)
-source_part depex expression given f section (source.Template text) = Err impossible_answer
-source_part depex expression given f section (source.Volume n) = Err impossible_answer
-source_part depex expression given f section (source.Words text) = words_part section text
-source_part depex expression given f section (source.Refused text) = Err impossible_answer
+    else and_then (given_file given path) (got_part section path)
+source_part depex expression given section (source.Template text) = Err impossible_answer
+source_part depex expression given section (source.Volume n) = Err impossible_answer
+source_part depex expression given section (source.Words text) = words_part section text
+source_part depex expression given section (source.Refused text) = Err impossible_answer
 
 abbrev pub part_before : Option Part → Result (List Part) Fault → Result (List Part) Fault
 part_before None parts = parts
 part_before (Some part) parts = with_front (part ∷ []) parts
 
 -- all sections that are there, or the first fault of one
-unfoldable pub parts_from : List ℕ → List ℕ → List (Answer Out) → ℕ → List SectionPlan
+unfoldable pub parts_from : List ℕ → List ℕ → List (Pair Key Out) → List SectionPlan
     → Result (List Part) Fault
-parts_from depex expression given f [] = Ok []
-parts_from depex expression given f (section ∷ sections) =
-    and_then (source_part depex expression given f section section.source) (λ part.
-    part_before part
-    (parts_from depex expression given (f + files_of depex section.source) sections))
+parts_from depex expression given [] = Ok []
+parts_from depex expression given (section ∷ sections) =
+    and_then (source_part depex expression given section section.source)
+    (λ part. part_before part (parts_from depex expression given sections))
 
 -- a section has a GUID exactly where it is of the kind that has one
 abbrev pub HasGuid : Part → Type 0

@@ -1,12 +1,12 @@
 //! The a priori file of a volume, by the answers of its step.
-ghost use Rattle.std.specs.Prelude.{◌≡◌, ◌+◌, ◌++◌, ◌∷◌, [], IfOk, OnOk};
+ghost use Rattle.std.specs.Prelude.{◌≡◌, ◌++◌, ◌∷◌, [], IfOk, OnOk};
 ghost use Rattle.std.specs.List.{flat_map};
 ghost use Rattle.build_base.specs.Answer.{Answers};
 ghost use Rattle.build_stages.specs.Gives.{GivesIn};
 ghost use Rattle.ffs_sections.specs.File.{file_of};
-ghost use Rattle.module_images.specs.Apriori.{apriori_name, name_described, name_below, line_name, member_name, member_count, names_given, names_part, apriori_plan, apriori_given};
+ghost use Rattle.module_images.specs.Apriori.{apriori_name, name_described, name_below, line_name, member_name, names_given, names_part, apriori_plan, apriori_given};
 
-use crate::modules::{arches_at, platform_at};
+use crate::modules::{arches_in, platform_in};
 use crate::names::module_guid;
 use crate::plans::module_of;
 use build_base::{Guid, Permit, Place, Refusal, Rows, Same, Text, WantOfMemory};
@@ -18,7 +18,7 @@ use doc_types::standard::{EFI_FV_FILETYPE_FREEFORM, EFI_SECTION_RAW};
 use doc_types::volume::{InfLine, Member};
 use doc_types::volume_head::VolumeHead;
 use ffs_sections::file_of;
-use module_steps::parts::inf_at;
+use module_steps::parts::inf_in;
 use rule_choice::inf_arch;
 use std::alloc::Global;
 use step_pack::{Key, Out};
@@ -44,31 +44,19 @@ fn apriori_name(pei: bool) -> Guid
     }
 }
 
-// The place behind the answers of a line.
-fn behind(place: usize) -> Result<usize, WantOfMemory>
-    ensures { IfOk result (λ next. next ≡ place + 5) }
-{
-    match place.checked_add(5) {
-        Some(next) => Ok(next),
-        None => Err(WantOfMemory),
-    }
-}
-
-// The name of the file of a statement's module, by the architectures, whose answer stands at a
-// place.
+// The name of the file of a statement's module, by the architectures.
 #[tactic(auto, unfolding(crate::specs::Apriori::name_described))]
 fn name_described(
     alloc: Global,
-    given: &Given<'_, Out>,
-    place: usize,
+    given: &Given<'_, Key, Out>,
     line: &InfLine,
     platform: &PlatformDoc,
     inf: &InfDoc,
 ) -> Result<Guid, Stop<Key>>
     ensures { GivesIn (λ name. name) result
-        (name_described given.now place line.now platform.now inf.now) }
+        (name_described given.now line.now platform.now inf.now) }
 {
-    let arches = arches_at(alloc, platform, given, place)?;
+    let arches = arches_in(alloc, platform, given)?;
     let arch = inf_arch(alloc, line, platform, &arches)?;
     let module = module_of(alloc, line, arch)?;
     Ok(module_guid(platform, &module, inf))
@@ -78,66 +66,55 @@ fn name_described(
 #[tactic(auto, unfolding(crate::specs::Apriori::name_below))]
 fn name_below(
     alloc: Global,
-    given: &Given<'_, Out>,
-    place: usize,
+    given: &Given<'_, Key, Out>,
     line: &InfLine,
     platform: &PlatformDoc,
 ) -> Result<Guid, Stop<Key>>
-    ensures { GivesIn (λ name. name) result (name_below given.now place line.now platform.now) }
+    ensures { GivesIn (λ name. name) result (name_below given.now line.now platform.now) }
 {
-    let (inf, next) = inf_at(alloc, given, place, &line.inf)?;
-    name_described(alloc, given, next, line, platform, inf.value())
+    let inf = inf_in(alloc, given, &line.inf)?;
+    name_described(alloc, given, line, platform, inf.value())
 }
 
-// The name of the file of a statement's module, whose answers begin at a place.
+// The name of the file of a statement's module.
 #[tactic(auto, unfolding(crate::specs::Apriori::line_name))]
 fn line_name(
     alloc: Global,
-    given: &Given<'_, Out>,
-    place: usize,
+    given: &Given<'_, Key, Out>,
     line: &InfLine,
 ) -> Result<Guid, Stop<Key>>
-    ensures { GivesIn (λ name. name) result (line_name given.now place line.now) }
+    ensures { GivesIn (λ name. name) result (line_name given.now line.now) }
 {
-    let (platform, next) = platform_at(given, place)?;
-    name_below(alloc, given, next, line, platform)
+    let platform = platform_in(given)?;
+    name_below(alloc, given, line, platform)
 }
 
-// The name of a member's file, whose answers begin at a place, and the place behind them.
+// The name of a member's file.
 fn member_name(
     alloc: Global,
-    given: &Given<'_, Out>,
-    place: usize,
+    given: &Given<'_, Key, Out>,
     member: &Member,
-) -> Result<(Guid, usize), Stop<Key>>
-    ensures value { GivesIn (λ x. x.0) result (member_name given.now place member.now) }
-    ensures next { IfOk result (λ x. x.1 ≡ place + member_count member.now) }
+) -> Result<Guid, Stop<Key>>
+    ensures { GivesIn (λ name. name) result (member_name given.now member.now) }
 {
     match member {
-        Member::Inf(line) => {
-            let name = line_name(alloc, given, place, line)?;
-            Ok((name, behind(place)?))
-        }
-        Member::File(name) => Ok((*name, place)),
+        Member::Inf(line) => line_name(alloc, given, line),
+        Member::File(name) => Ok(*name),
     }
 }
 
 // The names of all members' files.
-#[tactic(auto, unfolding(module_steps::specs::Parts::taken))]
 fn names_given(
     alloc: Global,
-    given: &Given<'_, Out>,
+    given: &Given<'_, Key, Out>,
     members: &[Member],
 ) -> Result<Rows<Guid>, Stop<Key>>
-    ensures { GivesIn (λ names. names) result (names_given given.now 0 members.now) }
+    ensures { GivesIn (λ names. names) result (names_given given.now members.now) }
 {
     let mut names = Rows::new(alloc);
-    let mut at = 0;
     let mut left = members;
     while let [member, rest @ ..] = left {
-        let (name, next) = member_name(alloc, given, at, member)?;
-        names.push(name)?;
-        at = next;
+        names.push(member_name(alloc, given, member)?)?;
         left = rest;
     }
     Ok(names)
@@ -230,7 +207,7 @@ pub fn apriori_given(
     at: &Place,
     pei: bool,
     members: &[Member],
-    given: &Given<'_, Out>,
+    given: &Given<'_, Key, Out>,
 ) -> Result<FileImage, Stop<Key>>
     ensures { GivesIn (λ file. file) result
         (apriori_given head.now at.now pei members.now given.now) }

@@ -1,7 +1,7 @@
 //! What the steps of modules in volumes ask.
-ghost use Rattle.std.specs.Prelude.{◌≡◌, ◌≤◌, ◌++◌, ◌∷◌, [], length, IfOk, OnOk};
+ghost use Rattle.std.specs.Prelude.{◌≡◌, ◌++◌, ◌∷◌, [], IfOk, OnOk};
 ghost use Rattle.std.specs.List.{flat_map};
-ghost use Rattle.module_images.specs.Asks.{line_asks, member_asks, members_asks, is_path_of, source_file, section_files, files_of, file_count, is_source_of, takes_depex, plan_asks};
+ghost use Rattle.module_images.specs.Asks.{line_asks, member_asks, members_asks, is_path_of, source_file, section_files, is_source_of, takes_depex, plan_asks};
 
 use crate::plans::ModulePlan;
 use build_base::{Path, Rows, Same, Text, WantOfMemory};
@@ -98,39 +98,6 @@ fn section_files(
         left = rest;
     }
     Ok(asks)
-}
-
-/// How many files a section asks for.
-pub fn files_of(depex: &Text, source: &SectionSource) -> usize
-    ensures files { result ≡ files_of depex.now source.now }
-    ensures most { result ≤ 1 }
-{
-    match source {
-        SectionSource::Tree(path) => {
-            if is_path_of(depex, path) {
-                return 0;
-            }
-            1
-        }
-        SectionSource::Template(_)
-        | SectionSource::Volume(_)
-        | SectionSource::Words(_)
-        | SectionSource::Refused(_) => 0,
-    }
-}
-
-/// How many files sections ask for.
-#[tactic(auto, unfolding(crate::specs::Asks::file_count))]
-pub fn file_count(depex: &Text, sections: &[SectionPlan]) -> usize
-    ensures { result ≡ file_count depex.now sections.now }
-{
-    let mut count = 0;
-    let mut left = sections;
-    while let [section, rest @ ..] = left {
-        count += files_of(depex, &section.source);
-        left = rest;
-    }
-    count
 }
 
 /// Whether a section holds the file of a path.

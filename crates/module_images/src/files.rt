@@ -1,5 +1,5 @@
 //! The file of a module, by the answers of its step.
-ghost use Rattle.std.specs.Prelude.{◌≡◌, All, IfOk};
+ghost use Rattle.std.specs.Prelude.{All, IfOk};
 ghost use Rattle.build_base.specs.Answer.{Answers};
 ghost use Rattle.build_stages.specs.Gives.{GivesIn};
 ghost use Rattle.module_images.specs.Files.{sections_given, module_given};
@@ -8,10 +8,9 @@ ghost use Rattle.module_images.specs.Sections.{HasGuid};
 use crate::plans::ModulePlan;
 use crate::required::places_of;
 use crate::sections::{expression_checked, files_checked, own_expression, parts};
-use build_base::{Permit, Rows, Text};
+use build_base::{Permit, Rows};
 use build_stages::{Given, Stop};
 use doc_types::image::{Body, FileImage, Part};
-use doc_types::volume::SectionPlan;
 use doc_types::volume_head::VolumeHead;
 use image_steps::files::image;
 use std::alloc::Global;
@@ -21,19 +20,18 @@ use step_pack::{Key, Out};
 #[tactic(auto, unfolding(crate::specs::Files::sections_given))]
 fn sections_given(
     alloc: Global,
-    depex: &Text,
-    sections: &[SectionPlan],
-    given: &Given<'_, Out>,
+    plan: &ModulePlan,
+    given: &Given<'_, Key, Out>,
 ) -> Result<Rows<Part>, Stop<Key>>
-    ensures value { GivesIn (λ parts. parts) result
-        (sections_given depex.now sections.now given.now) }
+    ensures value { GivesIn (λ parts. parts) result (sections_given plan.now given.now) }
     ensures guids { IfOk result (All HasGuid) }
 {
+    let sections = plan.file.sections.items();
     let places = places_of(alloc, sections)?;
-    files_checked(alloc, depex, given, &places, sections)?;
-    let expression = own_expression(depex, sections, given)?;
-    expression_checked(alloc, depex, &places, sections, expression)?;
-    parts(alloc, depex, expression, given, sections)
+    files_checked(alloc, &plan.depex, given, &places, sections)?;
+    let expression = own_expression(alloc, plan, given)?;
+    expression_checked(alloc, &plan.depex, &places, sections, expression)?;
+    parts(alloc, &plan.depex, expression, given, sections)
 }
 
 /// The file of a module in a volume with this head, by its plan.
@@ -43,11 +41,11 @@ pub fn module_given(
     permit: Permit,
     head: &VolumeHead,
     plan: &ModulePlan,
-    given: &Given<'_, Out>,
+    given: &Given<'_, Key, Out>,
 ) -> Result<FileImage, Stop<Key>>
     ensures { GivesIn (λ file. file) result (module_given head.now plan.now given.now) }
 {
-    let parts = sections_given(alloc, &plan.depex, plan.file.sections.items(), given)?;
+    let parts = sections_given(alloc, plan, given)?;
     let body = Body::Sections(parts);
     Ok(image(alloc, permit, head, &plan.file, plan.name, body)?)
 }

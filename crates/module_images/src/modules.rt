@@ -1,7 +1,7 @@
 //! What a statement's module is, by the answers of a step.
-ghost use Rattle.std.specs.Prelude.{◌≡◌, ◌+◌, ◌≤◌, IfOk};
+ghost use Rattle.std.specs.Prelude.{◌≡◌};
 ghost use Rattle.build_stages.specs.Gives.{GivesIn};
-ghost use Rattle.module_images.specs.Modules.{platform_of_out, platform_at, arches_at, folder_at, plan_described, plan_below, plan_given};
+ghost use Rattle.module_images.specs.Modules.{platform_of_out, platform_in, arches_in, folder_in, plan_described, plan_below, plan_given};
 
 use crate::names::build_folder;
 use crate::plans::{ModulePlan, module_plan};
@@ -13,7 +13,7 @@ use doc_types::module::InfDoc;
 use doc_types::platform::PlatformDoc;
 use doc_types::volume::InfLine;
 use module_steps::arches_built;
-use module_steps::parts::{inf_at, out_at};
+use module_steps::parts::inf_in;
 use std::alloc::Global;
 use step_pack::{Key, Out};
 
@@ -26,42 +26,37 @@ fn platform_of_out(out: &Out) -> Result<&PlatformDoc, Stop<Key>>
     }
 }
 
-/// The platform that stands at a place among answers, and the place behind it.
-pub fn platform_at<'a>(
-    given: &Given<'a, Out>,
-    place: usize,
-) -> Result<(&'a PlatformDoc, usize), Stop<Key>>
-    ensures value { GivesIn (λ x. x.0.now) result (platform_at given.now place) }
-    ensures next { IfOk result (λ x. x.1 ≡ place + 1) }
+/// The platform among answers.
+pub(crate) fn platform_in<'a>(given: &Given<'a, Key, Out>) -> Result<&'a PlatformDoc, Stop<Key>>
+    ensures { GivesIn (λ document. document.now) result (platform_in given.now) }
 {
-    let (out, next) = out_at(given, place)?;
-    Ok((platform_of_out(out)?, next))
+    platform_of_out(given.part(&Key::Platform)?)
 }
 
-/// The architectures that are built, by those of the words at a place among answers.
-#[tactic(auto, unfolding(crate::specs::Modules::arches_at))]
-pub fn arches_at(
+/// The architectures that are built, by those of the words.
+#[tactic(auto, unfolding(crate::specs::Modules::arches_in))]
+pub(crate) fn arches_in(
     alloc: Global,
     platform: &PlatformDoc,
-    given: &Given<'_, Out>,
-    place: usize,
+    given: &Given<'_, Key, Out>,
 ) -> Result<Rows<Arch>, Stop<Key>>
-    ensures { GivesIn (λ arches. arches) result (arches_at platform.now given.now place) }
+    ensures { GivesIn (λ arches. arches) result (arches_in platform.now given.now) }
 {
-    let text = given.field(place)?;
+    let text = given.field(1)?;
     arches_built(alloc, platform, text.bytes())
 }
 
-#[tactic(auto, unfolding(crate::specs::Modules::folder_at))]
-fn folder_at(
+// The folder of all outputs, by the target and the tag.
+#[tactic(auto, unfolding(crate::specs::Modules::folder_in))]
+fn folder_in(
     alloc: Global,
     platform: &PlatformDoc,
-    given: &Given<'_, Out>,
+    given: &Given<'_, Key, Out>,
 ) -> Result<Text, Stop<Key>>
-    ensures { GivesIn (λ folder. folder) result (folder_at platform.now given.now 3) }
+    ensures { GivesIn (λ folder. folder) result (folder_in platform.now given.now) }
 {
-    let target = given.field(3)?;
-    let tag = given.field(4)?;
+    let target = given.field(2)?;
+    let tag = given.field(3)?;
     Ok(build_folder(alloc, &platform.output, target.bytes(), tag.bytes())?)
 }
 
@@ -71,15 +66,15 @@ fn plan_described(
     alloc: Global,
     flash: &FlashDoc,
     line: &InfLine,
-    given: &Given<'_, Out>,
+    given: &Given<'_, Key, Out>,
     platform: &PlatformDoc,
     inf: &InfDoc,
 ) -> Result<ModulePlan, Stop<Key>>
     ensures { GivesIn (λ plan. plan) result
         (plan_described flash.now line.now given.now platform.now inf.now) }
 {
-    let arches = arches_at(alloc, platform, given, 2)?;
-    let folder = folder_at(alloc, platform, given)?;
+    let arches = arches_in(alloc, platform, given)?;
+    let folder = folder_in(alloc, platform, given)?;
     module_plan(alloc, flash, line, platform, &arches, inf, &folder)
 }
 
@@ -89,12 +84,12 @@ fn plan_below(
     alloc: Global,
     flash: &FlashDoc,
     line: &InfLine,
-    given: &Given<'_, Out>,
+    given: &Given<'_, Key, Out>,
     platform: &PlatformDoc,
 ) -> Result<ModulePlan, Stop<Key>>
     ensures { GivesIn (λ plan. plan) result (plan_below flash.now line.now given.now platform.now) }
 {
-    let (inf, _next) = inf_at(alloc, given, 1, &line.inf)?;
+    let inf = inf_in(alloc, given, &line.inf)?;
     plan_described(alloc, flash, line, given, platform, inf.value())
 }
 
@@ -104,10 +99,10 @@ pub fn plan_given(
     alloc: Global,
     flash: &FlashDoc,
     line: &InfLine,
-    given: &Given<'_, Out>,
+    given: &Given<'_, Key, Out>,
 ) -> Result<ModulePlan, Stop<Key>>
     ensures { GivesIn (λ plan. plan) result (plan_given flash.now line.now given.now) }
 {
-    let (platform, _next) = platform_at(given, 0)?;
+    let platform = platform_in(given)?;
     plan_below(alloc, flash, line, given, platform)
 }

@@ -1,17 +1,18 @@
 //! The sections of a module's file, by the answers of its step.
-ghost use Rattle.std.specs.Prelude.{◌≡◌, ◌==◌, ◌≤◌, length, All, Some, IfOk, is_some};
+ghost use Rattle.std.specs.Prelude.{◌≡◌, ◌==◌, All, Some, IfOk, is_some};
 ghost use Rattle.build_base.specs.Answer.{Answers, Checks};
 ghost use Rattle.build_base.specs.First.{and_then};
 ghost use Rattle.build_stages.specs.Gives.{GivesIn};
-ghost use Rattle.build_stages.specs.Writing.{file_at};
+ghost use Rattle.build_stages.specs.Writing.{given_file};
 ghost use Rattle.image_steps.specs.declared.parts.Shaped.{Shaped as Content};
 ghost use Rattle.module_images.specs.Required.{IsTable};
 ghost use Rattle.module_images.specs.Sections.{absent_fault, got_checked, source_checked, files_checked, depex_of_out, own_expression, expression_fault, unset_align, content_align, part_of, file_part, plain_part, absent_part, got_part, expression_part, words_part, source_part, parts_from, HasGuid, MayHaveGuid};
 
-use crate::asks::{file_count, files_of, is_path_of, takes_depex};
+use crate::asks::{is_path_of, takes_depex};
+use crate::plans::ModulePlan;
 use crate::required::requiring;
 use build_base::fault_codes::{FILE_TOO_LONG, SECTION_ABSENT};
-use build_base::{Path, Refusal, Rows, Text, WantOfMemory, refuse};
+use build_base::{Path, Refusal, Rows, Same, Text, WantOfMemory, refuse};
 use build_stages::{Given, Stop};
 use doc_types::image::Part;
 use doc_types::standard::EFI_SECTION_FIRMWARE_VOLUME_IMAGE;
@@ -43,17 +44,16 @@ fn none_requires(
 
 fn got_checked(
     alloc: Global,
-    given: &Given<'_, Out>,
-    file: usize,
+    given: &Given<'_, Key, Out>,
     places: &IndexMap<Vec<u8>, usize>,
     sections: &[SectionPlan],
     path: &Path,
 ) -> Result<(), Stop<Key>>
     requires { IsTable sections.now places.now }
     ensures { GivesIn (λ _. tt) result
-        (and_then (file_at given.now file) (got_checked sections.now path.now)) }
+        (and_then (given_file given.now path.now) (got_checked sections.now path.now)) }
 {
-    match given.file(file)? {
+    match given.file(path)? {
         Answer::Bytes(_) => Ok(()),
         Answer::Absent => {
             none_requires(alloc, places, sections, path.bytes())?;
@@ -68,22 +68,21 @@ fn got_checked(
 fn source_checked(
     alloc: Global,
     depex: &Text,
-    given: &Given<'_, Out>,
-    file: usize,
+    given: &Given<'_, Key, Out>,
     places: &IndexMap<Vec<u8>, usize>,
     sections: &[SectionPlan],
     source: &SectionSource,
 ) -> Result<(), Stop<Key>>
     requires { IsTable sections.now places.now }
     ensures { GivesIn (λ _. tt) result
-        (source_checked depex.now given.now file sections.now source.now) }
+        (source_checked depex.now given.now sections.now source.now) }
 {
     match source {
         SectionSource::Tree(path) => {
             if is_path_of(depex, path) {
                 return Ok(());
             }
-            got_checked(alloc, given, file, places, sections, path)
+            got_checked(alloc, given, places, sections, path)
         }
         SectionSource::Template(_)
         | SectionSource::Volume(_)
@@ -98,19 +97,17 @@ fn source_checked(
 pub fn files_checked(
     alloc: Global,
     depex: &Text,
-    given: &Given<'_, Out>,
+    given: &Given<'_, Key, Out>,
     places: &IndexMap<Vec<u8>, usize>,
     sections: &[SectionPlan],
 ) -> Result<(), Stop<Key>>
     requires { IsTable sections.now places.now }
     ensures { GivesIn (λ _. tt) result
-        (files_checked depex.now given.now sections.now 0 sections.now) }
+        (files_checked depex.now given.now sections.now sections.now) }
 {
-    let mut file = 0;
     let mut left = sections;
     while let [section, rest @ ..] = left {
-        source_checked(alloc, depex, given, file, places, sections, &section.source)?;
-        file += files_of(depex, &section.source);
+        source_checked(alloc, depex, given, places, sections, &section.source)?;
         left = rest;
     }
     Ok(())
@@ -128,15 +125,15 @@ fn depex_of_out(out: &Out) -> Result<&[u8], Stop<Key>>
 /// The module's own expression, where a section holds it, else no bytes.
 #[tactic(auto, unfolding(crate::specs::Sections::own_expression))]
 pub(crate) fn own_expression<'a>(
-    depex: &Text,
-    sections: &[SectionPlan],
-    given: &Given<'a, Out>,
+    alloc: Global,
+    plan: &ModulePlan,
+    given: &Given<'a, Key, Out>,
 ) -> Result<&'a [u8], Stop<Key>>
-    ensures { GivesIn (λ bytes. bytes.now) result
-        (own_expression depex.now sections.now given.now) }
+    ensures { GivesIn (λ bytes. bytes.now) result (own_expression plan.now given.now) }
 {
-    if takes_depex(depex, sections) {
-        return depex_of_out(given.part(file_count(depex, sections))?);
+    if takes_depex(&plan.depex, plan.file.sections.items()) {
+        let key = Key::Depex(plan.module.copy(alloc)?);
+        return depex_of_out(given.part(&key)?);
     }
     Ok(b"".as_slice())
 }
@@ -242,16 +239,15 @@ fn absent_part(alloc: Global, section: &SectionPlan, path: &Path) -> Result<Opti
 
 fn got_part(
     alloc: Global,
-    given: &Given<'_, Out>,
-    file: usize,
+    given: &Given<'_, Key, Out>,
     section: &SectionPlan,
     path: &Path,
 ) -> Result<Option<Part>, Stop<Key>>
     ensures value { GivesIn (λ part. part) result
-        (and_then (file_at given.now file) (got_part section.now path.now)) }
+        (and_then (given_file given.now path.now) (got_part section.now path.now)) }
     ensures guid { IfOk result MayHaveGuid }
 {
-    match given.file(file)? {
+    match given.file(path)? {
         Answer::Bytes(bytes) => {
             let part = file_part(alloc, section, path, bytes.value())?;
             Ok(Some(part))
@@ -296,12 +292,11 @@ fn source_part(
     alloc: Global,
     depex: &Text,
     expression: &[u8],
-    given: &Given<'_, Out>,
-    file: usize,
+    given: &Given<'_, Key, Out>,
     section: &SectionPlan,
 ) -> Result<Option<Part>, Stop<Key>>
     ensures value { GivesIn (λ part. part) result
-        (source_part depex.now expression.now given.now file section.now section.now.source) }
+        (source_part depex.now expression.now given.now section.now section.now.source) }
     ensures guid { IfOk result MayHaveGuid }
 {
     match &section.source {
@@ -309,7 +304,7 @@ fn source_part(
             if is_path_of(depex, path) {
                 return expression_part(alloc, section, path, expression);
             }
-            got_part(alloc, given, file, section, path)
+            got_part(alloc, given, section, path)
         }
         SectionSource::Words(text) => words_part(alloc, section, text.bytes()),
         SectionSource::Template(_) | SectionSource::Volume(_) | SectionSource::Refused(_) => {
@@ -324,22 +319,20 @@ pub fn parts(
     alloc: Global,
     depex: &Text,
     expression: &[u8],
-    given: &Given<'_, Out>,
+    given: &Given<'_, Key, Out>,
     sections: &[SectionPlan],
 ) -> Result<Rows<Part>, Stop<Key>>
     ensures value { GivesIn (λ parts. parts) result
-        (parts_from depex.now expression.now given.now 0 sections.now) }
+        (parts_from depex.now expression.now given.now sections.now) }
     ensures guids { IfOk result (All HasGuid) }
 {
     let mut parts = Rows::new(alloc);
-    let mut file = 0;
     let mut left = sections;
     while let [section, rest @ ..] = left {
-        match source_part(alloc, depex, expression, given, file, section)? {
+        match source_part(alloc, depex, expression, given, section)? {
             Some(part) => parts.push(part)?,
             None => {}
         }
-        file += files_of(depex, &section.source);
         left = rest;
     }
     Ok(parts)

@@ -6,7 +6,7 @@ use Rattle.build_base.specs.First.{and_then}
 use Rattle.build_base.specs.declared.fault.Fault.{Fault}
 use Rattle.step_engine.specs.declared.talk.Ask.{Ask}
 use Rattle.step_engine.specs.declared.talk.Ask.TheVariants as ask
-use Rattle.step_engine.specs.declared.talk.Answer.{Answer}
+use Rattle.step_engine.specs.declared.talk.Pair.{Pair}
 use Rattle.doc_types.specs.declared.choice.Choice.{Choice}
 use Rattle.doc_types.specs.declared.choice.Module.{Module}
 use Rattle.doc_types.specs.declared.flash.FlashDoc.{FlashDoc}
@@ -18,7 +18,7 @@ use Rattle.doc_types.specs.declared.values.Values.{Values}
 use Rattle.library_choice.specs.Choices.{choice}
 use Rattle.library_choice.specs.Closure.{wanted}
 use Rattle.build_stages.specs.Stages.{Stages, end, stage, bind, impossible_answer}
-use Rattle.build_stages.specs.Writing.{attempt, when, field_at}
+use Rattle.build_stages.specs.Writing.{attempt, when, given_field}
 use Rattle.step_pack.specs.declared.key.Key.{Key}
 use Rattle.step_pack.specs.declared.key.Key.TheVariants as key
 use Rattle.step_pack.specs.declared.out.Out.{Out}
@@ -28,11 +28,11 @@ use Rattle.module_steps.specs.declared.parts.Linked.{Linked}
 use Rattle.module_steps.specs.declared.settings.Setting.{Setting}
 use Rattle.module_steps.specs.Asks.{choice_asks, inf_asks, dec_asks, linked_asks, package_asks}
 use Rattle.module_steps.specs.Choices.{own_inf, with_more}
-use Rattle.module_steps.specs.Parts.{choice_at, linked_module, linked_from, described_at, described_from, parts_at, parts_from}
+use Rattle.module_steps.specs.Parts.{choice_in, linked_module, linked_from, described_in, described_from, parts_in, parts_from}
 use Rattle.module_steps.specs.Pcds.{pcds_given, values_given}
 use Rattle.module_steps.specs.Settings.{command_line_pcds, setting_of}
 use Rattle.module_steps.specs.Skus.{skus_end}
-use Rattle.text_steps.specs.Report.{values_at}
+use Rattle.text_steps.specs.Report.{values_in}
 use Rattle.document_rules.specs.Trees.{EdkStages, given_as, platform_in, flash_in}
 
 -- The libraries of a module.
@@ -61,10 +61,10 @@ most_rounds = 1026
 abbrev pub module_first : Module → List (Ask Key)
 module_first m = ask.Part key.Platform ∷ ask.Part (key.Inf m.inf) ∷ []
 
-abbrev pub choice_given : Module → List (Answer Out) → EdkStages
+abbrev pub choice_given : Module → List (Pair Key Out) → EdkStages
 choice_given m given =
-    attempt (platform_in given 0) (λ platform.
-    attempt (own_inf given 1 m.inf) (λ infs. choice_after most_rounds m platform infs))
+    attempt (platform_in given) (λ platform.
+    attempt (own_inf given m.inf) (λ infs. choice_after most_rounds m platform infs))
 
 abbrev pub choice_stages : Module → EdkStages
 choice_stages m = stage (module_first m) (choice_given m)
@@ -73,16 +73,16 @@ choice_stages m = stage (module_first m) (choice_given m)
 
 -- the libraries of each module
 abbrev pub linked_stages : List Module → Stages Key Out (List Linked)
-linked_stages modules = stage (choice_asks modules) (λ given. end (linked_from given 0 modules))
+linked_stages modules = stage (choice_asks modules) (λ given. end (linked_from given modules))
 
 -- the descriptions of each module and its libraries
 abbrev pub described_stages : List Linked → Stages Key Out (List Described)
 described_stages modules =
-    stage (linked_asks modules) (λ given. end (described_from given 0 modules))
+    stage (linked_asks modules) (λ given. end (described_from given modules))
 
 -- the packages that they name
 abbrev pub parts_stages : List Described → Stages Key Out (List ModuleParts)
-parts_stages modules = stage (package_asks modules) (λ given. end (parts_from given 0 modules))
+parts_stages modules = stage (package_asks modules) (λ given. end (parts_from given modules))
 
 abbrev pub modules_parts : List Module → Stages Key Out (List ModuleParts)
 modules_parts modules =
@@ -95,11 +95,11 @@ abbrev pub pcds_asks : List (Ask Key)
 pcds_asks =
     ask.Part key.Platform ∷ ask.Part key.Flash ∷ ask.Field 1 ∷ ask.Field 4 ∷ ask.Field 6 ∷ []
 
-abbrev pub setting_in : PlatformDoc → List (Answer Out) → Result Setting Fault
+abbrev pub setting_in : PlatformDoc → List (Pair Key Out) → Result Setting Fault
 setting_in platform given =
-    and_then (field_at given 2) (λ arches.
-    and_then (field_at given 3) (λ sku.
-    and_then (field_at given 4) (λ pcds. setting_of platform arches sku pcds)))
+    and_then (given_field given 1) (λ arches.
+    and_then (given_field given 4) (λ sku.
+    and_then (given_field given 6) (λ pcds. setting_of platform arches sku pcds)))
 
 abbrev pub pcds_from : PlatformDoc → FlashDoc → Setting → EdkStages
 pcds_from platform flash setting =
@@ -107,11 +107,11 @@ pcds_from platform flash setting =
     end (given_as out.Values (pcds_given platform flash setting modules)))
 
 -- both checks of the words come before the modules are asked for
-abbrev pub pcds_first : List (Answer Out) → EdkStages
+abbrev pub pcds_first : List (Pair Key Out) → EdkStages
 pcds_first given =
-    attempt (platform_in given 0) (λ platform.
+    attempt (platform_in given) (λ platform.
     when (skus_end platform.skus) (
-    attempt (flash_in given 1) (λ flash.
+    attempt (flash_in given) (λ flash.
     attempt (setting_in platform given) (λ setting. pcds_from platform flash setting))))
 
 abbrev pub pcds_stages : EdkStages
@@ -128,11 +128,11 @@ values_asks m =
 
 abbrev pub one_described : Linked → Stages Key Out Described
 one_described linked =
-    stage (inf_asks linked.paths) (λ given. end (described_at given 0 linked))
+    stage (inf_asks linked.paths) (λ given. end (described_in given linked))
 
 abbrev pub one_parts : Described → Stages Key Out ModuleParts
 one_parts described =
-    stage (dec_asks described.packages) (λ given. end (parts_at given 0 described))
+    stage (dec_asks described.packages) (λ given. end (parts_in given described))
 
 abbrev pub module_parts : Module → Choice → Stages Key Out ModuleParts
 module_parts m choice =
@@ -143,16 +143,16 @@ values_from m platform flash dynamic choice commands =
     bind (module_parts m choice) (λ parts.
     end (given_as out.Values (values_given platform flash commands dynamic parts)))
 
-abbrev pub commands_in : PlatformDoc → List (Answer Out) → ℕ → Result (List PcdSet) Fault
-commands_in platform given i = and_then (field_at given i) (command_line_pcds platform.at)
+abbrev pub commands_in : PlatformDoc → List (Pair Key Out) → Result (List PcdSet) Fault
+commands_in platform given = and_then (given_field given 6) (command_line_pcds platform.at)
 
-abbrev pub values_first : Module → List (Answer Out) → EdkStages
+abbrev pub values_first : Module → List (Pair Key Out) → EdkStages
 values_first m given =
-    attempt (platform_in given 0) (λ platform.
-    attempt (flash_in given 1) (λ flash.
-    attempt (values_at given 2) (λ dynamic.
-    attempt (choice_at given 3) (λ choice.
-    attempt (commands_in platform given 4)
+    attempt (platform_in given) (λ platform.
+    attempt (flash_in given) (λ flash.
+    attempt (values_in given key.PlatformPcds) (λ dynamic.
+    attempt (choice_in given m) (λ choice.
+    attempt (commands_in platform given)
     (λ commands. values_from m platform flash dynamic choice commands)))))
 
 abbrev pub values_stages : Module → EdkStages

@@ -6,23 +6,23 @@ use Rattle.build_base.specs.First.{and_then}
 use Rattle.build_base.specs.declared.fault.Fault.{Fault}
 use Rattle.step_engine.specs.declared.talk.Ask.{Ask}
 use Rattle.step_engine.specs.declared.talk.Ask.TheVariants as ask
-use Rattle.step_engine.specs.declared.talk.Answer.{Answer}
+use Rattle.step_engine.specs.declared.talk.Pair.{Pair}
 use Rattle.doc_types.specs.declared.choice.Choice.{Choice}
 use Rattle.doc_types.specs.declared.choice.Module.{Module}
 use Rattle.doc_types.specs.declared.platform.PlatformDoc.{PlatformDoc}
 use Rattle.doc_types.specs.declared.values.Values.{Values}
 use Rattle.build_stages.specs.Stages.{end, stage, bind}
-use Rattle.build_stages.specs.Writing.{attempt, field_at}
+use Rattle.build_stages.specs.Writing.{attempt, given_field}
 use Rattle.step_pack.specs.declared.key.Key.{Key}
 use Rattle.step_pack.specs.declared.key.Key.TheVariants as key
 use Rattle.step_pack.specs.declared.out.Out.{Out}
 use Rattle.step_pack.specs.declared.out.Out.TheVariants as out
-use Rattle.module_steps.specs.Parts.{choice_at}
+use Rattle.module_steps.specs.Parts.{choice_in}
 use Rattle.text_steps.specs.declared.report.Heading.{Heading}
 use Rattle.text_steps.specs.Asks.{report_asks}
 use Rattle.text_steps.specs.Code.{code_given}
 use Rattle.text_steps.specs.Depex.{depex_given}
-use Rattle.text_steps.specs.Report.{values_at, report_modules, heading_of, report_given}
+use Rattle.text_steps.specs.Report.{values_in, report_modules, heading_of, report_given}
 use Rattle.document_rules.specs.Defines.{target_of, tag_of}
 use Rattle.module_rules.specs.ModuleTrees.{module_parts}
 use Rattle.document_rules.specs.Trees.{EdkStages, given_as, platform_in}
@@ -38,11 +38,11 @@ code_from m platform choice values =
     bind (module_parts m choice)
     (λ parts. end (given_as out.Code (code_given platform choice values parts)))
 
-abbrev pub code_first : Module → List (Answer Out) → EdkStages
+abbrev pub code_first : Module → List (Pair Key Out) → EdkStages
 code_first m given =
-    attempt (platform_in given 0) (λ platform.
-    attempt (choice_at given 1) (λ choice.
-    attempt (values_at given 2) (λ values. code_from m platform choice values)))
+    attempt (platform_in given) (λ platform.
+    attempt (choice_in given m) (λ choice.
+    attempt (values_in given (key.Values m)) (λ values. code_from m platform choice values)))
 
 abbrev pub code_stages : Module → EdkStages
 code_stages m = stage (code_asks m) (code_first m)
@@ -56,8 +56,8 @@ abbrev pub depex_from : Module → Choice → EdkStages
 depex_from m choice =
     bind (module_parts m choice) (λ parts. end (given_as out.Depex (depex_given choice parts)))
 
-abbrev pub depex_first : Module → List (Answer Out) → EdkStages
-depex_first m given = attempt (choice_at given 0) (λ choice. depex_from m choice)
+abbrev pub depex_first : Module → List (Pair Key Out) → EdkStages
+depex_first m given = attempt (choice_in given m) (λ choice. depex_from m choice)
 
 abbrev pub depex_stages : Module → EdkStages
 depex_stages m = stage (depex_asks m) (depex_first m)
@@ -69,19 +69,19 @@ abbrev pub heading_asks : List (Ask Key)
 heading_asks =
     ask.Part key.Platform ∷ ask.Field 1 ∷ ask.Field 2 ∷ ask.Field 3 ∷ ask.Field 4 ∷ []
 
-abbrev pub told_modules_in : PlatformDoc → List (Answer Out) → Result (List Module) Fault
-told_modules_in platform given = and_then (field_at given 1) (report_modules platform)
+abbrev pub told_modules_in : PlatformDoc → List (Pair Key Out) → Result (List Module) Fault
+told_modules_in platform given = and_then (given_field given 1) (report_modules platform)
 
 -- what stands at the report's head, where a target or a tag that isn't stated has its default
 abbrev pub heading_by : PlatformDoc → List ℕ → List ℕ → List ℕ → Heading
 heading_by platform target tag sku =
     heading_of platform (target_of target).value (tag_of tag).value sku
 
-abbrev pub heading_in : PlatformDoc → List (Answer Out) → Result Heading Fault
+abbrev pub heading_in : PlatformDoc → List (Pair Key Out) → Result Heading Fault
 heading_in platform given =
-    and_then (field_at given 2) (λ target.
-    and_then (field_at given 3) (λ tag.
-    and_then (field_at given 4) (λ sku. Ok (heading_by platform target tag sku))))
+    and_then (given_field given 2) (λ target.
+    and_then (given_field given 3) (λ tag.
+    and_then (given_field given 4) (λ sku. Ok (heading_by platform target tag sku))))
 
 abbrev pub told_stages : PlatformDoc → Heading → List Module → EdkStages
 told_stages platform heading modules =
@@ -89,13 +89,13 @@ told_stages platform heading modules =
     (λ given. end (given_as out.Report (report_given platform heading modules given)))
 
 -- the check of the words' architectures comes before the modules are asked for
-abbrev pub told_in : PlatformDoc → List (Answer Out) → EdkStages
+abbrev pub told_in : PlatformDoc → List (Pair Key Out) → EdkStages
 told_in platform given =
     attempt (told_modules_in platform given) (λ modules.
     attempt (heading_in platform given) (λ heading. told_stages platform heading modules))
 
-abbrev pub report_first : List (Answer Out) → EdkStages
-report_first given = attempt (platform_in given 0) (λ platform. told_in platform given)
+abbrev pub report_first : List (Pair Key Out) → EdkStages
+report_first given = attempt (platform_in given) (λ platform. told_in platform given)
 
 abbrev pub report_stages : EdkStages
 report_stages = stage heading_asks report_first

@@ -2,12 +2,11 @@
 ghost use Rattle.std.specs.Prelude.{◌≡◌, ℕ, List, [], true, IfOk};
 ghost use Rattle.build_base.specs.Answer.{Answers};
 ghost use Rattle.build_stages.specs.Gives.{Gives, GivesIn};
-ghost use Rattle.build_stages.specs.Known.{advance_at, gathered_at};
+ghost use Rattle.build_stages.specs.Known.{advance_at};
 ghost use Rattle.library_choice.specs.Choices.{choice};
 ghost use Rattle.library_choice.specs.Closure.{is_known, wanted};
-ghost use Rattle.module_steps.specs.Asks.{inf_asks};
 ghost use Rattle.module_steps.specs.Choices.{with_more};
-ghost use Rattle.module_steps.specs.Parts.{parts_at};
+ghost use Rattle.module_steps.specs.Parts.{parts_in};
 ghost use Rattle.module_steps.specs.Pcds.{pcds_given, values_given};
 ghost use Rattle.pcd_resolve.specs.Platform.{SkusEnd};
 ghost use Rattle.step_pack.specs.Keys.{key_cmp};
@@ -28,17 +27,17 @@ use doc_types::values::Values;
 use document_rules::answers::{EdkAnswers, answers_to};
 use document_rules::documents::{platform_in, shared_flash, shared_platform};
 use library_choice::InstanceSearch;
-use module_steps::parts::{choice_at, infs_from};
+use module_steps::parts::{choice_in, infs_from};
 use module_steps::{
-    Described, Linked, Setting, choice_asks, command_line_pcds, dec_asks, described_at,
-    described_from, inf_asks, linked_asks, linked_from, linked_module, own_inf, package_asks,
-    parts_at, parts_from, pcds_given, setting_of, skus_end, values_given,
+    Described, Linked, Setting, choice_asks, command_line_pcds, dec_asks, described_from,
+    described_in, inf_asks, linked_asks, linked_from, linked_module, own_inf, package_asks,
+    parts_from, parts_in, pcds_given, setting_of, skus_end, values_given,
 };
 use shared_value::Shared;
 use std::alloc::Global;
 use step_engine::Ask;
 use step_pack::{Key, Out};
-use text_steps::report::values_at;
+use text_steps::report::values_in;
 
 /// The most rounds in which the libraries of a module are found: each but the last makes at least
 /// one of 1,025 instances known.
@@ -48,7 +47,7 @@ const MOST_ROUNDS: u32 = 1026;
 fn with_infs<'a>(
     alloc: Global,
     search: InstanceSearch<'a>,
-    given: &Given<'_, Out>,
+    given: &Given<'_, Key, Out>,
     paths: &[Path],
 ) -> Result<InstanceSearch<'a>, Stop<Key>>
     ensures value { GivesIn (λ s. s.infs) result
@@ -56,21 +55,8 @@ fn with_infs<'a>(
     ensures user { IfOk result (λ s. s.user ≡ search.entry.user) }
     ensures platform { IfOk result (λ s. s.platform ≡ search.entry.platform) }
 {
-    let (infs, _next) = infs_from(alloc, given, 0, paths)?;
+    let infs = infs_from(alloc, given, paths)?;
     Ok(search.with_more(alloc, infs.items())?)
-}
-
-// The answers of a round.
-fn round_given<'a>(
-    alloc: Global,
-    known: &Known<'a, Key, Out>,
-    paths: &[Path],
-    permit: Permit,
-) -> Result<(Given<'a, Out>, Permit), Stop<Key>>
-    ensures { Gives (λ x. x.0) result (gathered_at key_cmp fits known.now (inf_asks paths.now)) }
-{
-    let asks = inf_asks(alloc, paths)?;
-    answers_to(alloc, known, asks, permit)
 }
 
 // The search of a round, with the descriptions that it asks for behind those that are known.
@@ -86,7 +72,8 @@ fn round<'a>(
     ensures user { IfOk result (λ x. x.0.user ≡ search.entry.user) }
     ensures platform { IfOk result (λ x. x.0.platform ≡ search.entry.platform) }
 {
-    let (given, permit) = round_given(alloc, known, paths, permit)?;
+    let asks = inf_asks(alloc, paths)?;
+    let (given, permit) = answers_to(alloc, known, &asks, permit)?;
     let more = with_infs(alloc, search, &given, paths)?;
     Ok((more, permit))
 }
@@ -144,13 +131,13 @@ fn choice_given(
     alloc: Global,
     known: &Known<'_, Key, Out>,
     module: &Module,
-    given: &Given<'_, Out>,
+    given: &Given<'_, Key, Out>,
     permit: Permit,
 ) -> Result<Out, Stop<Key>>
     ensures { AdvancesTo known.now (choice_given «module».now given.now) result }
 {
-    let platform = platform_in(given, 0)?;
-    let infs = own_inf(alloc, given, 1, module)?;
+    let platform = platform_in(given)?;
+    let infs = own_inf(alloc, given, module)?;
     rounds(alloc, known, module, platform, infs, permit)
 }
 
@@ -179,7 +166,7 @@ fn linked_modules(
         (advance_at key_cmp fits known.now (linked_stages modules.now)) }
 {
     let asks = choice_asks(alloc, modules)?;
-    let (given, permit) = answers_to(alloc, known, asks, permit)?;
+    let (given, permit) = answers_to(alloc, known, &asks, permit)?;
     Ok((linked_from(alloc, &given, modules)?, permit))
 }
 
@@ -193,7 +180,7 @@ fn described_modules(
         (advance_at key_cmp fits known.now (described_stages modules.now)) }
 {
     let asks = linked_asks(alloc, modules)?;
-    let (given, permit) = answers_to(alloc, known, asks, permit)?;
+    let (given, permit) = answers_to(alloc, known, &asks, permit)?;
     Ok((described_from(alloc, &given, modules)?, permit))
 }
 
@@ -207,7 +194,7 @@ fn parts(
         (advance_at key_cmp fits known.now (parts_stages modules.now)) }
 {
     let asks = package_asks(alloc, modules)?;
-    let (given, permit) = answers_to(alloc, known, asks, permit)?;
+    let (given, permit) = answers_to(alloc, known, &asks, permit)?;
     Ok((parts_from(alloc, &given, modules)?, permit))
 }
 
@@ -230,13 +217,13 @@ fn modules_parts(
 fn setting_in(
     alloc: Global,
     platform: &PlatformDoc,
-    given: &Given<'_, Out>,
+    given: &Given<'_, Key, Out>,
 ) -> Result<Setting, Stop<Key>>
     ensures { GivesIn (λ s. s) result (setting_in platform.now given.now) }
 {
-    let arches = given.field(2)?;
-    let sku = given.field(3)?;
-    let pcds = given.field(4)?;
+    let arches = given.field(1)?;
+    let sku = given.field(4)?;
+    let pcds = given.field(6)?;
     setting_of(alloc, platform, arches.bytes(), sku.bytes(), pcds.bytes())
 }
 
@@ -275,16 +262,16 @@ fn pcds_from(
 fn pcds_first(
     alloc: Global,
     known: &Known<'_, Key, Out>,
-    given: &Given<'_, Out>,
+    given: &Given<'_, Key, Out>,
     permit: Permit,
 ) -> Result<Out, Stop<Key>>
     ensures { AdvancesTo known.now (pcds_first given.now) result }
 {
-    let platform = shared_platform(given, 0)?;
+    let platform = shared_platform(given)?;
     if !skus_end(alloc, platform.value().skus.items()) {
         return Err(Stop::ImpossibleAnswer);
     }
-    let flash = shared_flash(given, 1)?;
+    let flash = shared_flash(given)?;
     let setting = setting_in(alloc, platform.value(), given)?;
     pcds_from(alloc, known, platform, flash, &setting, permit)
 }
@@ -307,12 +294,11 @@ pub fn pcds(alloc: Global, known: &Known<'_, Key, Out>, permit: Permit) -> Resul
 fn commands_in(
     alloc: Global,
     platform: &PlatformDoc,
-    given: &Given<'_, Out>,
-    place: usize,
+    given: &Given<'_, Key, Out>,
 ) -> Result<Rows<PcdSet>, Stop<Key>>
-    ensures { GivesIn (λ sets. sets) result (commands_in platform.now given.now place) }
+    ensures { GivesIn (λ sets. sets) result (commands_in platform.now given.now) }
 {
-    let text = given.field(place)?;
+    let text = given.field(6)?;
     command_line_pcds(alloc, &platform.at, text.bytes())
 }
 
@@ -326,22 +312,20 @@ fn one_described(
         (advance_at key_cmp fits known.now (one_described linked.now)) }
 {
     let asks = inf_asks(alloc, linked.paths.items())?;
-    let (given, permit) = answers_to(alloc, known, asks, permit)?;
-    let (described, _next) = described_at(alloc, &given, 0, linked)?;
-    Ok((described, permit))
+    let (given, permit) = answers_to(alloc, known, &asks, permit)?;
+    Ok((described_in(alloc, &given, linked)?, permit))
 }
 
-// A module's parts, of which the first package is that of the first answer.
+// A module's parts, by the answers of its packages.
 fn parts_of(
     alloc: Global,
-    given: &Given<'_, Out>,
+    given: &Given<'_, Key, Out>,
     described: Described,
     permit: Permit,
 ) -> Result<(ModuleParts, Permit), Stop<Key>>
-    ensures { GivesIn (λ x. x.0) result (parts_at given.now 0 described) }
+    ensures { GivesIn (λ x. x.0) result (parts_in given.now described) }
 {
-    let (parts, _next) = parts_at(alloc, given, 0, described)?;
-    Ok((parts, permit))
+    Ok((parts_in(alloc, given, described)?, permit))
 }
 
 fn one_parts(
@@ -354,7 +338,7 @@ fn one_parts(
         (advance_at key_cmp fits known.now (one_parts described)) }
 {
     let asks = dec_asks(alloc, described.packages.items())?;
-    let (given, permit) = answers_to(alloc, known, asks, permit)?;
+    let (given, permit) = answers_to(alloc, known, &asks, permit)?;
     parts_of(alloc, &given, described, permit)
 }
 
@@ -415,16 +399,16 @@ fn values_first(
     alloc: Global,
     known: &Known<'_, Key, Out>,
     module: &Module,
-    given: &Given<'_, Out>,
+    given: &Given<'_, Key, Out>,
     permit: Permit,
 ) -> Result<Out, Stop<Key>>
     ensures { AdvancesTo known.now (values_first «module».now given.now) result }
 {
-    let platform = shared_platform(given, 0)?;
-    let flash = shared_flash(given, 1)?;
-    let dynamic = values_at(given, 2)?;
-    let (choice, _next) = choice_at(given, 3)?;
-    let commands = commands_in(alloc, platform.value(), given, 4)?;
+    let platform = shared_platform(given)?;
+    let flash = shared_flash(given)?;
+    let dynamic = values_in(given, &Key::PlatformPcds)?;
+    let choice = choice_in(alloc, given, module)?;
+    let commands = commands_in(alloc, platform.value(), given)?;
     values_from(
         alloc, known, module, platform, flash, dynamic, choice, commands, permit,
     )

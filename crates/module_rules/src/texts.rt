@@ -14,12 +14,12 @@ use doc_types::values::Values;
 use document_rules::answers::{EdkAnswers, answers_to};
 use document_rules::defines::{tag, target};
 use document_rules::documents::{platform_in, shared_platform};
-use module_steps::parts::choice_at;
+use module_steps::parts::choice_in;
 use shared_value::Shared;
 use std::alloc::Global;
 use step_engine::Ask;
 use step_pack::{Key, Out};
-use text_steps::report::values_at;
+use text_steps::report::module_values;
 use text_steps::{
     Heading, code_given, depex_given, heading_of, report_asks, report_given, report_modules,
 };
@@ -46,14 +46,14 @@ fn code_first(
     alloc: Global,
     known: &Known<'_, Key, Out>,
     module: &Module,
-    given: &Given<'_, Out>,
+    given: &Given<'_, Key, Out>,
     permit: Permit,
 ) -> Result<Out, Stop<Key>>
     ensures { AdvancesTo known.now (code_first «module».now given.now) result }
 {
-    let platform = platform_in(given, 0)?;
-    let (choice, _next) = choice_at(given, 1)?;
-    let values = values_at(given, 2)?;
+    let platform = platform_in(given)?;
+    let choice = choice_in(alloc, given, module)?;
+    let values = module_values(alloc, given, module)?;
     code_from(alloc, known, module, platform, choice, values, permit)
 }
 
@@ -103,14 +103,14 @@ pub fn depex(
     let own = module.copy(alloc)?;
     let asks = [Ask::Part(Key::Choice(own))];
     let (given, permit) = gather(alloc, &EdkAnswers, known, &asks, permit)?;
-    let (choice, _next) = choice_at(&given, 0)?;
+    let choice = choice_in(alloc, &given, module)?;
     depex_from(alloc, known, module, choice, permit)
 }
 
 fn told_modules_in(
     alloc: Global,
     platform: &PlatformDoc,
-    given: &Given<'_, Out>,
+    given: &Given<'_, Key, Out>,
 ) -> Result<Rows<Module>, Stop<Key>>
     ensures { GivesIn (λ modules. modules) result (told_modules_in platform.now given.now) }
 {
@@ -136,7 +136,7 @@ fn stated_heading(
 fn heading_in(
     alloc: Global,
     platform: &PlatformDoc,
-    given: &Given<'_, Out>,
+    given: &Given<'_, Key, Out>,
 ) -> Result<Heading, Stop<Key>>
     ensures { GivesIn (λ heading. heading) result (heading_in platform.now given.now) }
 {
@@ -158,7 +158,7 @@ fn modules_and_report(
     ensures { AdvancesTo known.now (told_stages platform.now heading modules.now) result }
 {
     let asks = report_asks(alloc, modules)?;
-    let (given, _permit) = answers_to(alloc, known, asks, permit)?;
+    let (given, _permit) = answers_to(alloc, known, &asks, permit)?;
     let text = report_given(alloc, platform, heading, modules, &given)?;
     Ok(Out::Report(text))
 }
@@ -168,7 +168,7 @@ fn told_in(
     alloc: Global,
     known: &Known<'_, Key, Out>,
     platform: &Shared<PlatformDoc>,
-    given: &Given<'_, Out>,
+    given: &Given<'_, Key, Out>,
     permit: Permit,
 ) -> Result<Out, Stop<Key>>
     ensures { AdvancesTo known.now (told_in platform.now given.now) result }
@@ -190,6 +190,6 @@ pub fn report(alloc: Global, known: &Known<'_, Key, Out>, permit: Permit) -> Res
         Ask::Field(4),
     ];
     let (given, permit) = gather(alloc, &EdkAnswers, known, &asks, permit)?;
-    let platform = shared_platform(&given, 0)?;
+    let platform = shared_platform(&given)?;
     told_in(alloc, known, platform, &given, permit)
 }

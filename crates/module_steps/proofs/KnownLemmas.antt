@@ -2,9 +2,7 @@
 use Rattle.std.specs.Prelude.{find, nat_eq}
 use Rattle.std.specs.Option.{is_some}
 use Rattle.std.specs.Cmp.Lexicographic.{pointwise}
-use Rattle.std.proofs.Common.{◌≡◌, ℕ, true, false, List, [], ◌∷◌, ◌++◌, Some, Result, Ok, Err, refl, cond}
-use Rattle.build_base.specs.declared.fault.Fault.{Fault}
-use Rattle.build_base.specs.First.{with_front}
+use Rattle.std.proofs.Common.{◌≡◌, ℕ, true, false, List, [], ◌∷◌, ◌++◌, Some, refl, cond}
 use Rattle.doc_types.specs.declared.module.InfDoc.{InfDoc}
 use Rattle.library_choice.specs.Closure.{known, is_known}
 
@@ -30,7 +28,3 @@ known_behind (inf ∷ infs) more path e =
       | true ↦ refl
       | false ↦ known_behind infs more path e
     ]
-
-pub none_in_front : (r : Result (List InfDoc) Fault) → with_front [] r ≡ r
-none_in_front (Ok infs) = refl
-none_in_front (Err f) = refl

@@ -1,4 +1,3 @@
 pub mod SkuLemmas
 pub mod KnownLemmas
 pub mod NearLemmas
-pub mod TakenLemmas

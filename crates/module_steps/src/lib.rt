@@ -12,8 +12,8 @@ mod skus;
 pub use asks::{choice_asks, dec_asks, inf_asks, linked_asks, package_asks};
 pub use choices::own_inf;
 pub use parts::{
-    Described, Linked, described_at, described_from, infs_from, linked_from, linked_module,
-    parts_at, parts_from,
+    Described, Linked, described_from, described_in, infs_from, linked_from, linked_module,
+    parts_from, parts_in,
 };
 pub use pcds::{pcds_given, values_given};
 pub use settings::{Setting, arches_built, built_modules, command_line_pcds, setting_of};

@@ -1,17 +1,12 @@
 //! The descriptions of modules and their libraries, and the packages that they name.
-ghost use Rattle.std.specs.Prelude.{◌≡◌, ◌+◌, ◌++◌, ◌∷◌, [], List, Result, nat_eq, true, Ok, length, IfOk, OnOk};
+ghost use Rattle.std.specs.Prelude.{◌≡◌, ◌++◌, ◌∷◌, [], nat_eq, true, Ok, IfOk, OnOk};
 ghost use Rattle.std.specs.Cmp.Lexicographic.{pointwise};
-ghost use Rattle.build_base.specs.First.{with_front};
 ghost use Rattle.build_base.specs.Path.{path_field};
 ghost use Rattle.std.specs.List.{filter_map};
-ghost use Rattle.build_base.specs.declared.fault.Fault.{Fault};
-ghost use Rattle.doc_types.specs.declared.module.InfDoc.{InfDoc as InfModel};
-ghost use Rattle.doc_types.specs.declared.parts.Package.{Package as Held};
 ghost use Rattle.build_stages.specs.Gives.{GivesIn};
 ghost use Rattle.build_stages.specs.Known.{shown};
-ghost use Rattle.build_stages.specs.Writing.{part_at};
 ghost use Rattle.pcd_resolve.specs.Listing.{packages_in};
-ghost use Rattle.module_steps.specs.Parts.{choice_of_out, choice_at, inf_of_out, inf_at, dec_of_out, held_package, package_at, infs_from, packages_from, linked_module, linked_from, package_paths, Steps, Stopped, described_at, described_from, parts_at, parts_from};
+ghost use Rattle.module_steps.specs.Parts.{choice_of_out, choice_in, inf_of_out, inf_in, dec_of_out, dec_in, held_package, package_in, infs_from, packages_from, linked_module, linked_in, linked_from, package_paths, described_in, described_from, parts_in, parts_from};
 
 use build_base::path::path_field;
 use build_base::together::three;
@@ -42,17 +37,6 @@ pub struct Described {
     pub packages: Rows<Path>,
 }
 
-/// What the step at a place gave, and the place behind it.
-pub fn out_at<'a>(given: &Given<'a, Out>, place: usize) -> Result<(&'a Out, usize), Stop<Key>>
-    ensures value { GivesIn (λ x. x.0.now) result (part_at given.now place) }
-    ensures next { IfOk result (λ x. x.1 ≡ place + 1) }
-{
-    if place >= given.count() {
-        return Err(Stop::ImpossibleAnswer);
-    }
-    Ok((given.part(place)?, place + 1))
-}
-
 fn choice_of_out(out: &Out) -> Result<&Choice, Stop<Key>>
     ensures { GivesIn (λ choice. choice.now) result (choice_of_out out.now) }
 {
@@ -62,13 +46,16 @@ fn choice_of_out(out: &Out) -> Result<&Choice, Stop<Key>>
     }
 }
 
-/// The libraries of a module, at a place among answers, and the place behind it.
-pub fn choice_at<'a>(given: &Given<'a, Out>, place: usize) -> Result<(&'a Choice, usize), Stop<Key>>
-    ensures value { GivesIn (λ x. x.0.now) result (choice_at given.now place) }
-    ensures next { IfOk result (λ x. x.1 ≡ place + 1) }
+/// The libraries of a module, by the answers of a stage.
+pub fn choice_in<'a>(
+    alloc: Global,
+    given: &Given<'a, Key, Out>,
+    module: &Module,
+) -> Result<&'a Choice, Stop<Key>>
+    ensures { GivesIn (λ choice. choice.now) result (choice_in given.now «module».now) }
 {
-    let (out, next) = out_at(given, place)?;
-    Ok((choice_of_out(out)?, next))
+    let key = Key::Choice(module.copy(alloc)?);
+    choice_of_out(given.part(&key)?)
 }
 
 fn inf_of_out<'a>(path: &Path, out: &'a Out) -> Result<&'a Shared<InfDoc>, Stop<Key>>
@@ -86,20 +73,30 @@ fn inf_of_out<'a>(path: &Path, out: &'a Out) -> Result<&'a Shared<InfDoc>, Stop<
     }
 }
 
-/// The description of a path, at a place among answers, and the place behind it.
-pub fn inf_at(
+#[tactic(auto, unfolding(crate::specs::Parts::inf_in))]
+fn shared_inf<'a>(
     alloc: Global,
-    given: &Given<'_, Out>,
-    place: usize,
+    given: &Given<'a, Key, Out>,
     path: &Path,
-) -> Result<(Shared<InfDoc>, usize), Stop<Key>>
-    ensures value { GivesIn (λ x. x.0) result (inf_at given.now place path.now) }
-    ensures next { IfOk result (λ x. x.1 ≡ place + 1) }
-    ensures named { IfOk result (λ x. pointwise nat_eq x.0.at.path path.now ≡ true) }
+) -> Result<&'a Shared<InfDoc>, Stop<Key>>
+    ensures value { GivesIn (λ inf. inf.now) result (inf_in given.now path.now) }
+    ensures named { IfOk result (λ inf. pointwise nat_eq inf.now.at.path path.now ≡ true) }
 {
-    let (out, next) = out_at(given, place)?;
-    let inf = inf_of_out(path, out)?;
-    Ok((inf.copy(alloc)?, next))
+    let key = Key::Inf(path.copy(alloc)?);
+    inf_of_out(path, given.part(&key)?)
+}
+
+/// The description of a path, by the answers of a stage.
+pub fn inf_in(
+    alloc: Global,
+    given: &Given<'_, Key, Out>,
+    path: &Path,
+) -> Result<Shared<InfDoc>, Stop<Key>>
+    ensures value { GivesIn (λ inf. inf) result (inf_in given.now path.now) }
+    ensures named { IfOk result (λ inf. pointwise nat_eq inf.at.path path.now ≡ true) }
+{
+    let inf = shared_inf(alloc, given, path)?;
+    Ok(inf.copy(alloc)?)
 }
 
 fn dec_of_out(out: &Out) -> Result<&Shared<DecDoc>, Stop<Key>>
@@ -120,112 +117,61 @@ fn held_package(alloc: Global, path: &Path, dec: &Shared<DecDoc>) -> Result<Pack
     })
 }
 
-fn package_at(
+fn shared_dec<'a>(
     alloc: Global,
-    given: &Given<'_, Out>,
-    place: usize,
+    given: &Given<'a, Key, Out>,
     path: &Path,
-) -> Result<(Package, usize), Stop<Key>>
-    ensures value { GivesIn (λ x. x.0) result (package_at given.now place path.now) }
-    ensures next { IfOk result (λ x. x.1 ≡ place + 1) }
+) -> Result<&'a Shared<DecDoc>, Stop<Key>>
+    ensures { GivesIn (λ dec. dec.now) result (dec_in given.now path.now) }
 {
-    let (out, next) = out_at(given, place)?;
-    let dec = dec_of_out(out)?;
-    Ok((held_package(alloc, path, dec)?, next))
+    let key = Key::Dec(path.copy(alloc)?);
+    dec_of_out(given.part(&key)?)
 }
 
-// Appends the description at a place; the place behind it.
-fn push_inf(
+// The package of a path, by the answers of a stage.
+#[tactic(auto, unfolding(crate::specs::Parts::package_in))]
+fn package_in(
     alloc: Global,
-    given: &Given<'_, Out>,
-    place: usize,
+    given: &Given<'_, Key, Out>,
     path: &Path,
-    infs: &mut Rows<Shared<InfDoc>>,
-) -> Result<usize, Stop<Key>>
-    ensures value { (more : Result (List InfModel) Fault)
-        → Steps result infs.old infs.new (inf_at given.now place path.now) more }
-    ensures stopped { Stopped result (inf_at given.now place path.now) }
-    ensures next { IfOk result (λ next. next ≡ place + 1) }
+) -> Result<Package, Stop<Key>>
+    ensures { GivesIn (λ held. held) result (package_in given.now path.now) }
 {
-    let (inf, next) = inf_at(alloc, given, place, path)?;
-    infs.push(inf)?;
-    Ok(next)
+    let dec = shared_dec(alloc, given, path)?;
+    Ok(held_package(alloc, path, dec)?)
 }
 
-// The descriptions of some paths, of which the first stands at a place, behind others, and the place
-// behind them.
-#[tactic(auto, unfolding(crate::specs::Parts::taken))]
-fn infs_behind(
-    alloc: Global,
-    known: Rows<Shared<InfDoc>>,
-    given: &Given<'_, Out>,
-    place: usize,
-    paths: &[Path],
-) -> Result<(Rows<Shared<InfDoc>>, usize), Stop<Key>>
-    ensures value { GivesIn (λ x. x.0) result
-        (with_front known (infs_from given.now place paths.now)) }
-    ensures next { IfOk result (λ x. x.1 ≡ place + length paths.now) }
-{
-    let mut infs = known;
-    let mut at = place;
-    let mut left = paths;
-    while let [path, rest @ ..] = left {
-        at = push_inf(alloc, given, at, path, &mut infs)?;
-        left = rest;
-    }
-    Ok((infs, at))
-}
-
-/// The descriptions of some paths, of which the first stands at a place, and the place behind them.
-#[tactic(auto, using(crate::proofs::KnownLemmas::none_in_front))]
+/// The descriptions of some paths, in their order.
 pub fn infs_from(
     alloc: Global,
-    given: &Given<'_, Out>,
-    place: usize,
+    given: &Given<'_, Key, Out>,
     paths: &[Path],
-) -> Result<(Rows<Shared<InfDoc>>, usize), Stop<Key>>
-    ensures value { GivesIn (λ x. x.0) result (infs_from given.now place paths.now) }
-    ensures next { IfOk result (λ x. x.1 ≡ place + length paths.now) }
+) -> Result<Rows<Shared<InfDoc>>, Stop<Key>>
+    ensures { GivesIn (λ infs. infs) result (infs_from given.now paths.now) }
 {
-    infs_behind(alloc, Rows::new(alloc), given, place, paths)
-}
-
-// Appends the package at a place; the place behind it.
-fn push_package(
-    alloc: Global,
-    given: &Given<'_, Out>,
-    place: usize,
-    path: &Path,
-    packages: &mut Rows<Package>,
-) -> Result<usize, Stop<Key>>
-    ensures value { (more : Result (List Held) Fault)
-        → Steps result packages.old packages.new (package_at given.now place path.now) more }
-    ensures stopped { Stopped result (package_at given.now place path.now) }
-    ensures next { IfOk result (λ next. next ≡ place + 1) }
-{
-    let (held, next) = package_at(alloc, given, place, path)?;
-    packages.push(held)?;
-    Ok(next)
-}
-
-#[tactic(auto, unfolding(crate::specs::Parts::taken))]
-fn packages_from(
-    alloc: Global,
-    given: &Given<'_, Out>,
-    place: usize,
-    paths: &[Path],
-) -> Result<(Rows<Package>, usize), Stop<Key>>
-    ensures value { GivesIn (λ x. x.0) result (packages_from given.now place paths.now) }
-    ensures next { IfOk result (λ x. x.1 ≡ place + length paths.now) }
-{
-    let mut packages = Rows::new(alloc);
-    let mut at = place;
+    let mut all = Rows::new(alloc);
     let mut left = paths;
     while let [path, rest @ ..] = left {
-        at = push_package(alloc, given, at, path, &mut packages)?;
+        all.push(inf_in(alloc, given, path)?)?;
         left = rest;
     }
-    Ok((packages, at))
+    Ok(all)
+}
+
+fn packages_from(
+    alloc: Global,
+    given: &Given<'_, Key, Out>,
+    paths: &[Path],
+) -> Result<Rows<Package>, Stop<Key>>
+    ensures { GivesIn (λ packages. packages) result (packages_from given.now paths.now) }
+{
+    let mut all = Rows::new(alloc);
+    let mut left = paths;
+    while let [path, rest @ ..] = left {
+        all.push(package_in(alloc, given, path)?)?;
+        left = rest;
+    }
+    Ok(all)
 }
 
 fn push_paths(alloc: Global, out: &mut Rows<Path>, paths: &[Path]) -> Result<(), WantOfMemory>
@@ -265,22 +211,30 @@ pub fn linked_module(
     })
 }
 
-/// The same of each module, where the libraries of the first stand at the first place.
-#[tactic(auto, unfolding(crate::specs::Parts::taken))]
+#[tactic(auto, unfolding(crate::specs::Parts::linked_in))]
+fn linked_in(
+    alloc: Global,
+    given: &Given<'_, Key, Out>,
+    module: &Module,
+) -> Result<Linked, Stop<Key>>
+    ensures { GivesIn (λ held. held) result (linked_in given.now «module».now) }
+{
+    let choice = choice_in(alloc, given, module)?;
+    Ok(linked_module(alloc, module, choice)?)
+}
+
+/// The same of each module, by the answers of a stage.
 pub fn linked_from(
     alloc: Global,
-    given: &Given<'_, Out>,
+    given: &Given<'_, Key, Out>,
     modules: &[Module],
 ) -> Result<Rows<Linked>, Stop<Key>>
-    ensures { GivesIn (λ x. x) result (linked_from given.now 0 modules.now) }
+    ensures { GivesIn (λ x. x) result (linked_from given.now modules.now) }
 {
     let mut all = Rows::new(alloc);
-    let mut at = 0;
     let mut left = modules;
     while let [module, rest @ ..] = left {
-        let (choice, next) = choice_at(given, at)?;
-        all.push(linked_module(alloc, module, choice)?)?;
-        at = next;
+        all.push(linked_in(alloc, given, module)?)?;
         left = rest;
     }
     Ok(all)
@@ -343,67 +297,57 @@ fn package_paths(
     each_path(alloc, names.items())
 }
 
-/// A module with its descriptions, of which the first stands at a place, and the place behind them.
-#[tactic(auto, unfolding(crate::specs::Parts::described_at))]
-pub fn described_at(
+/// A module with its descriptions.
+#[tactic(auto, unfolding(crate::specs::Parts::described_in))]
+pub fn described_in(
     alloc: Global,
-    given: &Given<'_, Out>,
-    place: usize,
+    given: &Given<'_, Key, Out>,
     held: &Linked,
-) -> Result<(Described, usize), Stop<Key>>
-    ensures value { GivesIn (λ x. x.0) result (described_at given.now place held.now) }
-    ensures next { IfOk result (λ x. x.1 ≡ place + length held.now.paths) }
+) -> Result<Described, Stop<Key>>
+    ensures { GivesIn (λ described. described) result (described_in given.now held.now) }
 {
-    let (infs, next) = infs_from(alloc, given, place, held.paths.items())?;
+    let infs = infs_from(alloc, given, held.paths.items())?;
     let packages = package_paths(alloc, held.module.arch, infs.items())?;
-    let described = Described {
+    Ok(Described {
         module: held.module.copy(alloc)?,
         infs,
         packages,
-    };
-    Ok((described, next))
+    })
 }
 
-/// The same of each module, where those of the first begin at the first place.
-#[tactic(auto, unfolding(crate::specs::Parts::taken))]
+/// The same of each module.
 pub fn described_from(
     alloc: Global,
-    given: &Given<'_, Out>,
+    given: &Given<'_, Key, Out>,
     modules: &[Linked],
 ) -> Result<Rows<Described>, Stop<Key>>
-    ensures { GivesIn (λ x. x) result (described_from given.now 0 modules.now) }
+    ensures { GivesIn (λ x. x) result (described_from given.now modules.now) }
 {
     let mut all = Rows::new(alloc);
-    let mut at = 0;
     let mut left = modules;
     while let [held, rest @ ..] = left {
-        let (described, next) = described_at(alloc, given, at, held)?;
-        all.push(described)?;
-        at = next;
+        all.push(described_in(alloc, given, held)?)?;
         left = rest;
     }
     Ok(all)
 }
 
-/// What values come from: a module with its descriptions and its packages, of which the first
-/// stands at a place, and the place behind them.
-#[tactic(auto, unfolding(crate::specs::Parts::parts_at))]
-pub fn parts_at(
+/// What values come from: a module with its descriptions and its packages.
+#[tactic(auto, unfolding(crate::specs::Parts::parts_in))]
+pub fn parts_in(
     alloc: Global,
-    given: &Given<'_, Out>,
-    place: usize,
+    given: &Given<'_, Key, Out>,
     held: Described,
-) -> Result<(ModuleParts, usize), Stop<Key>>
-    ensures value { GivesIn (λ x. x.0) result (parts_at given.now place held) }
-    ensures next { IfOk result (λ x. x.1 ≡ place + length held.packages) }
+) -> Result<ModuleParts, Stop<Key>>
+    ensures { GivesIn (λ parts. parts) result (parts_in given.now held) }
 {
     let Described {
         module,
         infs,
         packages,
     } = held;
-    let (decs, next) = packages_from(alloc, given, place, packages.items())?;
-    Ok((ModuleParts { module, infs, decs }, next))
+    let decs = packages_from(alloc, given, packages.items())?;
+    Ok(ModuleParts { module, infs, decs })
 }
 
 fn described_again(alloc: Global, held: &Described) -> Result<Described, WantOfMemory>
@@ -420,33 +364,27 @@ fn described_again(alloc: Global, held: &Described) -> Result<Described, WantOfM
 // The same of one that is lent.
 fn lent_parts(
     alloc: Global,
-    given: &Given<'_, Out>,
-    place: usize,
+    given: &Given<'_, Key, Out>,
     held: &Described,
-) -> Result<(ModuleParts, usize), Stop<Key>>
-    ensures value { GivesIn (λ x. x.0) result (parts_at given.now place held.now) }
-    ensures next { IfOk result (λ x. x.1 ≡ place + length held.now.packages) }
+) -> Result<ModuleParts, Stop<Key>>
+    ensures { GivesIn (λ parts. parts) result (parts_in given.now held.now) }
 {
     let again = described_again(alloc, held)?;
-    parts_at(alloc, given, place, again)
+    parts_in(alloc, given, again)
 }
 
-/// The same of each module, where those of the first begin at the first place.
-#[tactic(auto, unfolding(crate::specs::Parts::taken))]
+/// The same of each module.
 pub fn parts_from(
     alloc: Global,
-    given: &Given<'_, Out>,
+    given: &Given<'_, Key, Out>,
     modules: &[Described],
 ) -> Result<Rows<ModuleParts>, Stop<Key>>
-    ensures { GivesIn (λ x. x) result (parts_from given.now 0 modules.now) }
+    ensures { GivesIn (λ x. x) result (parts_from given.now modules.now) }
 {
     let mut all = Rows::new(alloc);
-    let mut at = 0;
     let mut left = modules;
     while let [held, rest @ ..] = left {
-        let (parts, next) = lent_parts(alloc, given, at, held)?;
-        all.push(parts)?;
-        at = next;
+        all.push(lent_parts(alloc, given, held)?)?;
         left = rest;
     }
     Ok(all)

@@ -5,13 +5,13 @@ use Rattle.build_base.specs.First.{and_then}
 use Rattle.build_base.specs.declared.fault.Fault.{Fault}
 use Rattle.step_engine.specs.declared.talk.Ask.{Ask}
 use Rattle.step_engine.specs.declared.talk.Ask.TheVariants as ask
-use Rattle.step_engine.specs.declared.talk.Answer.{Answer}
+use Rattle.step_engine.specs.declared.talk.Pair.{Pair}
 use Rattle.doc_types.specs.declared.choice.Module.{Module}
 use Rattle.doc_types.specs.declared.flash.DevicePlan.{DevicePlan}
 use Rattle.doc_types.specs.declared.flash.FlashDoc.{FlashDoc}
 use Rattle.doc_types.specs.declared.platform.PlatformDoc.{PlatformDoc}
 use Rattle.build_stages.specs.Stages.{end, stage}
-use Rattle.build_stages.specs.Writing.{attempt, when, field_at}
+use Rattle.build_stages.specs.Writing.{attempt, when, given_field}
 use Rattle.step_pack.specs.declared.key.Key.{Key}
 use Rattle.step_pack.specs.declared.key.Key.TheVariants as key
 use Rattle.step_pack.specs.declared.out.Out.{Out}
@@ -53,25 +53,25 @@ image_asks flash wanted =
     steps_from volume_key wanted.volumes 0 flash.volumes
     ++ steps_from device_step wanted.devices 0 flash.devices
 
-abbrev pub folder_in : PlatformDoc → List (Answer Out) → Result (List ℕ) Fault
+abbrev pub folder_in : PlatformDoc → List (Pair Key Out) → Result (List ℕ) Fault
 folder_in platform given =
-    and_then (field_at given 3) (λ target.
-    and_then (field_at given 4) (λ tag. output_folder platform.output target tag))
+    and_then (given_field given 2) (λ target.
+    and_then (given_field given 3) (λ tag. output_folder platform.output target tag))
 
 -- the modules by the words' architectures
-abbrev pub modules_in : PlatformDoc → List (Answer Out) → Result (List Module) Fault
-modules_in platform given = and_then (field_at given 2) (built_modules platform)
+abbrev pub modules_in : PlatformDoc → List (Pair Key Out) → Result (List Module) Fault
+modules_in platform given = and_then (given_field given 1) (built_modules platform)
 
 -- the images that the words want
-abbrev pub wanted_in : FlashDoc → List (Answer Out) → Result Wanted Fault
-wanted_in flash given = and_then (field_at given 6) (wanted_of flash)
+abbrev pub wanted_in : FlashDoc → List (Pair Key Out) → Result Wanted Fault
+wanted_in flash given = and_then (given_field given 8) (wanted_of flash)
 
 -- the file of the report, if one is wanted
 abbrev pub report_named : List ℕ → Result (Option (List ℕ)) Fault
 report_named text = flash_named None text
 
-abbrev pub report_in : List (Answer Out) → Result (Option (List ℕ)) Fault
-report_in given = and_then (field_at given 7) report_named
+abbrev pub report_in : List (Pair Key Out) → Result (Option (List ℕ)) Fault
+report_in given = and_then (given_field given 9) report_named
 
 abbrev pub report_part : Option (List ℕ) → List (Ask Key)
 report_part None = []
@@ -92,10 +92,10 @@ files_stages vpd folder modules flash wanted report =
     (stage (build_asks vpd modules flash wanted report)
     (λ given. end (given_as out.All (outputs_of vpd folder modules flash wanted report given))))
 
-abbrev pub all_given : List (Answer Out) → EdkStages
+abbrev pub all_given : List (Pair Key Out) → EdkStages
 all_given given =
-    attempt (platform_in given 0) (λ platform.
-    attempt (flash_in given 1) (λ flash.
+    attempt (platform_in given) (λ platform.
+    attempt (flash_in given) (λ flash.
     attempt (folder_in platform given) (λ folder.
     attempt (modules_in platform given) (λ modules.
     attempt (wanted_in flash given) (λ wanted.

@@ -6,19 +6,20 @@ use Rattle.std.specs.Char.{to_ascii_uppercase}
 use Rattle.std.specs.Option.{is_some}
 use Rattle.build_base.specs.First.{and_then, with_front}
 use Rattle.build_base.specs.declared.fault.Fault.{Fault}
-use Rattle.build_stages.specs.Writing.{part_at}
+use Rattle.build_stages.specs.Writing.{given_part}
 use Rattle.build_texts.specs.Words.{arch_word}
 use Rattle.doc_types.specs.declared.choice.Module.{Module}
 use Rattle.doc_types.specs.declared.flash.DevicePlan.{DevicePlan}
 use Rattle.doc_types.specs.declared.flash.FlashDoc.{FlashDoc}
 use Rattle.doc_types.specs.declared.volume.VolumePlan.{VolumePlan}
 use Rattle.build_stages.specs.Stages.{impossible_answer}
+use Rattle.step_pack.specs.Keys.{key_cmp}
 use Rattle.step_pack.specs.declared.key.Key.{Key}
 use Rattle.step_pack.specs.declared.key.Key.TheVariants as key
 use Rattle.step_pack.specs.declared.out.Out.{Out}
 use Rattle.step_pack.specs.declared.out.Out.TheVariants as out
 use Rattle.step_pack.specs.declared.out.Output.{Output}
-use Rattle.step_engine.specs.declared.talk.Answer.{Answer}
+use Rattle.step_engine.specs.declared.talk.Pair.{Pair}
 use Rattle.image_steps.specs.Asks.{volume_key}
 use Rattle.text_steps.specs.Stems.{stem_of}
 use Rattle.document_rules.specs.Folders.{path_below}
@@ -93,44 +94,43 @@ abbrev pub base_of_out : Out → Result (List ℕ) Fault
 base_of_out (out.Inf inf) = Ok inf.base_name
 base_of_out _ = Err impossible_answer
 
-abbrev pub base_at : List (Answer Out) → ℕ → Result (List ℕ) Fault
-base_at given i = and_then (part_at given i) base_of_out
+abbrev pub base_in : List (Pair Key Out) → Module → Result (List ℕ) Fault
+base_in given m = and_then (given_part key_cmp given (key.Inf m.inf)) base_of_out
 
 abbrev pub has_texts : Out → Result Bool Fault
 has_texts (out.Code texts) = Ok (is_some texts)
 has_texts _ = Err impossible_answer
 
-abbrev pub texts_at : List (Answer Out) → ℕ → Result Bool Fault
-texts_at given i = and_then (part_at given i) has_texts
+abbrev pub texts_in : List (Pair Key Out) → Module → Result Bool Fault
+texts_in given m = and_then (given_part key_cmp given (key.Code m)) has_texts
 
 abbrev pub has_bytes : Out → Result Bool Fault
 has_bytes (out.Depex bytes) = Ok (not (length bytes == 0))
 has_bytes _ = Err impossible_answer
 
-abbrev pub bytes_at : List (Answer Out) → ℕ → Result Bool Fault
-bytes_at given i = and_then (part_at given i) has_bytes
+abbrev pub bytes_in : List (Pair Key Out) → Module → Result Bool Fault
+bytes_in given m = and_then (given_part key_cmp given (key.Depex m)) has_bytes
 
 abbrev pub named : List ℕ → Bool → Result (List ℕ × Bool) Fault
 named name texts = Ok (name, texts)
 
--- the first two answers of a module: its BASE_NAME, and whether it has texts
-unfoldable pub named_at : List (Answer Out) → ℕ → Result (List ℕ × Bool) Fault
-named_at given i = and_then (base_at given i)
-    (λ name. and_then (texts_at given (i + 1)) (named name))
+-- the BASE_NAME of a module, and whether it has texts
+unfoldable pub named_in : List (Pair Key Out) → Module → Result (List ℕ × Bool) Fault
+named_in given m = and_then (base_in given m) (λ name. and_then (texts_in given m) (named name))
 
--- a module has three answers: its description, its texts and its expression
-unfoldable pub outputs_at : List ℕ → List (Answer Out) → ℕ → Module → Result (List Output) Fault
-outputs_at folder given i m =
-    and_then (named_at given i) (λ x.
-    and_then (bytes_at given (i + 2)) (λ depex. module_outputs folder m x.0 x.1 depex))
+-- a module's files, by its description, its texts and its expression
+unfoldable pub outputs_in : List ℕ → List (Pair Key Out) → Module → Result (List Output) Fault
+outputs_in folder given m =
+    and_then (named_in given m) (λ x.
+    and_then (bytes_in given m) (λ depex. module_outputs folder m x.0 x.1 depex))
 
--- the files of modules, whose answers begin at this place
-unfoldable pub modules_outputs : List ℕ → List (Answer Out) → ℕ → List Module
+-- the files of modules
+unfoldable pub modules_outputs : List ℕ → List (Pair Key Out) → List Module
     → Result (List Output) Fault
-modules_outputs folder given i [] = Ok []
-modules_outputs folder given i (m ∷ modules) =
-    and_then (outputs_at folder given i m)
-    (λ outputs. with_front outputs (modules_outputs folder given (i + 3) modules))
+modules_outputs folder given [] = Ok []
+modules_outputs folder given (m ∷ modules) =
+    and_then (outputs_in folder given m)
+    (λ outputs. with_front outputs (modules_outputs folder given modules))
 
 -- the image of vital product data and its map
 unfoldable pub vpd_outputs : Bool → List ℕ → Result (List Output) Fault
@@ -143,13 +143,13 @@ abbrev pub report_output : Option (List ℕ) → List Output
 report_output None = []
 report_output (Some path) = record { path = path; from = key.Report; part = 0 } ∷ []
 
--- Module by module its files, whose answers stand behind the first; of the images that are wanted
--- the volumes by their numbers, and the devices as they stand in the flash description; then the
--- image of vital product data and its map, where there are any; last the report.
+-- Module by module its files; of the images that are wanted the volumes by their numbers, and the
+-- devices as they stand in the flash description; then the image of vital product data and its map,
+-- where there are any; last the report.
 unfoldable pub outputs_of : Bool → List ℕ → List Module → FlashDoc → Wanted → Option (List ℕ)
-    → List (Answer Out) → Result (List Output) Fault
+    → List (Pair Key Out) → Result (List Output) Fault
 outputs_of vpd folder modules flash wanted report given =
-    and_then (modules_outputs folder given 1 modules) (λ texts.
+    and_then (modules_outputs folder given modules) (λ texts.
     and_then (with_front texts (volume_outputs folder wanted.volumes 0 flash.volumes)) (λ volumes.
     and_then (with_front volumes (device_outputs folder wanted.devices 0 flash.devices)) (λ images.
     and_then (with_front images (vpd_outputs vpd folder))

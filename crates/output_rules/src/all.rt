@@ -166,39 +166,43 @@ fn build_asks(
 fn folder_in(
     alloc: Global,
     platform: &PlatformDoc,
-    given: &Given<'_, Out>,
+    given: &Given<'_, Key, Out>,
 ) -> Result<Path, Stop<Key>>
     ensures { GivesIn (λ path. path) result (folder_in platform.now given.now) }
 {
-    let target = given.field(3)?;
-    let tag = given.field(4)?;
+    let target = given.field(2)?;
+    let tag = given.field(3)?;
     output_folder(alloc, &platform.output, target.bytes(), tag.bytes())
 }
 
 fn modules_in(
     alloc: Global,
     platform: &PlatformDoc,
-    given: &Given<'_, Out>,
+    given: &Given<'_, Key, Out>,
 ) -> Result<Rows<Module>, Stop<Key>>
     ensures { GivesIn (λ modules. modules) result (modules_in platform.now given.now) }
 {
-    let arches = given.field(2)?;
+    let arches = given.field(1)?;
     built_modules(alloc, platform, arches.bytes())
 }
 
 // The images that the words want.
-fn wanted_in(alloc: Global, flash: &FlashDoc, given: &Given<'_, Out>) -> Result<Wanted, Stop<Key>>
+fn wanted_in(
+    alloc: Global,
+    flash: &FlashDoc,
+    given: &Given<'_, Key, Out>,
+) -> Result<Wanted, Stop<Key>>
     ensures { GivesIn (λ wanted. wanted) result (wanted_in flash.now given.now) }
 {
-    let text = given.field(6)?;
+    let text = given.field(8)?;
     wanted_of(alloc, flash, text.bytes())
 }
 
 // The file of the report, if one is wanted.
-fn report_in(alloc: Global, given: &Given<'_, Out>) -> Result<Option<Path>, Stop<Key>>
+fn report_in(alloc: Global, given: &Given<'_, Key, Out>) -> Result<Option<Path>, Stop<Key>>
     ensures { GivesIn (λ report. report) result (report_in given.now) }
 {
-    let text = given.field(7)?;
+    let text = given.field(9)?;
     let none = None;
     flash_named(alloc, &none, text.bytes())
 }
@@ -222,7 +226,7 @@ fn files(
         return Err(Stop::ImpossibleAnswer);
     }
     let asks = build_asks(alloc, vpd, modules, flash, wanted, report)?;
-    let (given, _permit) = answers_to(alloc, known, asks, permit)?;
+    let (given, _permit) = answers_to(alloc, known, &asks, permit)?;
     let outputs = outputs_of(alloc, vpd, folder, modules, flash, wanted, report, &given)?;
     Ok(Out::All(outputs))
 }
@@ -235,7 +239,7 @@ fn wanted_files(
     folder: &Path,
     modules: &[Module],
     flash: &FlashDoc,
-    given: &Given<'_, Out>,
+    given: &Given<'_, Key, Out>,
     permit: Permit,
 ) -> Result<Out, Stop<Key>>
     ensures { AdvancesTo known.now
@@ -253,13 +257,13 @@ fn wanted_files(
 fn all_given(
     alloc: Global,
     known: &Known<'_, Key, Out>,
-    given: &Given<'_, Out>,
+    given: &Given<'_, Key, Out>,
     permit: Permit,
 ) -> Result<Out, Stop<Key>>
     ensures { AdvancesTo known.now (all_given given.now) result }
 {
-    let platform = platform_in(given, 0)?;
-    let flash = flash_in(given, 1)?;
+    let platform = platform_in(given)?;
+    let flash = flash_in(given)?;
     let folder = folder_in(alloc, platform, given)?;
     let modules = modules_in(alloc, platform, given)?;
     let vpd = has_vpd(platform);

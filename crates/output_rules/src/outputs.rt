@@ -1,11 +1,13 @@
 //! The files that a build gives.
-ghost use Rattle.std.specs.Prelude.{◌≡◌, ◌+◌, ◌++◌, ◌∷◌, [], map, codes, length, true, ◌<◌, IfOk, OnOk};
+ghost use Rattle.std.specs.Prelude.{◌≡◌, ◌++◌, ◌∷◌, [], map, codes, length, true, ◌<◌, IfOk, OnOk};
 ghost use Rattle.std.specs.Char.{to_ascii_uppercase};
 ghost use Rattle.build_stages.specs.Gives.{GivesIn};
 ghost use Rattle.build_base.specs.First.{with_front};
+ghost use Rattle.build_stages.specs.Writing.{given_part};
+ghost use Rattle.step_pack.specs.Keys.{key_cmp};
 ghost use Rattle.step_pack.specs.declared.key.Key.TheVariants as key;
 ghost use Rattle.document_rules.specs.Folders.{path_below};
-ghost use Rattle.output_rules.specs.Outputs.{image_output, image_where, volume_outputs, device_outputs, module_folder, file_output, c_output, h_output, code_outputs, depex_outputs, module_outputs, base_of_out, base_at, has_texts, texts_at, has_bytes, bytes_at, named_at, outputs_at, modules_outputs, vpd_outputs, report_output, outputs_of};
+ghost use Rattle.output_rules.specs.Outputs.{image_output, image_where, volume_outputs, device_outputs, module_folder, file_output, c_output, h_output, code_outputs, depex_outputs, module_outputs, base_of_out, base_in, has_texts, texts_in, has_bytes, bytes_in, named_in, outputs_in, modules_outputs, vpd_outputs, report_output, outputs_of};
 ghost use Rattle.image_steps.specs.Asks.{volume_key};
 
 use crate::wanted::{Wanted, is_marked};
@@ -17,7 +19,6 @@ use doc_types::flash::{DevicePlan, FlashDoc};
 use doc_types::volume::VolumePlan;
 pub use document_rules::folders::{output_folder, path_below};
 use image_steps::volume_key;
-use module_steps::parts::out_at;
 use std::alloc::Global;
 use step_pack::{Key, Out, Output};
 use text_steps::stem_of;
@@ -331,58 +332,81 @@ fn has_bytes(out: &Out) -> Result<bool, Stop<Key>>
     }
 }
 
-fn base_at<'a>(given: &Given<'a, Out>, place: usize) -> Result<(&'a [u8], usize), Stop<Key>>
-    ensures value { GivesIn (λ x. x.0.now) result (base_at given.now place) }
-    ensures next { IfOk result (λ x. x.1 ≡ place + 1) }
+fn base_in<'a>(
+    alloc: Global,
+    given: &Given<'a, Key, Out>,
+    module: &Module,
+) -> Result<&'a [u8], Stop<Key>>
+    ensures { GivesIn (λ name. name.now) result (base_in given.now «module».now) }
 {
-    let (out, next) = out_at(given, place)?;
-    Ok((base_of_out(out)?, next))
+    let inf = Key::Inf(module.inf.copy(alloc)?);
+    base_of_out(given.part(&inf)?)
 }
 
-fn texts_at(given: &Given<'_, Out>, place: usize) -> Result<(bool, usize), Stop<Key>>
-    ensures value { GivesIn (λ x. x.0) result (texts_at given.now place) }
-    ensures next { IfOk result (λ x. x.1 ≡ place + 1) }
+// What the step of a module's texts gave.
+fn code_given<'a>(
+    alloc: Global,
+    given: &Given<'a, Key, Out>,
+    module: &Module,
+) -> Result<&'a Out, Stop<Key>>
+    ensures { GivesIn (λ out. out.now) result (given_part key_cmp given.now (key.Code «module».now)) }
 {
-    let (out, next) = out_at(given, place)?;
-    Ok((has_texts(out)?, next))
+    let code = Key::Code(module.copy(alloc)?);
+    given.part(&code)
 }
 
-fn bytes_at(given: &Given<'_, Out>, place: usize) -> Result<(bool, usize), Stop<Key>>
-    ensures value { GivesIn (λ x. x.0) result (bytes_at given.now place) }
-    ensures next { IfOk result (λ x. x.1 ≡ place + 1) }
+fn texts_in(alloc: Global, given: &Given<'_, Key, Out>, module: &Module) -> Result<bool, Stop<Key>>
+    ensures { GivesIn (λ has. has) result (texts_in given.now «module».now) }
 {
-    let (out, next) = out_at(given, place)?;
-    Ok((has_bytes(out)?, next))
+    has_texts(code_given(alloc, given, module)?)
 }
 
-// The BASE_NAME of a module and whether it has texts, by its first two answers at a place, and the
-// place behind them.
-#[tactic(auto, unfolding(crate::specs::Outputs::named_at))]
-fn named_at<'a>(given: &Given<'a, Out>, place: usize) -> Result<(&'a [u8], bool, usize), Stop<Key>>
-    ensures value { GivesIn (λ x. (x.0.now, x.1)) result (named_at given.now place) }
-    ensures next { IfOk result (λ x. x.2 ≡ place + 2) }
+// What the step of a module's expression gave.
+fn depex_given<'a>(
+    alloc: Global,
+    given: &Given<'a, Key, Out>,
+    module: &Module,
+) -> Result<&'a Out, Stop<Key>>
+    ensures { GivesIn (λ out. out.now) result
+        (given_part key_cmp given.now (key.Depex «module».now)) }
 {
-    let (name, second) = base_at(given, place)?;
-    let (texts, next) = texts_at(given, second)?;
-    Ok((name, texts, next))
+    let depex = Key::Depex(module.copy(alloc)?);
+    given.part(&depex)
 }
 
-// The files of a module, by its three answers at a place, and the place behind them.
-#[tactic(auto, unfolding(crate::specs::Outputs::outputs_at))]
-fn outputs_at(
+fn bytes_in(alloc: Global, given: &Given<'_, Key, Out>, module: &Module) -> Result<bool, Stop<Key>>
+    ensures { GivesIn (λ has. has) result (bytes_in given.now «module».now) }
+{
+    has_bytes(depex_given(alloc, given, module)?)
+}
+
+// The BASE_NAME of a module, and whether it has texts.
+#[tactic(auto, unfolding(crate::specs::Outputs::named_in))]
+fn named_in<'a>(
+    alloc: Global,
+    given: &Given<'a, Key, Out>,
+    module: &Module,
+) -> Result<(&'a [u8], bool), Stop<Key>>
+    ensures { GivesIn (λ x. (x.0.now, x.1)) result (named_in given.now «module».now) }
+{
+    let name = base_in(alloc, given, module)?;
+    let texts = texts_in(alloc, given, module)?;
+    Ok((name, texts))
+}
+
+// The files of a module, by its description, its texts and its expression.
+#[tactic(auto, unfolding(crate::specs::Outputs::outputs_in))]
+fn outputs_in(
     alloc: Global,
     folder: &Path,
-    given: &Given<'_, Out>,
-    place: usize,
+    given: &Given<'_, Key, Out>,
     module: &Module,
-) -> Result<(Rows<Output>, usize), Stop<Key>>
-    ensures value { GivesIn (λ x. x.0) result (outputs_at folder.now given.now place «module».now) }
-    ensures next { IfOk result (λ x. x.1 ≡ place + 3) }
+) -> Result<Rows<Output>, Stop<Key>>
+    ensures { GivesIn (λ outputs. outputs) result (outputs_in folder.now given.now «module».now) }
 {
-    let (name, texts, third) = named_at(given, place)?;
-    let (depex, next) = bytes_at(given, third)?;
-    let outputs = module_outputs(alloc, folder, module, name, texts, depex)?;
-    Ok((outputs, next))
+    let (name, texts) = named_in(alloc, given, module)?;
+    let depex = bytes_in(alloc, given, module)?;
+    module_outputs(alloc, folder, module, name, texts, depex)
 }
 
 fn append(alloc: Global, outputs: &mut Rows<Output>, more: &[Output]) -> Result<(), WantOfMemory>
@@ -396,24 +420,22 @@ fn append(alloc: Global, outputs: &mut Rows<Output>, more: &[Output]) -> Result<
     Ok(())
 }
 
-// The files of modules, whose answers stand behind the first.
+// The files of modules.
 #[tactic(auto, unfolding(crate::specs::Outputs::modules_outputs))]
 fn modules_outputs(
     alloc: Global,
     folder: &Path,
     modules: &[Module],
-    given: &Given<'_, Out>,
+    given: &Given<'_, Key, Out>,
 ) -> Result<Rows<Output>, Stop<Key>>
     ensures { GivesIn (λ outputs. outputs) result
-        (modules_outputs folder.now given.now 1 modules.now) }
+        (modules_outputs folder.now given.now modules.now) }
 {
     let mut outputs = Rows::new(alloc);
-    let mut at = 1;
     let mut left = modules;
     while let [module, rest @ ..] = left {
-        let (more, next) = outputs_at(alloc, folder, given, at, module)?;
+        let more = outputs_in(alloc, folder, given, module)?;
         append(alloc, &mut outputs, more.items())?;
-        at = next;
         left = rest;
     }
     Ok(outputs)
@@ -467,7 +489,7 @@ pub fn outputs_of(
     flash: &FlashDoc,
     wanted: &Wanted,
     report: &Option<Path>,
-    given: &Given<'_, Out>,
+    given: &Given<'_, Key, Out>,
 ) -> Result<Rows<Output>, Stop<Key>>
     requires volumes { length flash.now.volumes < 65536 }
     requires devices { length flash.now.devices < 65536 }

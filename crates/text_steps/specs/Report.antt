@@ -1,10 +1,10 @@
 -- What the step of the report gives by the answers of the steps that it asks (EDK II Build
 -- specification, build report; EDK II DSC specification, [SkuIds]).
-use Rattle.std.specs.Prelude.{ℕ, ◌+◌, List, [], filter, Result, Ok, Err}
-use Rattle.build_base.specs.First.{and_then}
+use Rattle.std.specs.Prelude.{ℕ, List, [], map, filter, Result, Ok, Err}
+use Rattle.build_base.specs.First.{and_then, all_ok}
 use Rattle.build_base.specs.declared.fault.Fault.{Fault}
 use Rattle.build_stages.specs.Stages.{impossible_answer}
-use Rattle.build_stages.specs.Writing.{part_at}
+use Rattle.build_stages.specs.Writing.{given_part}
 use Rattle.build_texts.specs.declared.asks.ModuleReport.{ModuleReport}
 use Rattle.build_texts.specs.declared.asks.ReportAsk.{ReportAsk}
 use Rattle.build_texts.specs.Report.{report_text}
@@ -14,10 +14,13 @@ use Rattle.doc_types.specs.declared.platform.PlatformDoc.{PlatformDoc}
 use Rattle.doc_types.specs.declared.platform.Sku.{Sku}
 use Rattle.doc_types.specs.declared.values.Values.{Values}
 use Rattle.module_steps.specs.declared.settings.Setting.{Setting}
-use Rattle.module_steps.specs.Parts.{choice_at, taken}
+use Rattle.module_steps.specs.Parts.{choice_in}
 use Rattle.module_steps.specs.Settings.{named_skus, setting_of}
 use Rattle.pcd_resolve.specs.Platform.{is_chosen, wanted}
-use Rattle.step_engine.specs.declared.talk.Answer.{Answer}
+use Rattle.step_engine.specs.declared.talk.Pair.{Pair}
+use Rattle.step_pack.specs.Keys.{key_cmp}
+use Rattle.step_pack.specs.declared.key.Key.{Key}
+use Rattle.step_pack.specs.declared.key.Key.TheVariants as key
 use Rattle.step_pack.specs.declared.out.Out.{Out}
 use Rattle.step_pack.specs.declared.out.Out.TheVariants as out
 use Rattle.text_steps.specs.declared.report.Heading.{Heading}
@@ -44,25 +47,22 @@ abbrev pub values_of_out : Out → Result Values Fault
 values_of_out (out.Values values) = Ok values
 values_of_out _ = Err impossible_answer
 
--- the values that stand at a place among answers
-abbrev pub values_at : List (Answer Out) → ℕ → Result Values Fault
-values_at given i = and_then (part_at given i) values_of_out
+-- the values that the step of a key gave
+abbrev pub values_in : List (Pair Key Out) → Key → Result Values Fault
+values_in given k = and_then (given_part key_cmp given k) values_of_out
 
 abbrev pub module_report : Module → Choice → Values → Result ModuleReport Fault
 module_report m choice values =
     Ok (record { «module» = m; choice = choice; values = values })
 
--- a module has two answers: its libraries, and its values
-unfoldable pub report_at : List (Answer Out) → ℕ → Module → Result ModuleReport Fault
-report_at given i m =
-    and_then (choice_at given i)
-    (λ choice. and_then (values_at given (i + 1)) (module_report m choice))
+-- what is told of a module: its libraries, and its values
+unfoldable pub report_in : List (Pair Key Out) → Module → Result ModuleReport Fault
+report_in given m =
+    and_then (choice_in given m)
+    (λ choice. and_then (values_in given (key.Values m)) (module_report m choice))
 
-abbrev pub two : Module → ℕ
-two m = 2
-
-abbrev pub reports_from : List (Answer Out) → ℕ → List Module → Result (List ModuleReport) Fault
-reports_from given i modules = taken two report_at given i modules
+abbrev pub reports_in : List (Pair Key Out) → List Module → Result (List ModuleReport) Fault
+reports_in given modules = all_ok (map (report_in given) modules)
 
 abbrev pub report_ask : PlatformDoc → Heading → Values → List ModuleReport → ReportAsk
 report_ask platform heading dynamic modules = record {
@@ -79,8 +79,8 @@ text_of platform heading dynamic modules =
     Ok (report_text (report_ask platform heading dynamic modules))
 
 -- the report, by the rows of dynamic PCDs and what is told of each module
-unfoldable pub report_given : PlatformDoc → Heading → List Module → List (Answer Out)
+unfoldable pub report_given : PlatformDoc → Heading → List Module → List (Pair Key Out)
     → Result (List ℕ) Fault
 report_given platform heading modules given =
-    and_then (values_at given 0) (λ dynamic.
-    and_then (reports_from given 1 modules) (text_of platform heading dynamic))
+    and_then (values_in given key.PlatformPcds) (λ dynamic.
+    and_then (reports_in given modules) (text_of platform heading dynamic))

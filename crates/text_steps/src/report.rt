@@ -1,12 +1,10 @@
 //! The report of a build.
-ghost use Rattle.std.specs.Prelude.{◌≡◌, ◌+◌, List, Result, filter, map, Ok, IfOk};
-ghost use Rattle.build_base.specs.declared.fault.Fault.{Fault};
+ghost use Rattle.std.specs.Prelude.{◌≡◌, filter, map, Ok, IfOk};
 ghost use Rattle.build_stages.specs.Gives.{GivesIn};
-ghost use Rattle.build_texts.specs.declared.asks.ModuleReport.{ModuleReport as Report};
-ghost use Rattle.module_steps.specs.Parts.{Steps, Stopped};
 ghost use Rattle.module_steps.specs.Settings.{named_skus};
 ghost use Rattle.pcd_resolve.specs.Platform.{is_chosen, wanted};
-ghost use Rattle.text_steps.specs.Report.{report_modules, report_skus, heading_of, values_of_out, values_at, module_report, report_at, reports_from, report_ask, text_of, report_given};
+ghost use Rattle.step_pack.specs.declared.key.Key.TheVariants as key;
+ghost use Rattle.text_steps.specs.Report.{report_modules, report_skus, heading_of, values_of_out, values_in, module_report, report_in, reports_in, report_ask, text_of, report_given};
 
 use build_base::together::{three, two};
 use build_base::{Rows, Same, Text, WantOfMemory};
@@ -16,7 +14,7 @@ use doc_types::choice::{Choice, Module};
 use doc_types::platform::{PlatformDoc, Sku};
 use doc_types::values::Values;
 use meta_lexer::parts::field_texts;
-use module_steps::parts::{choice_at, out_at};
+use module_steps::parts::choice_in;
 use module_steps::{Setting, setting_of};
 use pcd_resolve::skus::chosen_skus;
 use shared_value::Shared;
@@ -106,23 +104,26 @@ fn values_of_out(out: &Out) -> Result<&Shared<Values>, Stop<Key>>
     }
 }
 
-/// The values that stand at a place among answers.
-pub fn values_at<'a>(given: &Given<'a, Out>, place: usize) -> Result<&'a Shared<Values>, Stop<Key>>
-    ensures { GivesIn (λ values. values.now) result (values_at given.now place) }
+/// The values that the step of a key gave, by the answers of a stage.
+pub fn values_in<'a>(
+    given: &Given<'a, Key, Out>,
+    key: &Key,
+) -> Result<&'a Shared<Values>, Stop<Key>>
+    ensures { GivesIn (λ values. values.now) result (values_in given.now key.now) }
 {
-    values_of_out(given.part(place)?)
+    values_of_out(given.part(key)?)
 }
 
-// The same, and the place behind them.
-fn values_next<'a>(
-    given: &Given<'a, Out>,
-    place: usize,
-) -> Result<(&'a Shared<Values>, usize), Stop<Key>>
-    ensures value { GivesIn (λ x. x.0.now) result (values_at given.now place) }
-    ensures next { IfOk result (λ x. x.1 ≡ place + 1) }
+/// The values of a module, by the answers of a stage.
+pub fn module_values<'a>(
+    alloc: Global,
+    given: &Given<'a, Key, Out>,
+    module: &Module,
+) -> Result<&'a Shared<Values>, Stop<Key>>
+    ensures { GivesIn (λ values. values.now) result (values_in given.now (key.Values «module».now)) }
 {
-    let (out, next) = out_at(given, place)?;
-    Ok((values_of_out(out)?, next))
+    let key = Key::Values(module.copy(alloc)?);
+    values_of_out(given.part(&key)?)
 }
 
 fn module_report(
@@ -141,58 +142,32 @@ fn module_report(
     })
 }
 
-// What is told of a module, by its two answers at a place, and the place behind them.
-#[tactic(auto, unfolding(crate::specs::Report::report_at))]
-fn report_at(
+// What is told of a module, by its libraries and its values.
+#[tactic(auto, unfolding(crate::specs::Report::report_in))]
+fn report_in(
     alloc: Global,
-    given: &Given<'_, Out>,
-    place: usize,
+    given: &Given<'_, Key, Out>,
     module: &Module,
-) -> Result<(ModuleReport, usize), Stop<Key>>
-    ensures value { GivesIn (λ x. x.0) result (report_at given.now place «module».now) }
-    ensures next { IfOk result (λ x. x.1 ≡ place + 2) }
+) -> Result<ModuleReport, Stop<Key>>
+    ensures { GivesIn (λ report. report) result (report_in given.now «module».now) }
 {
-    let (choice, second) = choice_at(given, place)?;
-    let (values, next) = values_next(given, second)?;
-    let report = module_report(alloc, module, choice, values)?;
-    Ok((report, next))
+    let choice = choice_in(alloc, given, module)?;
+    let values = module_values(alloc, given, module)?;
+    Ok(module_report(alloc, module, choice, values)?)
 }
 
-// Appends what is told of a module, by its two answers at a place; the place behind them.
-fn push_report(
+fn reports_in(
     alloc: Global,
-    given: &Given<'_, Out>,
-    place: usize,
-    module: &Module,
-    reports: &mut Rows<ModuleReport>,
-) -> Result<usize, Stop<Key>>
-    ensures value { (more : Result (List Report) Fault)
-        → Steps result reports.old reports.new (report_at given.now place «module».now) more }
-    ensures stopped { Stopped result (report_at given.now place «module».now) }
-    ensures next { IfOk result (λ next. next ≡ place + 2) }
-{
-    let (report, next) = report_at(alloc, given, place, module)?;
-    reports.push(report)?;
-    Ok(next)
-}
-
-// What is told of each module, where the answers of the first begin at the second place.
-#[tactic(auto, unfolding(module_steps::specs::Parts::taken))]
-fn reports_from(
-    alloc: Global,
-    given: &Given<'_, Out>,
+    given: &Given<'_, Key, Out>,
     modules: &[Module],
 ) -> Result<Rows<ModuleReport>, Stop<Key>>
-    ensures { GivesIn (λ x. x) result (reports_from given.now 1 modules.now) }
+    ensures { GivesIn (λ reports. reports) result (reports_in given.now modules.now) }
 {
-    let mut all = Rows::new(alloc);
-    let mut at = 1;
-    let mut left = modules;
-    while let [module, rest @ ..] = left {
-        at = push_report(alloc, given, at, module, &mut all)?;
-        left = rest;
+    let mut reports = Rows::new(alloc);
+    for module in modules {
+        reports.push(report_in(alloc, given, module)?)?;
     }
-    Ok(all)
+    Ok(reports)
 }
 
 fn report_ask(
@@ -237,12 +212,12 @@ pub fn report_given(
     platform: &Shared<PlatformDoc>,
     heading: Heading,
     modules: &[Module],
-    given: &Given<'_, Out>,
+    given: &Given<'_, Key, Out>,
 ) -> Result<Text, Stop<Key>>
     ensures { GivesIn (λ text. text) result
         (report_given platform.now heading modules.now given.now) }
 {
-    let dynamic = values_at(given, 0)?;
-    let reports = reports_from(alloc, given, modules)?;
+    let dynamic = values_in(given, &Key::PlatformPcds)?;
+    let reports = reports_in(alloc, given, modules)?;
     Ok(report_by(alloc, platform, heading, dynamic, reports)?)
 }

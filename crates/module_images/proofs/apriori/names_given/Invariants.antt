@@ -4,7 +4,7 @@ use Rattle.module_images.specs.Apriori.{names_given}
 use Rattle.module_images.proofs.apriori.names_given.Given as goal
 
 abbrev pub invariant-loop-left : goal.invariant-loop-left
-invariant-loop-left l = with_front l.names (names_given l.given l.at l.left) ≡ names_given l.given 0 l.members
+invariant-loop-left l = with_front l.names (names_given l.given l.left) ≡ names_given l.given l.members
 
 abbrev pub decreases-loop-left : goal.decreases-loop-left
 decreases-loop-left l = length l.left

@@ -1,13 +1,12 @@
-use Rattle.std.proofs.Common.{◌≡◌, ◌+◌, ◌≤◌, All, length}
+use Rattle.std.proofs.Common.{◌≡◌, All, length}
 use Rattle.build_base.specs.First.{with_front}
 use Rattle.module_images.specs.Sections.{parts_from, HasGuid}
 use Rattle.module_images.proofs.sections.parts.Given as goal
 
 abbrev pub invariant-loop-left : goal.invariant-loop-left
 invariant-loop-left l = record {
-  rest : with_front l.parts (parts_from l.depex l.expression l.given l.file l.left) ≡ parts_from l.depex l.expression l.given 0 l.sections;
+  rest : with_front l.parts (parts_from l.depex l.expression l.given l.left) ≡ parts_from l.depex l.expression l.given l.sections;
   guids : All HasGuid l.parts;
-  file : l.file + length l.left ≤ length l.sections;
 }
 
 abbrev pub decreases-loop-left : goal.decreases-loop-left

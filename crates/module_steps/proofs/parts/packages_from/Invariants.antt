@@ -1,10 +1,10 @@
-use Rattle.std.proofs.Common.{◌≡◌, ◌+◌, length}
+use Rattle.std.proofs.Common.{◌≡◌, length}
 use Rattle.build_base.specs.First.{with_front}
 use Rattle.module_steps.specs.Parts.{packages_from}
 use Rattle.module_steps.proofs.parts.packages_from.Given as goal
 
 abbrev pub invariant-loop-left : goal.invariant-loop-left
-invariant-loop-left l = (with_front l.packages (packages_from l.given l.at l.left) ≡ packages_from l.given l.place l.paths) × (l.at + length l.left ≡ l.place + length l.paths)
+invariant-loop-left l = with_front l.all (packages_from l.given l.left) ≡ packages_from l.given l.paths
 
 abbrev pub decreases-loop-left : goal.decreases-loop-left
 decreases-loop-left l = length l.left

@@ -4,7 +4,7 @@ use Rattle.module_steps.specs.Parts.{parts_from}
 use Rattle.module_steps.proofs.parts.parts_from.Given as goal
 
 abbrev pub invariant-loop-left : goal.invariant-loop-left
-invariant-loop-left l = with_front l.all (parts_from l.given l.at l.left) ≡ parts_from l.given 0 l.modules
+invariant-loop-left l = with_front l.all (parts_from l.given l.left) ≡ parts_from l.given l.modules
 
 abbrev pub decreases-loop-left : goal.decreases-loop-left
 decreases-loop-left l = length l.left
