@@ -48,10 +48,10 @@ use Rattle.build_laws.specs.TextValues.{code_value, depex_value, report_value}
 use Rattle.build_laws.specs.VpdValues.{vpd_value}
 use Rattle.build_laws.specs.ImageValues.{volume_value, device_value}
 use Rattle.build_laws.specs.BuildValues.{module_fault, fault_where, volume_faults, device_faults, report_fault, build_fault, module_files, joined, build_files, files_value, wanted_value, all_value}
-use Rattle.build_rules.proofs.Asked.{given_in, fault_asked, by_answers, AreIn, in_here, in_there, in_first, in_behind, in_one, in_more, part_told, fault_append, fault_each, step_fault, else_none}
+use Rattle.build_rules.proofs.Asked.{given_in, fault_asked, by_answers, AreIn, in_here, in_there, in_first, in_behind, in_one, in_more, part_told, fault_append, fault_each, else_none}
 use Rattle.build_laws.proofs.DeviceValues.{based_step, device_is}
 use Rattle.build_laws.proofs.FlashShape.{flash_shape, counts_fit}
-use Rattle.build_laws.proofs.ImageValues.{gives, flash_is, path_or_empty, step_run, passed_run, last_run, both_found}
+use Rattle.build_laws.proofs.ImageValues.{gives, flash_is, path_or_empty, step_run, passed_run, last_run, part_fault, both_found}
 use Rattle.build_rules.proofs.KindLemmas.{stage_run}
 use Rattle.build_laws.proofs.PcdValues.{pcds_is}
 use Rattle.build_rules.proofs.StandLemmas.{none_both, or_same}
@@ -63,7 +63,7 @@ use Rattle.build_laws.proofs.VpdLemmas.{vpd_is}
 
 asked_one : {A : Type 0} (w : World) (variant : A → Out) (k : Key) (r : Result A Fault) → value_in w k ≡ outcome_of (given_as variant r) → fault_asked w (ask.Part k ∷ []) ≡ result_err r
 unfolding fault_asked
-asked_one w variant k r v = else_none (fault_in (answer.Part (value_in w k))) ∙ ap (λ (v : Outcome Out). fault_in (answer.Part v)) v ∙ step_fault variant r
+asked_one w variant k r v = part_fault w k variant r v
 
 fault_both : (w : World) (xs ys : List (Ask Key)) (p q : Option Fault) → fault_asked w xs ≡ p → fault_asked w ys ≡ q → fault_asked w (xs ++ ys) ≡ or_else p q
 fault_both w xs ys p q h k = fault_append w xs ys ∙ ap (λ (p : Option Fault). or_else p (fault_asked w ys)) h ∙ ap (λ (q : Option Fault). or_else p q) k

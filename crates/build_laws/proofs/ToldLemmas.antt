@@ -36,6 +36,7 @@ use Rattle.build_rules.proofs.StandLemmas.{or_same}
 use Rattle.build_rules.proofs.ValueLemmas.{dec_is, inf_is, platform_is}
 use Rattle.build_laws.specs.ModuleValues.{infs_value, described_value, package_value, packages_value, parts_value}
 use Rattle.build_laws.proofs.DescriptionLemmas.{described_path}
+use Rattle.build_laws.proofs.ImageValues.{part_fault}
 
 -- what stages of any kind give in a world
 abbrev pub comes : {A : Type 0} → World → Stages Key Out A → Result A Fault
@@ -48,28 +49,21 @@ pub record Reads {X Y : Type 0} (w : World) (own : X → List (Ask Key)) (read :
   pub stop : (x : X) → fault_asked w (own x) ≡ result_err (value x)
 
 -- the fault of a step is asked first
-part_fault : {Y : Type 0} (w : World) (k : Key) (variant : Y → Out) (r : Result Y Fault) (asks : List (Ask Key)) → value_in w k ≡ outcome_of (given_as variant r)
+first_fault : {Y : Type 0} (w : World) (k : Key) (variant : Y → Out) (r : Result Y Fault) (asks : List (Ask Key)) → value_in w k ≡ outcome_of (given_as variant r)
     → fault_asked w (ask.Part k ∷ asks) ≡ or_else (result_err r) (fault_asked w asks)
 unfolding fault_asked
-part_fault w k variant r asks e =
+first_fault w k variant r asks e =
     ap (λ (v : Outcome Out). or_else (fault_in (answer.Part v)) (fault_asked w asks)) e ∙ ap (λ (q : Option Fault). or_else q (fault_asked w asks)) (step_fault variant r)
-
-none_behind : (q : Option Fault) → or_else q None ≡ q
-none_behind None = refl
-none_behind (Some fault) = refl
-
-one_fault : {Y : Type 0} (w : World) (k : Key) (variant : Y → Out) (r : Result Y Fault) → value_in w k ≡ outcome_of (given_as variant r) → fault_asked w (ask.Part k ∷ []) ≡ result_err r
-unfolding fault_asked
-one_fault w k variant r e = part_fault w k variant r [] e ∙ none_behind (result_err r)
 
 -- a step that gives its value
 pub step_reads : {X Y : Type 0} (w : World) (step : X → Key) (variant : Y → Out) (value : X → Result Y Fault) (unwrap : X → Out → Result Y Fault)
     → ((x : X) → value_in w (step x) ≡ outcome_of (given_as variant (value x)))
     → ((x : X) (y : Y) → value x ≡ Ok y → unwrap x (variant y) ≡ Ok y)
     → Reads w (λ x. ask.Part (step x) ∷ []) (λ given x. and_then (given_part key_cmp given (step x)) (unwrap x)) value
+unfolding fault_asked
 step_reads w step variant value unwrap is out_is = record {
   told = λ asks none x sub. step_told w asks (step x) variant (value x) (unwrap x) none (in_one (ask.Part (step x)) [] asks sub) (is x) (out_is x);
-  stop = λ x. one_fault w (step x) variant (value x) (is x);
+  stop = λ x. part_fault w (step x) variant (value x) (is x);
 }
 
 -- what is made of each of some things by what is read for something within it
@@ -197,7 +191,7 @@ stops_value (Err fault) q f h = refl
 pub stops_first : {A B : Type 0} (w : World) (k : Key) (variant : A → Out) (r : Result A Fault) (asks : List (Ask Key)) (f : A → Result B Fault) → value_in w k ≡ outcome_of (given_as variant r)
     → ((x : A) → or_fault (fault_asked w asks) (f x) ≡ f x) → or_fault (fault_asked w (ask.Part k ∷ asks)) (and_then r f) ≡ and_then r f
 stops_first {A} {B} w k variant r asks f e h =
-    ap (λ (q : Option Fault). or_fault q (and_then r f)) (part_fault w k variant r asks e) ∙ stops_value r (fault_asked w asks) f h
+    ap (λ (q : Option Fault). or_fault q (and_then r f)) (first_fault w k variant r asks e) ∙ stops_value r (fault_asked w asks) f h
 
 -- and fields have none
 pub fields_stop : {A : Type 0} (w : World) (fields : List ℕ) (r : Result A Fault) → or_fault (fault_asked w (map (λ n. ask.Field n) fields)) r ≡ r

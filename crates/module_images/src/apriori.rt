@@ -78,11 +78,7 @@ fn name_below(
 
 // The name of the file of a statement's module.
 #[tactic(auto, unfolding(crate::specs::Apriori::line_name))]
-fn line_name(
-    alloc: Global,
-    given: &Given<'_, Key, Out>,
-    line: &InfLine,
-) -> Result<Guid, Stop<Key>>
+fn line_name(alloc: Global, given: &Given<'_, Key, Out>, line: &InfLine) -> Result<Guid, Stop<Key>>
     ensures { GivesIn (λ name. name) result (line_name given.now line.now) }
 {
     let platform = platform_in(given)?;

@@ -1,5 +1,4 @@
 //! What a statement's module is, by the answers of a step.
-ghost use Rattle.std.specs.Prelude.{◌≡◌};
 ghost use Rattle.build_stages.specs.Gives.{GivesIn};
 ghost use Rattle.module_images.specs.Modules.{platform_of_out, platform_in, arches_in, folder_in, plan_described, plan_below, plan_given};
 

@@ -130,11 +130,7 @@ fn shared_dec<'a>(
 
 // The package of a path, by the answers of a stage.
 #[tactic(auto, unfolding(crate::specs::Parts::package_in))]
-fn package_in(
-    alloc: Global,
-    given: &Given<'_, Key, Out>,
-    path: &Path,
-) -> Result<Package, Stop<Key>>
+fn package_in(alloc: Global, given: &Given<'_, Key, Out>, path: &Path) -> Result<Package, Stop<Key>>
     ensures { GivesIn (λ held. held) result (package_in given.now path.now) }
 {
     let dec = shared_dec(alloc, given, path)?;
