@@ -81,10 +81,7 @@ fn volume_of(out: &Out) -> Result<&Image, Stop<Key>>
 }
 
 // The volume of a step that was asked for.
-fn volume_content<'a>(
-    given: &Given<'a, Key, Out>,
-    key: &Key,
-) -> Result<&'a Image, Stop<Key>>
+fn volume_content<'a>(given: &Given<'a, Key, Out>, key: &Key) -> Result<&'a Image, Stop<Key>>
     ensures { GivesIn (λ image. image.now) result (volume_content given.now key.now) }
 {
     volume_of(given.part(key)?)
