@@ -54,7 +54,7 @@ use Rattle.build_laws.proofs.FlashShape.{flash_shape, counts_fit}
 use Rattle.build_laws.proofs.ImageValues.{gives, flash_is, path_or_empty, step_run, passed_run, last_run, part_fault, both_found}
 use Rattle.build_rules.proofs.KindLemmas.{stage_run}
 use Rattle.build_laws.proofs.PcdValues.{pcds_is}
-use Rattle.build_rules.proofs.StandLemmas.{none_both, or_same}
+use Rattle.build_rules.proofs.FirstFaults.{none_both, or_same}
 use Rattle.build_laws.proofs.TextLemmas.{code_is, depex_is, report_is}
 use Rattle.build_rules.proofs.ValueLemmas.{inf_is, platform_is}
 use Rattle.build_laws.proofs.VpdLemmas.{vpd_is}

@@ -41,7 +41,7 @@ use Rattle.build_rules.proofs.Asked.{given_in, fault_asked, by_answers, AreIn, i
 use Rattle.build_laws.proofs.FlashShape.{flash_shape, regions_fit}
 use Rattle.build_laws.proofs.ImageValues.{gives, flash_is, step_run, found_run, passed_run, last_run, part_fault, both_found}
 use Rattle.build_rules.proofs.KindLemmas.{stage_run}
-use Rattle.build_rules.proofs.StandLemmas.{or_same}
+use Rattle.build_rules.proofs.FirstFaults.{or_same}
 use Rattle.build_laws.proofs.StatementValues.{image_back, bytes_told, image_told, file_fault, or_or}
 use Rattle.build_rules.proofs.ValueLemmas.{platform_is}
 use Rattle.build_laws.proofs.VolumeValues.{volume_is, based_is}

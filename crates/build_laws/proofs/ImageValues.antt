@@ -56,7 +56,7 @@ pub given_then : {A B : Type 0} (variant : B → Out) (r : Result A Fault) (f : 
 given_then variant (Ok x) f = refl
 given_then variant (Err fault) f = refl
 
-given_or : {A : Type 0} (variant : A → Out) (q : Option Fault) (r : Result A Fault) → or_fault q (given_as variant r) ≡ given_as variant (or_fault q r)
+pub given_or : {A : Type 0} (variant : A → Out) (q : Option Fault) (r : Result A Fault) → or_fault q (given_as variant r) ≡ given_as variant (or_fault q r)
 given_or variant (Some fault) r = refl
 given_or variant None r = refl
 

@@ -42,7 +42,7 @@ use Rattle.build_laws.specs.BuildValues.{module_fault, fault_where, volume_fault
 use Rattle.build_rules.proofs.NamedOutputs.{AreOf, fault_ok, if_then, if_ok, any_ok, none_are, one_are, two_are, next_are, file_made, module_made, image_made, outputs_asked}
 use Rattle.build_laws.proofs.BuildValues.{all_is, key_is}
 use Rattle.build_laws.proofs.DeviceValues.{device_is}
-use Rattle.build_rules.proofs.StandLemmas.{none_both}
+use Rattle.build_rules.proofs.FirstFaults.{none_both}
 use Rattle.build_laws.proofs.TextLemmas.{code_is, depex_is, report_is}
 use Rattle.build_laws.proofs.VpdLemmas.{vpd_is}
 

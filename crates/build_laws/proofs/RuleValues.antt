@@ -56,7 +56,7 @@ use Rattle.build_laws.specs.TextValues.{depex_value}
 use Rattle.build_laws.specs.ImageValues.{plan_value, own_value, got_fault, required_fault, part_got, rule_part, rule_parts, planned_file, member_fault, member_value, apriori_value}
 use Rattle.build_rules.proofs.Asked.{answers_in, given_in, fault_asked, by_answers, AreIn, in_whole, in_first, in_behind, in_one, field_told, file_told, step_told, each_told, or_err, fault_append, fault_each, got_no_fault, step_fault, or_value, else_none}
 use Rattle.build_laws.proofs.DescriptionLemmas.{described_path}
-use Rattle.build_rules.proofs.StandLemmas.{none_of, or_same}
+use Rattle.build_rules.proofs.FirstFaults.{none_of, or_same}
 use Rattle.build_laws.proofs.TextLemmas.{depex_is}
 use Rattle.build_laws.proofs.ToldLemmas.{named_path}
 use Rattle.build_rules.proofs.ValueLemmas.{inf_is, platform_is}

@@ -46,7 +46,7 @@ use Rattle.build_laws.specs.ImageValues.{bytes_got, file_bytes, image_of, nested
 use Rattle.build_rules.proofs.Asked.{given_in, fault_asked, by_answers, AreIn, in_whole, in_here, in_one, in_first, in_behind, file_told, step_told, fault_append, fault_each, got_no_fault, or_and, checked_and}
 use Rattle.build_laws.proofs.FlashShape.{items_fit}
 use Rattle.build_laws.proofs.ImageValues.{gives, after_flash, found_run, passed_run, last_run, part_fault}
-use Rattle.build_rules.proofs.StandLemmas.{none_of, or_same, fronts_same}
+use Rattle.build_rules.proofs.FirstFaults.{none_of, or_same, fronts_same}
 
 -- A volume by the answers of its step: an image or a fault.
 

@@ -32,11 +32,11 @@ use Rattle.build_rules.specs.Rules.{edk, value_in}
 use Rattle.build_rules.specs.Values.{inf_value, dec_value, platform_value}
 use Rattle.build_rules.proofs.Asked.{given_in, fault_asked, AreIn, in_whole, in_one, step_told, each_told, fault_each, step_fault}
 use Rattle.build_rules.proofs.KindLemmas.{stage_run}
-use Rattle.build_rules.proofs.StandLemmas.{or_same}
+use Rattle.build_rules.proofs.FirstFaults.{or_same}
 use Rattle.build_rules.proofs.ValueLemmas.{dec_is, inf_is, platform_is}
 use Rattle.build_laws.specs.ModuleValues.{infs_value, described_value, package_value, packages_value, parts_value}
 use Rattle.build_laws.proofs.DescriptionLemmas.{described_path}
-use Rattle.build_laws.proofs.ImageValues.{part_fault}
+use Rattle.build_laws.proofs.ImageValues.{given_or, part_fault}
 
 -- what stages of any kind give in a world
 abbrev pub comes : {A : Type 0} → World → Stages Key Out A → Result A Fault
@@ -158,10 +158,6 @@ parts_reads w =
     (λ held packages. record { «module» = held.«module»; infs = held.infs; decs = packages }) (λ held packages. refl) (packages_read w)
 
 -- Stages that try what is read, one after the other.
-
-given_or : {A : Type 0} (variant : A → Out) (q : Option Fault) (r : Result A Fault) → or_fault q (given_as variant r) ≡ given_as variant (or_fault q r)
-given_or variant (Some fault) r = refl
-given_or variant None r = refl
 
 -- the stage where no step has a fault, and the faults of the steps
 pub asked_run : {A : Type 0} (w : World) (variant : A → Out) (asks : List (Ask Key)) (next : List (Pair Key Out) → EdkStages) (r : Result A Fault)

@@ -43,7 +43,7 @@ use Rattle.build_rules.proofs.Asked.{given_in, fault_asked, by_answers, AreIn, i
 use Rattle.build_laws.proofs.FlashShape.{item_fits, sections_fit}
 use Rattle.build_laws.proofs.ImageValues.{gives, after_flash, step_run, found_run, passed_run, last_run, part_fault, or_then, then_same}
 use Rattle.build_rules.proofs.KindLemmas.{stage_run}
-use Rattle.build_rules.proofs.StandLemmas.{or_same}
+use Rattle.build_rules.proofs.FirstFaults.{or_same}
 use Rattle.build_laws.proofs.RuleValues.{plan_same, planned_same, apriori_same}
 use Rattle.build_laws.proofs.StatementValues.{placed_plan, placed_volume, placed_run, statement_same}
 

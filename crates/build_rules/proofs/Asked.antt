@@ -1,7 +1,7 @@
 -- The right answers to asks, and what comes of them by their asks.
 use Rattle.std.specs.List.{flat_map}
 use Rattle.std.specs.Result.{result_err}
-use Rattle.std.proofs.Common.{◌≡◌, ℕ, zero, suc, List, [], ◌∷◌, ◌++◌, length, map, Contains, Option, Some, None, Result, Ok, Err, refl, sym, ap, ◌∙◌, arith}
+use Rattle.std.proofs.Common.{◌≡◌, ℕ, zero, suc, List, [], ◌∷◌, ◌++◌, map, Contains, Option, Some, None, Result, Ok, Err, refl, sym, ap, ◌∙◌, arith}
 use Rattle.std.proofs.lemmas.List.{map-append}
 use Rattle.std.proofs.lemmas.List.Elements.{Contains-append_left, Contains-append_right}
 use Rattle.build_base.specs.First.{and_then, or_else, or_fault, first_of, with_front, all_ok}
@@ -25,7 +25,7 @@ use Rattle.step_pack.specs.declared.key.Key.{Key}
 use Rattle.step_pack.specs.declared.out.Out.{Out}
 use Rattle.document_rules.specs.Trees.{given_as}
 use Rattle.build_rules.specs.Rules.{edk, value_in}
-use Rattle.build_rules.proofs.StandLemmas.{none_both, first_append}
+use Rattle.build_rules.proofs.FirstFaults.{none_both, first_append}
 
 -- the right answers to asks in a world, and the asks with them
 abbrev pub answers_in : World → List (Ask Key) → List (Answer Out)
@@ -128,7 +128,7 @@ err_each {X} {Y} value (x ∷ xs) =
     front_err (value x) (first_of (map (λ x. result_err (value x)) xs)) (all_ok (map value xs))
     ∙ ap (λ (t : Result (List Y) Fault). and_then (value x) (λ y. with_front (y ∷ []) t)) (err_each value xs)
 
-pub answers_append : (w : World) (xs ys : List (Ask Key)) → answers_in w (xs ++ ys) ≡ answers_in w xs ++ answers_in w ys
+answers_append : (w : World) (xs ys : List (Ask Key)) → answers_in w (xs ++ ys) ≡ answers_in w xs ++ answers_in w ys
 answers_append w xs ys = map-append (right (meaning_of key_cmp edk) w) xs ys
 
 -- the first faults of two, and of each of some things

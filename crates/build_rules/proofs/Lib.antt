@@ -1,5 +1,5 @@
 pub mod ValueLemmas
-pub mod StandLemmas
+pub mod FirstFaults
 pub mod Asked
 pub mod KindLemmas
 pub mod ReachedLemmas

@@ -40,10 +40,10 @@ Reaches w a (stage asks next) = Contains asks a ⊎ ((fault_asked w asks ≡ Non
 nothing : {A : Type 0} (a : A) → Contains [] a → ⊥
 nothing a c = absurd (omega (arith, c.1))
 
-pub here : {A : Type 0} (x : A) (xs : List A) (a : A) → x ≡ a → Contains (x ∷ xs) a
+here : {A : Type 0} (x : A) (xs : List A) (a : A) → x ≡ a → Contains (x ∷ xs) a
 here x xs a e = (zero, omega arith, e)
 
-pub there : {A : Type 0} (x : A) (xs : List A) (a : A) → Contains xs a → Contains (x ∷ xs) a
+there : {A : Type 0} (x : A) (xs : List A) (a : A) → Contains xs a → Contains (x ∷ xs) a
 there x xs a (i, l, e) = (suc i, omega (arith, l), e)
 
 either_in : {A : Type 0} (x : A) (xs : List A) (a : A) → Contains (x ∷ xs) a → (x ≡ a) ⊎ Contains xs a
