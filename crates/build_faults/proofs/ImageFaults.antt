@@ -48,7 +48,7 @@ use Rattle.image_rebase.proofs.SameLemmas.{past, through}
 use Rattle.fd_regions.specs.Device.{device_of}
 use Rattle.build_stages.specs.Stages.{meaning_of}
 use Rattle.step_pack.specs.Keys.{key_cmp}
-use Rattle.image_steps.specs.Asks.{is_based, is_vpd}
+use Rattle.image_steps.specs.Asks.{file_order, is_based, is_vpd}
 use Rattle.image_steps.specs.Contents.{file_absent, section_absent}
 use Rattle.image_steps.specs.Files.{file_name, image_plan}
 use Rattle.image_steps.specs.Parts.{as_is, file_shaped, header_guid, part_with}
@@ -73,7 +73,7 @@ use Rattle.image_faults.proofs.SectionFaults.{absent_fault_named, absent_part_fa
 use Rattle.image_faults.specs.Served.{FlashStands, GuidStands, IsPlanned, IsPlannedFrom, ItemStands, Serves, ServesRule, ServesRuleFrom, ServesStatement, ServesStatementFrom, VolumeStands}
 use Rattle.build_laws.proofs.DeviceValues.{nested_is}
 use Rattle.build_laws.proofs.FlashShape.{flash_shape, item_fits, named_has}
-use Rattle.build_laws.specs.ImageValues.{apriori_value, body_value, bytes_got, device_value, file_bytes, file_order, file_value, got_fault, held_fault, is_moved, item_value, member_fault, member_value, nested_fault, nested_image, numbered_value, own_value, part_got, plan_value, planned_file, planned_value, region_bytes, region_fault, regions_value, required_fault, rule_part, rule_parts, section_content, section_part, sections_value, statement_value, volume_by, volume_files, volume_image, volume_value, vpd_bytes}
+use Rattle.build_laws.specs.ImageValues.{apriori_value, body_value, bytes_got, device_value, file_bytes, file_value, got_fault, held_fault, is_moved, item_value, member_fault, member_value, nested_fault, nested_image, numbered_value, own_value, part_got, plan_value, planned_file, planned_value, region_bytes, region_fault, regions_value, required_fault, rule_part, rule_parts, section_content, section_part, sections_value, statement_value, volume_by, volume_files, volume_image, volume_value, vpd_bytes}
 use Rattle.build_rules.specs.Rules.{edk}
 use Rattle.build_laws.specs.TextValues.{depex_value}
 use Rattle.build_rules.specs.Values.{flash_value, inf_value, platform_value}

@@ -120,7 +120,7 @@ unfolding flash_value fault_asked
 flash_run w is_world e =
     stage_run w flash_asks flash_given
     ∙ after_value w flash_asks key.Platform out.Platform (platform_value w) platform_of_out _
-    (part_fault w key.Platform out.Platform (platform_value w) (platform_is w is_world)) (in_here (ask.Part key.Platform) _) (platform_is w is_world) (λ platform found. refl)
+    (part_fault w key.Platform out.Platform (platform_value w) (platform_is w is_world)) (in_here (ask.Part key.Platform) (ask.Field 2 ∷ ask.Field 3 ∷ ask.Field 5 ∷ ask.Field 7 ∷ [])) (platform_is w is_world) (λ platform found. refl)
     ∙ then_same (platform_value w) _ (λ platform. given_as out.Flash (flash_of_file w platform (flash_file platform.flash (field w 7)))) (λ platform.
     ap (λ (r : Result (Option (List ℕ)) Fault). gives w (attempt r (λ root. flash_from platform (job_macros w) root))) (path_or_empty (field w 7) e platform.flash)
     ∙ root_run w platform (flash_file platform.flash (field w 7)))

@@ -144,7 +144,7 @@ asked_fault w volumes e sections =
 abbrev held_faults : World → List SectionPlan → Option Fault
 held_faults w sections = first_of (map (λ section. held_fault w section.at section.source) sections)
 
-checked : (r : Result (List ℕ) Fault) → and_then r (λ bytes. Ok tt) ≡ or_fault (result_err r) (Ok tt)
+checked : (r : Result (List ℕ) Fault) → and_then {B = Unit {0}} r (λ bytes. Ok tt) ≡ or_fault {T = Unit {0}} (result_err r) (Ok tt)
 checked (Ok bytes) = refl
 checked (Err fault) = refl
 

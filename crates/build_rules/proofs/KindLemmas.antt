@@ -140,17 +140,17 @@ of_kind (key.File v i) =
     λ given. attempt_kind 8 (flash_in given) _ (λ flash. attempt_kind 8 (volume_at flash v) _ (λ plan. attempt_kind 8 (item_at flash plan i) _ (λ it. item_kind v flash plan.head it)))
 of_kind (key.Volume v) =
     λ given. attempt_kind 9 (flash_in given) _ (λ flash. attempt_kind 9 (volume_at flash v) _ (λ plan.
-    when_kind 9 (fits_u16 (length plan.items)) _ (λ files. given_kind 9 out.Volume (λ x. refl) (volume_given plan.head files))))
+    when_kind 9 (fits_u16 (length plan.items)) _ (λ files. given_kind 9 out.Volume (λ x. refl) (volume_given v plan files))))
 of_kind (key.Based v) =
     λ given. attempt_kind 9 (flash_in given) _ (λ flash. attempt_kind 9 (volume_at flash v) _ (λ plan.
-    when_kind 9 (fits_u16 (length plan.items)) _ (λ files. given_kind 9 out.Volume (λ x. refl) (based_given plan.head files))))
+    when_kind 9 (fits_u16 (length plan.items)) _ (λ files. given_kind 9 out.Volume (λ x. refl) (based_given v plan files))))
 of_kind key.Vpd =
     λ given. attempt_kind 13 (platform_in given) _ (λ platform. attempt_kind 13 (values_in given key.PlatformPcds) _ (λ values. attempt_kind 13 (arches_in platform given) _ (λ arches.
     given_kind 13 out.Vpd (λ x. refl) (placed_vpd platform values arches))))
 of_kind (key.Device d) =
     λ given. attempt_kind 10 (flash_in given) _ (λ flash. attempt_kind 10 (platform_in given) _ (λ platform. attempt_kind 10 (vpd_in platform given) _ (λ vpd.
     attempt_kind 10 (device_at flash d) _ (λ plan.
-    when_kind 10 (regions_below plan.regions) _ (λ parts. given_kind 10 out.Device (λ x. refl) (device_given vpd plan parts))))))
+    when_kind 10 (regions_below plan.regions) _ (λ parts. given_kind 10 out.Device (λ x. refl) (device_given vpd flash.volumes plan parts))))))
 of_kind key.Report =
     λ given. attempt_kind 11 (platform_in given) _ (λ platform. attempt_kind 11 (told_modules_in platform given) _ (λ modules. attempt_kind 11 (heading_in platform given) _ (λ heading.
     λ told. given_kind 11 out.Report (λ x. refl) (report_given platform heading modules told))))
