@@ -153,7 +153,7 @@ documents_told w d flash platform e found also =
     let given = given_in w device_asks in
     let fields : List (Ask Key) = ask.Field 2 ∷ ask.Field 3 ∷ [] in
     let none : fault_asked w device_asks ≡ None =
-        documents_fault w e ∙ ap (λ (r : Result FlashDoc Fault). or_else (result_err r) (result_err (platform_value w))) found ∙ ap result_err also in
+    documents_fault w e ∙ ap (λ (r : Result FlashDoc Fault). or_else (result_err r) (result_err (platform_value w))) found ∙ ap result_err also in
     ap (λ (r : Result FlashDoc Fault). gives w (attempt r (λ flash. attempt (platform_in given) (λ platform. attempt (vpd_in platform given) (λ vpd.
     attempt (device_at flash d) (λ plan. regions_stages flash.volumes vpd plan))))))
     (step_told w device_asks key.Flash out.Flash (flash_value w) flash_of_out none (in_here (ask.Part key.Flash) (ask.Part key.Platform ∷ fields)) (flash_is w e) (λ flash found. refl) ∙ found)

@@ -109,7 +109,7 @@ values_run : (w : World) (m : Module) → IsWorld (meaning_of key_cmp edk) w →
 unfolding values_value
 values_run w m e =
     let by_words = λ (platform : PlatformDoc) (flash : FlashDoc) (dynamic : Values) (choice : Choice).
-        and_then (command_line_pcds platform.at (field w 6)) (λ commands. and_then (module_value w m choice) (values_given platform flash commands dynamic)) in
+    and_then (command_line_pcds platform.at (field w 6)) (λ commands. and_then (module_value w m choice) (values_given platform flash commands dynamic)) in
     let by_libraries = λ (platform : PlatformDoc) (flash : FlashDoc) (dynamic : Values). and_then (choice_value w m) (by_words platform flash dynamic) in
     let by_pcds = λ (platform : PlatformDoc) (flash : FlashDoc). and_then (pcds_value w) (by_libraries platform flash) in
     let by_flash = λ (platform : PlatformDoc). and_then (flash_value w) (by_pcds platform) in

@@ -319,7 +319,7 @@ name_same : (w : World) (asks : List (Ask Key)) (m : Member) → IsWorld (meanin
 unfolding line_name name_below name_described
 name_same w asks (member.Inf line) e none sub =
     let name : PlatformDoc → InfDoc → List Arch → Result Guid Fault =
-        λ platform inf arches. and_then (inf_arch line platform.components arches) (λ arch. Ok (module_guid platform (module_of line arch) inf)) in
+    λ platform inf arches. and_then (inf_arch line platform.components arches) (λ arch. Ok (module_guid platform (module_of line arch) inf)) in
     line_read w asks line name name e none sub (λ platform inf arches. refl)
 name_same w asks (member.File name) e none sub = refl
 
