@@ -15,7 +15,7 @@ use Rattle.step_engine.specs.declared.talk.Batch.{Batch}
 use Rattle.step_engine.specs.declared.talk.Pair.{Pair}
 use Rattle.step_engine.proofs.Talks.{next_asked}
 use Rattle.build_stages.specs.Asks.{same_ask}
-use Rattle.build_stages.specs.Stages.{end, stage, Known, first_stop, cons_both, answered, missing, judged, gathered, advance, known_pairs, all_pairs, known_in, wanted_in, meaning_of}
+use Rattle.build_stages.specs.Stages.{end, stage, with_answers, Known, first_stop, cons_both, answered, missing, judged, gathered, advance, known_pairs, all_pairs, known_in, wanted_in, meaning_of}
 use Rattle.build_stages.specs.StagesLaws.{Agrees}
 use Rattle.build_stages.specs.StagesRules.{staged_is_lawful, asks_exact}
 use Rattle.build_stages.specs.StagesTurns.{talk_agrees}
