@@ -2,6 +2,7 @@
 //! the step before it.
 ghost use Rattle.std.specs.Prelude.{◌≡◌, ◌∷◌, ◌++◌, [], IfOk};
 ghost use Rattle.build_stages.specs.Gives.{GivesIn};
+ghost use Rattle.build_stages.specs.Writing.{given_file};
 ghost use Rattle.engine_builds.specs.SmallRules.{first_ask, second_ask, path_of, absent, with_field, file_given, parts_given, step_given};
 
 use build_base::book::Permit;
@@ -144,19 +145,30 @@ fn with_field(alloc: Global, key: u32, file: &Answer<Text>, more: &Text) -> Resu
     }
 }
 
-fn file_given(alloc: Global, key: u32, given: &Given<'_, u32, Text>) -> Result<Text, Stop<u32>>
-    ensures { GivesIn (λ text. text) result (file_given key given.now) }
+fn file_answer<'a>(
+    alloc: Global,
+    key: u32,
+    given: &Given<'a, u32, Text>,
+) -> Result<&'a Answer<Text>, Stop<u32>>
+    ensures { GivesIn (λ answer. answer.now) result (given_file given.now (path_of key)) }
 {
-    let file = given.file(&path(alloc, key)?)?;
-    let more = given.field(key as u8)?;
-    with_field(alloc, key, file, more)
+    let path = path(alloc, key)?;
+    given.file(&path)
 }
 
-fn parts_given(alloc: Global, key: u32, given: &Given<'_, u32, Text>) -> Result<Text, Stop<u32>>
-    ensures { GivesIn (λ text. text) result (parts_given key given.now) }
+fn file_given(alloc: Global, key: u8, given: &Given<'_, u32, Text>) -> Result<Text, Stop<u32>>
+    ensures { GivesIn (λ text. text) result (file_given key given.now) }
+{
+    let file = file_answer(alloc, key as u32, given)?;
+    let more = given.field(key)?;
+    with_field(alloc, key as u32, file, more)
+}
+
+fn parts_given(alloc: Global, before: u32, given: &Given<'_, u32, Text>) -> Result<Text, Stop<u32>>
+    ensures { GivesIn (λ text. text) result (parts_given before given.now) }
 {
     let first = given.part(&0)?;
-    let second = given.part(&(key - 1))?;
+    let second = given.part(&before)?;
     Ok(join_texts(alloc, first, second)?)
 }
 
@@ -164,8 +176,8 @@ fn step_given(alloc: Global, key: u32, given: &Given<'_, u32, Text>) -> Result<T
     ensures { GivesIn (λ text. text) result (step_given key given.now) }
 {
     if key < 2 {
-        file_given(alloc, key, given)
+        file_given(alloc, key as u8, given)
     } else {
-        parts_given(alloc, key, given)
+        parts_given(alloc, key - 1, given)
     }
 }
