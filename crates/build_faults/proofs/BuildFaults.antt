@@ -17,13 +17,13 @@ use Rattle.meta_lexer.specs.Words.{is_identifier}
 use Rattle.step_engine.specs.Meaning.{IsWorld}
 use Rattle.build_stages.specs.Stages.{meaning_of}
 use Rattle.step_pack.specs.Keys.{key_cmp}
-use Rattle.module_steps.specs.Settings.{built_modules}
-use Rattle.image_steps.specs.Asks.{is_based}
-use Rattle.document_rules.specs.Folders.{output_folder}
-use Rattle.document_rules.specs.VpdLines.{has_vpd}
-use Rattle.output_rules.specs.Outputs.{module_outputs, volume_outputs, device_outputs, vpd_outputs, report_output}
-use Rattle.output_rules.specs.Wanted.{wanted_of, is_marked}
-use Rattle.output_rules.specs.declared.wanted.Wanted.{Wanted}
+use Rattle.step_answers.specs.Settings.{built_modules}
+use Rattle.step_answers.specs.Volumes.{is_based}
+use Rattle.step_answers.specs.Folders.{output_folder}
+use Rattle.step_answers.specs.VpdLines.{has_vpd}
+use Rattle.output_steps.specs.Outputs.{module_outputs, volume_outputs, device_outputs, vpd_outputs, report_output}
+use Rattle.output_steps.specs.Wanted.{wanted_of, is_marked}
+use Rattle.output_steps.specs.declared.wanted.Wanted.{Wanted}
 use Rattle.named_faults.specs.Named.{IsNamed, FailsByName}
 use Rattle.named_faults.proofs.NamedLemmas.{or_else_named, AreNamed, first_named, mapped_named, err_named, then_fails, or_fault_fails, front_fails, AllFailByName}
 use Rattle.flash_document.specs.Shape.{HasShape}
@@ -153,7 +153,7 @@ wanted_value_fails : (w : World) (vpd : Bool) (folder : List ℕ) (modules : Lis
     → IsWorld (meaning_of key_cmp edk) w → IsSpoken w → length folder ≤ folder_limit → AllByRecursion ModuleFits modules → HasShape flash
     → FailsByName (wanted_value w vpd folder modules flash)
 wanted_value_fails w vpd folder modules flash i s short fit shape =
-    then_fails (wanted_of flash (field w 8)) _ (wanted_fails flash (field w 8))
+    then_fails (wanted_of flash (field w 8)) _ (wanted_fails flash (field w 8) s.images)
     (λ wanted e.
     or_fault_fails (build_fault w vpd modules flash wanted (flash_file None (field w 9))) _ (build_fault_named w vpd modules flash wanted (flash_file None (field w 9)) i s)
     (λ none. build_files_fail w vpd folder modules flash wanted (flash_file None (field w 9)) s short fit shape))

@@ -48,20 +48,23 @@ use Rattle.image_rebase.proofs.SameLemmas.{past, through}
 use Rattle.fd_regions.specs.Device.{device_of}
 use Rattle.build_stages.specs.Stages.{meaning_of}
 use Rattle.step_pack.specs.Keys.{key_cmp}
-use Rattle.image_steps.specs.Asks.{file_order, is_based, is_vpd}
-use Rattle.image_steps.specs.Contents.{file_absent, section_absent}
-use Rattle.image_steps.specs.Files.{file_name, image_plan}
-use Rattle.image_steps.specs.Parts.{as_is, file_shaped, header_guid, part_with}
-use Rattle.image_steps.specs.Volumes.{composed_volume}
-use Rattle.module_steps.specs.Settings.{arches_built}
-use Rattle.module_images.specs.Apriori.{apriori_plan}
-use Rattle.module_images.specs.Asks.{is_path_of, takes_depex}
-use Rattle.module_images.specs.Names.{build_folder, module_guid}
-use Rattle.module_images.specs.Plans.{module_of, module_plan}
-use Rattle.module_images.specs.Sections.{expression_fault, expression_part, file_part}
-use Rattle.module_images.specs.declared.plans.ModulePlan.{ModulePlan}
-use Rattle.image_rules.specs.Based.{rebased_image}
-use Rattle.image_rules.specs.ImageTrees.{device_at, item_at, item_of_number, volume_at, vpd_path}
+use Rattle.volume_steps.specs.Asks.{file_order, is_vpd}
+use Rattle.step_answers.specs.Volumes.{is_based, item_of_number, volume_at}
+use Rattle.step_answers.specs.Contents.{file_absent, section_absent}
+use Rattle.file_steps.specs.Files.{file_name, image_plan}
+use Rattle.file_steps.specs.Parts.{as_is, file_shaped, header_guid, part_with}
+use Rattle.volume_steps.specs.Volumes.{composed_volume}
+use Rattle.step_answers.specs.Settings.{arches_built}
+use Rattle.file_steps.specs.Apriori.{apriori_plan}
+use Rattle.file_steps.specs.ModuleAsks.{is_path_of, takes_depex}
+use Rattle.file_steps.specs.Names.{module_guid}
+use Rattle.step_answers.specs.Folders.{build_folder}
+use Rattle.file_steps.specs.Plans.{module_of, module_plan}
+use Rattle.file_steps.specs.Sections.{expression_fault, expression_part, file_part}
+use Rattle.file_steps.specs.declared.plans.ModulePlan.{ModulePlan}
+use Rattle.volume_steps.specs.Based.{rebased_image}
+use Rattle.volume_steps.specs.VolumeTrees.{device_at, vpd_path}
+use Rattle.file_steps.specs.FileTrees.{item_at}
 use Rattle.image_faults.proofs.BasedFaults.{based_fails}
 use Rattle.image_faults.proofs.ContentFaults.{composed_fails, file_absent_named, name_fails, section_absent_named, shaped_fails, stated_part_fails}
 use Rattle.image_faults.proofs.DeviceFaults.{device_fails}

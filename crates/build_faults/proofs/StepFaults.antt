@@ -15,20 +15,20 @@ use Rattle.doc_types.specs.declared.choice.Choice.{Choice}
 use Rattle.doc_types.specs.declared.choice.Module.{Module}
 use Rattle.doc_types.specs.declared.module.InfDoc.{InfDoc}
 use Rattle.doc_types.specs.declared.platform.PlatformDoc.{PlatformDoc}
-use Rattle.document_rules.specs.VpdLines.{has_vpd}
-use Rattle.document_rules.specs.Folders.{path_below, output_folder}
+use Rattle.step_answers.specs.VpdLines.{has_vpd}
+use Rattle.step_answers.specs.Folders.{path_below, output_folder}
 use Rattle.document_stages.specs.Worlds.{world_lines}
 use Rattle.library_choice.specs.Choices.{choice}
 use Rattle.library_choice.specs.Closure.{wanted}
-use Rattle.module_rules.specs.ModuleTrees.{most_rounds}
-use Rattle.module_steps.specs.Choices.{alone, behind}
-use Rattle.module_steps.specs.Parts.{held_package, linked, linked_module, described, parts}
-use Rattle.module_steps.specs.Pcds.{platform_ask, module_ask, pcds_given, values_given}
-use Rattle.module_steps.specs.Settings.{arches_built, command_line_pcds, setting_of}
-use Rattle.module_steps.specs.declared.parts.Described.{Described}
-use Rattle.module_steps.specs.declared.parts.Linked.{Linked}
-use Rattle.image_rules.specs.ImageTrees.{vpd_where, vpd_path}
-use Rattle.image_rules.specs.VpdTree.{placed_vpd}
+use Rattle.library_steps.specs.ModuleTrees.{most_rounds}
+use Rattle.library_steps.specs.Choices.{alone, behind}
+use Rattle.library_steps.specs.Parts.{held_package, linked, linked_module, described, parts}
+use Rattle.library_steps.specs.Pcds.{platform_ask, module_ask, pcds_given, values_given}
+use Rattle.step_answers.specs.Settings.{arches_built, command_line_pcds, setting_of}
+use Rattle.library_steps.specs.declared.parts.Described.{Described}
+use Rattle.library_steps.specs.declared.parts.Linked.{Linked}
+use Rattle.volume_steps.specs.VolumeTrees.{vpd_where, vpd_path}
+use Rattle.volume_steps.specs.VpdTree.{placed_vpd}
 use Rattle.text_steps.specs.Code.{code_given}
 use Rattle.text_steps.specs.Depex.{depex_given}
 use Rattle.text_steps.specs.Report.{module_report, report_modules, text_of}

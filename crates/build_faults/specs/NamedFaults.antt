@@ -2,8 +2,9 @@
 use Rattle.std.specs.Prelude.{ℕ, Bool, List}
 use Rattle.build_base.specs.World.{World, field}
 use Rattle.doc_types.specs.declared.choice.Module.{Module}
+use Rattle.job_fields.specs.Fields.{ARCHES, TARGET, TAG, PCDS, IMAGES}
 use Rattle.module_faults.specs.Folders.{IsNameOrNone}
-use Rattle.module_faults.specs.Words.{AreArches, AreSets}
+use Rattle.module_faults.specs.Words.{AreArches, AreImages, AreSets}
 use Rattle.named_faults.specs.Named.{FailsByName}
 use Rattle.build_laws.specs.BuildValues.{all_value}
 use Rattle.build_laws.specs.ImageValues.{file_value, volume_value, device_value}
@@ -12,13 +13,14 @@ use Rattle.build_laws.specs.TextValues.{code_value, depex_value, report_value}
 use Rattle.build_rules.specs.Values.{dec_value, inf_value, platform_value, flash_value}
 use Rattle.build_laws.specs.VpdValues.{vpd_value}
 
--- The fields of a world come of a build's words. Field 1 names architectures that can be built.
--- Fields 2 and 3 are names or empty, and 6 gives PCDs values.
+-- The fields of a world come of a build's words: each has a reading, and a target and a tag are names
+-- or empty.
 pub record IsSpoken (w : World) : Type 0 where
-  pub arches : AreArches (field w 1)
-  pub target : IsNameOrNone (field w 2)
-  pub tag : IsNameOrNone (field w 3)
-  pub sets : AreSets (field w 6)
+  pub arches : AreArches (field w ARCHES)
+  pub target : IsNameOrNone (field w TARGET)
+  pub tag : IsNameOrNone (field w TAG)
+  pub sets : AreSets (field w PCDS)
+  pub images : AreImages (field w IMAGES)
 
 -- Each step gives something, or its fault has a name.
 pub record StepsFailByName (w : World) : Type 0 where

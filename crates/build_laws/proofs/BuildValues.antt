@@ -29,18 +29,19 @@ use Rattle.step_pack.specs.declared.key.Key.TheVariants as key
 use Rattle.step_pack.specs.declared.out.Out.{Out}
 use Rattle.step_pack.specs.declared.out.Out.TheVariants as out
 use Rattle.step_pack.specs.declared.out.Output.{Output}
-use Rattle.module_steps.specs.Settings.{built_modules}
+use Rattle.step_answers.specs.Settings.{built_modules}
 use Rattle.text_steps.specs.Asks.{built_asks, build_module_asks}
 use Rattle.flash_document.specs.Shape.{HasShape}
-use Rattle.image_steps.specs.Asks.{is_based, volume_key, fits_u16}
-use Rattle.document_rules.specs.Folders.{output_folder}
-use Rattle.document_rules.specs.Trees.{EdkStages, given_as, platform_of_out, flash_of_out}
-use Rattle.document_rules.specs.VpdLines.{has_vpd}
-use Rattle.output_rules.specs.AllTree.{step_where, steps_from, device_step, image_asks, report_part, build_asks, all_asks, report_named, all_given, all_stages, files_stages}
-use Rattle.output_rules.specs.Outputs.{base_of_out, has_texts, has_bytes, named, named_in, outputs_in, modules_outputs, module_outputs, volume_outputs, device_outputs, vpd_outputs, report_output, outputs_of}
-use Rattle.output_rules.specs.Wanted.{wanted_of, is_marked}
-use Rattle.output_rules.specs.declared.wanted.Wanted.{Wanted}
-use Rattle.build_rules.specs.Rules.{edk, is_path_or_empty, value_in}
+use Rattle.step_answers.specs.Volumes.{is_based, volume_key, fits_u16}
+use Rattle.step_answers.specs.Folders.{output_folder}
+use Rattle.step_answers.specs.Readers.{EdkStages, given_as, platform_of_out, flash_of_out}
+use Rattle.step_answers.specs.VpdLines.{has_vpd}
+use Rattle.output_steps.specs.AllTree.{step_where, steps_from, device_step, image_asks, report_part, build_asks, all_asks, report_named, all_given, all_stages, files_stages}
+use Rattle.output_steps.specs.Outputs.{base_of_out, has_texts, has_bytes, named, named_in, outputs_in, modules_outputs, module_outputs, volume_outputs, device_outputs, vpd_outputs, report_output, outputs_of}
+use Rattle.output_steps.specs.Wanted.{wanted_of, is_marked}
+use Rattle.output_steps.specs.declared.wanted.Wanted.{Wanted}
+use Rattle.job_fields.specs.Readings.{is_path_or_empty}
+use Rattle.build_rules.specs.Rules.{edk, value_in}
 use Rattle.build_rules.specs.RulesBounds.{edk_is_bounded}
 use Rattle.build_rules.specs.Values.{inf_value, platform_value, flash_file, flash_value}
 use Rattle.build_laws.specs.ModuleValues.{pcds_value}
@@ -51,7 +52,7 @@ use Rattle.build_laws.specs.BuildValues.{module_fault, fault_where, volume_fault
 use Rattle.build_rules.proofs.Asked.{given_in, fault_asked, by_answers, AreIn, in_here, in_there, in_first, in_behind, in_one, in_more, part_told, fault_append, fault_each, else_none}
 use Rattle.build_laws.proofs.DeviceValues.{based_step, device_is}
 use Rattle.build_laws.proofs.FlashShape.{flash_shape, counts_fit}
-use Rattle.build_laws.proofs.ImageValues.{gives, flash_is, path_or_empty, step_run, passed_run, last_run, part_fault, both_found}
+use Rattle.build_laws.proofs.ImageValues.{gives, flash_is, file_named, step_run, passed_run, last_run, part_fault, both_found}
 use Rattle.build_rules.proofs.KindLemmas.{stage_run}
 use Rattle.build_laws.proofs.PcdValues.{pcds_is}
 use Rattle.build_rules.proofs.FirstFaults.{none_both, or_same}
@@ -229,7 +230,7 @@ field_9 w e =
 report_run : (w : World) → IsWorld (meaning_of key_cmp edk) w → (vpd : Bool) (folder : List ℕ) (modules : List Module) (flash : FlashDoc) (wanted : Wanted)
     → HasShape flash → gives w (attempt (report_named (field w 9)) (λ report. files_stages vpd folder modules flash wanted report)) ≡ given_as out.All (files_value w vpd folder modules flash wanted (flash_file None (field w 9)))
 report_run w e vpd folder modules flash wanted shape =
-    ap (λ (r : Result (Option (List ℕ)) Fault). gives w (attempt r (λ report. files_stages vpd folder modules flash wanted report))) (path_or_empty (field w 9) (field_9 w e) None)
+    ap (λ (r : Result (Option (List ℕ)) Fault). gives w (attempt r (λ report. files_stages vpd folder modules flash wanted report))) (file_named (field w 9) (field_9 w e))
     ∙ files_run w e vpd folder modules flash wanted (flash_file None (field w 9)) shape
 
 abbrev by_steps : World → Result Out Fault → Result Out Fault → EdkStages

@@ -21,16 +21,16 @@ use Rattle.library_choice.proofs.RoundLemmas.{falls}
 use Rattle.step_pack.specs.Keys.{key_cmp}
 use Rattle.step_pack.specs.declared.key.Key.TheVariants as key
 use Rattle.step_pack.specs.declared.out.Out.TheVariants as out
-use Rattle.module_steps.specs.Asks.{inf_asks}
-use Rattle.module_steps.specs.Choices.{alone, own_inf, behind, with_more}
-use Rattle.module_steps.specs.Parts.{inf_of_out, inf_in, infs_from}
-use Rattle.module_steps.proofs.KnownLemmas.{first_known, still_known, known_behind}
-use Rattle.document_rules.specs.Fits.{fits}
-use Rattle.module_rules.specs.ModuleTrees.{round_stages, choice_round, choice_after, most_rounds, module_first, choice_given, choice_stages}
+use Rattle.library_steps.specs.Asks.{inf_asks}
+use Rattle.library_steps.specs.Choices.{alone, own_inf, behind, with_more}
+use Rattle.step_answers.specs.Readers.{inf_of_out, inf_in, given_as, platform_in}
+use Rattle.library_steps.specs.Parts.{infs_from}
+use Rattle.library_steps.proofs.KnownLemmas.{first_known, still_known, known_behind}
+use Rattle.step_answers.specs.Fits.{fits}
+use Rattle.library_steps.specs.ModuleTrees.{round_stages, choice_round, choice_after, most_rounds, module_first, choice_given, choice_stages}
 use Rattle.build_laws.specs.ModuleValues.{infs_value, chosen_by, chosen_after, choice_value}
 use Rattle.build_rules.specs.Rules.{edk, value_in}
 use Rattle.build_rules.specs.RulesBounds.{edk_is_bounded}
-use Rattle.document_rules.specs.Trees.{given_as, platform_in}
 use Rattle.build_rules.specs.Values.{inf_value, platform_value}
 use Rattle.build_rules.proofs.Asked.{given_in, fault_asked, step_told}
 use Rattle.build_laws.proofs.DescriptionLemmas.{described_path}

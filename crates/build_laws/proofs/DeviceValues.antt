@@ -27,11 +27,12 @@ use Rattle.step_pack.specs.declared.key.Key.{Key}
 use Rattle.step_pack.specs.declared.key.Key.TheVariants as key
 use Rattle.step_pack.specs.declared.out.Out.{Out}
 use Rattle.step_pack.specs.declared.out.Out.TheVariants as out
-use Rattle.image_steps.specs.Asks.{is_based, step_by, volume_step, is_vpd, tree_asks, kind_asks, region_asks, regions_below}
-use Rattle.image_steps.specs.Contents.{file_absent, vpd_given, vpd_content}
-use Rattle.image_steps.specs.Devices.{tree_content, region_content, contents_of, device_given}
-use Rattle.image_rules.specs.ImageTrees.{device_at, vpd_path, vpd_in, regions_stages, device_asks, device_from, device_stages}
-use Rattle.document_rules.specs.Trees.{given_as, flash_of_out, platform_of_out, platform_in}
+use Rattle.step_answers.specs.Volumes.{is_based, step_by, volume_step}
+use Rattle.volume_steps.specs.Asks.{is_vpd, tree_asks, kind_asks, region_asks, regions_below}
+use Rattle.step_answers.specs.Contents.{file_absent}
+use Rattle.volume_steps.specs.Devices.{vpd_given, vpd_content, tree_content, region_content, contents_of, device_given}
+use Rattle.volume_steps.specs.VolumeTrees.{device_at, vpd_path, vpd_in, regions_stages, device_asks, device_from, device_stages}
+use Rattle.step_answers.specs.Readers.{given_as, flash_of_out, platform_of_out, platform_in}
 use Rattle.build_rules.specs.Rules.{edk, value_in}
 use Rattle.build_rules.specs.RulesBounds.{edk_is_bounded}
 use Rattle.build_rules.specs.Values.{platform_value, flash_value}

@@ -35,9 +35,12 @@ use Rattle.flash_document.specs.Flash.{line_of, flash_of}
 use Rattle.flash_document.specs.Shape.{KindFits, RegionFits, DeviceFits, SourceFits, SectionFits, ItemFits, VolumeFits, VolumesFit, FewItems, HasShape}
 use Rattle.flash_document.proofs.CarryLemmas.{at_place}
 use Rattle.flash_document.proofs.ShapeLemmas.{shape_of}
-use Rattle.image_steps.specs.Asks.{source_below, sections_below, fits_u16, kind_below, regions_below}
-use Rattle.image_rules.specs.ImageTrees.{item_of_number, volume_at, item_at, device_at}
-use Rattle.document_rules.specs.Trees.{empty_flash}
+use Rattle.file_steps.specs.Asks.{source_below, sections_below}
+use Rattle.step_answers.specs.Volumes.{fits_u16, item_of_number, volume_at}
+use Rattle.volume_steps.specs.Asks.{kind_below, regions_below}
+use Rattle.file_steps.specs.FileTrees.{item_at}
+use Rattle.volume_steps.specs.VolumeTrees.{device_at}
+use Rattle.document_steps.specs.Trees.{empty_flash}
 use Rattle.build_rules.specs.Values.{job_macros, lines_in, platform_value, flash_file, flash_of_file, flash_value}
 
 -- What lines come to is within the limits.

@@ -1,6 +1,6 @@
 -- What stages come to in a world, and the value of the flash description.
 use Rattle.std.specs.Prelude.{◌==◌, if◌then◌else◌}
-use Rattle.std.specs.Option.{is_some}
+use Rattle.std.specs.Option.{is_some, option_map}
 use Rattle.std.specs.Result.{result_err}
 use Rattle.std.proofs.Common.{◌≡◌, ℕ, Bool, true, false, List, [], ◌∷◌, length, Contains, refl, ap, ◌∙◌, Result, Ok, Err, Option, Some, None}
 use Rattle.build_base.specs.First.{and_then, or_else, or_fault}
@@ -26,9 +26,11 @@ use Rattle.step_pack.specs.declared.key.Key.{Key}
 use Rattle.step_pack.specs.declared.key.Key.TheVariants as key
 use Rattle.step_pack.specs.declared.out.Out.{Out}
 use Rattle.step_pack.specs.declared.out.Out.TheVariants as out
-use Rattle.document_rules.specs.Fits.{fits}
-use Rattle.document_rules.specs.Trees.{platform_of_out, flash_of_out, flash_in, EdkStages, given_as, some_path, path_named, flash_named, flash_asks, flash_from, flash_given, flash_stages}
-use Rattle.build_rules.specs.Rules.{edk, is_path_or_empty, value_in}
+use Rattle.step_answers.specs.Fits.{fits}
+use Rattle.step_answers.specs.Readers.{platform_of_out, flash_of_out, flash_in, or_impossible, EdkStages, given_as}
+use Rattle.document_steps.specs.Trees.{named_or, flash_named, flash_asks, flash_from, flash_given, flash_stages}
+use Rattle.job_fields.specs.Readings.{file_in, is_path_or_empty}
+use Rattle.build_rules.specs.Rules.{edk, value_in}
 use Rattle.build_rules.specs.RulesBounds.{edk_is_bounded}
 use Rattle.build_rules.specs.Values.{job_macros, platform_value, flash_file, flash_of_file, flash_value}
 use Rattle.build_rules.proofs.Asked.{given_in, fault_asked, by_answers, in_here, step_told, step_fault, or_value, else_none}
@@ -102,14 +104,26 @@ after_value {X} w asks k variant r unwrap next q c v h =
 
 -- the flash description
 
-pub path_or_empty : (text : List ℕ) → is_path_or_empty text ≡ true → (stated : Option (List ℕ)) → flash_named stated text ≡ Ok (flash_file stated text)
+some_named : (path : Option (List ℕ)) (text : List ℕ) → or_impossible path ≡ Ok text → or_impossible (option_map Some path) ≡ Ok (Some text)
+some_named (Some path) text e = let same : path ≡ text = cc in ap (λ p. Ok (Some p)) same
+some_named None text e = absurd cc
+
+-- a file that a field names, where it has the form
+pub file_named : (text : List ℕ) → is_path_or_empty text ≡ true → or_impossible (file_in text) ≡ Ok (flash_file None text)
+file_named text e =
+    (elim (length text == 0) as (λ b. (if b then true else is_some (path_field text)) ≡ true
+    → or_impossible (if b then Some None else option_map Some (path_field text)) ≡ Ok (if b then None else Some text)) [
+      | true ↦ λ h. refl
+      | false ↦ λ h. some_named (path_field text) text (path_some _ text h)
+    ]) e
+
+or_stated : (text : List ℕ) (stated : Option (List ℕ)) → named_or stated (flash_file None text) ≡ flash_file stated text
+or_stated text stated = elim (length text == 0) as (λ b. named_or stated (if b then None else Some text) ≡ (if b then stated else Some text)) [ true ↦ refl | false ↦ refl ]
+
+path_or_empty : (text : List ℕ) → is_path_or_empty text ≡ true → (stated : Option (List ℕ)) → flash_named stated text ≡ Ok (flash_file stated text)
 unfolding flash_named
 path_or_empty text e stated =
-    (elim (length text == 0) as (λ b. (if b then true else is_some (path_field text)) ≡ true
-    → (if b then Ok stated else some_path (path_named (path_field text))) ≡ Ok (if b then stated else Some text)) [
-      | true ↦ λ h. refl
-      | false ↦ λ h. ap some_path (path_some _ text h)
-    ]) e
+    ap (λ (r : Result (Option (List ℕ)) Fault). and_then r (λ named. Ok (named_or stated named))) (file_named text e) ∙ ap Ok (or_stated text stated)
 
 root_run : (w : World) (platform : PlatformDoc) (root : Option (List ℕ)) → gives w (flash_from platform (job_macros w) root) ≡ given_as out.Flash (flash_of_file w platform root)
 root_run w platform None = refl

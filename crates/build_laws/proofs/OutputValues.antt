@@ -24,14 +24,14 @@ use Rattle.step_pack.specs.declared.key.Key.TheVariants as key
 use Rattle.step_pack.specs.declared.out.Out.{Out}
 use Rattle.step_pack.specs.declared.out.Out.TheVariants as out
 use Rattle.step_pack.specs.declared.out.Output.{Output}
-use Rattle.module_steps.specs.Settings.{built_modules}
-use Rattle.image_steps.specs.Asks.{is_based, volume_key}
-use Rattle.document_rules.specs.Folders.{output_folder}
-use Rattle.document_rules.specs.Trees.{given_as}
-use Rattle.document_rules.specs.VpdLines.{has_vpd}
-use Rattle.output_rules.specs.Outputs.{image_where, file_output, module_outputs, volume_outputs, device_outputs, vpd_outputs, report_output}
-use Rattle.output_rules.specs.Wanted.{wanted_of, is_marked}
-use Rattle.output_rules.specs.declared.wanted.Wanted.{Wanted}
+use Rattle.step_answers.specs.Settings.{built_modules}
+use Rattle.step_answers.specs.Volumes.{is_based, volume_key}
+use Rattle.step_answers.specs.Folders.{output_folder}
+use Rattle.step_answers.specs.Readers.{given_as}
+use Rattle.step_answers.specs.VpdLines.{has_vpd}
+use Rattle.output_steps.specs.Outputs.{image_where, file_output, module_outputs, volume_outputs, device_outputs, vpd_outputs, report_output}
+use Rattle.output_steps.specs.Wanted.{wanted_of, is_marked}
+use Rattle.output_steps.specs.declared.wanted.Wanted.{Wanted}
 use Rattle.build_rules.specs.Rules.{edk, value_in}
 use Rattle.build_rules.specs.Values.{inf_value, platform_value, flash_file, flash_value}
 use Rattle.build_laws.specs.ModuleValues.{pcds_value}

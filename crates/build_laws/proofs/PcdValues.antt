@@ -19,20 +19,19 @@ use Rattle.step_pack.specs.declared.key.Key.{Key}
 use Rattle.step_pack.specs.declared.key.Key.TheVariants as key
 use Rattle.step_pack.specs.declared.out.Out.{Out}
 use Rattle.step_pack.specs.declared.out.Out.TheVariants as out
-use Rattle.module_steps.specs.declared.parts.Described.{Described}
-use Rattle.module_steps.specs.declared.parts.Linked.{Linked}
-use Rattle.module_steps.specs.Asks.{choice_asks, inf_asks, dec_asks, linked_asks, package_asks}
-use Rattle.module_steps.specs.Parts.{choice_of_out, choice_in, linked, linked_module, linked_in, linked_from, described_in, described_from, parts_in, parts_from}
-use Rattle.module_steps.specs.Pcds.{pcds_given, values_given}
-use Rattle.module_steps.specs.Settings.{command_line_pcds, setting_of}
-use Rattle.module_steps.specs.Skus.{skus_end}
-use Rattle.text_steps.specs.Report.{values_of_out, values_in}
-use Rattle.document_rules.specs.Fits.{fits}
-use Rattle.module_rules.specs.ModuleTrees.{linked_stages, described_stages, parts_stages, modules_parts, pcds_asks, pcds_first, pcds_stages, one_described, module_parts, values_asks, values_first, values_stages}
+use Rattle.library_steps.specs.declared.parts.Described.{Described}
+use Rattle.library_steps.specs.declared.parts.Linked.{Linked}
+use Rattle.library_steps.specs.Asks.{choice_asks, inf_asks, dec_asks, linked_asks, package_asks}
+use Rattle.step_answers.specs.Readers.{choice_of_out, choice_in, values_of_out, values_in, given_as, platform_in, flash_of_out, flash_in}
+use Rattle.library_steps.specs.Parts.{linked, linked_module, linked_in, linked_from, described_in, described_from, parts_in, parts_from}
+use Rattle.library_steps.specs.Pcds.{pcds_given, values_given}
+use Rattle.step_answers.specs.Settings.{command_line_pcds, setting_of}
+use Rattle.library_steps.specs.Skus.{skus_end}
+use Rattle.step_answers.specs.Fits.{fits}
+use Rattle.library_steps.specs.ModuleTrees.{linked_stages, described_stages, parts_stages, modules_parts, pcds_asks, pcds_first, pcds_stages, one_described, module_parts, values_asks, values_first, values_stages}
 use Rattle.build_laws.specs.ModuleValues.{choice_value, linked_value, described_value, parts_value, modules_value, pcds_value, module_value, values_value}
 use Rattle.build_rules.specs.Rules.{edk, value_in}
 use Rattle.build_rules.specs.RulesBounds.{edk_is_bounded}
-use Rattle.document_rules.specs.Trees.{given_as, platform_in, flash_of_out, flash_in}
 use Rattle.build_rules.specs.Values.{platform_value, flash_value}
 use Rattle.build_rules.proofs.Asked.{given_in, fault_asked, step_told}
 use Rattle.build_laws.proofs.ChoiceValues.{choice_is}

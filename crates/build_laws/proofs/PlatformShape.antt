@@ -13,7 +13,7 @@ use Rattle.doc_types.specs.declared.platform.PlatformDoc.{PlatformDoc}
 use Rattle.doc_types.specs.declared.platform.Sku.{Sku}
 use Rattle.dsc_platform.specs.Platform.{platform_of}
 use Rattle.dsc_platform.proofs.ShapeOfLines.{skus_end as lines_end}
-use Rattle.module_steps.specs.Skus.{or_not, is_default, reaches, skus_end}
+use Rattle.library_steps.specs.Skus.{or_not, is_default, reaches, skus_end}
 use Rattle.build_rules.specs.Values.{job_macros, lines_in, platform_value}
 use Rattle.build_laws.proofs.FlashShape.{both_true}
 

@@ -39,17 +39,19 @@ use Rattle.step_pack.specs.declared.key.Key.{Key}
 use Rattle.step_pack.specs.declared.key.Key.TheVariants as key
 use Rattle.step_pack.specs.declared.out.Out.{Out}
 use Rattle.step_pack.specs.declared.out.Out.TheVariants as out
-use Rattle.module_steps.specs.Parts.{inf_of_out, inf_in}
-use Rattle.module_steps.specs.Settings.{arches_built}
-use Rattle.image_steps.specs.Files.{image_plan}
-use Rattle.module_images.specs.declared.plans.ModulePlan.{ModulePlan}
-use Rattle.module_images.specs.Apriori.{name_described, name_below, line_name, member_name, apriori_plan, apriori_given}
-use Rattle.module_images.specs.Asks.{is_path_of, line_asks, member_asks, members_asks, source_file, section_files, takes_depex, plan_asks}
-use Rattle.module_images.specs.Files.{sections_given, module_given}
-use Rattle.module_images.specs.Modules.{platform_of_out, platform_in, arches_in, folder_in, plan_described, plan_below, plan_given}
-use Rattle.module_images.specs.Names.{build_folder, module_guid}
-use Rattle.module_images.specs.Plans.{module_of, module_plan}
-use Rattle.module_images.specs.Sections.{got_checked, source_checked, files_checked, depex_of_out, own_expression, expression_fault, expression_part, got_part, source_part, part_before, parts_from}
+use Rattle.step_answers.specs.Readers.{inf_of_out, inf_in, platform_of_out, platform_in}
+use Rattle.step_answers.specs.Settings.{arches_built}
+use Rattle.file_steps.specs.Files.{image_plan}
+use Rattle.file_steps.specs.declared.plans.ModulePlan.{ModulePlan}
+use Rattle.file_steps.specs.Apriori.{name_described, name_below, line_name, member_name, apriori_plan, apriori_given}
+use Rattle.file_steps.specs.ModuleAsks.{is_path_of, line_asks, member_asks, members_asks, source_file, section_files, takes_depex, plan_asks}
+use Rattle.file_steps.specs.ModuleFiles.{sections_given, module_given}
+use Rattle.step_answers.specs.Settings.{arches_built_in}
+use Rattle.file_steps.specs.Modules.{folder_in, plan_described, plan_below, plan_given}
+use Rattle.file_steps.specs.Names.{module_guid}
+use Rattle.step_answers.specs.Folders.{build_folder}
+use Rattle.file_steps.specs.Plans.{module_of, module_plan}
+use Rattle.file_steps.specs.Sections.{got_checked, source_checked, files_checked, depex_of_out, own_expression, expression_fault, expression_part, got_part, source_part, part_before, parts_from}
 use Rattle.build_rules.specs.Rules.{edk, value_in}
 use Rattle.build_rules.specs.Values.{inf_value, platform_value}
 use Rattle.build_laws.specs.TextValues.{depex_value}
@@ -79,8 +81,7 @@ unfolding inf_in
 inf_read w asks path none c =
     step_told w asks (key.Inf path) out.Inf (inf_value w path) (inf_of_out path) none c (inf_is w path) (λ inf h. named_path path inf (described_path w path inf h))
 
-arches_read : (w : World) (asks : List (Ask Key)) (platform : PlatformDoc) → Contains asks (ask.Field 1) → arches_in platform (given_in w asks) ≡ arches_built platform (field w 1)
-unfolding arches_in
+arches_read : (w : World) (asks : List (Ask Key)) (platform : PlatformDoc) → Contains asks (ask.Field 1) → arches_built_in platform (given_in w asks) ≡ arches_built platform (field w 1)
 arches_read w asks platform c = ap (λ (r : Result (List ℕ) Fault). and_then r (arches_built platform)) (field_told w asks 1 c)
 
 folder_read : (w : World) (asks : List (Ask Key)) (platform : PlatformDoc) → Contains asks (ask.Field 2) → Contains asks (ask.Field 3)
@@ -101,17 +102,17 @@ then_same {A} {B} r s f g e h =
 -- what is made of the platform, the module's description and the architectures
 line_read : {A : Type 0} (w : World) (asks : List (Ask Key)) (line : InfLine) (f g : PlatformDoc → InfDoc → List Arch → Result A Fault) → IsWorld (meaning_of key_cmp edk) w
     → fault_asked w asks ≡ None → AreIn (line_asks line) asks → ((platform : PlatformDoc) (inf : InfDoc) (arches : List Arch) → f platform inf arches ≡ g platform inf arches)
-    → and_then (platform_in (given_in w asks)) (λ platform. and_then (inf_in (given_in w asks) line.inf) (λ inf. and_then (arches_in platform (given_in w asks)) (f platform inf)))
+    → and_then (platform_in (given_in w asks)) (λ platform. and_then (inf_in (given_in w asks) line.inf) (λ inf. and_then (arches_built_in platform (given_in w asks)) (f platform inf)))
     ≡ and_then (platform_value w) (λ platform. and_then (inf_value w line.inf) (λ inf. and_then (arches_built platform (field w 1)) (g platform inf)))
 line_read w asks line f g e none sub h =
     let given = given_in w asks in
     then_same (platform_in given) (platform_value w)
-    (λ platform. and_then (inf_in given line.inf) (λ inf. and_then (arches_in platform given) (f platform inf)))
+    (λ platform. and_then (inf_in given line.inf) (λ inf. and_then (arches_built_in platform given) (f platform inf)))
     (λ platform. and_then (inf_value w line.inf) (λ inf. and_then (arches_built platform (field w 1)) (g platform inf)))
     (platform_read w asks e none (sub (ask.Part key.Platform) (0, omega arith, refl))) (λ platform.
-    then_same (inf_in given line.inf) (inf_value w line.inf) (λ inf. and_then (arches_in platform given) (f platform inf)) (λ inf. and_then (arches_built platform (field w 1)) (g platform inf))
+    then_same (inf_in given line.inf) (inf_value w line.inf) (λ inf. and_then (arches_built_in platform given) (f platform inf)) (λ inf. and_then (arches_built platform (field w 1)) (g platform inf))
     (inf_read w asks line.inf none (sub (ask.Part (key.Inf line.inf)) (1, omega arith, refl))) (λ inf.
-    then_same (arches_in platform given) (arches_built platform (field w 1)) (f platform inf) (g platform inf) (arches_read w asks platform (sub (ask.Field 1) (2, omega arith, refl))) (h platform inf)))
+    then_same (arches_built_in platform given) (arches_built platform (field w 1)) (f platform inf) (g platform inf) (arches_read w asks platform (sub (ask.Field 1) (2, omega arith, refl))) (h platform inf)))
 
 -- The plan of a module's file.
 

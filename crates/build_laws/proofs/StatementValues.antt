@@ -32,13 +32,16 @@ use Rattle.step_pack.specs.declared.key.Key.{Key}
 use Rattle.step_pack.specs.declared.key.Key.TheVariants as key
 use Rattle.step_pack.specs.declared.out.Out.{Out}
 use Rattle.step_pack.specs.declared.out.Out.TheVariants as out
-use Rattle.image_steps.specs.Asks.{source_file, source_volume, section_files, section_volumes, body_asks, file_asks, item_asks, is_based, step_by, volume_step, fits_u16}
-use Rattle.image_steps.specs.Contents.{required, file_absent, section_absent, file_content, volume_content, volume_given}
-use Rattle.image_steps.specs.Files.{body_given, file_name, image_plan, file_given}
-use Rattle.image_steps.specs.Parts.{as_is, file_shaped, content_of, header_guid, part_with, part_of, parts_of, source_checked, files_checked}
-use Rattle.image_steps.specs.declared.parts.Shaped.{Shaped}
-use Rattle.image_rules.specs.ImageTrees.{volume_at, image_by, volume_stages}
-use Rattle.document_rules.specs.Trees.{given_as}
+use Rattle.volume_steps.specs.Asks.{item_asks}
+use Rattle.file_steps.specs.Asks.{source_file, section_files}
+use Rattle.file_steps.specs.Asks.{source_volume, section_volumes, body_asks, file_asks}
+use Rattle.step_answers.specs.Volumes.{is_based, step_by, volume_step, fits_u16, volume_at}
+use Rattle.step_answers.specs.Contents.{required, file_absent, section_absent, file_content, volume_content, volume_given}
+use Rattle.file_steps.specs.Files.{body_given, file_name, image_plan, file_given}
+use Rattle.file_steps.specs.Parts.{as_is, file_shaped, content_of, header_guid, part_with, part_of, parts_of, source_checked, files_checked}
+use Rattle.file_steps.specs.declared.parts.Shaped.{Shaped}
+use Rattle.volume_steps.specs.VolumeTrees.{image_by, volume_stages}
+use Rattle.step_answers.specs.Readers.{given_as}
 use Rattle.build_rules.specs.Rules.{edk, value_in}
 use Rattle.build_rules.specs.RulesBounds.{edk_is_bounded}
 use Rattle.build_rules.specs.Values.{flash_value}

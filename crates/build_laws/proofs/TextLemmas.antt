@@ -22,15 +22,14 @@ use Rattle.step_pack.specs.declared.key.Key.{Key}
 use Rattle.step_pack.specs.declared.key.Key.TheVariants as key
 use Rattle.step_pack.specs.declared.out.Out.{Out}
 use Rattle.step_pack.specs.declared.out.Out.TheVariants as out
-use Rattle.module_steps.specs.Parts.{choice_of_out, choice_in}
+use Rattle.step_answers.specs.Readers.{choice_of_out, choice_in, values_of_out, values_in, given_as, platform_in}
 use Rattle.text_steps.specs.declared.report.Heading.{Heading}
 use Rattle.text_steps.specs.Asks.{told_asks, report_asks}
 use Rattle.text_steps.specs.Code.{code_given}
 use Rattle.text_steps.specs.Depex.{depex_given}
-use Rattle.text_steps.specs.Report.{values_of_out, values_in, module_report, report_in, reports_in, report_modules, report_given, text_of}
-use Rattle.document_rules.specs.Trees.{given_as, platform_in}
-use Rattle.module_rules.specs.ModuleTrees.{module_parts}
-use Rattle.module_rules.specs.TextTrees.{code_asks, code_first, code_stages, depex_asks, depex_first, depex_stages, heading_asks, told_stages, report_first, report_stages}
+use Rattle.text_steps.specs.Report.{module_report, report_in, reports_in, report_modules, report_given, text_of}
+use Rattle.library_steps.specs.ModuleTrees.{module_parts}
+use Rattle.text_steps.specs.TextTrees.{code_asks, code_first, code_stages, depex_asks, depex_first, depex_stages, heading_asks, told_stages, report_first, report_stages}
 use Rattle.build_rules.specs.Rules.{edk, value_in}
 use Rattle.build_rules.specs.RulesBounds.{edk_is_bounded}
 use Rattle.build_rules.specs.Values.{platform_value}

@@ -22,12 +22,12 @@ use Rattle.step_pack.specs.declared.key.Key.{Key}
 use Rattle.step_pack.specs.declared.key.Key.TheVariants as key
 use Rattle.step_pack.specs.declared.out.Out.{Out}
 use Rattle.step_pack.specs.declared.out.Out.TheVariants as out
-use Rattle.module_steps.specs.declared.parts.Described.{Described}
-use Rattle.module_steps.specs.declared.parts.Linked.{Linked}
-use Rattle.module_steps.specs.Asks.{inf_asks, dec_asks}
-use Rattle.module_steps.specs.Parts.{inf_of_path, inf_of_out, inf_in, infs_from, dec_of_out, dec_in, package_in, packages_from, held_package, described, described_in, package_paths, parts, parts_in}
-use Rattle.document_rules.specs.Fits.{fits}
-use Rattle.document_rules.specs.Trees.{EdkStages, given_as, platform_of_out, platform_in}
+use Rattle.library_steps.specs.declared.parts.Described.{Described}
+use Rattle.library_steps.specs.declared.parts.Linked.{Linked}
+use Rattle.library_steps.specs.Asks.{inf_asks, dec_asks}
+use Rattle.step_answers.specs.Readers.{inf_of_path, inf_of_out, inf_in, EdkStages, given_as, platform_of_out, platform_in}
+use Rattle.library_steps.specs.Parts.{infs_from, dec_of_out, dec_in, package_in, packages_from, held_package, described, described_in, package_paths, parts, parts_in}
+use Rattle.step_answers.specs.Fits.{fits}
 use Rattle.build_rules.specs.Rules.{edk, value_in}
 use Rattle.build_rules.specs.Values.{inf_value, dec_value, platform_value}
 use Rattle.build_rules.proofs.Asked.{given_in, fault_asked, AreIn, in_whole, in_one, step_told, each_told, fault_each, step_fault}

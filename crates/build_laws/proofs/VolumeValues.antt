@@ -24,17 +24,20 @@ use Rattle.step_pack.specs.declared.key.Key.{Key}
 use Rattle.step_pack.specs.declared.key.Key.TheVariants as key
 use Rattle.step_pack.specs.declared.out.Out.{Out}
 use Rattle.step_pack.specs.declared.out.Out.TheVariants as out
-use Rattle.image_steps.specs.Asks.{is_based, file_order, file_asks, item_asks, sections_below}
-use Rattle.image_steps.specs.Files.{file_given}
-use Rattle.image_steps.specs.Volumes.{file_in, image_of, images_of, composed_volume, volume_given}
-use Rattle.image_steps.proofs.OrderLemmas.{number_asks, asks_in_order}
-use Rattle.image_rules.specs.Based.{rebased_image, based_given}
-use Rattle.image_rules.specs.ImageTrees.{volume_at, item_at, image_by, sections_stages, module_stages, item_stages, file_stages, volume_stages}
-use Rattle.module_images.specs.Apriori.{apriori_given}
-use Rattle.module_images.specs.Asks.{line_asks, members_asks, plan_asks}
-use Rattle.module_images.specs.Files.{module_given}
-use Rattle.module_images.specs.Modules.{plan_given}
-use Rattle.document_rules.specs.Trees.{given_as}
+use Rattle.step_answers.specs.Volumes.{is_based, volume_at}
+use Rattle.volume_steps.specs.Asks.{file_order, item_asks}
+use Rattle.file_steps.specs.Asks.{file_asks, sections_below}
+use Rattle.file_steps.specs.Files.{file_given}
+use Rattle.volume_steps.specs.Volumes.{file_in, image_of, images_of, composed_volume, volume_given}
+use Rattle.volume_steps.proofs.OrderLemmas.{number_asks, asks_in_order}
+use Rattle.volume_steps.specs.Based.{rebased_image, based_given}
+use Rattle.file_steps.specs.FileTrees.{item_at, sections_stages, module_stages, item_stages, file_stages}
+use Rattle.volume_steps.specs.VolumeTrees.{image_by, volume_stages}
+use Rattle.file_steps.specs.Apriori.{apriori_given}
+use Rattle.file_steps.specs.ModuleAsks.{line_asks, members_asks, plan_asks}
+use Rattle.file_steps.specs.ModuleFiles.{module_given}
+use Rattle.file_steps.specs.Modules.{plan_given}
+use Rattle.step_answers.specs.Readers.{given_as}
 use Rattle.build_rules.specs.Rules.{edk, value_in}
 use Rattle.build_rules.specs.RulesBounds.{edk_is_bounded}
 use Rattle.build_rules.specs.Values.{flash_value}

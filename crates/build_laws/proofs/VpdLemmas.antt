@@ -8,13 +8,12 @@ use Rattle.build_stages.specs.Stages.{outcome_of, meaning_of}
 use Rattle.build_stages.specs.StagesLaws.{value_is}
 use Rattle.doc_types.specs.declared.platform.PlatformDoc.{PlatformDoc}
 use Rattle.doc_types.specs.declared.values.Values.{Values}
-use Rattle.module_steps.specs.Settings.{arches_built}
+use Rattle.step_answers.specs.Settings.{arches_built}
 use Rattle.step_pack.specs.Keys.{key_cmp}
 use Rattle.step_pack.specs.declared.key.Key.TheVariants as key
 use Rattle.step_pack.specs.declared.out.Out.TheVariants as out
-use Rattle.text_steps.specs.Report.{values_of_out, values_in}
-use Rattle.document_rules.specs.Trees.{given_as, platform_in}
-use Rattle.image_rules.specs.VpdTree.{vpd_asks, placed_vpd, vpd_from, vpd_stages}
+use Rattle.step_answers.specs.Readers.{values_of_out, values_in, given_as, platform_in}
+use Rattle.volume_steps.specs.VpdTree.{vpd_asks, placed_vpd, vpd_from, vpd_stages}
 use Rattle.build_rules.specs.Rules.{edk, value_in}
 use Rattle.build_rules.specs.RulesBounds.{edk_is_bounded}
 use Rattle.build_rules.specs.Values.{platform_value}

@@ -19,20 +19,21 @@ use Rattle.step_pack.specs.declared.key.Key.TheVariants as key
 use Rattle.step_pack.specs.declared.out.Out.{Out}
 use Rattle.step_pack.specs.declared.out.Out.TheVariants as out
 use Rattle.step_pack.specs.declared.out.Output.{Output}
-use Rattle.module_steps.specs.Settings.{built_modules}
-use Rattle.image_steps.specs.Asks.{is_based}
-use Rattle.document_rules.specs.Folders.{output_folder}
-use Rattle.document_rules.specs.Trees.{given_as}
-use Rattle.document_rules.specs.VpdLines.{has_vpd}
-use Rattle.output_rules.specs.Outputs.{module_outputs, volume_outputs, device_outputs, vpd_outputs, report_output}
-use Rattle.output_rules.specs.Wanted.{wanted_of, is_marked}
-use Rattle.output_rules.specs.declared.wanted.Wanted.{Wanted}
+use Rattle.step_answers.specs.Settings.{built_modules}
+use Rattle.step_answers.specs.Volumes.{is_based}
+use Rattle.step_answers.specs.Folders.{output_folder}
+use Rattle.step_answers.specs.Readers.{given_as}
+use Rattle.step_answers.specs.VpdLines.{has_vpd}
+use Rattle.output_steps.specs.Outputs.{module_outputs, volume_outputs, device_outputs, vpd_outputs, report_output}
+use Rattle.output_steps.specs.Wanted.{wanted_of, is_marked}
+use Rattle.output_steps.specs.declared.wanted.Wanted.{Wanted}
 use Rattle.build_rules.specs.Rules.{edk, value_in}
 use Rattle.build_rules.specs.Values.{inf_value, platform_value, flash_file, flash_value}
 use Rattle.build_laws.specs.ModuleValues.{pcds_value}
 use Rattle.build_laws.specs.TextValues.{code_value, depex_value, report_value}
 use Rattle.build_laws.specs.VpdValues.{vpd_value}
 use Rattle.build_laws.specs.ImageValues.{volume_value, device_value}
+use Rattle.job_fields.specs.Fields.{ARCHES, TARGET, TAG, IMAGES, REPORT}
 
 -- The first fault.
 
@@ -112,8 +113,8 @@ files_value w vpd folder modules flash wanted report =
 abbrev pub wanted_value : World → Bool → List ℕ → List Module → FlashDoc
     → Result (List Output) Fault
 wanted_value w vpd folder modules flash =
-    and_then (wanted_of flash (field w 8))
-    (λ wanted. files_value w vpd folder modules flash wanted (flash_file None (field w 9)))
+    and_then (wanted_of flash (field w IMAGES))
+    (λ wanted. files_value w vpd folder modules flash wanted (flash_file None (field w REPORT)))
 
 -- The files of the build. The first fault is that of the platform, of the flash description, of the
 -- words' architectures, or that the words name an image that there isn't; then that of a step whose
@@ -122,8 +123,8 @@ unfoldable pub all_value : World → Result (List Output) Fault
 all_value w =
     and_then (platform_value w) (λ platform.
     and_then (flash_value w) (λ flash.
-    and_then (output_folder platform.output (field w 2) (field w 3)) (λ folder.
-    and_then (built_modules platform (field w 1))
+    and_then (output_folder platform.output (field w TARGET) (field w TAG)) (λ folder.
+    and_then (built_modules platform (field w ARCHES))
     (λ modules. wanted_value w (has_vpd platform) folder modules flash))))
 
 -- the whole build gives its files

@@ -40,26 +40,31 @@ use Rattle.step_pack.specs.declared.key.Key.TheVariants as key
 use Rattle.step_pack.specs.declared.out.Out.{Out}
 use Rattle.step_pack.specs.declared.out.Out.TheVariants as out
 use Rattle.rule_choice.specs.Modules.{inf_arch}
-use Rattle.module_steps.specs.Settings.{arches_built}
-use Rattle.image_steps.specs.Asks.{is_based, file_order, is_vpd, volume_step}
-use Rattle.image_steps.specs.Contents.{file_absent, section_absent, volume_given, words_bytes}
-use Rattle.image_steps.specs.Files.{file_name, image_plan}
-use Rattle.image_steps.specs.Parts.{as_is, file_shaped, header_guid, part_with}
-use Rattle.image_steps.specs.Volumes.{composed_volume}
-use Rattle.image_steps.specs.declared.parts.Shaped.{Shaped}
-use Rattle.image_rules.specs.Based.{rebased_image}
-use Rattle.image_rules.specs.ImageTrees.{volume_at, item_at, device_at, vpd_path}
-use Rattle.module_images.specs.declared.plans.ModulePlan.{ModulePlan}
-use Rattle.module_images.specs.Apriori.{apriori_plan}
-use Rattle.module_images.specs.Asks.{is_path_of, takes_depex}
-use Rattle.module_images.specs.Names.{build_folder, module_guid}
-use Rattle.module_images.specs.Plans.{module_of, module_plan}
-use Rattle.module_images.specs.Sections.{absent_fault, too_long, expression_fault, some_part, file_part, absent_part, expression_part, words_part}
-use Rattle.document_rules.specs.Trees.{given_as}
+use Rattle.step_answers.specs.Settings.{arches_built}
+use Rattle.step_answers.specs.Volumes.{is_based, volume_step, volume_at}
+use Rattle.volume_steps.specs.Asks.{file_order, is_vpd}
+use Rattle.step_answers.specs.Contents.{file_absent, section_absent, volume_given}
+use Rattle.file_steps.specs.Words.{words_bytes}
+use Rattle.file_steps.specs.Files.{file_name, image_plan}
+use Rattle.file_steps.specs.Parts.{as_is, file_shaped, header_guid, part_with}
+use Rattle.volume_steps.specs.Volumes.{composed_volume}
+use Rattle.file_steps.specs.declared.parts.Shaped.{Shaped}
+use Rattle.volume_steps.specs.Based.{rebased_image}
+use Rattle.file_steps.specs.FileTrees.{item_at}
+use Rattle.volume_steps.specs.VolumeTrees.{device_at, vpd_path}
+use Rattle.file_steps.specs.declared.plans.ModulePlan.{ModulePlan}
+use Rattle.file_steps.specs.Apriori.{apriori_plan}
+use Rattle.file_steps.specs.ModuleAsks.{is_path_of, takes_depex}
+use Rattle.file_steps.specs.Names.{module_guid}
+use Rattle.step_answers.specs.Folders.{build_folder}
+use Rattle.file_steps.specs.Plans.{module_of, module_plan}
+use Rattle.file_steps.specs.Sections.{absent_fault, too_long, expression_fault, some_part, file_part, absent_part, expression_part, words_part}
+use Rattle.step_answers.specs.Readers.{given_as}
 use Rattle.build_rules.specs.Rules.{value_in}
 use Rattle.build_rules.specs.Values.{inf_value, platform_value, flash_value}
 use Rattle.build_laws.specs.TextValues.{depex_value}
 use Rattle.build_laws.specs.VpdValues.{vpd_value}
+use Rattle.job_fields.specs.Fields.{ARCHES, TARGET, TAG}
 
 -- Files that must be there.
 
@@ -146,9 +151,9 @@ abbrev pub plan_value : World → FlashDoc → InfLine → Result ModulePlan Fau
 plan_value w flash line =
     and_then (platform_value w) (λ platform.
     and_then (inf_value w line.inf) (λ inf.
-    and_then (arches_built platform (field w 1)) (λ arches.
+    and_then (arches_built platform (field w ARCHES)) (λ arches.
     module_plan flash line platform arches inf
-    (build_folder platform.output (field w 2) (field w 3)))))
+    (build_folder platform.output (field w TARGET) (field w TAG)))))
 
 -- the module's own expression, where a section holds it
 abbrev pub own_value : World → ModulePlan → Result (List ℕ) Fault
@@ -217,7 +222,7 @@ abbrev pub member_value : World → Member → Result Guid Fault
 member_value w (member.Inf line) =
     and_then (platform_value w) (λ platform.
     and_then (inf_value w line.inf) (λ inf.
-    and_then (arches_built platform (field w 1)) (λ arches.
+    and_then (arches_built platform (field w ARCHES)) (λ arches.
     and_then (inf_arch line platform.components arches)
     (λ arch. Ok (module_guid platform (module_of line arch) inf)))))
 member_value w (member.File name) = Ok name
@@ -307,7 +312,7 @@ regions_value w volumes vpd plan =
 
 abbrev pub numbered_value : World → ℕ → FlashDoc → PlatformDoc → Result (List ℕ) Fault
 numbered_value w d flash platform =
-    and_then (vpd_path platform (field w 2) (field w 3)) (λ vpd.
+    and_then (vpd_path platform (field w TARGET) (field w TAG)) (λ vpd.
     and_then (device_at flash d) (regions_value w flash.volumes vpd))
 
 -- the image of device d

@@ -17,16 +17,17 @@ use Rattle.library_choice.specs.Closure.{wanted}
 use Rattle.build_stages.specs.Stages.{outcome_of}
 use Rattle.step_pack.specs.declared.key.Key.TheVariants as key
 use Rattle.step_pack.specs.declared.out.Out.TheVariants as out
-use Rattle.module_steps.specs.declared.parts.Described.{Described}
-use Rattle.module_steps.specs.declared.parts.Linked.{Linked}
-use Rattle.module_steps.specs.Choices.{alone, behind}
-use Rattle.module_steps.specs.Parts.{held_package, linked, linked_module, described, parts}
-use Rattle.module_steps.specs.Pcds.{pcds_given, values_given}
-use Rattle.module_steps.specs.Settings.{command_line_pcds, setting_of}
-use Rattle.module_rules.specs.ModuleTrees.{most_rounds}
+use Rattle.library_steps.specs.declared.parts.Described.{Described}
+use Rattle.library_steps.specs.declared.parts.Linked.{Linked}
+use Rattle.library_steps.specs.Choices.{alone, behind}
+use Rattle.library_steps.specs.Parts.{held_package, linked, linked_module, described, parts}
+use Rattle.library_steps.specs.Pcds.{pcds_given, values_given}
+use Rattle.step_answers.specs.Settings.{command_line_pcds, setting_of}
+use Rattle.library_steps.specs.ModuleTrees.{most_rounds}
 use Rattle.build_rules.specs.Rules.{value_in}
-use Rattle.document_rules.specs.Trees.{given_as}
+use Rattle.step_answers.specs.Readers.{given_as}
 use Rattle.build_rules.specs.Values.{dec_value, inf_value, platform_value, flash_value}
+use Rattle.job_fields.specs.Fields.{ARCHES, SKU, PCDS}
 
 -- the descriptions of some modules, or the first fault
 abbrev pub infs_value : World → List (List ℕ) → Result (List InfDoc) Fault
@@ -79,7 +80,7 @@ unfoldable pub pcds_value : World → Result Values Fault
 pcds_value w =
     and_then (platform_value w) (λ platform.
     and_then (flash_value w) (λ flash.
-    and_then (setting_of platform (field w 1) (field w 4) (field w 6)) (λ setting.
+    and_then (setting_of platform (field w ARCHES) (field w SKU) (field w PCDS)) (λ setting.
     and_then (modules_value w setting.modules) (pcds_given platform flash setting))))
 
 unfoldable pub module_value : World → Module → Choice → Result ModuleParts Fault
@@ -92,7 +93,7 @@ values_value w m =
     and_then (flash_value w) (λ flash.
     and_then (pcds_value w) (λ dynamic.
     and_then (choice_value w m) (λ choice.
-    and_then (command_line_pcds platform.at (field w 6)) (λ commands.
+    and_then (command_line_pcds platform.at (field w PCDS)) (λ commands.
     and_then (module_value w m choice) (values_given platform flash commands dynamic))))))
 
 -- the steps give these

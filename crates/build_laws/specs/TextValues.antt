@@ -18,9 +18,10 @@ use Rattle.text_steps.specs.Depex.{depex_given}
 use Rattle.text_steps.specs.Report.{module_report, report_modules, text_of}
 use Rattle.build_laws.specs.ModuleValues.{choice_value, module_value, pcds_value, values_value}
 use Rattle.build_rules.specs.Rules.{value_in}
-use Rattle.module_rules.specs.TextTrees.{heading_by}
-use Rattle.document_rules.specs.Trees.{given_as}
+use Rattle.text_steps.specs.TextTrees.{heading_by}
+use Rattle.step_answers.specs.Readers.{given_as}
 use Rattle.build_rules.specs.Values.{platform_value}
+use Rattle.job_fields.specs.Fields.{ARCHES, TARGET, TAG, SKU}
 
 -- the texts of a module, once its values are resolved
 unfoldable pub code_value : World → Module → Result (Option Texts) Fault
@@ -47,13 +48,13 @@ told_text w platform heading modules =
     and_then (all_ok (map (told_value w) modules)) (text_of platform heading dynamic))
 
 abbrev pub heading_value : World → PlatformDoc → Heading
-heading_value w platform = heading_by platform (field w 2) (field w 3) (field w 4)
+heading_value w platform = heading_by platform (field w TARGET) (field w TAG) (field w SKU)
 
 -- the report, once the platform supports the architectures that the words name
 unfoldable pub report_value : World → Result (List ℕ) Fault
 report_value w =
     and_then (platform_value w) (λ platform.
-    and_then (report_modules platform (field w 1))
+    and_then (report_modules platform (field w ARCHES))
     (told_text w platform (heading_value w platform)))
 
 -- the steps give these

@@ -6,21 +6,22 @@ use Rattle.build_base.specs.World.{World, field}
 use Rattle.build_base.specs.declared.fault.Fault.{Fault}
 use Rattle.build_stages.specs.Stages.{outcome_of}
 use Rattle.doc_types.specs.declared.vpd.Vpd.{Vpd}
-use Rattle.module_steps.specs.Settings.{arches_built}
+use Rattle.step_answers.specs.Settings.{arches_built}
 use Rattle.step_pack.specs.declared.key.Key.TheVariants as key
 use Rattle.step_pack.specs.declared.out.Out.TheVariants as out
 use Rattle.build_laws.specs.ModuleValues.{pcds_value}
 use Rattle.build_rules.specs.Rules.{value_in}
-use Rattle.document_rules.specs.Trees.{given_as}
+use Rattle.step_answers.specs.Readers.{given_as}
 use Rattle.build_rules.specs.Values.{platform_value}
-use Rattle.image_rules.specs.VpdTree.{placed_vpd}
+use Rattle.volume_steps.specs.VpdTree.{placed_vpd}
+use Rattle.job_fields.specs.Fields.{ARCHES}
 
 -- the image of vital product data, its map and its places
 unfoldable pub vpd_value : World → Result Vpd Fault
 vpd_value w =
     and_then (platform_value w) (λ platform.
     and_then (pcds_value w) (λ values.
-    and_then (arches_built platform (field w 1)) (placed_vpd platform values)))
+    and_then (arches_built platform (field w ARCHES)) (placed_vpd platform values)))
 
 -- the step gives it
 abbrev pub GivesVpd : World → Type 0

@@ -25,11 +25,11 @@ use Rattle.step_pack.specs.declared.key.Key.{Key}
 use Rattle.step_pack.specs.declared.key.Key.TheVariants as key
 use Rattle.step_pack.specs.declared.out.Out.{Out}
 use Rattle.build_rules.specs.Adopting.{is_same, is_vpd, stays, adopted, AreOlder, by_older}
-use Rattle.document_rules.specs.Fits.{fits}
+use Rattle.step_answers.specs.Fits.{fits}
 use Rattle.build_rules.specs.Rules.{edk, rank_of, stages_of}
 use Rattle.build_rules.specs.RulesBounds.{edk_is_bounded}
 use Rattle.build_rules.specs.TextBounds.{report_lower}
-use Rattle.document_rules.specs.Trees.{EdkStages}
+use Rattle.step_answers.specs.Readers.{EdkStages}
 
 -- the steps that are the same ask steps below rank 7 alone, and these are the same
 low_same : (edition : ℕ) (k : Key) → rank_of k < 7 → is_same edition k ≡ true

@@ -23,7 +23,7 @@ use Rattle.step_pack.specs.KeyLaws.{keys_total, keys_exact}
 use Rattle.step_pack.specs.Keys.{key_cmp}
 use Rattle.step_pack.specs.declared.key.Key.{Key}
 use Rattle.step_pack.specs.declared.out.Out.{Out}
-use Rattle.document_rules.specs.Trees.{given_as}
+use Rattle.step_answers.specs.Readers.{given_as}
 use Rattle.build_rules.specs.Rules.{edk, value_in}
 use Rattle.build_rules.proofs.FirstFaults.{none_both, first_append}
 

@@ -32,34 +32,38 @@ use Rattle.dec_docs.specs.Package.{package_of}
 use Rattle.inf_docs.specs.Modules.{module_of}
 use Rattle.dsc_platform.specs.Platform.{platform_of}
 use Rattle.flash_document.specs.Flash.{flash_of}
-use Rattle.document_rules.specs.Fits.{fits, kind_of, kind_at}
+use Rattle.step_answers.specs.Fits.{fits, kind_of, kind_at}
 use Rattle.doc_types.specs.declared.choice.Module.{Module}
 use Rattle.doc_types.specs.declared.module.InfDoc.{InfDoc}
 use Rattle.library_choice.specs.Choices.{choice}
 use Rattle.library_choice.specs.Closure.{wanted}
-use Rattle.module_steps.specs.Choices.{own_inf}
-use Rattle.module_steps.specs.Parts.{choice_in}
-use Rattle.module_steps.specs.Pcds.{pcds_given, values_given}
-use Rattle.module_steps.specs.Skus.{skus_end}
-use Rattle.image_steps.specs.Asks.{sections_below, regions_below, fits_u16}
-use Rattle.image_steps.specs.Files.{file_given}
-use Rattle.image_steps.specs.Volumes.{volume_given}
-use Rattle.image_rules.specs.Based.{based_given}
-use Rattle.image_steps.specs.Devices.{device_given}
-use Rattle.module_images.specs.Apriori.{apriori_given}
-use Rattle.module_images.specs.Files.{module_given}
-use Rattle.module_images.specs.Modules.{plan_given}
-use Rattle.output_rules.specs.AllTree.{folder_in, modules_in, wanted_in, report_in}
-use Rattle.module_rules.specs.ModuleTrees.{round_stages, choice_round, choice_after, most_rounds, modules_parts, setting_in, module_parts, commands_in}
-use Rattle.output_rules.specs.Outputs.{outputs_of}
-use Rattle.module_rules.specs.TextTrees.{told_modules_in, heading_in}
+use Rattle.library_steps.specs.Choices.{own_inf}
+use Rattle.step_answers.specs.Readers.{choice_in, values_in, EdkStages, given_as, platform_in, flash_in}
+use Rattle.library_steps.specs.Pcds.{pcds_given, values_given}
+use Rattle.library_steps.specs.Skus.{skus_end}
+use Rattle.file_steps.specs.Asks.{sections_below}
+use Rattle.volume_steps.specs.Asks.{regions_below}
+use Rattle.step_answers.specs.Volumes.{fits_u16, volume_at}
+use Rattle.file_steps.specs.Files.{file_given}
+use Rattle.volume_steps.specs.Volumes.{volume_given}
+use Rattle.volume_steps.specs.Based.{based_given}
+use Rattle.volume_steps.specs.Devices.{device_given}
+use Rattle.file_steps.specs.Apriori.{apriori_given}
+use Rattle.file_steps.specs.ModuleFiles.{module_given}
+use Rattle.file_steps.specs.Modules.{plan_given}
+use Rattle.output_steps.specs.AllTree.{folder_in, modules_in, wanted_in, report_in}
+use Rattle.library_steps.specs.ModuleTrees.{round_stages, choice_round, choice_after, most_rounds, modules_parts, setting_in, module_parts, commands_in}
+use Rattle.output_steps.specs.Outputs.{outputs_of}
+use Rattle.text_steps.specs.TextTrees.{told_modules_in, heading_in}
 use Rattle.text_steps.specs.Code.{code_given}
 use Rattle.text_steps.specs.Depex.{depex_given}
-use Rattle.text_steps.specs.Report.{values_in, report_given}
-use Rattle.document_rules.specs.Trees.{EdkStages, given_as, document_stages, root_in, macros_in, platform_in, flash_root, flash_from, flash_in}
-use Rattle.image_rules.specs.ImageTrees.{volume_at, item_at, device_at, vpd_in, item_stages}
-use Rattle.image_rules.specs.VpdTree.{arches_in, placed_vpd}
-use Rattle.document_rules.specs.VpdLines.{has_vpd}
+use Rattle.text_steps.specs.Report.{report_given}
+use Rattle.document_steps.specs.Trees.{document_stages, root_in, macros_in, flash_root, flash_from}
+use Rattle.file_steps.specs.FileTrees.{item_at, item_stages}
+use Rattle.volume_steps.specs.VolumeTrees.{device_at, vpd_in}
+use Rattle.volume_steps.specs.VpdTree.{placed_vpd}
+use Rattle.step_answers.specs.Settings.{arches_built_in}
+use Rattle.step_answers.specs.VpdLines.{has_vpd}
 use Rattle.build_rules.specs.Rules.{edk, stages_of}
 use Rattle.build_rules.specs.RulesBounds.{edk_is_bounded}
 use Rattle.build_rules.proofs.Asked.{answers_in, given_in, fault_asked}
@@ -145,7 +149,7 @@ of_kind (key.Based v) =
     λ given. attempt_kind 9 (flash_in given) _ (λ flash. attempt_kind 9 (volume_at flash v) _ (λ plan.
     when_kind 9 (fits_u16 (length plan.items)) _ (λ files. given_kind 9 out.Volume (λ x. refl) (based_given v plan files))))
 of_kind key.Vpd =
-    λ given. attempt_kind 13 (platform_in given) _ (λ platform. attempt_kind 13 (values_in given key.PlatformPcds) _ (λ values. attempt_kind 13 (arches_in platform given) _ (λ arches.
+    λ given. attempt_kind 13 (platform_in given) _ (λ platform. attempt_kind 13 (values_in given key.PlatformPcds) _ (λ values. attempt_kind 13 (arches_built_in platform given) _ (λ arches.
     given_kind 13 out.Vpd (λ x. refl) (placed_vpd platform values arches))))
 of_kind (key.Device d) =
     λ given. attempt_kind 10 (flash_in given) _ (λ flash. attempt_kind 10 (platform_in given) _ (λ platform. attempt_kind 10 (vpd_in platform given) _ (λ vpd.

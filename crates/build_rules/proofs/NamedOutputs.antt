@@ -24,15 +24,15 @@ use Rattle.step_pack.specs.declared.out.Out.{Out}
 use Rattle.step_pack.specs.declared.out.Out.TheVariants as out
 use Rattle.step_pack.specs.declared.out.Output.{Output}
 use Rattle.text_steps.specs.Asks.{built_asks, build_module_asks}
-use Rattle.image_steps.specs.Asks.{volume_key, fits_u16}
-use Rattle.document_rules.specs.Fits.{fits}
-use Rattle.document_rules.specs.Folders.{path_below}
-use Rattle.document_rules.specs.Trees.{EdkStages, given_as, platform_in, flash_in}
-use Rattle.document_rules.specs.VpdLines.{has_vpd}
-use Rattle.output_rules.specs.AllTree.{step_where, steps_from, device_step, report_part, build_asks, all_asks, all_given, all_stages, folder_in, modules_in, wanted_in, report_in}
-use Rattle.output_rules.specs.Outputs.{image_output, image_where, file_output, c_output, h_output, code_outputs, depex_outputs, module_folder, module_outputs, bytes_in, named_in, outputs_in, modules_outputs, volume_outputs, device_outputs, vpd_outputs, report_output, outputs_of}
-use Rattle.output_rules.specs.Wanted.{is_marked}
-use Rattle.output_rules.specs.declared.wanted.Wanted.{Wanted}
+use Rattle.step_answers.specs.Volumes.{volume_key, fits_u16}
+use Rattle.step_answers.specs.Fits.{fits}
+use Rattle.step_answers.specs.Folders.{path_below}
+use Rattle.step_answers.specs.Readers.{EdkStages, given_as, platform_in, flash_in}
+use Rattle.step_answers.specs.VpdLines.{has_vpd}
+use Rattle.output_steps.specs.AllTree.{step_where, steps_from, device_step, report_part, build_asks, all_asks, all_given, all_stages, folder_in, modules_in, wanted_in, report_in}
+use Rattle.output_steps.specs.Outputs.{image_output, image_where, file_output, c_output, h_output, code_outputs, depex_outputs, module_folder, module_outputs, bytes_in, named_in, outputs_in, modules_outputs, volume_outputs, device_outputs, vpd_outputs, report_output, outputs_of}
+use Rattle.output_steps.specs.Wanted.{is_marked}
+use Rattle.output_steps.specs.declared.wanted.Wanted.{Wanted}
 use Rattle.build_rules.specs.Rules.{edk, value_in}
 use Rattle.build_rules.specs.RulesBounds.{edk_is_bounded}
 use Rattle.build_rules.proofs.Asked.{given_in, fault_asked, AreIn, in_here, in_there, in_first, in_behind, in_one, in_more}

@@ -4,7 +4,7 @@ use Rattle.step_pack.specs.declared.key.Key.{Key}
 use Rattle.step_pack.specs.declared.key.Key.TheVariants as key
 use Rattle.build_rules.specs.Adopting.{AreOlder}
 use Rattle.build_rules.specs.Older.{second_edition}
-use Rattle.document_rules.specs.Trees.{EdkStages}
+use Rattle.step_answers.specs.Readers.{EdkStages}
 
 pub second_is_older : (images : Key → EdkStages) → AreOlder 2 (second_edition images)
 second_is_older images (key.Dec path) h = refl

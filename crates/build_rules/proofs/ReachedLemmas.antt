@@ -24,9 +24,9 @@ use Rattle.step_pack.specs.Keys.{key_cmp}
 use Rattle.step_pack.specs.declared.key.Key.{Key}
 use Rattle.step_pack.specs.declared.key.Key.TheVariants as key
 use Rattle.step_pack.specs.declared.out.Out.{Out}
-use Rattle.document_rules.specs.Fits.{fits}
-use Rattle.document_rules.specs.Trees.{EdkStages}
-use Rattle.output_rules.specs.AllTree.{all_asks, all_stages}
+use Rattle.step_answers.specs.Fits.{fits}
+use Rattle.step_answers.specs.Readers.{EdkStages}
+use Rattle.output_steps.specs.AllTree.{all_asks, all_stages}
 use Rattle.build_rules.specs.Rules.{edk}
 use Rattle.build_rules.specs.RulesBounds.{edk_is_bounded}
 use Rattle.build_rules.proofs.Asked.{answers_in, given_in, fault_asked}

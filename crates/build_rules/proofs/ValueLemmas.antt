@@ -31,8 +31,9 @@ use Rattle.step_pack.specs.declared.out.Out.{Out}
 use Rattle.step_pack.specs.declared.out.Out.TheVariants as out
 use Rattle.dec_docs.specs.Package.{package_of}
 use Rattle.inf_docs.specs.Modules.{module_of}
-use Rattle.document_rules.specs.Fits.{fits}
-use Rattle.document_rules.specs.Trees.{given_as, document_stages, path_named, platform_stages}
+use Rattle.step_answers.specs.Fits.{fits}
+use Rattle.step_answers.specs.Readers.{or_impossible, given_as}
+use Rattle.document_steps.specs.Trees.{document_stages, platform_stages}
 use Rattle.build_rules.specs.Rules.{edk, value_in}
 use Rattle.build_rules.specs.RulesBounds.{edk_is_bounded}
 use Rattle.build_rules.specs.Values.{lines_in, dec_value, inf_value, job_macros, platform_value}
@@ -78,11 +79,11 @@ dec_is w path = value_is key_cmp edk edk_is_bounded w (key.Dec path) ∙ ap outc
 pub inf_is : (w : World) (path : List ℕ) → value_in w (key.Inf path) ≡ outcome_of (given_as out.Inf (inf_value w path))
 inf_is w path = value_is key_cmp edk edk_is_bounded w (key.Inf path) ∙ ap outcome_of (document_run w out.Inf module_of [] [] path)
 
-pub path_some : (b : Bool) (text : List ℕ) → is_some (if b then Some text else None) ≡ true → path_named (if b then Some text else None) ≡ Ok text
+pub path_some : (b : Bool) (text : List ℕ) → is_some (if b then Some text else None) ≡ true → or_impossible (if b then Some text else None) ≡ Ok text
 path_some true text e = refl
 path_some false text e = absurd (cc)
 
-named : (w : World) → is_some (path_field (field w 0)) ≡ true → path_named (path_field (field w 0)) ≡ Ok (field w 0)
+named : (w : World) → is_some (path_field (field w 0)) ≡ true → or_impossible (path_field (field w 0)) ≡ Ok (field w 0)
 named w e = path_some (is_path (field w 0) && nat_le (length (field w 0)) 512) (field w 0) e
 
 platform_run : (w : World) → is_some (path_field (field w 0)) ≡ true

@@ -7,9 +7,10 @@ use Rattle.step_engine.specs.declared.talk.Entry.{Entry}
 use Rattle.step_pack.specs.declared.key.Key.{Key}
 use Rattle.step_pack.specs.declared.key.Key.TheVariants as key
 use Rattle.step_pack.specs.declared.out.Out.{Out}
-use Rattle.document_rules.specs.Fits.{fits}
-use Rattle.build_rules.specs.Rules.{stages_of, rank_of, most_of, is_job}
-use Rattle.document_rules.specs.Trees.{EdkStages}
+use Rattle.step_answers.specs.Fits.{fits}
+use Rattle.job_fields.specs.Readings.{is_job}
+use Rattle.build_rules.specs.Rules.{stages_of, rank_of, most_of}
+use Rattle.step_answers.specs.Readers.{EdkStages}
 
 -- steps of images and of the whole build: each edition before 5 has other definitions of these
 abbrev pub is_image : Key → Bool

@@ -1,6 +1,6 @@
 -- The bounds of the steps of images: what they ask is of lower rank, and they ask two batches.
 use Rattle.std.specs.Prelude.{◌&&◌, not}
-use Rattle.std.proofs.Common.{◌≡◌, ℕ, ◌+◌, ◌*◌, ◌<◌, arith, Bool, true, false, List, [], ◌∷◌, ◌++◌, length, All, cond}
+use Rattle.std.proofs.Common.{◌≡◌, ℕ, ◌+◌, ◌*◌, ◌<◌, arith, Bool, true, false, List, [], ◌∷◌, ◌++◌, length, All, cond, Option, Some, None, slice_get, refl}
 use Rattle.std.proofs.lemmas.Bool.{ltb-true}
 use Rattle.std.proofs.lemmas.List.Elements.{All-nil, All-cons, All-append}
 use Rattle.step_engine.specs.declared.talk.Ask.{Ask}
@@ -25,20 +25,23 @@ use Rattle.doc_types.specs.declared.volume.VolumePlan.{VolumePlan}
 use Rattle.doc_types.specs.declared.volume_head.VolumeHead.{VolumeHead}
 use Rattle.step_pack.specs.declared.key.Key.{Key}
 use Rattle.step_pack.specs.declared.key.Key.TheVariants as key
-use Rattle.std.proofs.Common.{Option, Some, None, slice_get, refl}
-use Rattle.image_steps.specs.Asks.{is_based, volume_key, step_by, volume_step, source_file, source_volume, section_files, section_volumes, body_asks, source_below, sections_below, is_apriori, files_where, is_vpd, tree_asks, kind_asks, region_asks, kind_below, regions_below, fits_u16}
-use Rattle.text_steps.specs.Report.{values_in}
-use Rattle.document_rules.specs.VpdLines.{has_vpd}
+use Rattle.step_answers.specs.Volumes.{is_based, volume_key, step_by, volume_step, fits_u16, volume_at}
+use Rattle.volume_steps.specs.Asks.{is_apriori, files_where, is_vpd, tree_asks, kind_asks, region_asks, kind_below, regions_below}
+use Rattle.file_steps.specs.Asks.{source_file, section_files}
+use Rattle.file_steps.specs.Asks.{source_volume, section_volumes, body_asks, source_below, sections_below}
+use Rattle.step_answers.specs.Readers.{values_in, platform_in, flash_in}
+use Rattle.step_answers.specs.VpdLines.{has_vpd}
 use Rattle.text_steps.specs.Asks.{built_asks, build_module_asks}
-use Rattle.module_images.specs.declared.plans.ModulePlan.{ModulePlan}
-use Rattle.module_images.specs.Asks.{line_asks, member_asks, members_asks, is_path_of, source_file as filled_file, section_files as filled_files, takes_depex, plan_asks}
-use Rattle.module_images.specs.Modules.{plan_given}
-use Rattle.document_rules.specs.Trees.{platform_in, flash_in}
-use Rattle.image_rules.specs.ImageTrees.{volume_at, item_at, device_at, item_stages, file_stages, plan_stages, volume_stages, vpd_in, device_stages}
-use Rattle.image_rules.specs.VpdTree.{arches_in, vpd_stages}
-use Rattle.output_rules.specs.AllTree.{step_where, steps_from, device_step, folder_in, modules_in, wanted_in, report_in, image_asks, report_part, files_stages, all_stages}
-use Rattle.output_rules.specs.Wanted.{is_marked}
-use Rattle.output_rules.specs.declared.wanted.Wanted.{Wanted}
+use Rattle.file_steps.specs.declared.plans.ModulePlan.{ModulePlan}
+use Rattle.file_steps.specs.ModuleAsks.{line_asks, member_asks, members_asks, is_path_of, source_file as filled_file, section_files as filled_files, takes_depex, plan_asks}
+use Rattle.file_steps.specs.Modules.{plan_given}
+use Rattle.file_steps.specs.FileTrees.{item_at, item_stages, file_stages}
+use Rattle.volume_steps.specs.VolumeTrees.{device_at, plan_stages, volume_stages, vpd_in, device_stages}
+use Rattle.volume_steps.specs.VpdTree.{vpd_stages}
+use Rattle.step_answers.specs.Settings.{arches_built_in}
+use Rattle.output_steps.specs.AllTree.{step_where, steps_from, device_step, folder_in, modules_in, wanted_in, report_in, image_asks, report_part, files_stages, all_stages}
+use Rattle.output_steps.specs.Wanted.{is_marked}
+use Rattle.output_steps.specs.declared.wanted.Wanted.{Wanted}
 use Rattle.build_rules.specs.Rules.{rank_of}
 
 source_file_lower : (bound : ℕ) (s : SectionSource) → All (IsLower rank_of bound) (source_file s)
@@ -294,7 +297,7 @@ vpd_lower = (
       (all_two (IsLower rank_of 6) (ask.Part key.PlatformPcds) (ask.Field 1) (omega arith) tt),
   λ given. attempt_lower rank_of 6 (platform_in given) _
       (λ platform. attempt_lower rank_of 6 (values_in given key.PlatformPcds) _ (λ values.
-      attempt_lower rank_of 6 (arches_in platform given) _ (λ arches. tt))),
+      attempt_lower rank_of 6 (arches_built_in platform given) _ (λ arches. tt))),
 )
 
 pub vpd_within : IsWithin 1 vpd_stages
@@ -302,7 +305,7 @@ vpd_within = (
   omega arith,
   λ given. attempt_within 0 (platform_in given) _
       (λ platform. attempt_within 0 (values_in given key.PlatformPcds) _ (λ values.
-      attempt_within 0 (arches_in platform given) _ (λ arches. tt))),
+      attempt_within 0 (arches_built_in platform given) _ (λ arches. tt))),
 )
 
 where_asked : (b : Bool) (step : Key) → rank_of step < 0x400000002

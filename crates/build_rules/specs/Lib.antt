@@ -1,15 +1,3 @@
-pub use Rattle.document_rules.specs.Defines
-pub use Rattle.document_rules.specs.Fits
-pub use Rattle.document_rules.specs.Trees
-pub use Rattle.image_rules.specs.ImageTrees
-pub use Rattle.module_rules.specs.ModuleTrees
-pub use Rattle.module_rules.specs.TextTrees
-pub use Rattle.image_rules.specs.VpdTree
-pub use Rattle.output_rules.specs.Wanted
-pub use Rattle.document_rules.specs.VpdLines
-pub use Rattle.image_rules.specs.Based
-pub use Rattle.output_rules.specs.Outputs
-pub use Rattle.output_rules.specs.AllTree
 pub mod Rules
 pub mod ImageBounds
 pub mod ModuleBounds

@@ -13,16 +13,15 @@ use Rattle.doc_types.specs.declared.platform.PlatformDoc.{PlatformDoc}
 use Rattle.library_choice.specs.Closure.{wanted}
 use Rattle.step_pack.specs.declared.key.Key.{Key}
 use Rattle.step_pack.specs.declared.key.Key.TheVariants as key
-use Rattle.module_steps.specs.declared.parts.Described.{Described}
-use Rattle.module_steps.specs.declared.parts.Linked.{Linked}
-use Rattle.module_steps.specs.declared.settings.Setting.{Setting}
-use Rattle.module_steps.specs.Asks.{linked_asks, package_asks}
-use Rattle.module_steps.specs.Choices.{own_inf}
-use Rattle.module_steps.specs.Parts.{choice_in, linked_module}
-use Rattle.module_steps.specs.Skus.{skus_end}
-use Rattle.text_steps.specs.Report.{values_in}
-use Rattle.document_rules.specs.Trees.{EdkStages, platform_in, flash_in}
-use Rattle.module_rules.specs.ModuleTrees.{round_stages, choice_round, choice_after, most_rounds, choice_given, choice_stages, linked_stages, described_stages, modules_parts, setting_in, pcds_from, pcds_stages, one_described, module_parts, commands_in, values_stages}
+use Rattle.library_steps.specs.declared.parts.Described.{Described}
+use Rattle.library_steps.specs.declared.parts.Linked.{Linked}
+use Rattle.step_answers.specs.declared.settings.Setting.{Setting}
+use Rattle.library_steps.specs.Asks.{linked_asks, package_asks}
+use Rattle.library_steps.specs.Choices.{own_inf}
+use Rattle.step_answers.specs.Readers.{choice_in, values_in, EdkStages, platform_in, flash_in}
+use Rattle.library_steps.specs.Parts.{linked_module}
+use Rattle.library_steps.specs.Skus.{skus_end}
+use Rattle.library_steps.specs.ModuleTrees.{round_stages, choice_round, choice_after, most_rounds, choice_given, choice_stages, linked_stages, described_stages, modules_parts, setting_in, pcds_from, pcds_stages, one_described, module_parts, commands_in, values_stages}
 use Rattle.build_rules.specs.Rules.{rank_of}
 
 -- a step for each of some things

@@ -5,17 +5,16 @@ use Rattle.build_stages.specs.Stages.{bind, end, stage}
 use Rattle.build_stages.specs.Writing.{attempt}
 use Rattle.doc_types.specs.declared.choice.Choice.{Choice}
 use Rattle.doc_types.specs.declared.choice.Module.{Module}
-use Rattle.module_steps.specs.Parts.{choice_in}
+use Rattle.step_answers.specs.Readers.{choice_in, EdkStages, given_as}
 use Rattle.step_engine.specs.declared.talk.Pair.{Pair}
 use Rattle.step_pack.specs.declared.key.Key.{Key}
 use Rattle.step_pack.specs.declared.key.Key.TheVariants as key
 use Rattle.step_pack.specs.declared.out.Out.{Out}
 use Rattle.step_pack.specs.declared.out.Out.TheVariants as out
 use Rattle.text_steps.specs.Depex.{older_depex_given}
-use Rattle.module_rules.specs.ModuleTrees.{module_parts}
+use Rattle.library_steps.specs.ModuleTrees.{module_parts}
 use Rattle.build_rules.specs.Rules.{stages_of}
-use Rattle.module_rules.specs.TextTrees.{depex_asks}
-use Rattle.document_rules.specs.Trees.{EdkStages, given_as}
+use Rattle.text_steps.specs.TextTrees.{depex_asks}
 
 abbrev pub older_depex_from : Module → Choice → EdkStages
 older_depex_from m choice =

@@ -11,14 +11,17 @@ use Rattle.step_pack.specs.Keys.{key_cmp}
 use Rattle.step_pack.specs.declared.key.Key.{Key}
 use Rattle.step_pack.specs.declared.key.Key.TheVariants as key
 use Rattle.step_pack.specs.declared.out.Out.{Out}
-use Rattle.document_rules.specs.Fits.{fits}
-use Rattle.output_rules.specs.AllTree.{all_stages}
-use Rattle.image_rules.specs.ImageTrees.{file_stages, volume_stages, device_stages}
-use Rattle.module_rules.specs.ModuleTrees.{most_rounds, choice_stages, pcds_stages, values_stages}
-use Rattle.module_rules.specs.TextTrees.{code_stages, depex_stages, report_stages}
-use Rattle.image_rules.specs.VpdTree.{vpd_stages}
-pub use Rattle.document_rules.specs.Trees.{AdvancesTo}
-use Rattle.document_rules.specs.Trees.{EdkStages, dec_stages, inf_stages, platform_stages, flash_stages}
+use Rattle.job_fields.specs.Readings.{is_job}
+use Rattle.step_answers.specs.Fits.{fits}
+use Rattle.output_steps.specs.AllTree.{all_stages}
+use Rattle.file_steps.specs.FileTrees.{file_stages}
+use Rattle.volume_steps.specs.VolumeTrees.{volume_stages, device_stages}
+use Rattle.library_steps.specs.ModuleTrees.{most_rounds, choice_stages, pcds_stages, values_stages}
+use Rattle.text_steps.specs.TextTrees.{code_stages, depex_stages, report_stages}
+use Rattle.volume_steps.specs.VpdTree.{vpd_stages}
+pub use Rattle.step_answers.specs.Readers.{AdvancesTo}
+use Rattle.step_answers.specs.Readers.{EdkStages}
+use Rattle.document_steps.specs.Trees.{dec_stages, inf_stages, platform_stages, flash_stages}
 
 abbrev pub stages_of : Key → EdkStages
 stages_of (key.Dec path) = dec_stages path
@@ -75,19 +78,6 @@ most_of key.Report = 2
 most_of key.All = 2
 most_of key.Vpd = 1
 most_of (key.Based v) = 2
-
-abbrev pub is_empty : List ℕ → Bool
-is_empty text = length text == 0
-
-abbrev pub is_path_or_empty : List ℕ → Bool
-is_path_or_empty text = if is_empty text then true else is_some (path_field text)
-
--- the field 0 of a job names a file, and so do 7 and 9 where they aren't empty
-abbrev pub is_job : List (List ℕ) → Bool
-is_job fields =
-    is_some (path_field (slice_index_or fields 0 []))
-    && (is_path_or_empty (slice_index_or fields 7 [])
-    && is_path_or_empty (slice_index_or fields 9 []))
 
 abbrev pub edk : Staged Key Out
 edk = record { stages = stages_of; rank = rank_of; most = most_of; fits = fits; is_job = is_job }

@@ -22,7 +22,8 @@ use Rattle.flash_document.specs.Flash.{flash_of}
 use Rattle.build_rules.specs.ImageBounds.{file_lower, volume_lower, device_lower, vpd_lower, all_lower, file_within, volume_within, device_within, vpd_within, all_within}
 use Rattle.build_rules.specs.ModuleBounds.{choice_lower, pcds_lower, values_lower, choice_within, pcds_within, values_within}
 use Rattle.build_rules.specs.TextBounds.{code_lower, depex_lower, report_lower, code_within, depex_within, report_within}
-use Rattle.document_rules.specs.Trees.{given_as, document_stages, root_in, macros_in, platform_given, platform_in, flash_root, flash_from, flash_given}
+use Rattle.step_answers.specs.Readers.{given_as, platform_in}
+use Rattle.document_steps.specs.Trees.{document_stages, root_in, macros_in, platform_given, flash_root, flash_from, flash_given}
 use Rattle.build_rules.specs.Rules.{stages_of, rank_of, most_of, edk}
 
 document_lower : {A : Type 0} (variant : A → Out) (read : Lines → Result A Fault) (bound : ℕ)

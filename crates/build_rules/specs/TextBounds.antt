@@ -8,13 +8,11 @@ use Rattle.build_stages.specs.Stages.{IsLower, AreLower, IsWithin}
 use Rattle.build_stages.specs.Bounds.{all_one, all_two, attempt_lower, attempt_within, bind_lower, bind_within}
 use Rattle.doc_types.specs.declared.choice.Module.{Module}
 use Rattle.step_pack.specs.declared.key.Key.TheVariants as key
-use Rattle.module_steps.specs.Parts.{choice_in}
+use Rattle.step_answers.specs.Readers.{choice_in, values_in, platform_in}
 use Rattle.text_steps.specs.Asks.{told_asks}
-use Rattle.text_steps.specs.Report.{values_in}
-use Rattle.document_rules.specs.Trees.{platform_in}
-use Rattle.module_rules.specs.ModuleTrees.{module_parts}
+use Rattle.library_steps.specs.ModuleTrees.{module_parts}
 use Rattle.build_rules.specs.ModuleBounds.{module_lower, module_within}
-use Rattle.module_rules.specs.TextTrees.{code_stages, depex_stages, told_modules_in, heading_in, report_stages}
+use Rattle.text_steps.specs.TextTrees.{code_stages, depex_stages, told_modules_in, heading_in, report_stages}
 use Rattle.build_rules.specs.Rules.{rank_of}
 
 pub code_lower : (m : Module) → AreLower rank_of 7 (code_stages m)

@@ -20,9 +20,11 @@ use Rattle.flash_document.specs.Flash.{flash_of}
 use Rattle.build_stages.specs.Stages.{outcome_of}
 use Rattle.step_pack.specs.declared.key.Key.TheVariants as key
 use Rattle.step_pack.specs.declared.out.Out.TheVariants as out
-use Rattle.document_rules.specs.Defines.{macros_of_job}
+use Rattle.job_fields.specs.Readings.{macros_of_job}
 use Rattle.build_rules.specs.Rules.{value_in}
-use Rattle.document_rules.specs.Trees.{given_as, empty_flash}
+use Rattle.step_answers.specs.Readers.{given_as}
+use Rattle.document_steps.specs.Trees.{empty_flash}
+use Rattle.job_fields.specs.Fields.{PLATFORM, TARGET, TAG, DEFINES, FLASH}
 
 -- the lines of a document with these macros before its first, and these above all
 abbrev pub lines_in : World → List ℕ → List Macro → List Macro → Result Lines Fault
@@ -36,10 +38,10 @@ inf_value w path = and_then (lines_in w path [] []) module_of
 
 -- the macros of the job's fields, which hold above those of all files
 abbrev pub job_macros : World → List Macro
-job_macros w = macros_of_job (field w 2) (field w 3) (field w 5)
+job_macros w = macros_of_job (field w TARGET) (field w TAG) (field w DEFINES)
 
 abbrev pub platform_value : World → Result PlatformDoc Fault
-platform_value w = and_then (lines_in w (field w 0) [] (job_macros w)) platform_of
+platform_value w = and_then (lines_in w (field w PLATFORM) [] (job_macros w)) platform_of
 
 -- the file of the flash description, if any: that of the job, or else the platform's
 abbrev pub flash_file : Option (List ℕ) → List ℕ → Option (List ℕ)
@@ -53,7 +55,7 @@ flash_of_file w platform (Some path) =
 unfoldable pub flash_value : World → Result FlashDoc Fault
 flash_value w =
     and_then (platform_value w) (λ platform.
-    flash_of_file w platform (flash_file platform.flash (field w 7)))
+    flash_of_file w platform (flash_file platform.flash (field w FLASH)))
 
 -- the step of a document gives its value
 abbrev pub GivesPackage : World → List ℕ → Type 0

@@ -7,7 +7,7 @@ ghost use Rattle.step_pack.specs.Keys.{key_cmp};
 ghost use Rattle.step_pack.specs.declared.key.Key.{Key as KeyOf};
 ghost use Rattle.build_rules.specs.Adopting.{is_image, is_depex, is_vpd, is_same, stays, adopted, AreOlder, by_older};
 ghost use Rattle.build_rules.specs.Rules.{edk};
-ghost use Rattle.document_rules.specs.Trees.{EdkStages};
+ghost use Rattle.step_answers.specs.Readers.{EdkStages};
 
 use step_engine::Cache;
 use step_pack::{Key, Out};

@@ -1,7 +1,7 @@
 //! What the steps of older editions were.
 ghost use Rattle.build_rules.specs.Adopting.{AreOlder};
 ghost use Rattle.build_rules.specs.Older.{second_edition};
-ghost use Rattle.document_rules.specs.Trees.{EdkStages};
+ghost use Rattle.step_answers.specs.Readers.{EdkStages};
 ghost use Rattle.step_pack.specs.declared.key.Key.{Key as KeyOf};
 
 /// The steps of edition 2, whatever those of images and of the whole build were, are older

@@ -2,11 +2,11 @@
 use crate::steps::{outcome_of, rank_of};
 use build_base::{Permit, Same, WantOfMemory};
 use build_stages::{Known, StagedRules, StepTypes, Stop, turn_by};
-use document_rules::answers::EdkAnswers;
 use macro_conditions::OpenDocument;
 use std::alloc::Global;
 use std::collections::BTreeMap;
 use std::sync::Mutex;
+use step_answers::answers::EdkAnswers;
 use step_engine::{Answer, Ask, Rules, Talk, Turn};
 use step_pack::{Key, Out};
 

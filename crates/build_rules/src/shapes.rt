@@ -1,6 +1,6 @@
 //! The steps of a build, and which answers a world can give to them.
 use build_stages::StepTypes;
-use document_rules::answers::EdkAnswers;
+use step_answers::answers::EdkAnswers;
 use step_engine::{Answer, Ask};
 use step_pack::{Key, Out};
 

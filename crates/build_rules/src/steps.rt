@@ -7,15 +7,16 @@ ghost use Rattle.step_pack.specs.Keys.{key_cmp};
 
 use build_base::Permit;
 use build_stages::{Known, Stop};
-use document_rules::documents::{dec, flash, inf, platform};
-use image_rules::images::{device, file, rebased_volume, volume};
-use image_rules::vpd::vpd;
+use document_steps::{dec, flash, inf, platform};
+use file_steps::file;
+use library_steps::modules::{choice, pcds, values};
 use macro_conditions::OpenDocument;
-use module_rules::modules::{choice, pcds, values};
-use module_rules::texts::{code, depex, report};
-use output_rules::all::all;
+use output_steps::all::all;
 use std::alloc::Global;
 use step_pack::{Key, Out};
+use text_steps::texts::{code, depex, report};
+use volume_steps::vpd::vpd;
+use volume_steps::{device, rebased_volume, volume};
 
 // A number above those of all steps whose outcome a step asks for.
 pub(crate) fn rank_of(key: &Key) -> u64

@@ -1,10 +1,10 @@
 -- What needs all of its values is made of all, two by two.
 use Rattle.std.proofs.Common.{◌≡◌, refl, ℕ, List, Option, Some, None}
 use Rattle.std.specs.Option.{option_map}
-use Rattle.build_words.specs.declared.job.Files.{Files}
-use Rattle.build_words.specs.declared.job.Images.{Images}
-use Rattle.build_words.specs.declared.job.Names.{Names}
-use Rattle.build_words.specs.declared.job.Settings.{Settings}
+use Rattle.job_fields.specs.declared.job.Files.{Files}
+use Rattle.job_fields.specs.declared.job.Images.{Images}
+use Rattle.job_fields.specs.declared.job.Names.{Names}
+use Rattle.job_fields.specs.declared.job.Settings.{Settings}
 use Rattle.build_words.specs.Both.{both, job_by}
 use Rattle.build_words.specs.Jobs.{files_of, names_of, settings_of, images_of, job_of}
 

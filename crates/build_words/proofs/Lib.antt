@@ -1,3 +1,3 @@
 pub mod CommandLemmas
-pub mod JoinLemmas
+pub mod WordLemmas
 pub mod BothLemmas

@@ -1,11 +1,11 @@
 -- Values that are all there.
 use Rattle.std.specs.Prelude.{ℕ, List, Option, Some, None}
 use Rattle.std.specs.Option.{option_map}
-use Rattle.build_words.specs.declared.job.Files.{Files}
-use Rattle.build_words.specs.declared.job.Images.{Images}
-use Rattle.build_words.specs.declared.job.Job.{Job}
-use Rattle.build_words.specs.declared.job.Names.{Names}
-use Rattle.build_words.specs.declared.job.Settings.{Settings}
+use Rattle.job_fields.specs.declared.job.Files.{Files}
+use Rattle.job_fields.specs.declared.job.Images.{Images}
+use Rattle.job_fields.specs.declared.job.Job.{Job}
+use Rattle.job_fields.specs.declared.job.Names.{Names}
+use Rattle.job_fields.specs.declared.job.Settings.{Settings}
 
 abbrev pub both : {A B : Type 0} → Option A → Option B → Option (A × B)
 both (Some a) (Some b) = Some (a, b)

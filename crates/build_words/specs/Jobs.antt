@@ -7,12 +7,12 @@ use Rattle.std.specs.Option.{option_map}
 use Rattle.build_base.specs.Path.{path_field}
 use Rattle.clap.specs.Words.{Row, all_of, first_of}
 use Rattle.build_words.specs.Command.{is_taken, rows_in}
-use Rattle.build_words.specs.Values.{is_name, is_define, is_setting, is_arch, workers_of}
-use Rattle.build_words.specs.declared.job.Files.{Files}
-use Rattle.build_words.specs.declared.job.Images.{Images}
-use Rattle.build_words.specs.declared.job.Job.{Job}
-use Rattle.build_words.specs.declared.job.Names.{Names}
-use Rattle.build_words.specs.declared.job.Settings.{Settings}
+use Rattle.job_fields.specs.Values.{is_name, is_define, is_setting, is_arch, workers_of}
+use Rattle.job_fields.specs.declared.job.Files.{Files}
+use Rattle.job_fields.specs.declared.job.Images.{Images}
+use Rattle.job_fields.specs.declared.job.Job.{Job}
+use Rattle.job_fields.specs.declared.job.Names.{Names}
+use Rattle.job_fields.specs.declared.job.Settings.{Settings}
 
 -- the values of an option that may be repeated, in the order of the words
 abbrev pub values_of : List ℕ → List Row → List (List ℕ)

@@ -4,10 +4,10 @@ ghost use Rattle.std.specs.Option.{option_map};
 ghost use Rattle.clap.specs.Words.{all_of, first_of, found_of, rows_of};
 ghost use Rattle.build_words.specs.Jobs.{values_of, needed_path, optional_path, optional_name};
 
-use crate::checks::is_name;
 use build_base::path::path_field;
 use build_base::{Path, Rows, Text, WantOfMemory};
 use clap::ArgMatches;
+use job_fields::checks::is_name;
 use std::alloc::Global;
 
 /// The value of an option.

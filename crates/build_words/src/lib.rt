@@ -1,16 +1,11 @@
 //! The words of a build, read by one command (EDK II Build specification, options of `build`).
 #![tactic(auto)]
 
-pub mod checks;
 mod command;
-mod fields;
 mod given;
-pub mod job;
+mod laws;
 mod lists;
 mod words;
-mod workers;
 
-pub use fields::job_fields;
-pub use job::Job;
+pub use laws::words_give_jobs;
 pub use words::words_job;
-pub use workers::Workers;

@@ -1,12 +1,12 @@
 //! The values of options that may be repeated.
-ghost use Rattle.std.specs.Prelude.{◌≡◌, [], IfOk, OnOk, map, fold};
+ghost use Rattle.std.specs.Prelude.{◌≡◌, IfOk, OnOk, map};
 ghost use Rattle.std.specs.Char.{to_ascii_uppercase};
 ghost use Rattle.std.specs.List.{list_all};
 ghost use Rattle.build_words.specs.Jobs.{each_of, has_text, put_arch, arches_of};
-ghost use Rattle.build_words.specs.Values.{is_name, is_define, is_setting, is_arch};
+ghost use Rattle.job_fields.specs.Values.{is_name, is_define, is_setting, is_arch};
 
-use crate::checks::{is_arch, is_define, is_name, is_setting};
 use build_base::{Rows, Text, WantOfMemory};
+use job_fields::checks::{is_arch, is_define, is_name, is_setting};
 use std::alloc::{AllocError, Global};
 
 fn are_names(texts: &[Text]) -> bool

@@ -7,11 +7,11 @@ ghost use Rattle.build_words.specs.Both.{both, job_by};
 
 use crate::command::parse;
 use crate::given::{needed_path, optional_name, optional_path, value, values_of};
-use crate::job::{Files, Images, Job, Names, Settings};
 use crate::lists::{arches_of, are_arches, each_define, each_name, each_setting};
-use crate::workers::Workers;
 use build_base::{Path, Rows, Text, WantOfMemory};
 use clap::ArgMatches;
+use job_fields::Workers;
+use job_fields::job::{Files, Images, Job, Names, Settings};
 use std::alloc::Global;
 
 // Both values, where both are there.

@@ -14,12 +14,13 @@ use Rattle.build_base.specs.declared.outside.KeeperFailed.TheVariants.{Failed}
 use Rattle.build_base.specs.declared.outside.Target.TheVariants.{Out as ToOut}
 use Rattle.build_rules.proofs.AdoptLemmas.{adopted_sound, all_stay}
 use Rattle.build_rules.specs.Adopting.{AreOlder, adopted, by_older}
-use Rattle.build_rules.specs.Rules.{is_job, value_in}
-use Rattle.build_rules.specs.Trees.{EdkStages}
+use Rattle.job_fields.specs.Readings.{is_job}
+use Rattle.build_rules.specs.Rules.{value_in}
+use Rattle.step_answers.specs.Readers.{EdkStages}
 use Rattle.build_stages.specs.Bounds.{both_hold}
 use Rattle.build_stages.specs.Stages.{meaning_of}
-use Rattle.build_words.specs.Fields.{job_fields}
-use Rattle.build_words.specs.declared.job.Job.{Job}
+use Rattle.job_fields.specs.Fields.{job_fields}
+use Rattle.job_fields.specs.declared.job.Job.{Job}
 use Rattle.step_cache.proofs.CacheLemmas.{same_cache}
 use Rattle.step_cache.proofs.TextLemmas.{cut_text, same_edition}
 use Rattle.step_cache.specs.CacheText.{IsCacheText, IsTextOf, is_edition, newest}

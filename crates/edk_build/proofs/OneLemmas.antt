@@ -6,7 +6,7 @@ use Rattle.build_base.specs.Spelling.{Output}
 use Rattle.build_base.specs.World.{World, file_limit}
 use Rattle.build_base.specs.declared.outside.Got.{Got}
 use Rattle.build_base.specs.declared.outside.Got.TheVariants.{File}
-use Rattle.build_words.specs.declared.job.Job.{Job}
+use Rattle.job_fields.specs.declared.job.Job.{Job}
 use Rattle.step_engine.specs.Needed.{AreDistinct, IsNeededCount}
 use Rattle.step_engine.specs.declared.talk.Entry.{Entry}
 use Rattle.step_pack.specs.declared.key.Key.{Key}

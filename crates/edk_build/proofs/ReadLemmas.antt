@@ -21,7 +21,7 @@ use Rattle.edk_build.specs.declared.script.ScriptCommand.{ScriptCommand}
 use Rattle.edk_build.specs.declared.script.ScriptCommand.TheVariants as order
 use Rattle.edk_build.specs.declared.script.ScriptLine.{ScriptLine}
 use Rattle.edk_build.proofs.ReplayLemmas.{behind}
-use Rattle.build_words.specs.declared.job.Job.{Job}
+use Rattle.job_fields.specs.declared.job.Job.{Job}
 
 -- behind an edit there is one
 some_edit : (edits : List Edit) (e : Edit) (p : List ℕ) → last_edit (Some e) edits p ≡ None → ⊥

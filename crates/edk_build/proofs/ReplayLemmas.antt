@@ -18,7 +18,7 @@ use Rattle.step_engine.specs.declared.talk.Entry.{Entry}
 use Rattle.step_pack.specs.declared.key.Key.{Key}
 use Rattle.step_pack.specs.declared.key.Key.TheVariants as key
 use Rattle.step_pack.specs.declared.out.Out.{Out}
-use Rattle.build_rules.specs.Rules.{is_job}
+use Rattle.job_fields.specs.Readings.{is_job}
 use Rattle.edk_build.proofs.RunLemmas.{same_ran, same_all}
 use Rattle.edk_build.specs.Building.{means, IsBuilt, IsCutShort, Leaves}
 use Rattle.edk_build.specs.Emitting.{emitted}
@@ -26,9 +26,9 @@ use Rattle.edk_build.specs.History.{start, label_of, after_edit, after_build, wo
 use Rattle.edk_build.specs.Outcome.{outcome}
 use Rattle.edk_build.specs.Script.{HaveJobs, HasJob, script_line}
 use Rattle.edk_build.specs.Stops.{IfWriteFault, IfUnwritten, stop_status}
-use Rattle.build_words.specs.Fields.{job_fields}
+use Rattle.job_fields.specs.Fields.{job_fields}
 use Rattle.edk_build.specs.declared.build.Built.{Built}
-use Rattle.build_words.specs.declared.job.Job.{Job}
+use Rattle.job_fields.specs.declared.job.Job.{Job}
 use Rattle.edk_build.specs.declared.label.Label.{Label}
 use Rattle.edk_build.specs.declared.script.ScriptCommand.{ScriptCommand}
 use Rattle.edk_build.specs.declared.script.ScriptCommand.TheVariants as order

@@ -11,7 +11,7 @@ use Rattle.meta_lexer.specs.Parts.{words_of}
 use Rattle.edk_build.specs.Script.{put_of, drop_of, build_of, order_of, content_of, content_in, script_line, lines_at, with_content, line_content, lines_among, script_of, HasJob, HaveJobs}
 use Rattle.build_words.specs.Jobs.{words_job}
 use Rattle.edk_build.proofs.WordLemmas.{is_job_of}
-use Rattle.build_words.specs.declared.job.Job.{Job}
+use Rattle.job_fields.specs.declared.job.Job.{Job}
 use Rattle.edk_build.specs.declared.script.ScriptCommand.{ScriptCommand}
 use Rattle.edk_build.specs.declared.script.ScriptCommand.TheVariants as order
 use Rattle.edk_build.specs.declared.script.ScriptLine.{ScriptLine}

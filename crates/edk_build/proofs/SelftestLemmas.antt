@@ -14,8 +14,8 @@ use Rattle.step_engine.specs.declared.talk.Entry.{Entry}
 use Rattle.step_pack.specs.declared.key.Key.{Key}
 use Rattle.step_pack.specs.declared.key.Key.TheVariants as key
 use Rattle.step_pack.specs.declared.out.Out.{Out}
-use Rattle.build_rules.specs.Rules.{is_job}
-use Rattle.build_words.specs.Fields.{job_fields}
+use Rattle.job_fields.specs.Readings.{is_job}
+use Rattle.job_fields.specs.Fields.{job_fields}
 use Rattle.edk_build.proofs.ReplayLemmas.{grew_nothing}
 use Rattle.edk_build.proofs.RunLemmas.{same_ran, same_all, told_over}
 use Rattle.edk_build.specs.Building.{means, IsBuilt, IsCutShort, Leaves}

@@ -7,7 +7,7 @@ use Rattle.macro_expressions.specs.Macros.{same_text}
 use Rattle.edk_build.specs.declared.command.Command.{Command}
 use Rattle.edk_build.specs.declared.command.Command.TheVariants.{Build, Replay, Selftest, Volinfo}
 use Rattle.build_words.specs.Jobs.{words_job}
-use Rattle.build_words.specs.declared.job.Job.{Job}
+use Rattle.job_fields.specs.declared.job.Job.{Job}
 use Rattle.selftest_tree.specs.Count.{count_of}
 
 abbrev pub build_from : List (List ℕ) → Option Command

@@ -23,10 +23,10 @@ use Rattle.edk_build.specs.Emitting.{emitted}
 use Rattle.edk_build.specs.Outcome.{outcome}
 use Rattle.edk_build.specs.Run.{world_of}
 use Rattle.edk_build.specs.Script.{script_of}
-use Rattle.build_words.specs.Fields.{job_fields}
+use Rattle.job_fields.specs.Fields.{job_fields}
 use Rattle.edk_build.specs.declared.command.Command.{Command}
 use Rattle.edk_build.specs.declared.command.Command.TheVariants as command
-use Rattle.build_words.specs.declared.job.Job.{Job}
+use Rattle.job_fields.specs.declared.job.Job.{Job}
 use Rattle.edk_build.specs.declared.label.Label.{Label}
 use Rattle.edk_build.specs.declared.script.ScriptCommand.{ScriptCommand}
 use Rattle.edk_build.specs.declared.script.ScriptCommand.TheVariants.{Put, Drop, Build}

@@ -9,7 +9,7 @@ use Rattle.build_base.specs.World.{World}
 use Rattle.build_base.specs.declared.outside.KeeperFailed.TheVariants.{Failed}
 use Rattle.build_base.specs.declared.outside.Target.{Target}
 use Rattle.build_base.specs.declared.outside.Target.TheVariants.{Out as ToOut}
-use Rattle.build_words.specs.declared.job.Job.{Job}
+use Rattle.job_fields.specs.declared.job.Job.{Job}
 use Rattle.step_cache.specs.CacheText.{IsCacheText}
 use Rattle.step_engine.specs.Build.{setting, IsEntryOf, Ran, RanAll, HasRead}
 use Rattle.step_engine.specs.Entries.{AreSound}

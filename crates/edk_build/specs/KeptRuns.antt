@@ -2,7 +2,7 @@
 -- of a run say of each, and what follows for all. The rule is this project's own.
 use Rattle.std.specs.Prelude.{◌≡◌, ℕ, List, [], ◌∷◌, Option, Some}
 use Rattle.build_base.specs.Outside.{Files}
-use Rattle.build_words.specs.declared.job.Job.{Job}
+use Rattle.job_fields.specs.declared.job.Job.{Job}
 use Rattle.step_engine.specs.Entries.{AreSound}
 use Rattle.step_engine.specs.declared.talk.Entry.{Entry}
 use Rattle.step_pack.specs.declared.key.Key.{Key}

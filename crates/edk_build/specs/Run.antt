@@ -3,8 +3,8 @@ use Rattle.std.specs.Prelude.{◌≡◌, ◌⊎◌, None, false, IsOk}
 use Rattle.build_base.specs.Outside.{Files}
 use Rattle.build_base.specs.World.{World}
 use Rattle.edk_build.specs.Outcome.{outcome}
-use Rattle.build_words.specs.Fields.{job_fields}
-use Rattle.build_words.specs.declared.job.Job.{Job}
+use Rattle.job_fields.specs.Fields.{job_fields}
+use Rattle.job_fields.specs.declared.job.Job.{Job}
 use Rattle.edk_build.specs.declared.label.Label.{Label}
 use Rattle.edk_build.specs.declared.status.Status.{Status}
 use Rattle.edk_build.specs.declared.status.Status.TheVariants.{Done, WantOfMemory}

@@ -6,8 +6,8 @@ use Rattle.build_base.specs.Path.{path_field}
 use Rattle.macro_expressions.specs.Macros.{same_text}
 use Rattle.meta_lexer.specs.Lines.{Piece, is_plain, pieces_from, without_return}
 use Rattle.meta_lexer.specs.Parts.{words_of}
-use Rattle.build_rules.specs.Rules.{is_job}
-use Rattle.build_words.specs.Fields.{job_fields}
+use Rattle.job_fields.specs.Readings.{is_job}
+use Rattle.job_fields.specs.Fields.{job_fields}
 use Rattle.build_words.specs.Jobs.{words_job}
 use Rattle.edk_build.specs.declared.script.ScriptCommand.{ScriptCommand}
 use Rattle.edk_build.specs.declared.script.ScriptCommand.TheVariants.{Put, Drop, Build}

@@ -9,8 +9,8 @@ use Rattle.step_engine.specs.declared.talk.Entry.{Entry}
 use Rattle.step_pack.specs.declared.key.Key.{Key}
 use Rattle.step_pack.specs.declared.key.Key.TheVariants as key
 use Rattle.step_pack.specs.declared.out.Out.{Out}
-use Rattle.build_words.specs.Fields.{job_fields}
-use Rattle.build_words.specs.declared.job.Job.{Job}
+use Rattle.job_fields.specs.Fields.{job_fields}
+use Rattle.job_fields.specs.declared.job.Job.{Job}
 use Rattle.selftest_tree.specs.Tree.{workspace, edited_workspace}
 use Rattle.edk_build.specs.Building.{means, IsCounted, Leaves}
 use Rattle.edk_build.specs.Emitting.{emitted}

@@ -1,7 +1,7 @@
 -- What a run of the words of a command line did, command by command.
 use Rattle.std.specs.Prelude.{◌≡◌, ◌⊎◌, ℕ, List, Option, None, IfSome, IsSome}
 use Rattle.build_base.specs.Outside.{Files, Emission, HasFailed}
-use Rattle.build_words.specs.declared.job.Job.{Job}
+use Rattle.job_fields.specs.declared.job.Job.{Job}
 use Rattle.step_pack.specs.declared.key.Key.{Key}
 use Rattle.edk_build.specs.History.{IsReplayed, IsUsage}
 use Rattle.edk_build.specs.Kept.{IsSoundKept}

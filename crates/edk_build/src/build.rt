@@ -8,7 +8,7 @@ ghost use Rattle.step_engine.specs.Edits.{over};
 ghost use Rattle.step_engine.specs.Entries.{AreSound};
 ghost use Rattle.step_engine.specs.declared.talk.Outcome.{Outcome};
 ghost use Rattle.step_pack.specs.declared.key.Key.TheVariants.{All};
-ghost use Rattle.build_rules.specs.Rules.{is_job};
+ghost use Rattle.job_fields.specs.Readings.{is_job};
 ghost use Rattle.edk_build.specs.Building.{means, AgreesOnGood, IsBrought, IsBuilt, IsCutShort, IsOwn, Leaves, result_status};
 ghost use Rattle.edk_build.specs.Emitting.{status_of, emitted};
 ghost use Rattle.edk_build.specs.Outcome.{files_by};

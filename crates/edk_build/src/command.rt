@@ -1,6 +1,6 @@
 //! What the words of the command line are.
 use build_base::Path;
-use build_words::Job;
+use job_fields::Job;
 
 /// A build, a replay of a script, a selftest with so many modules, or the listing of an image.
 #[derive(Drop)]

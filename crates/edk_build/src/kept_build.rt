@@ -1,8 +1,8 @@
 //! One build from the cache that is kept, and what is kept after it.
 ghost use Rattle.std.specs.Prelude.{◌≡◌, ◌⊎◌, ℕ, List, true, Some, IfOk, OnOk, IfSome};
 ghost use Rattle.build_base.specs.Outside.{HasFailed};
-ghost use Rattle.build_rules.specs.Rules.{is_job};
-ghost use Rattle.build_words.specs.Fields.{job_fields};
+ghost use Rattle.job_fields.specs.Readings.{is_job};
+ghost use Rattle.job_fields.specs.Fields.{job_fields};
 ghost use Rattle.build_rules.specs.Adopting.{adopted};
 ghost use Rattle.step_cache.specs.CacheText.{IsCacheText, is_edition, newest};
 ghost use Rattle.step_engine.specs.Build.{setting, Ran, RanAll, HasRead};
@@ -24,7 +24,8 @@ use crate::status::Status;
 use crate::stop::Stop;
 use build_base::{Book, Gate, Keeper, KeeperFailed, Sink, Text, Tree, WantOfMemory};
 use build_rules::adopt;
-use build_words::{Job, job_fields};
+use job_fields::Job;
+use job_fields::fields::job_fields;
 use kept_texts::text_of;
 use std::alloc::Global;
 use std::thread::Threads;

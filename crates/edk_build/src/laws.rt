@@ -4,7 +4,7 @@ ghost use Rattle.build_base.specs.Outside.{Files};
 ghost use Rattle.build_base.specs.Spelling.{Output};
 ghost use Rattle.build_base.specs.World.{World};
 ghost use Rattle.build_rules.specs.Adopting.{AreOlder, by_older};
-ghost use Rattle.build_rules.specs.Trees.{EdkStages};
+ghost use Rattle.step_answers.specs.Readers.{EdkStages};
 ghost use Rattle.build_stages.specs.Stages.{meaning_of};
 ghost use Rattle.step_cache.specs.CacheText.{IsCacheText, IsNoText, IsTextOf};
 ghost use Rattle.step_pack.specs.Keys.{key_cmp};

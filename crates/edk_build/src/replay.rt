@@ -3,13 +3,13 @@ ghost use Rattle.std.specs.Prelude.{◌≡◌, ◌⊎◌, ◌≤◌, ◌<◌, []
 ghost use Rattle.build_base.specs.Outside.{HasFailed};
 ghost use Rattle.build_base.specs.FaultText.{fault_of, fault_text};
 ghost use Rattle.step_engine.specs.Entries.{AreSound};
-ghost use Rattle.build_rules.specs.Rules.{is_job};
+ghost use Rattle.job_fields.specs.Readings.{is_job};
 ghost use Rattle.edk_build.specs.Building.{means};
 ghost use Rattle.edk_build.specs.History.{after_edit, WasCarriedOut, HasStoppedAtLine, IsTold, Follows, IsReplayed, IsUntouched};
 ghost use Rattle.edk_build.specs.Script.{HasJob, HaveJobs, script_line, script_of};
 ghost use Rattle.edk_build.specs.ReplayReads.{LineReads, LinesRead, ScriptReads, ReplayReads, edited_paths};
 ghost use Rattle.edk_build.specs.Statuses.{OnEnd, OnWriteFault, OnUsage, IsUsageTold, Causes};
-ghost use Rattle.build_words.specs.Fields.{job_fields};
+ghost use Rattle.job_fields.specs.Fields.{job_fields};
 ghost use Rattle.edk_build.specs.declared.script.ScriptCommand.TheVariants as order;
 ghost use Rattle.step_pack.specs.declared.key.Key.{Key};
 
@@ -27,7 +27,8 @@ use build_base::{
     Book, FILE_LIMIT, Fault, Gate, Got, Path, Place, Same, Sink, Target, Text, Tree, TreeFailed,
     WantOfMemory,
 };
-use build_words::{Job, job_fields};
+use job_fields::Job;
+use job_fields::fields::job_fields;
 use shared_value::Shared;
 use std::alloc::Global;
 use std::thread::Threads;

@@ -1,6 +1,6 @@
 //! What is asked of one build.
 use build_base::{Rows, Text};
-use build_words::Workers;
+use job_fields::Workers;
 use step_engine::Edits;
 
 /// The fields of a job, the edits that stand above the tree's files, and how many workers there

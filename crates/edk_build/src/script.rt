@@ -7,8 +7,9 @@ ghost use Rattle.edk_build.specs.Script.{are_plain, put_of, drop_of, build_of, o
 
 use build_base::path::path_field;
 use build_base::{Path, Rows, Text, WantOfMemory};
-use build_words::checks::has_plain_bytes_alone;
-use build_words::{Job, words_job};
+use build_words::words_job;
+use job_fields::Job;
+use job_fields::checks::has_plain_bytes_alone;
 use meta_lexer::line::{is_end, split_line, without_line_end};
 use meta_lexer::parts::words;
 use std::alloc::Global;

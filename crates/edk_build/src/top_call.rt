@@ -1,7 +1,7 @@
 //! The top call.
 ghost use Rattle.std.specs.Prelude.{◌≡◌, ◌⊎◌, IfSome};
 ghost use Rattle.build_base.specs.Outside.{HasFailed};
-ghost use Rattle.build_words.specs.Fields.{job_fields};
+ghost use Rattle.job_fields.specs.Fields.{job_fields};
 ghost use Rattle.edk_build.specs.Commands.{asked, IfBuild, IfNoBuild, IfReplay, IfSelftest, IfVolinfo, IfNoSeries, OfBuild};
 ghost use Rattle.edk_build.specs.History.{IsReplayComplete};
 ghost use Rattle.edk_build.specs.Kept.{StaysSound};

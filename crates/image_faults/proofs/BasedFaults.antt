@@ -9,7 +9,7 @@ use Rattle.fv_compose.specs.Files.{is_stated}
 use Rattle.fv_compose.specs.Volume.{HasShape, head_fits}
 use Rattle.image_rebase.specs.Rebase.{rebased_bytes}
 use Rattle.build_stages.specs.Stages.{impossible_answer}
-use Rattle.image_rules.specs.Based.{rebased_image}
+use Rattle.volume_steps.specs.Based.{rebased_image}
 use Rattle.image_faults.proofs.MovedFaults.{rebased_fails}
 use Rattle.image_faults.proofs.VolumeFaults.{head_sure}
 

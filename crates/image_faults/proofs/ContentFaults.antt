@@ -19,11 +19,11 @@ use Rattle.te_images.specs.declared.te.TeHead.{TeHead}
 use Rattle.fv_compose.specs.Files.{is_stated}
 use Rattle.fv_compose.specs.Volume.{HasShape, head_fits, volume_of}
 use Rattle.build_stages.specs.Stages.{impossible_answer}
-use Rattle.image_steps.specs.Contents.{file_absent, section_absent}
-use Rattle.image_steps.specs.Files.{file_name}
-use Rattle.image_steps.specs.Parts.{as_is, file_shaped, header_guid, part_with, pe_code, pe_fault, some_guid, te_shaped, without_guid}
-use Rattle.image_steps.specs.Volumes.{composed_volume}
-use Rattle.image_steps.specs.declared.parts.Shaped.{Shaped}
+use Rattle.step_answers.specs.Contents.{file_absent, section_absent}
+use Rattle.file_steps.specs.Files.{file_name}
+use Rattle.file_steps.specs.Parts.{as_is, file_shaped, header_guid, part_with, pe_code, pe_fault, some_guid, te_shaped, without_guid}
+use Rattle.volume_steps.specs.Volumes.{composed_volume}
+use Rattle.file_steps.specs.declared.parts.Shaped.{Shaped}
 use Rattle.image_faults.proofs.VolumeFaults.{head_sure, volume_fails}
 use Rattle.image_faults.specs.Served.{GuidStands}
 

@@ -26,9 +26,9 @@ use Rattle.rule_choice.specs.Modules.{inf_arch}
 use Rattle.rule_choice.specs.Rules.{rule_of}
 use Rattle.image_rebase.proofs.SameLemmas.{past, through}
 use Rattle.doc_types.specs.declared.choice.Module.{Module}
-use Rattle.module_images.specs.Names.{fill_names, module_folder, module_guid, own_depex, rule_names}
-use Rattle.module_images.specs.Plans.{file_by, module_of, module_plan, path_filled, plan_by, plan_named, plan_with, refused_section, refused_source, rule_for, rule_found, section_filled, sections_filled, source_filled, stated_text, with_source}
-use Rattle.module_images.specs.declared.plans.ModulePlan.{ModulePlan}
+use Rattle.file_steps.specs.Names.{fill_names, module_folder, module_guid, own_depex, rule_names}
+use Rattle.file_steps.specs.Plans.{file_by, module_of, module_plan, path_filled, plan_by, plan_named, plan_with, refused_section, refused_source, rule_for, rule_found, section_filled, sections_filled, source_filled, stated_text, with_source}
+use Rattle.file_steps.specs.declared.plans.ModulePlan.{ModulePlan}
 use Rattle.image_faults.proofs.PartLemmas.{all_kept}
 use Rattle.image_faults.proofs.RuleFaults.{arch_fails, rule_below, rule_fails}
 use Rattle.image_faults.specs.Served.{GuidStands, IsPlanned, IsPlannedFrom, ServesRule, ServesRuleFrom, Serves}

@@ -11,12 +11,13 @@ use Rattle.doc_types.specs.declared.volume.Align.TheVariants as align
 use Rattle.doc_types.specs.declared.volume.SectionPlan.{SectionPlan}
 use Rattle.te_images.specs.Pe.{section_alignment_of}
 use Rattle.te_images.specs.declared.fault.PeFault.{PeFault}
-use Rattle.image_steps.specs.Contents.{section_absent, words_bytes}
-use Rattle.image_steps.specs.Files.{file_align}
-use Rattle.image_steps.specs.Parts.{as_is, file_shaped, header_guid}
-use Rattle.image_steps.specs.declared.parts.Shaped.{Shaped}
-use Rattle.module_images.specs.Required.{requiring}
-use Rattle.module_images.specs.Sections.{absent_at, absent_fault, absent_part, auto_align, content_align, expression_fault, expression_part, file_part, part_of, part_with, plain_part, some_part, too_long, words_part}
+use Rattle.step_answers.specs.Contents.{section_absent}
+use Rattle.file_steps.specs.Words.{words_bytes}
+use Rattle.file_steps.specs.Files.{file_align}
+use Rattle.file_steps.specs.Parts.{as_is, file_shaped, header_guid}
+use Rattle.file_steps.specs.declared.parts.Shaped.{Shaped}
+use Rattle.file_steps.specs.Required.{requiring}
+use Rattle.file_steps.specs.Sections.{absent_at, absent_fault, absent_part, auto_align, content_align, expression_fault, expression_part, file_part, part_of, part_with, plain_part, some_part, too_long, words_part}
 use Rattle.image_faults.proofs.ContentFaults.{guid_fails, pe_fault_named, section_absent_named, shaped_fails}
 use Rattle.image_faults.specs.Served.{GuidStands}
 

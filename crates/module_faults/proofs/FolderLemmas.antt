@@ -8,12 +8,13 @@ use Rattle.std.proofs.lemmas.Bool.Decides.{nat_tests}
 use Rattle.build_base.specs.Path.{IsPathField, is_path_byte, path_field}
 use Rattle.build_base.specs.declared.fault.Fault.{Fault}
 use Rattle.build_stages.specs.Stages.{impossible_answer}
-use Rattle.build_words.specs.Values.{is_name, is_name_byte}
-use Rattle.document_rules.specs.Defines.{or_default}
-use Rattle.document_rules.specs.Folders.{path_below, output_folder}
+use Rattle.job_fields.specs.Values.{is_name, is_name_byte}
+use Rattle.job_fields.specs.Readings.{or_default}
+use Rattle.step_answers.specs.Folders.{path_below, output_folder}
 use Rattle.named_faults.specs.Named.{FailsByName}
 use Rattle.module_faults.specs.Folders.{folder_limit, IsNameOrNone}
-use Rattle.module_faults.proofs.PathLemmas.{all_as, name_byte, both_bytes, long_path, field_there}
+use Rattle.module_faults.proofs.PathLemmas.{name_byte, both_bytes, long_path, field_there}
+use Rattle.job_fields.proofs.LineLemmas.{all_as}
 
 abbrev below_where : Bool → List ℕ → List ℕ → Result (List ℕ) Fault
 below_where t folder rest = if t then Ok (folder ++ codes "/" ++ rest) else Err impossible_answer

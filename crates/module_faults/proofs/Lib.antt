@@ -12,5 +12,4 @@ pub mod RowLemmas
 pub mod PlatformLemmas
 pub mod FolderLemmas
 pub mod OutputLemmas
-pub mod JobLemmas
 pub mod InfLemmas

@@ -1,8 +1,8 @@
 -- The files of a build have paths.
 use Rattle.std.specs.Prelude.{map, ◌&&◌}
 use Rattle.std.specs.Char.{to_ascii_uppercase}
-use Rattle.std.specs.List.{AllByRecursion, All, list_all, slice_split}
-use Rattle.std.proofs.Common.{◌≡◌, ℕ, ◌+◌, ◌≤◌, ◌==◌, not, nat_lt, nat_le, IsTrue, Bool, true, false, List, [], ◌∷◌, ◌++◌, length, drop, codes, Result, Ok, Err, refl, arith, length-append}
+use Rattle.std.specs.List.{AllByRecursion, All, list_all}
+use Rattle.std.proofs.Common.{◌≡◌, ℕ, ◌+◌, ◌≤◌, ◌==◌, not, nat_lt, nat_le, IsTrue, Bool, true, false, List, [], ◌∷◌, ◌++◌, length, codes, Result, Ok, Err, refl, arith, length-append}
 use Rattle.std.proofs.lemmas.Bool.{and_parts}
 use Rattle.std.proofs.lemmas.Bool.Decides.{nat_tests}
 use Rattle.std.proofs.lemmas.List.{length-map}
@@ -14,7 +14,7 @@ use Rattle.build_base.specs.Path.{IsPath, IsPathField, is_path, is_segment, is_d
 use Rattle.build_base.specs.declared.fault.Fault.{Fault}
 use Rattle.build_base.proofs.PathLemmas.{IsPath-join}
 use Rattle.build_texts.specs.Words.{arch_word}
-use Rattle.build_words.specs.Values.{is_name_byte}
+use Rattle.job_fields.specs.Values.{is_name_byte}
 use Rattle.doc_types.specs.declared.arch.Arch.{Arch}
 use Rattle.doc_types.specs.declared.arch.Arch.TheVariants.{Common, Ia32, X64, Arm, Aarch64, Riscv64, Loongarch64, Ebc}
 use Rattle.doc_types.specs.declared.choice.Module.{Module}
@@ -27,20 +27,26 @@ use Rattle.flash_document.specs.Shape.{NameFits, VolumesFit, HasShape}
 use Rattle.meta_lexer.specs.Tokens.{is_word_byte}
 use Rattle.meta_lexer.specs.Words.{is_identifier, begins_with_digit}
 use Rattle.meta_lexer.specs.Faults.{first_fault}
-use Rattle.image_steps.specs.Asks.{volume_key}
+use Rattle.step_answers.specs.Volumes.{volume_key}
 use Rattle.step_pack.specs.declared.key.Key.{Key}
 use Rattle.step_pack.specs.declared.key.Key.TheVariants as key
-use Rattle.text_steps.specs.Stems.{stem_of}
-use Rattle.document_rules.specs.Folders.{path_below}
-use Rattle.output_rules.specs.Outputs.{image_output, image_where, volume_outputs, device_outputs, module_folder, file_output, c_output, h_output, code_outputs, depex_outputs, module_outputs, vpd_outputs}
-use Rattle.output_rules.specs.Wanted.{image_lines, is_among, image_unknown, wanted_by, wanted_among, wanted_of, is_marked}
+use Rattle.step_answers.specs.Stems.{stem_of}
+use Rattle.step_answers.specs.Folders.{path_below}
+use Rattle.output_steps.specs.Outputs.{image_output, image_where, volume_outputs, device_outputs, module_folder, file_output, c_output, h_output, code_outputs, depex_outputs, module_outputs, vpd_outputs}
+use Rattle.output_steps.specs.Wanted.{device_name, volume_name, is_among, image_unknown, images_unknown, wanted_by, wanted_among, wanted_of, is_marked}
+use Rattle.job_fields.specs.Readings.{images_in}
+use Rattle.job_fields.specs.declared.job.Images.{Images}
+use Rattle.step_answers.specs.Readers.{or_impossible}
+use Rattle.module_faults.specs.Words.{AreImages}
+use Rattle.module_faults.proofs.SettingLemmas.{read_fails}
 use Rattle.named_faults.specs.Named.{IsNamed, FailsByName}
-use Rattle.named_faults.proofs.NamedLemmas.{if_fails, then_fails, or_fault_fails, front_fails, fault_unless_named}
+use Rattle.named_faults.proofs.NamedLemmas.{if_fails, then_fails, or_else_named, or_fault_fails, front_fails, fault_unless_named}
 use Rattle.named_faults.proofs.CodeLemmas.{image_unknown_named}
 use Rattle.text_faults.proofs.PartLemmas.{first_fault_named}
 use Rattle.module_faults.specs.Folders.{folder_limit}
 use Rattle.module_faults.proofs.FolderLemmas.{below_fails, below_length}
-use Rattle.module_faults.proofs.PathLemmas.{all_as, word_byte, name_byte, upper_bytes, both_bytes, long_path, stem_field}
+use Rattle.module_faults.proofs.PathLemmas.{word_byte, name_byte, upper_bytes, both_bytes, long_path, stem_field}
+use Rattle.job_fields.proofs.LineLemmas.{all_as}
 
 -- The files of a module.
 
@@ -257,12 +263,21 @@ vpd_files_fail true folder l =
 
 -- The images that are wanted.
 
-unknown_named : (flash : FlashDoc) (line : List ℕ) → IsNamed (image_unknown flash line)
-unknown_named flash line = fault_unless_named (is_among (image_lines flash) line) (fault_of IMAGE_UNKNOWN flash.at (drop 3 line)) image_unknown_named
+unknown_named : (flash : FlashDoc) (names : List (List ℕ)) (name : List ℕ) → IsNamed (image_unknown flash names name)
+unknown_named flash names name = fault_unless_named (is_among names name) (fault_of IMAGE_UNKNOWN flash.at name) image_unknown_named
 
-among_fails : (flash : FlashDoc) (lines : List (List ℕ)) → FailsByName (wanted_among flash lines)
-among_fails flash lines = or_fault_fails (first_fault (image_unknown flash) lines) (Ok (wanted_by flash lines)) (first_fault_named (image_unknown flash) lines (unknown_named flash)) (λ e. record {})
+names_named : (flash : FlashDoc) (there names : List (List ℕ)) → IsNamed (first_fault (image_unknown flash there) names)
+names_named flash there names = first_fault_named (image_unknown flash there) names (unknown_named flash there)
 
-pub wanted_fails : (flash : FlashDoc) (text : List ℕ) → FailsByName (wanted_of flash text)
+images_named : (flash : FlashDoc) (images : Images) → IsNamed (images_unknown flash images)
+images_named flash images =
+    or_else_named (first_fault (image_unknown flash (map device_name flash.devices)) images.devices) (first_fault (image_unknown flash (map volume_name flash.volumes)) images.volumes)
+    (names_named flash (map device_name flash.devices) images.devices) (names_named flash (map volume_name flash.volumes) images.volumes)
+
+among_fails : (flash : FlashDoc) (images : Images) → FailsByName (wanted_among flash images)
+among_fails flash images = or_fault_fails (images_unknown flash images) (Ok (wanted_by flash images.devices images.volumes)) (images_named flash images) (λ e. record {})
+
+pub wanted_fails : (flash : FlashDoc) (text : List ℕ) → AreImages text → FailsByName (wanted_of flash text)
 unfolding wanted_of
-wanted_fails flash text = if_fails (length text == 0) _ _ (record {}) (among_fails flash (slice_split (λ byte. byte == 10) text))
+wanted_fails flash text a =
+    if_fails (length text == 0) _ _ (record {}) (then_fails (or_impossible (images_in text)) (wanted_among flash) (read_fails (images_in text) a) (λ images e. among_fails flash images))

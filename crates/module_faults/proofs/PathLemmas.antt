@@ -11,19 +11,13 @@ use Rattle.std.proofs.lemmas.List.{take_more, get_or-reverse, length-reverse}
 use Rattle.std.proofs.lemmas.List.Folds.{list_all-append}
 use Rattle.std.proofs.lemmas.List.Splits.{slice_split_none}
 use Rattle.std.proofs.lemmas.List.Sums.{AllPass-from_list_all, prefix_len_passes, prefix_len_stops, suffix_len-le-length}
-use Rattle.build_base.specs.Path.{IsPath, IsPathField, is_path, is_segment, is_dots, is_path_byte, path_field}
+use Rattle.build_base.specs.Path.{IsPath, IsPathField, is_path, is_segment, is_dots, is_path_byte, path_field, is_between}
 use Rattle.build_base.proofs.PathLemmas.{IsPath-join, is_path_front, slice_split-join}
-use Rattle.build_base.specs.Path.{is_between}
-use Rattle.build_words.specs.Values.{is_name_byte}
+use Rattle.job_fields.specs.Values.{is_name_byte}
 use Rattle.meta_lexer.specs.Tokens.{is_word_byte}
-use Rattle.text_steps.specs.Stems.{size_to, last_name, before_dot, stem_of}
+use Rattle.step_answers.specs.Stems.{size_to, last_name, before_dot, stem_of}
 
 -- Bytes.
-
--- what passes one test passes another
-pub all_as : (p q : ℕ → Bool) → ((x : ℕ) → p x ≡ true → q x ≡ true) → (xs : List ℕ) → list_all p xs ≡ true → list_all q xs ≡ true
-all_as p q n [] e = refl
-all_as p q n (x ∷ xs) e = let both = and_parts (p x) (list_all p xs) e in and_from (q x) (list_all q xs) (n x both.0) (all_as p q n xs both.1)
 
 all_of_front : (p : ℕ → Bool) (n : ℕ) (xs : List ℕ) → list_all p xs ≡ true → list_all p (take n xs) ≡ true
 all_of_front p zero xs e = refl

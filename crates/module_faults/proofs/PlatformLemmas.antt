@@ -47,13 +47,14 @@ use Rattle.dsc_platform.specs.Cutting.{begins, component_of, all_parts, block_co
 use Rattle.dsc_platform.specs.Platform.{dsc_grammar, whole_fault, with_required, required, document_of, platform_made, platform_of}
 use Rattle.dsc_platform.specs.SkuUses.{uses_of}
 use Rattle.dsc_platform.specs.Stating.{name_in, output_in, nothing, with_rows}
-use Rattle.module_steps.specs.Settings.{arches_built, module_where, modules_for, modules_of, built_modules}
+use Rattle.step_answers.specs.Settings.{arches_built, module_where, modules_for, modules_of, built_modules}
 use Rattle.pcd_resolve.specs.Names.{covers}
 use Rattle.module_faults.proofs.PartLemmas.{Domain, TypeOf, Holds, mapped_holds, after_fault}
 use Rattle.module_faults.proofs.PathLemmas.{field_given}
-use Rattle.module_faults.proofs.RowLemmas.{both_all, front_all, behind_all, mapped_all, last_holds, rows_have}
+use Rattle.module_faults.proofs.RowLemmas.{front_all, behind_all, mapped_all, last_holds, rows_have}
 use Rattle.text_faults.proofs.PartLemmas.{lookup_holds}
 use Rattle.named_faults.proofs.NamedLemmas.{if_holds}
+use Rattle.job_fields.proofs.LineLemmas.{both_all}
 
 -- Rows.
 

@@ -13,10 +13,7 @@ use Rattle.doc_reading.specs.Grammar.{Grammar, Read, rows_of, rows_in, outcome_o
 use Rattle.doc_reading.specs.Least.{least_of}
 use Rattle.doc_reading.specs.Reading.{last_or}
 use Rattle.module_faults.proofs.PartLemmas.{Holds}
-
-pub both_all : {X : Type 0} (P : X → Type 0) (xs ys : List X) → AllByRecursion P xs → AllByRecursion P ys → AllByRecursion P (xs ++ ys)
-both_all P [] ys h k = k
-both_all P (x ∷ xs) ys h k = (h.0, both_all P xs ys h.1 k)
+use Rattle.job_fields.proofs.LineLemmas.{both_all}
 
 pub front_all : {X : Type 0} (P : X → Type 0) (xs ys : List X) → AllByRecursion P (xs ++ ys) → AllByRecursion P xs
 front_all P [] ys h = tt

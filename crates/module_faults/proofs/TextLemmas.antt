@@ -12,10 +12,11 @@ use Rattle.doc_types.specs.declared.parts.Package.{Package}
 use Rattle.doc_types.specs.declared.platform.PlatformDoc.{PlatformDoc}
 use Rattle.doc_types.specs.declared.texts.Texts.{Texts}
 use Rattle.doc_types.specs.declared.values.Values.{Values}
-use Rattle.module_steps.specs.declared.parts.Described.{Described}
-use Rattle.module_steps.specs.declared.parts.Linked.{Linked}
-use Rattle.module_steps.specs.Parts.{linked_module, package_paths, described, parts}
-use Rattle.text_steps.specs.Code.{own_guid, guid_or_own, stated_guid, file_guid, code_ask, some_texts, code_given}
+use Rattle.library_steps.specs.declared.parts.Described.{Described}
+use Rattle.library_steps.specs.declared.parts.Linked.{Linked}
+use Rattle.library_steps.specs.Parts.{linked_module, package_paths, described, parts}
+use Rattle.text_steps.specs.Code.{own_guid, guid_or_own, file_guid, code_ask, some_texts, code_given}
+use Rattle.step_answers.specs.Settings.{stated_guid}
 use Rattle.text_steps.specs.Depex.{own_type, groups_of, depex_given}
 use Rattle.named_faults.specs.Named.{FailsByName}
 use Rattle.named_faults.proofs.NamedLemmas.{if_fails, then_fails}

@@ -1,6 +1,6 @@
 -- How long the folder of a build may be; the limits are this project's own.
 use Rattle.std.specs.Prelude.{◌≡◌, ℕ, ◌==◌, ◌||◌, true, List, length}
-use Rattle.build_words.specs.Values.{is_name}
+use Rattle.job_fields.specs.Values.{is_name}
 
 -- the most bytes of a build's folder: those of OUTPUT_DIRECTORY, a slash, and two names of 64 bytes
 -- with a `_` between them

@@ -1,22 +1,18 @@
--- What the lines of a job's fields have to be (EDK II Build specification, options -a and --pcd).
-use Rattle.std.specs.Prelude.{◌≡◌, ℕ, ◌==◌, take, true, List, Option, Some, None}
-use Rattle.std.specs.List.{AllByRecursion, position}
+-- What the fields of a job have to be, so that what is read from them has no other fault (EDK II Build
+-- specification, options -a, --pcd, -r and -i).
+use Rattle.std.specs.Prelude.{◌≡◌, ℕ, true, List}
 use Rattle.std.specs.Option.{is_some}
-use Rattle.build_words.specs.Values.{is_arch}
-use Rattle.module_steps.specs.Settings.{text_lines}
+use Rattle.build_base.specs.declared.fault.Place.{Place}
+use Rattle.job_fields.specs.Readings.{arches_in, sets_in, images_in}
 
 -- each line names an architecture that can be built
-unfoldable pub AreArches : List ℕ → Type 0
-AreArches text = AllByRecursion (λ line. is_arch line ≡ true) (text_lines text)
-
--- a dot stands before an equals sign
-abbrev pub HasDot : List ℕ → Option ℕ → Type 0
-HasDot text None = ⊥
-HasDot text (Some equals) = is_some (position (λ byte. byte == 46) (take equals text)) ≡ true
-
-abbrev pub IsSet : List ℕ → Type 0
-IsSet text = HasDot text (position (λ byte. byte == 61) text)
+abbrev pub AreArches : List ℕ → Type 0
+AreArches text = is_some (arches_in text) ≡ true
 
 -- each line gives a PCD a value, `Space.Name=Value`
-unfoldable pub AreSets : List ℕ → Type 0
-AreSets text = AllByRecursion IsSet (text_lines text)
+abbrev pub AreSets : List ℕ → Type 0
+AreSets text = (at : Place) → is_some (sets_in at text) ≡ true
+
+-- each line wants a device or a volume
+abbrev pub AreImages : List ℕ → Type 0
+AreImages text = is_some (images_in text) ≡ true

@@ -1,5 +1,5 @@
 //! Laws of the names of faults.
-ghost use Rattle.std.specs.Prelude.{◌≡◌, ℕ, ◌≤◌, Bool, true, List, [], length, map, slice_index_or, Option, Some, Result, Ok};
+ghost use Rattle.std.specs.Prelude.{◌≡◌, ℕ, ◌≤◌, Bool, true, List, length, map, Result, Ok};
 ghost use Rattle.std.specs.List.{AllByRecursion};
 ghost use Rattle.build_base.specs.First.{and_then, all_ok};
 ghost use Rattle.build_base.specs.Path.{IsPathField};
@@ -8,9 +8,6 @@ ghost use Rattle.build_base.specs.declared.fault.Place.{Place};
 ghost use Rattle.build_base.specs.declared.lines.Lines.{Lines};
 ghost use Rattle.build_texts.specs.declared.asks.CodeAsk.{CodeAsk};
 ghost use Rattle.build_texts.specs.Code.{code_texts};
-ghost use Rattle.build_words.specs.Fields.{job_fields};
-ghost use Rattle.build_words.specs.Jobs.{words_job};
-ghost use Rattle.build_words.specs.declared.job.Job.{Job};
 ghost use Rattle.depex_code.specs.Compiled.{compiled};
 ghost use Rattle.doc_types.specs.declared.asks.ModuleAsk.{ModuleAsk};
 ghost use Rattle.doc_types.specs.declared.asks.PlatformAsk.{PlatformAsk};
@@ -24,16 +21,16 @@ ghost use Rattle.doc_types.specs.declared.parts.ModuleParts.{ModuleParts};
 ghost use Rattle.doc_types.specs.declared.parts.Package.{Package};
 ghost use Rattle.doc_types.specs.declared.platform.PlatformDoc.{PlatformDoc};
 ghost use Rattle.doc_types.specs.declared.values.Values.{Values};
-ghost use Rattle.document_rules.specs.Folders.{output_folder};
+ghost use Rattle.step_answers.specs.Folders.{output_folder};
 ghost use Rattle.dsc_platform.specs.Platform.{platform_of};
 ghost use Rattle.flash_document.specs.Shape.{HasShape};
 ghost use Rattle.inf_docs.specs.Modules.{module_of};
 ghost use Rattle.library_choice.specs.Choices.{choice};
 ghost use Rattle.meta_lexer.specs.Words.{is_identifier};
-ghost use Rattle.module_steps.specs.Parts.{linked_module, described, parts};
-ghost use Rattle.module_steps.specs.Settings.{arches_built, built_modules, command_line_pcds, setting_of};
-ghost use Rattle.output_rules.specs.Outputs.{module_outputs, volume_outputs, device_outputs, vpd_outputs};
-ghost use Rattle.output_rules.specs.Wanted.{wanted_of};
+ghost use Rattle.library_steps.specs.Parts.{linked_module, described, parts};
+ghost use Rattle.step_answers.specs.Settings.{arches_built, built_modules, command_line_pcds, setting_of};
+ghost use Rattle.output_steps.specs.Outputs.{module_outputs, volume_outputs, device_outputs, vpd_outputs};
+ghost use Rattle.output_steps.specs.Wanted.{wanted_of};
 ghost use Rattle.pcd_resolve.specs.Platform.{platform_values};
 ghost use Rattle.pcd_resolve.specs.Rows.{module_values};
 ghost use Rattle.text_steps.specs.Code.{code_given};
@@ -44,7 +41,7 @@ ghost use Rattle.vpd_image.specs.Vpd.{vpd_of};
 ghost use Rattle.named_faults.specs.Named.{FailsByName};
 ghost use Rattle.module_faults.specs.Folders.{folder_limit, IsNameOrNone};
 ghost use Rattle.module_faults.specs.Own.{HasOwn};
-ghost use Rattle.module_faults.specs.Words.{AreArches, AreSets};
+ghost use Rattle.module_faults.specs.Words.{AreArches, AreImages, AreSets};
 
 /// The choice of a module's libraries fails by a name.
 pub fn libraries_fail_by_names()
@@ -129,9 +126,10 @@ pub fn files_fail_by_names()
         → FailsByName (vpd_outputs vpd folder) }
 {}
 
-/// The images that a job wants fail by a name.
+/// The images that a job wants fail by a name, where each line wants a device or a volume.
 pub fn wanted_images_fail_by_names()
-    ensures { (flash : FlashDoc) (text : List ℕ) → FailsByName (wanted_of flash text) }
+    ensures { (flash : FlashDoc) (text : List ℕ) → AreImages text
+        → FailsByName (wanted_of flash text) }
 {}
 
 /// A platform that is read states a folder of outputs that is a path of at most 512 bytes. So is
@@ -149,17 +147,4 @@ pub fn platforms_have_paths()
 pub fn modules_have_names()
     ensures { (lines : Lines) (inf : InfDoc) → module_of lines ≡ Ok inf
         → is_identifier inf.base_name ≡ true }
-{}
-
-/// What the words of a build give the fields of its job. Each line of its architectures names one
-/// that can be built. Each line of its PCDs gives one a value. Its target and its tag are names.
-pub fn jobs_have_words()
-    ensures arches { (words : List (List ℕ)) (job : Job) → words_job words ≡ Some job
-        → AreArches (slice_index_or (job_fields job) 1 []) }
-    ensures target { (words : List (List ℕ)) (job : Job) → words_job words ≡ Some job
-        → IsNameOrNone (slice_index_or (job_fields job) 2 []) }
-    ensures tag { (words : List (List ℕ)) (job : Job) → words_job words ≡ Some job
-        → IsNameOrNone (slice_index_or (job_fields job) 3 []) }
-    ensures pcds { (words : List (List ℕ)) (job : Job) → words_job words ≡ Some job
-        → AreSets (slice_index_or (job_fields job) 6 []) }
 {}

@@ -1,9 +1,9 @@
 //! The names of which a table has the lines. A table of all lines of a package, made anew for each
 //! module, would cost far more than the lines that the module asks for: so the names that are asked
 //! for are marked, and a line without a mark is passed by.
-ghost use Rattle.std.specs.Prelude.{◌≡◌, length, map, slice_get, OnOk, IfOk};
+ghost use Rattle.std.specs.Prelude.{◌≡◌, false, length, map, replicate, slice_get, OnOk, IfOk};
 ghost use Rattle.pcd_ranks.specs.Listing.{uses_of_module};
-ghost use Rattle.pcd_resolve.specs.NameFilter.{is_kept, mark_of, with_mark, with_marks};
+ghost use Rattle.pcd_resolve.specs.NameFilter.{is_kept, mark_of, no_marks, with_mark, with_marks};
 ghost use Rattle.doc_types.specs.Pcds.{full_name};
 ghost use Rattle.pcd_resolve.specs.Tables.{use_name, AllKept};
 ghost use Rattle.pcd_ranks.specs.Views.{at_view};
@@ -16,13 +16,20 @@ use doc_types::pcd::PcdName;
 use pcd_ranks::listing::UseAt;
 use std::alloc::Global;
 
-/// Marks where none is set.
-pub fn no_marks(alloc: Global) -> Result<Vec<bool>, WantOfMemory>
-    ensures { IfOk result (λ marks. length marks.items ≡ 2048) }
+fn unmarked(alloc: Global, count: usize) -> Result<Vec<bool>, WantOfMemory>
+    ensures { IfOk result (λ marks. marks.items ≡ replicate count false) }
 {
     let mut marks = Vec::new(alloc);
-    marks.resize(NAME_PLACES, false)?;
+    marks.resize(count, false)?;
     Ok(marks)
+}
+
+/// Marks where none is set.
+#[tactic(auto, unfolding(crate::specs::NameFilter::no_marks))]
+pub fn no_marks(alloc: Global) -> Result<Vec<bool>, WantOfMemory>
+    ensures { IfOk result (λ marks. marks.items ≡ no_marks) }
+{
+    unmarked(alloc, NAME_PLACES)
 }
 
 /// Marks a name.

@@ -24,12 +24,12 @@ use Rattle.doc_types.specs.declared.module.Named.{Named}
 use Rattle.doc_types.specs.declared.module_type.ModuleType.{ModuleType}
 use Rattle.doc_types.specs.declared.parts.ModuleParts.{ModuleParts}
 use Rattle.doc_types.specs.declared.parts.Package.{Package}
-use Rattle.pcd_resolve.specs.NameFilter.{is_kept}
+use Rattle.pcd_resolve.specs.NameFilter.{no_marks, is_kept}
 use Rattle.pcd_resolve.specs.Names.{covers}
 use Rattle.pcd_resolve.specs.Tables.{AllKept}
 use Rattle.pcd_resolve.proofs.NameFilterLemmas.{stays, each_kept}
 use Rattle.text_steps.specs.Depex.{applies, counts, names_at, names_by, names_of, wanted_names, group_of, groups_of}
-use Rattle.text_steps.specs.DepexNames.{no_marks, with_terms, marks_of, is_used, used_at, used_by, used_of, used_names, lean_group, lean_groups}
+use Rattle.text_steps.specs.DepexNames.{with_terms, marks_of, is_used, used_at, used_by, used_of, used_names, lean_group, lean_groups}
 
 -- the type of what a section has leave to have
 abbrev TypeOf : {A : Type 0} → A → Type 0

@@ -1,6 +1,7 @@
 -- What the step of a module's texts gives, once all that it asks is answered (EDK II Build
 -- specification, AutoGen files; EDK II DSC specification, FILE_GUID of a component).
-use Rattle.std.specs.Prelude.{find, if◌then◌else◌, List, [], ◌∷◌, Option, Some, None, Result, Ok, Err}
+use Rattle.step_answers.specs.Settings.{stated_guid}
+use Rattle.std.specs.Prelude.{if◌then◌else◌, List, [], ◌∷◌, Option, Some, None, Result, Ok, Err}
 use Rattle.build_base.specs.First.{and_then}
 use Rattle.build_base.specs.declared.fault.Fault.{Fault}
 use Rattle.build_base.specs.declared.guid.Guid.{Guid}
@@ -8,23 +9,11 @@ use Rattle.build_stages.specs.Stages.{impossible_answer}
 use Rattle.build_texts.specs.declared.asks.CodeAsk.{CodeAsk}
 use Rattle.build_texts.specs.Code.{code_texts}
 use Rattle.doc_types.specs.declared.choice.Choice.{Choice}
-use Rattle.doc_types.specs.declared.choice.Module.{Module}
 use Rattle.doc_types.specs.declared.module.InfDoc.{InfDoc}
 use Rattle.doc_types.specs.declared.parts.ModuleParts.{ModuleParts}
-use Rattle.doc_types.specs.declared.platform.Component.{Component}
 use Rattle.doc_types.specs.declared.platform.PlatformDoc.{PlatformDoc}
 use Rattle.doc_types.specs.declared.texts.Texts.{Texts}
 use Rattle.doc_types.specs.declared.values.Values.{Values}
-use Rattle.doc_types.specs.Components.{is_component}
-
-abbrev pub guid_in : Option Component → Option Guid
-guid_in None = None
-guid_in (Some component) = component.file_guid
-
--- the GUID that the module's component states, if it states one; a platform has one component at most
--- of an INF file for an architecture
-unfoldable pub stated_guid : PlatformDoc → Module → Option Guid
-stated_guid platform m = guid_in (find (is_component m.inf m.arch) platform.components)
 
 -- the first description is the module's own
 abbrev pub own_guid : List InfDoc → Result Guid Fault

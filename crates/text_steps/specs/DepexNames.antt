@@ -1,6 +1,6 @@
 -- What the code hands on of a module's expression: of the names that its sections may use those
 -- that one of their terms may be. The rules are this project's own.
-use Rattle.std.specs.Prelude.{ℕ, Bool, false, ◌==◌, ◌&&◌, if◌then◌else◌, List, [], length, map, filter, fold, replicate}
+use Rattle.std.specs.Prelude.{ℕ, Bool, ◌==◌, ◌&&◌, if◌then◌else◌, List, [], length, map, filter, fold}
 use Rattle.std.specs.List.{flat_map}
 use Rattle.std.specs.Str.{bytes_eq}
 use Rattle.doc_types.specs.declared.arch.Arch.{Arch}
@@ -12,12 +12,9 @@ use Rattle.doc_types.specs.declared.module.Named.{Named}
 use Rattle.doc_types.specs.declared.module_type.ModuleType.{ModuleType}
 use Rattle.doc_types.specs.declared.parts.ModuleParts.{ModuleParts}
 use Rattle.doc_types.specs.declared.parts.Package.{Package}
-use Rattle.pcd_resolve.specs.NameFilter.{is_kept, with_marks}
+use Rattle.pcd_resolve.specs.NameFilter.{is_kept, no_marks, with_marks}
 use Rattle.pcd_resolve.specs.Names.{covers}
 use Rattle.text_steps.specs.Depex.{applies, counts}
-
-unfoldable pub no_marks : List Bool
-no_marks = replicate 2048 false
 
 abbrev pub with_terms : List Bool → DepexPart → List Bool
 with_terms marks part = with_marks marks part.terms

@@ -1,10 +1,9 @@
 -- What the step of the report gives by the answers of the steps that it asks (EDK II Build
 -- specification, build report; EDK II DSC specification, [SkuIds]).
-use Rattle.std.specs.Prelude.{ℕ, List, [], map, filter, Result, Ok, Err}
+use Rattle.step_answers.specs.Readers.{values_in, choice_in}
+use Rattle.std.specs.Prelude.{ℕ, List, [], map, filter, Result, Ok}
 use Rattle.build_base.specs.First.{and_then, all_ok}
 use Rattle.build_base.specs.declared.fault.Fault.{Fault}
-use Rattle.build_stages.specs.Stages.{impossible_answer}
-use Rattle.build_stages.specs.Writing.{given_part}
 use Rattle.build_texts.specs.declared.asks.ModuleReport.{ModuleReport}
 use Rattle.build_texts.specs.declared.asks.ReportAsk.{ReportAsk}
 use Rattle.build_texts.specs.Report.{report_text}
@@ -13,16 +12,13 @@ use Rattle.doc_types.specs.declared.choice.Module.{Module}
 use Rattle.doc_types.specs.declared.platform.PlatformDoc.{PlatformDoc}
 use Rattle.doc_types.specs.declared.platform.Sku.{Sku}
 use Rattle.doc_types.specs.declared.values.Values.{Values}
-use Rattle.module_steps.specs.declared.settings.Setting.{Setting}
-use Rattle.module_steps.specs.Parts.{choice_in}
-use Rattle.module_steps.specs.Settings.{named_skus, setting_of}
+use Rattle.step_answers.specs.declared.settings.Setting.{Setting}
+use Rattle.step_answers.specs.Settings.{named_skus, setting_of}
 use Rattle.pcd_resolve.specs.Platform.{is_chosen, wanted}
 use Rattle.step_engine.specs.declared.talk.Pair.{Pair}
-use Rattle.step_pack.specs.Keys.{key_cmp}
 use Rattle.step_pack.specs.declared.key.Key.{Key}
 use Rattle.step_pack.specs.declared.key.Key.TheVariants as key
 use Rattle.step_pack.specs.declared.out.Out.{Out}
-use Rattle.step_pack.specs.declared.out.Out.TheVariants as out
 use Rattle.text_steps.specs.declared.report.Heading.{Heading}
 
 abbrev pub modules_set : Setting → Result (List Module) Fault
@@ -42,14 +38,6 @@ report_skus platform sku = filter (is_chosen (wanted (named_skus sku) platform.s
 abbrev pub heading_of : PlatformDoc → List ℕ → List ℕ → List ℕ → Heading
 heading_of platform target tag sku =
     record { target = target; tag = tag; skus = report_skus platform sku }
-
-abbrev pub values_of_out : Out → Result Values Fault
-values_of_out (out.Values values) = Ok values
-values_of_out _ = Err impossible_answer
-
--- the values that the step of a key gave
-abbrev pub values_in : List (Pair Key Out) → Key → Result Values Fault
-values_in given k = and_then (given_part key_cmp given k) values_of_out
 
 abbrev pub module_report : Module → Choice → Values → Result ModuleReport Fault
 module_report m choice values =

@@ -1,5 +1,5 @@
 //! What the whole build and the report ask of modules.
-ghost use Rattle.std.specs.Prelude.{◌≡◌, ◌++◌, ◌∷◌, [], IfOk, OnOk};
+ghost use Rattle.std.specs.Prelude.{◌≡◌, ◌++◌, IfOk, OnOk};
 ghost use Rattle.std.specs.List.{flat_map};
 ghost use Rattle.text_steps.specs.Asks.{built_asks, build_module_asks, told_asks, report_asks};
 

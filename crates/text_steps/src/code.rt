@@ -3,13 +3,14 @@ ghost use Rattle.std.specs.Prelude.{◌≡◌, IfOk};
 ghost use Rattle.build_base.specs.Answer.{Answers};
 ghost use Rattle.build_stages.specs.Gives.{GivesIn};
 ghost use Rattle.build_texts.specs.Code.{code_texts};
-ghost use Rattle.text_steps.specs.Code.{stated_guid, own_guid, file_guid, code_ask, code_given};
+ghost use Rattle.step_answers.specs.Settings.{stated_guid};
+ghost use Rattle.text_steps.specs.Code.{own_guid, file_guid, code_ask, code_given};
 
 use build_base::together::two;
 use build_base::{Guid, Permit, Refusal, WantOfMemory};
 use build_stages::Stop;
 use build_texts::{CodeAsk, code_texts};
-use doc_types::choice::{Choice, Module};
+use doc_types::choice::Choice;
 use doc_types::module::InfDoc;
 use doc_types::parts::ModuleParts;
 use doc_types::platform::PlatformDoc;
@@ -17,18 +18,8 @@ use doc_types::texts::Texts;
 use doc_types::values::Values;
 use shared_value::Shared;
 use std::alloc::Global;
+use step_answers::settings::stated_guid;
 use step_pack::Key;
-
-/// The GUID that the module's component states.
-#[tactic(auto, unfolding(crate::specs::Code::stated_guid))]
-pub fn stated_guid(platform: &PlatformDoc, module: &Module) -> Option<Guid>
-    ensures { result ≡ stated_guid platform.now «module».now }
-{
-    match platform.components.find(&module.inf, module.arch) {
-        Some(component) => component.file_guid,
-        None => None,
-    }
-}
 
 fn own_guid(infs: &[Shared<InfDoc>]) -> Result<Guid, Stop<Key>>
     ensures { GivesIn (λ guid. guid) result (own_guid infs.now) }

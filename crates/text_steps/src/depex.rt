@@ -1,9 +1,9 @@
 //! The dependency expression of a module.
-ghost use Rattle.std.specs.Prelude.{◌≡◌, ◌++◌, ◌∷◌, [], false, filter, fold, map, replicate, IfOk, OnOk};
+ghost use Rattle.std.specs.Prelude.{◌≡◌, ◌++◌, ◌∷◌, [], filter, fold, map, IfOk, OnOk};
 ghost use Rattle.std.specs.List.{flat_map};
 ghost use Rattle.build_stages.specs.Gives.{GivesIn};
 ghost use Rattle.text_steps.specs.Depex.{applies, own_type, depex_given};
-ghost use Rattle.text_steps.specs.DepexNames.{no_marks, with_terms, marks_of, is_used, used_at, used_by, used_of, used_names, lean_group, lean_groups};
+ghost use Rattle.text_steps.specs.DepexNames.{with_terms, marks_of, is_used, used_at, used_by, used_of, used_names, lean_group, lean_groups};
 ghost use Rattle.pcd_resolve.specs.NameFilter.{with_marks};
 
 use build_base::{Permit, Rows, Same, Text, WantOfMemory};
@@ -14,10 +14,9 @@ use doc_types::choice::Choice;
 use doc_types::depex::{DepexGroup, DepexPart, NamedGuid};
 use doc_types::module::{InfDoc, Named};
 use doc_types::module_type::ModuleType;
-use doc_types::name_places::NAME_PLACES;
 use doc_types::parts::{ModuleParts, Package};
 use library_choice::type_covers;
-use pcd_resolve::name_filter::{is_kept, mark};
+use pcd_resolve::name_filter::{is_kept, mark, no_marks};
 use shared_value::Shared;
 use std::alloc::Global;
 use step_pack::Key;
@@ -60,21 +59,6 @@ fn parts_of(
         left = rest;
     }
     Ok(parts)
-}
-
-fn unmarked(alloc: Global, count: usize) -> Result<Vec<bool>, WantOfMemory>
-    ensures { IfOk result (λ marks. marks.items ≡ replicate count false) }
-{
-    let mut marks = Vec::new(alloc);
-    marks.resize(count, false)?;
-    Ok(marks)
-}
-
-#[tactic(auto, unfolding(crate::specs::DepexNames::no_marks))]
-fn no_marks(alloc: Global) -> Result<Vec<bool>, WantOfMemory>
-    ensures { IfOk result (λ marks. marks.items ≡ no_marks) }
-{
-    unmarked(alloc, NAME_PLACES)
 }
 
 fn mark_terms(marks: &mut Vec<bool>, terms: &[Text])

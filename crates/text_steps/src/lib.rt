@@ -1,15 +1,11 @@
-//! What the steps of texts, dependency expressions and the report ask, and what they give by the
-//! answers.
+//! The steps of texts, of dependency expressions and of the report.
 #![tactic(auto)]
 
 mod asks;
 mod code;
 mod depex;
-pub mod report;
-mod stems;
+mod report;
+pub mod texts;
 
-pub use asks::{push_module_asks, report_asks};
-pub use code::{code_given, stated_guid};
-pub use depex::depex_given;
-pub use report::{Heading, heading_of, report_given, report_modules};
-pub use stems::stem_of;
+pub use asks::push_module_asks;
+pub use report::Heading;

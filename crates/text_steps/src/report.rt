@@ -1,10 +1,10 @@
 //! The report of a build.
 ghost use Rattle.std.specs.Prelude.{◌≡◌, filter, map, Ok, IfOk};
 ghost use Rattle.build_stages.specs.Gives.{GivesIn};
-ghost use Rattle.module_steps.specs.Settings.{named_skus};
+ghost use Rattle.step_answers.specs.Settings.{named_skus};
 ghost use Rattle.pcd_resolve.specs.Platform.{is_chosen, wanted};
-ghost use Rattle.step_pack.specs.declared.key.Key.TheVariants as key;
-ghost use Rattle.text_steps.specs.Report.{report_modules, report_skus, heading_of, values_of_out, values_in, module_report, report_in, reports_in, report_ask, text_of, report_given};
+ghost use Rattle.text_steps.specs.Report.{report_modules, report_skus, heading_of, module_report, report_in, reports_in, report_ask, text_of, report_given};
+ghost use Rattle.step_answers.specs.Readers.{values_in};
 
 use build_base::together::{three, two};
 use build_base::{Rows, Same, Text, WantOfMemory};
@@ -14,11 +14,11 @@ use doc_types::choice::{Choice, Module};
 use doc_types::platform::{PlatformDoc, Sku};
 use doc_types::values::Values;
 use meta_lexer::parts::field_texts;
-use module_steps::parts::choice_in;
-use module_steps::{Setting, setting_of};
 use pcd_resolve::skus::chosen_skus;
 use shared_value::Shared;
 use std::alloc::Global;
+use step_answers::readers::{choice_in, module_values, values_in};
+use step_answers::settings::{Setting, setting_of};
 use step_pack::{Key, Out};
 
 /// What stands at the head of a report: the target, the tool chain's tag, and the chosen SKUs.
@@ -93,37 +93,6 @@ pub fn heading_of(
 {
     let skus = report_skus(alloc, platform, sku)?;
     Ok(Heading { target, tag, skus })
-}
-
-fn values_of_out(out: &Out) -> Result<&Shared<Values>, Stop<Key>>
-    ensures { GivesIn (λ values. values.now) result (values_of_out out.now) }
-{
-    match out {
-        Out::Values(values) => Ok(values),
-        _ => Err(Stop::ImpossibleAnswer),
-    }
-}
-
-/// The values that the step of a key gave, by the answers of a stage.
-pub fn values_in<'a>(
-    given: &Given<'a, Key, Out>,
-    key: &Key,
-) -> Result<&'a Shared<Values>, Stop<Key>>
-    ensures { GivesIn (λ values. values.now) result (values_in given.now key.now) }
-{
-    values_of_out(given.part(key)?)
-}
-
-/// The values of a module, by the answers of a stage.
-pub fn module_values<'a>(
-    alloc: Global,
-    given: &Given<'a, Key, Out>,
-    module: &Module,
-) -> Result<&'a Shared<Values>, Stop<Key>>
-    ensures { GivesIn (λ values. values.now) result (values_in given.now (key.Values «module».now)) }
-{
-    let key = Key::Values(module.copy(alloc)?);
-    values_of_out(given.part(&key)?)
 }
 
 fn module_report(

@@ -1,5 +1,5 @@
 use Rattle.std.proofs.Common.{ap, ◌∙◌, sym, subst}
-use Rattle.build_rules.specs.Rules.{is_job}
+use Rattle.job_fields.specs.Readings.{is_job}
 use Rattle.edk_build.proofs.SelftestLemmas.{selftest_is_job, was_done, has_stopped}
 use Rattle.edk_build.specs.Selftest.{TurnStopped}
 use Rattle.edk_build.proofs.selftest.build_named.Goals as goal

@@ -1,0 +1,9 @@
+use Rattle.std.proofs.Common.{◌≡◌, length}
+use Rattle.file_steps.specs.Sections.{files_checked}
+use Rattle.file_steps.proofs.sections.files_checked.Given as goal
+
+abbrev pub invariant-loop-left : goal.invariant-loop-left
+invariant-loop-left l = files_checked l.depex l.given l.sections l.left ≡ files_checked l.depex l.given l.sections l.sections
+
+abbrev pub decreases-loop-left : goal.decreases-loop-left
+decreases-loop-left l = length l.left

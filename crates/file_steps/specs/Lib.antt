@@ -1,0 +1,13 @@
+pub mod Apriori
+pub mod Asks
+pub mod FileTrees
+pub mod Files
+pub mod ModuleAsks
+pub mod ModuleFiles
+pub mod Modules
+pub mod Names
+pub mod Parts
+pub mod Plans
+pub mod Required
+pub mod Sections
+pub mod Words

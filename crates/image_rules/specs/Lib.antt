@@ -1,3 +1,0 @@
-pub mod Based
-pub mod ImageTrees
-pub mod VpdTree

@@ -1,9 +1,0 @@
-use Rattle.std.proofs.Common.{◌≡◌, ◌++◌, ◌+◌, ◌≤◌, not, length}
-use Rattle.image_steps.specs.Asks.{is_apriori, numbers_where}
-use Rattle.image_steps.proofs.asks.push_others.Given as goal
-
-abbrev pub invariant-loop-left : goal.invariant-loop-left
-invariant-loop-left l = (l.order ++ numbers_where (λ item. not (is_apriori item)) l.number l.left ≡ l.fn.order ++ numbers_where (λ item. not (is_apriori item)) 0 l.items) × (l.number + length l.left ≤ length l.items)
-
-abbrev pub decreases-loop-left : goal.decreases-loop-left
-decreases-loop-left l = length l.left

@@ -1,0 +1,4 @@
+pub mod JoinLemmas
+pub mod EachLemmas
+pub mod LineLemmas
+pub mod ReadLemmas

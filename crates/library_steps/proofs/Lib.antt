@@ -1,0 +1,4 @@
+pub mod ChoiceLemmas
+pub mod KnownLemmas
+pub mod NearLemmas
+pub mod SkuLemmas

@@ -1,0 +1,7 @@
+pub mod Asks
+pub mod Choices
+pub mod ModuleTrees
+pub mod Near
+pub mod Parts
+pub mod Pcds
+pub mod Skus

@@ -1,9 +1,0 @@
-use Rattle.std.proofs.Common.{◌≡◌, length}
-use Rattle.module_images.specs.Sections.{files_checked}
-use Rattle.module_images.proofs.sections.files_checked.Given as goal
-
-abbrev pub invariant-loop-left : goal.invariant-loop-left
-invariant-loop-left l = files_checked l.depex l.given l.sections l.left ≡ files_checked l.depex l.given l.sections l.sections
-
-abbrev pub decreases-loop-left : goal.decreases-loop-left
-decreases-loop-left l = length l.left

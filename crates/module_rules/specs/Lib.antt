@@ -1,2 +1,0 @@
-pub mod ModuleTrees
-pub mod TextTrees

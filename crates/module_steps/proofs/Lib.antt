@@ -1,3 +1,0 @@
-pub mod SkuLemmas
-pub mod KnownLemmas
-pub mod NearLemmas

@@ -1,7 +1,0 @@
-use Rattle.std.proofs.Common.{◌≡◌, drop}
-use Rattle.meta_lexer.specs.Faults.{first_fault}
-use Rattle.module_steps.specs.Settings.{arch_unsupported}
-use Rattle.module_steps.proofs.settings.arches_supported.Given as goal
-
-abbrev pub invariant-loop-text : goal.invariant-loop-text
-invariant-loop-text l = first_fault (arch_unsupported l.platform) (drop l.text-index l.texts) ≡ first_fault (arch_unsupported l.platform) l.texts

@@ -1,9 +1,0 @@
-use Rattle.std.proofs.Common.{◌≡◌, fold, length}
-use Rattle.module_steps.specs.Settings.{put_arch, each_once}
-use Rattle.module_steps.proofs.settings.each_once.Given as goal
-
-abbrev pub invariant-loop-left : goal.invariant-loop-left
-invariant-loop-left l = fold put_arch l.once l.left ≡ each_once l.arches
-
-abbrev pub decreases-loop-left : goal.decreases-loop-left
-decreases-loop-left l = length l.left

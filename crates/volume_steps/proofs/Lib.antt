@@ -1,0 +1,2 @@
+pub mod BasedLemmas
+pub mod OrderLemmas
