@@ -42,7 +42,8 @@ use Rattle.build_laws.specs.ModuleValues.{pcds_value}
 use Rattle.build_rules.specs.Rules.{edk}
 use Rattle.build_faults.specs.NamedFaults.{IsSpoken, StepsFailByName}
 use Rattle.build_laws.specs.TextValues.{code_value, depex_value, report_value}
-use Rattle.build_rules.specs.Values.{lines_in, inf_value, platform_value, flash_file, flash_value}
+use Rattle.job_fields.specs.Readings.{name_in}
+use Rattle.build_rules.specs.Values.{lines_in, inf_value, platform_value, flash_value}
 use Rattle.build_laws.specs.VpdValues.{vpd_value}
 
 -- Images.
@@ -155,8 +156,8 @@ wanted_value_fails : (w : World) (vpd : Bool) (folder : List ℕ) (modules : Lis
 wanted_value_fails w vpd folder modules flash i s short fit shape =
     then_fails (wanted_of flash (field w 8)) _ (wanted_fails flash (field w 8) s.images)
     (λ wanted e.
-    or_fault_fails (build_fault w vpd modules flash wanted (flash_file None (field w 9))) _ (build_fault_named w vpd modules flash wanted (flash_file None (field w 9)) i s)
-    (λ none. build_files_fail w vpd folder modules flash wanted (flash_file None (field w 9)) s short fit shape))
+    or_fault_fails (build_fault w vpd modules flash wanted (name_in (field w 9))) _ (build_fault_named w vpd modules flash wanted (name_in (field w 9)) i s)
+    (λ none. build_files_fail w vpd folder modules flash wanted (name_in (field w 9)) s short fit shape))
 
 pub all_fails_by_name : (w : World) → IsWorld (meaning_of key_cmp edk) w → IsSpoken w → FailsByName (all_value w)
 unfolding all_value

@@ -40,10 +40,10 @@ use Rattle.output_steps.specs.AllTree.{step_where, steps_from, device_step, imag
 use Rattle.output_steps.specs.Outputs.{base_of_out, has_texts, has_bytes, named, named_in, outputs_in, modules_outputs, module_outputs, volume_outputs, device_outputs, vpd_outputs, report_output, outputs_of}
 use Rattle.output_steps.specs.Wanted.{wanted_of, is_marked}
 use Rattle.output_steps.specs.declared.wanted.Wanted.{Wanted}
-use Rattle.job_fields.specs.Readings.{is_path_or_empty}
+use Rattle.job_fields.specs.Readings.{file_in, name_in}
 use Rattle.build_rules.specs.Rules.{edk, value_in}
 use Rattle.build_rules.specs.RulesBounds.{edk_is_bounded}
-use Rattle.build_rules.specs.Values.{inf_value, platform_value, flash_file, flash_value}
+use Rattle.build_rules.specs.Values.{inf_value, platform_value, flash_value}
 use Rattle.build_laws.specs.ModuleValues.{pcds_value}
 use Rattle.build_laws.specs.TextValues.{code_value, depex_value, report_value}
 use Rattle.build_laws.specs.VpdValues.{vpd_value}
@@ -222,16 +222,16 @@ files_run w e vpd folder modules flash wanted report shape =
     ∙ last_run w out.All (build_asks vpd modules flash wanted report) (outputs_of vpd folder modules flash wanted report)
     ∙ ap (λ (r : Result (List Output) Fault). given_as out.All r) (files_same w vpd folder modules flash wanted report e)
 
-field_9 : (w : World) → IsWorld (meaning_of key_cmp edk) w → is_path_or_empty (field w 9) ≡ true
+field_9 : (w : World) → IsWorld (meaning_of key_cmp edk) w → is_some (file_in (field w 9)) ≡ true
 field_9 w e =
-    (both_hold (is_path_or_empty (field w 7)) (is_path_or_empty (field w 9)) (both_hold (is_some (path_field (field w 0))) _ e).1).1
+    (both_hold (is_some (file_in (field w 7))) (is_some (file_in (field w 9))) (both_hold (is_some (path_field (field w 0))) _ e).1).1
 
 -- what stands for the report's file, and what follows it
 report_run : (w : World) → IsWorld (meaning_of key_cmp edk) w → (vpd : Bool) (folder : List ℕ) (modules : List Module) (flash : FlashDoc) (wanted : Wanted)
-    → HasShape flash → gives w (attempt (report_named (field w 9)) (λ report. files_stages vpd folder modules flash wanted report)) ≡ given_as out.All (files_value w vpd folder modules flash wanted (flash_file None (field w 9)))
+    → HasShape flash → gives w (attempt (report_named (field w 9)) (λ report. files_stages vpd folder modules flash wanted report)) ≡ given_as out.All (files_value w vpd folder modules flash wanted (name_in (field w 9)))
 report_run w e vpd folder modules flash wanted shape =
     ap (λ (r : Result (Option (List ℕ)) Fault). gives w (attempt r (λ report. files_stages vpd folder modules flash wanted report))) (file_named (field w 9) (field_9 w e))
-    ∙ files_run w e vpd folder modules flash wanted (flash_file None (field w 9)) shape
+    ∙ files_run w e vpd folder modules flash wanted (name_in (field w 9)) shape
 
 abbrev by_steps : World → Result Out Fault → Result Out Fault → EdkStages
 by_steps w p v =
@@ -270,7 +270,7 @@ all_run w e =
     and_then (built_modules platform (field w 1)) (λ modules. wanted_value w (has_vpd platform) folder modules flash))) (λ platform flash is_platform is_flash.
     step_run w out.All (output_folder platform.output (field w 2) (field w 3)) _ (λ folder. and_then (built_modules platform (field w 1)) (λ modules. wanted_value w (has_vpd platform) folder modules flash)) (λ folder.
     step_run w out.All (built_modules platform (field w 1)) _ (λ modules. wanted_value w (has_vpd platform) folder modules flash) (λ modules.
-    step_run w out.All (wanted_of flash (field w 8)) _ (λ wanted. files_value w (has_vpd platform) folder modules flash wanted (flash_file None (field w 9))) (λ wanted.
+    step_run w out.All (wanted_of flash (field w 8)) _ (λ wanted. files_value w (has_vpd platform) folder modules flash wanted (name_in (field w 9))) (λ wanted.
     report_run w e (has_vpd platform) folder modules flash wanted (flash_shape w flash is_flash)))))
 
 pub all_is : (w : World) → IsWorld (meaning_of key_cmp edk) w → value_in w key.All ≡ outcome_of (given_as out.All (all_value w))

@@ -29,7 +29,7 @@ use Rattle.step_pack.specs.declared.out.Out.TheVariants as out
 use Rattle.step_answers.specs.Fits.{fits}
 use Rattle.step_answers.specs.Readers.{platform_of_out, flash_of_out, flash_in, or_impossible, EdkStages, given_as}
 use Rattle.document_steps.specs.Trees.{named_or, flash_named, flash_asks, flash_from, flash_given, flash_stages}
-use Rattle.job_fields.specs.Readings.{file_in, is_path_or_empty}
+use Rattle.job_fields.specs.Readings.{file_in, name_in}
 use Rattle.build_rules.specs.Rules.{edk, value_in}
 use Rattle.build_rules.specs.RulesBounds.{edk_is_bounded}
 use Rattle.build_rules.specs.Values.{job_macros, platform_value, flash_file, flash_of_file, flash_value}
@@ -108,41 +108,42 @@ some_named : (path : Option (List ℕ)) (text : List ℕ) → or_impossible path
 some_named (Some path) text e = let same : path ≡ text = cc in ap (λ p. Ok (Some p)) same
 some_named None text e = absurd cc
 
--- a file that a field names, where it has the form
-pub file_named : (text : List ℕ) → is_path_or_empty text ≡ true → or_impossible (file_in text) ≡ Ok (flash_file None text)
+some_kept : (path : Option (List ℕ)) → is_some (option_map Some path) ≡ true → is_some path ≡ true
+some_kept (Some path) e = refl
+some_kept None e = absurd cc
+
+-- a file that a field names, where it has a reading
+pub file_named : (text : List ℕ) → is_some (file_in text) ≡ true → or_impossible (file_in text) ≡ Ok (name_in text)
 file_named text e =
-    (elim (length text == 0) as (λ b. (if b then true else is_some (path_field text)) ≡ true
+    (elim (length text == 0) as (λ b. is_some (if b then Some None else option_map Some (path_field text)) ≡ true
     → or_impossible (if b then Some None else option_map Some (path_field text)) ≡ Ok (if b then None else Some text)) [
       | true ↦ λ h. refl
-      | false ↦ λ h. some_named (path_field text) text (path_some _ text h)
+      | false ↦ λ h. some_named (path_field text) text (path_some _ text (some_kept (path_field text) h))
     ]) e
 
-or_stated : (text : List ℕ) (stated : Option (List ℕ)) → named_or stated (flash_file None text) ≡ flash_file stated text
-or_stated text stated = elim (length text == 0) as (λ b. named_or stated (if b then None else Some text) ≡ (if b then stated else Some text)) [ true ↦ refl | false ↦ refl ]
-
-path_or_empty : (text : List ℕ) → is_path_or_empty text ≡ true → (stated : Option (List ℕ)) → flash_named stated text ≡ Ok (flash_file stated text)
+file_or_stated : (text : List ℕ) → is_some (file_in text) ≡ true → (stated : Option (List ℕ)) → flash_named stated text ≡ Ok (flash_file stated text)
 unfolding flash_named
-path_or_empty text e stated =
-    ap (λ (r : Result (Option (List ℕ)) Fault). and_then r (λ named. Ok (named_or stated named))) (file_named text e) ∙ ap Ok (or_stated text stated)
+file_or_stated text e stated =
+    ap (λ (r : Result (Option (List ℕ)) Fault). and_then r (λ named. Ok (named_or stated named))) (file_named text e)
 
 root_run : (w : World) (platform : PlatformDoc) (root : Option (List ℕ)) → gives w (flash_from platform (job_macros w) root) ≡ given_as out.Flash (flash_of_file w platform root)
 root_run w platform None = refl
 root_run w platform (Some path) = document_run w out.Flash flash_of platform.macros (job_macros w) path
 
-flash_run : (w : World) → IsWorld (meaning_of key_cmp edk) w → is_path_or_empty (field w 7) ≡ true → gives w flash_stages ≡ given_as out.Flash (flash_value w)
+flash_run : (w : World) → IsWorld (meaning_of key_cmp edk) w → is_some (file_in (field w 7)) ≡ true → gives w flash_stages ≡ given_as out.Flash (flash_value w)
 unfolding flash_value fault_asked
 flash_run w is_world e =
     stage_run w flash_asks flash_given
     ∙ after_value w flash_asks key.Platform out.Platform (platform_value w) platform_of_out _
     (part_fault w key.Platform out.Platform (platform_value w) (platform_is w is_world)) (in_here (ask.Part key.Platform) (ask.Field 2 ∷ ask.Field 3 ∷ ask.Field 5 ∷ ask.Field 7 ∷ [])) (platform_is w is_world) (λ platform found. refl)
     ∙ then_same (platform_value w) _ (λ platform. given_as out.Flash (flash_of_file w platform (flash_file platform.flash (field w 7)))) (λ platform.
-    ap (λ (r : Result (Option (List ℕ)) Fault). gives w (attempt r (λ root. flash_from platform (job_macros w) root))) (path_or_empty (field w 7) e platform.flash)
+    ap (λ (r : Result (Option (List ℕ)) Fault). gives w (attempt r (λ root. flash_from platform (job_macros w) root))) (file_or_stated (field w 7) e platform.flash)
     ∙ root_run w platform (flash_file platform.flash (field w 7)))
     ∙ given_then out.Flash (platform_value w) (λ platform. flash_of_file w platform (flash_file platform.flash (field w 7)))
 
-field_7 : (w : World) → IsWorld (meaning_of key_cmp edk) w → is_path_or_empty (field w 7) ≡ true
+field_7 : (w : World) → IsWorld (meaning_of key_cmp edk) w → is_some (file_in (field w 7)) ≡ true
 field_7 w e =
-    (both_hold (is_path_or_empty (field w 7)) (is_path_or_empty (field w 9)) (both_hold (is_some (path_field (field w 0))) _ e).1).0
+    (both_hold (is_some (file_in (field w 7))) (is_some (file_in (field w 9))) (both_hold (is_some (path_field (field w 0))) _ e).1).0
 
 pub flash_is : (w : World) → IsWorld (meaning_of key_cmp edk) w → value_in w key.Flash ≡ outcome_of (given_as out.Flash (flash_value w))
 flash_is w e = value_is key_cmp edk edk_is_bounded w key.Flash ∙ ap outcome_of (flash_run w e (field_7 w e))

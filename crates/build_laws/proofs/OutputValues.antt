@@ -33,7 +33,8 @@ use Rattle.output_steps.specs.Outputs.{image_where, file_output, module_outputs,
 use Rattle.output_steps.specs.Wanted.{wanted_of, is_marked}
 use Rattle.output_steps.specs.declared.wanted.Wanted.{Wanted}
 use Rattle.build_rules.specs.Rules.{edk, value_in}
-use Rattle.build_rules.specs.Values.{inf_value, platform_value, flash_file, flash_value}
+use Rattle.job_fields.specs.Readings.{name_in}
+use Rattle.build_rules.specs.Values.{inf_value, platform_value, flash_value}
 use Rattle.build_laws.specs.ModuleValues.{pcds_value}
 use Rattle.build_laws.specs.TextValues.{code_value, depex_value, report_value}
 use Rattle.build_laws.specs.VpdValues.{vpd_value}
@@ -184,9 +185,9 @@ outputs_come w outputs e is =
     from_ok (flash_value w) (from_flash w platform) outputs goal is (λ flash f is.
     from_ok (output_folder platform.output (field w 2) (field w 3)) (from_folder w platform flash) outputs goal is (λ folder o is.
     from_ok (built_modules platform (field w 1)) (from_modules w platform flash folder) outputs goal is (λ modules m is.
-    from_ok (wanted_of flash (field w 8)) (λ wanted. files_value w (has_vpd platform) folder modules flash wanted (flash_file None (field w 9))) outputs goal is (λ wanted g is.
+    from_ok (wanted_of flash (field w 8)) (λ wanted. files_value w (has_vpd platform) folder modules flash wanted (name_in (field w 9))) outputs goal is (λ wanted g is.
     let vpd = has_vpd platform in
-    let report = flash_file None (field w 9) in
+    let report = name_in (field w 9) in
     let files = build_files w vpd folder modules flash wanted report in
     let made = fault_ok (build_fault w vpd modules flash wanted report) files outputs is in
     if_ok (AreOf (Comes w)) files outputs made.1 (all_are w vpd folder modules flash wanted report e made.0))))))

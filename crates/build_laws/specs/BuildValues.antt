@@ -28,12 +28,13 @@ use Rattle.output_steps.specs.Outputs.{module_outputs, volume_outputs, device_ou
 use Rattle.output_steps.specs.Wanted.{wanted_of, is_marked}
 use Rattle.output_steps.specs.declared.wanted.Wanted.{Wanted}
 use Rattle.build_rules.specs.Rules.{edk, value_in}
-use Rattle.build_rules.specs.Values.{inf_value, platform_value, flash_file, flash_value}
+use Rattle.build_rules.specs.Values.{inf_value, platform_value, flash_value}
 use Rattle.build_laws.specs.ModuleValues.{pcds_value}
 use Rattle.build_laws.specs.TextValues.{code_value, depex_value, report_value}
 use Rattle.build_laws.specs.VpdValues.{vpd_value}
 use Rattle.build_laws.specs.ImageValues.{volume_value, device_value}
 use Rattle.job_fields.specs.Fields.{ARCHES, TARGET, TAG, IMAGES, REPORT}
+use Rattle.job_fields.specs.Readings.{name_in}
 
 -- The first fault.
 
@@ -114,7 +115,7 @@ abbrev pub wanted_value : World → Bool → List ℕ → List Module → FlashD
     → Result (List Output) Fault
 wanted_value w vpd folder modules flash =
     and_then (wanted_of flash (field w IMAGES))
-    (λ wanted. files_value w vpd folder modules flash wanted (flash_file None (field w REPORT)))
+    (λ wanted. files_value w vpd folder modules flash wanted (name_in (field w REPORT)))
 
 -- The files of the build. The first fault is that of the platform, of the flash description, of the
 -- words' architectures, or that the words name an image that there isn't; then that of a step whose

@@ -1,8 +1,6 @@
 -- The steps of a build as rules: what each key asks and gives, and its rank. The rule is this
 -- project's own.
-use Rattle.std.specs.Prelude.{ℕ, ◌+◌, ◌*◌, ◌==◌, ◌&&◌, Bool, true, false, if◌then◌else◌, List, [], length, slice_index_or}
-use Rattle.std.specs.Option.{is_some}
-use Rattle.build_base.specs.Path.{path_field}
+use Rattle.std.specs.Prelude.{ℕ, ◌+◌, ◌*◌, true, false}
 use Rattle.build_base.specs.World.{World}
 use Rattle.step_engine.specs.declared.talk.Outcome.{Outcome}
 use Rattle.build_stages.specs.Stages.{Staged, meaning_of}

@@ -1,6 +1,6 @@
 -- The values of the steps of documents in a world: what their lines come to (EDK II DSC, FDF, DEC
 -- and INF specifications).
-use Rattle.std.specs.Prelude.{◌≡◌, ℕ, ◌==◌, List, [], length, Option, Some, None, Result, Ok, if◌then◌else◌}
+use Rattle.std.specs.Prelude.{◌≡◌, ℕ, List, [], Option, Some, None, Result, Ok}
 use Rattle.build_base.specs.First.{and_then}
 use Rattle.build_base.specs.World.{World, got, field}
 use Rattle.build_base.specs.declared.fault.Fault.{Fault}
@@ -20,10 +20,10 @@ use Rattle.flash_document.specs.Flash.{flash_of}
 use Rattle.build_stages.specs.Stages.{outcome_of}
 use Rattle.step_pack.specs.declared.key.Key.TheVariants as key
 use Rattle.step_pack.specs.declared.out.Out.TheVariants as out
-use Rattle.job_fields.specs.Readings.{macros_of_job}
+use Rattle.job_fields.specs.Readings.{macros_of_job, name_in}
 use Rattle.build_rules.specs.Rules.{value_in}
 use Rattle.step_answers.specs.Readers.{given_as}
-use Rattle.document_steps.specs.Trees.{empty_flash}
+use Rattle.document_steps.specs.Trees.{empty_flash, named_or}
 use Rattle.job_fields.specs.Fields.{PLATFORM, TARGET, TAG, DEFINES, FLASH}
 
 -- the lines of a document with these macros before its first, and these above all
@@ -45,7 +45,7 @@ platform_value w = and_then (lines_in w (field w PLATFORM) [] (job_macros w)) pl
 
 -- the file of the flash description, if any: that of the job, or else the platform's
 abbrev pub flash_file : Option (List ℕ) → List ℕ → Option (List ℕ)
-flash_file stated text = if length text == 0 then stated else Some text
+flash_file stated text = named_or stated (name_in text)
 
 abbrev pub flash_of_file : World → PlatformDoc → Option (List ℕ) → Result FlashDoc Fault
 flash_of_file w platform None = Ok (empty_flash platform)

@@ -1,9 +1,9 @@
--- What the step of each key asks, and what comes of the answers, stage by stage; the rule is this
+-- What the steps of documents ask, and what comes of the answers, stage by stage; the rule is this
 -- project's own. What the lines of a document come to is told by the EDK II DSC, FDF, DEC and INF
 -- specifications.
 use Rattle.step_answers.specs.Readers.{EdkStages, given_as, or_impossible, platform_in}
 use Rattle.job_fields.specs.Readings.{file_in}
-use Rattle.std.specs.Prelude.{List, [], ◌∷◌, ℕ, Option, Some, None, Result, Ok, if◌then◌else◌}
+use Rattle.std.specs.Prelude.{List, [], ◌∷◌, ℕ, Option, Some, None, Result, Ok}
 use Rattle.build_base.specs.First.{and_then}
 use Rattle.build_base.specs.Path.{path_field}
 use Rattle.build_base.specs.declared.lines.Macro.{Macro}
@@ -65,14 +65,16 @@ platform_stages = stage platform_asks platform_given
 
 -- the platform, the macros as above behind it, and the file of the flash description
 abbrev pub flash_asks : List (Ask Key)
-flash_asks = ask.Part key.Platform ∷ ask.Field TARGET ∷ ask.Field TAG ∷ ask.Field DEFINES ∷ ask.Field FLASH ∷ []
+flash_asks =
+    ask.Part key.Platform ∷ ask.Field TARGET ∷ ask.Field TAG ∷ ask.Field DEFINES ∷ ask.Field FLASH
+    ∷ []
 
 -- the file that is named, or else the one that is stated, if any
 abbrev pub named_or : Option (List ℕ) → Option (List ℕ) → Option (List ℕ)
 named_or stated (Some path) = Some path
 named_or stated None = stated
 
--- the file that a field names, or else the platform, if any
+-- the file that a field names, or else the one that the platform states, if any
 unfoldable pub flash_named : Option (List ℕ) → List ℕ → Result (Option (List ℕ)) Fault
 flash_named stated text =
     and_then (or_impossible (file_in text)) (λ named. Ok (named_or stated named))

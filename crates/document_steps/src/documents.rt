@@ -1,4 +1,4 @@
-//! The steps that read documents.
+//! The steps of documents.
 ghost use Rattle.document_steps.specs.Trees.{named_or, document_stages, dec_stages, inf_stages, platform_given, platform_stages, root_in, macros_in, flash_named, flash_root, empty_flash, flash_from, flash_given, flash_stages};
 ghost use Rattle.std.specs.Prelude.{◌≡◌, [], IfOk};
 ghost use Rattle.build_base.specs.Answer.{Answers};

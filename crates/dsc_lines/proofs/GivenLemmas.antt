@@ -1,7 +1,7 @@
 -- Lines of which no condition holds give rows.
-use Rattle.std.proofs.Common.{◌≡◌, ◌==◌, ◌&&◌, not, ℕ, Bool, true, false, if◌then◌else◌, List, [], ◌∷◌, length, Option, Some, None, option_map, Result, Ok, Err, refl, codes}
+use Rattle.std.proofs.Common.{◌≡◌, ◌==◌, ℕ, Bool, true, false, if◌then◌else◌, List, [], ◌∷◌, length, Option, Some, None, option_map, Result, Ok, Err, refl, codes}
 use Rattle.std.specs.Option.{IsSome}
-use Rattle.build_base.specs.FaultCodes.{BAD_COMPONENT, BAD_LIBRARY_LINE, BAD_PATH, BAD_SKU_LINE, DSC_BAD_GUID, DSC_BAD_PCD_LINE}
+use Rattle.build_base.specs.FaultCodes.{BAD_COMPONENT, BAD_LIBRARY_LINE, BAD_PATH, DSC_BAD_GUID}
 use Rattle.build_base.specs.FaultText.{fault_of}
 use Rattle.build_base.specs.Guid.{guid_of}
 use Rattle.build_base.specs.Path.{path_field}

@@ -1,6 +1,6 @@
 -- The lines of [Components] (EDK II DSC specification, section 3.16). Which lines are out of place
 -- is this project's own rule.
-use Rattle.std.specs.Prelude.{ℕ, ◌-◌, ◌==◌, Bool, true, false, ◌&&◌, if◌then◌else◌, List, [], ◌∷◌, length, take, slice_index, Option, Some, None, codes}
+use Rattle.std.specs.Prelude.{ℕ, ◌-◌, ◌==◌, Bool, true, false, if◌then◌else◌, List, [], ◌∷◌, length, take, slice_index, Option, Some, None, codes}
 use Rattle.std.specs.Option.{option_map}
 use Rattle.build_base.specs.FaultText.{fault_of}
 use Rattle.build_base.specs.Guid.{guid_of}

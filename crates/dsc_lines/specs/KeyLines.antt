@@ -5,7 +5,6 @@ use Rattle.build_base.specs.FaultText.{fault_of}
 use Rattle.build_base.specs.Guid.{guid_of}
 use Rattle.build_base.specs.Path.{path_field}
 use Rattle.build_base.specs.declared.fault.Fault.{Fault}
-use Rattle.build_base.specs.declared.fault.Place.{Place}
 use Rattle.build_base.specs.declared.lines.Taken.{Taken}
 use Rattle.meta_lexer.specs.Lookup.{lookup}
 use Rattle.meta_lexer.specs.Words.{split_once}
@@ -14,7 +13,6 @@ use Rattle.doc_reading.specs.SegmentNames.{segment_name}
 use Rattle.doc_reading.specs.Least.{fault_in}
 use Rattle.doc_reading.specs.ValueFields.{undefined_macro, text_value, path_value}
 use Rattle.doc_reading.specs.Values.{require, of_read_line}
-use Rattle.doc_types.specs.declared.arch.Arch.{Arch}
 use Rattle.dsc_lines.specs.Arches.{arches_value}
 use Rattle.dsc_lines.specs.declared.key_line.PlatformKey.{PlatformKey}
 use Rattle.dsc_lines.specs.declared.key_line.PlatformKey.TheVariants as key

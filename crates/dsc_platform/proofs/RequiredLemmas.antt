@@ -1,5 +1,5 @@
 -- The document of keys that are stated, or the fault of one that isn't.
-use Rattle.std.proofs.Common.{◌≡◌, ◌∙◌, ap, sym, refl, subst, List, ℕ, Option, Some, None, Result, Ok, Err}
+use Rattle.std.proofs.Common.{◌≡◌, ◌∙◌, ap, sym, refl, subst, List, ℕ, Option, Some, None, Result, Ok}
 use Rattle.build_base.specs.Answer.{Finds, Refused}
 use Rattle.build_base.specs.First.{and_then, unless}
 use Rattle.build_base.specs.declared.fault.Fault.{Fault}

@@ -1,15 +1,14 @@
 -- What is read of lines without a fault has the shape of a platform.
-use Rattle.std.proofs.Common.{◌≡◌, ◌∙◌, ◌&&◌, ◌||◌, ◌++◌, Bool, true, false, if◌then◌else◌, ℕ, List, [], ◌∷◌, Option, Some, None, Result, Ok, Err, refl, sym, ap, subst}
-use Rattle.std.specs.List.{All, AllByRecursion, flat_map, list_any}
+use Rattle.std.proofs.Common.{◌≡◌, ◌∙◌, ◌++◌, Bool, true, false, if◌then◌else◌, ℕ, List, [], ◌∷◌, Option, Some, None, Result, Ok, refl, sym, ap, subst}
+use Rattle.std.specs.List.{All, AllByRecursion, flat_map}
 use Rattle.std.proofs.lemmas.Grind.{flat_map-append}
 use Rattle.std.proofs.lemmas.List.Elements.{All-from_recursion}
-use Rattle.build_base.specs.First.{or_else, or_fault, unless, first_of}
+use Rattle.build_base.specs.First.{or_fault, unless, first_of}
 use Rattle.build_base.specs.FaultText.{fault_of}
 use Rattle.build_base.specs.declared.guid.Guid.{Guid as GuidBytes}
 use Rattle.build_base.specs.declared.fault.Fault.{Fault}
-use Rattle.build_base.specs.declared.fault.Place.{Place}
 use Rattle.build_base.specs.declared.lines.Lines.{Lines}
-use Rattle.doc_reading.specs.Grammar.{Read, entered, gave, first_fault, read_of, rows_of, rows_in}
+use Rattle.doc_reading.specs.Grammar.{Read, entered, gave, first_fault, read_of, rows_of}
 use Rattle.doc_types.specs.SkuWalks.{EndsAtDefault}
 use Rattle.doc_types.specs.declared.arch.Arch.{Arch}
 use Rattle.doc_types.specs.declared.platform.Component.{Component}
@@ -24,7 +23,7 @@ use Rattle.dsc_platform.specs.Cutting.{components_of}
 use Rattle.dsc_platform.specs.Platform.{dsc_grammar, skus_of, whole_fault, required, with_required, document_of, platform_made, platform_of}
 use Rattle.dsc_platform.specs.Repeats.{repeats_fault}
 use Rattle.dsc_lines.specs.SkuLines.{is_default}
-use Rattle.dsc_platform.specs.SkuUses.{parent_uses, row_uses, uses_in, uses_of, is_known, unknown, use_fault, is_chosen, standing_fault, uses_fault}
+use Rattle.dsc_platform.specs.SkuUses.{row_uses, uses_in, uses_of, is_known, unknown, standing_fault, uses_fault}
 use Rattle.dsc_platform.specs.SkuWalks.{loops_fault}
 use Rattle.dsc_platform.specs.Stating.{sku_in, nothing, with_rows, names_of}
 use Rattle.dsc_platform.proofs.SkuEndLemmas.{ParentsKnown, none_of, true_false, all_end}

@@ -1,5 +1,5 @@
 -- Each SKU of a platform that is read ends at DEFAULT.
-use Rattle.std.proofs.Common.{◌≡◌, ◌∙◌, ◌≤◌, ◌<◌, ◌+◌, ◌==◌, ◌||◌, ◌++◌, ℕ, zero, suc, Bool, true, false, if◌then◌else◌, List, [], ◌∷◌, length, get_or, slice_get, map, Option, Some, None, codes, refl, sym, ap, subst, arith}
+use Rattle.std.proofs.Common.{◌≡◌, ◌∙◌, ◌≤◌, ◌<◌, ◌+◌, ◌||◌, ◌++◌, ℕ, zero, suc, Bool, true, false, if◌then◌else◌, List, [], ◌∷◌, length, get_or, slice_get, map, Option, Some, None, codes, refl, sym, ap, subst, arith}
 use Rattle.std.specs.List.{All, list_any}
 use Rattle.std.specs.Option.{option_map, option_and_then}
 use Rattle.std.specs.Str.{bytes_eq}
@@ -18,7 +18,7 @@ use Rattle.dsc_lines.specs.PcdLines.{is_there}
 use Rattle.dsc_lines.specs.SkuLines.{is_default, place_of}
 use Rattle.dsc_platform.specs.SkuUses.{is_known}
 use Rattle.dsc_platform.specs.SkuWalks.{parent_place, parents_of, joined, next_of, comes_by, is_loop, loop_fault, loops_from, loops_fault}
-use Rattle.dsc_platform.specs.Stating.{names_of, sku_name}
+use Rattle.dsc_platform.specs.Stating.{names_of}
 use Rattle.dsc_lines.proofs.PlaceLemmas.{bytes_same}
 use Rattle.dsc_platform.specs.FarPlaces.{walked}
 use Rattle.dsc_platform.proofs.PlaceWalks.{none_some, walked_none, walk_ends}

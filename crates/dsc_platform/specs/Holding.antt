@@ -8,7 +8,7 @@ use Rattle.dsc_platform.specs.Cutting.{lines_of, BlocksHeld}
 use Rattle.dsc_lines.specs.SkuNames.{Placed}
 use Rattle.dsc_platform.specs.SkuUses.{uses_of}
 use Rattle.dsc_lines.specs.Standing.{open_below}
-use Rattle.dsc_platform.specs.Stating.{nothing, with_rows, names_in, names_of}
+use Rattle.dsc_platform.specs.Stating.{nothing, with_rows, names_of}
 
 pub record Holds (above : List (Read Scope DscRow)) (format : DscFormat) : Type 0 where
   pub stated : format.stated ≡ with_rows nothing (rows_of above)

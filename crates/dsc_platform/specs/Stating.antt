@@ -1,6 +1,6 @@
 -- What the lines state, components apart. The last line of a key holds; the other lists stand in
 -- the order of the lines.
-use Rattle.std.specs.Prelude.{ℕ, List, [], ◌∷◌, ◌++◌, map, Option, None}
+use Rattle.std.specs.Prelude.{ℕ, List, [], ◌∷◌, ◌++◌, map, None}
 use Rattle.std.specs.List.{flat_map}
 use Rattle.build_base.specs.declared.guid.Guid.{Guid as GuidBytes}
 use Rattle.doc_reading.specs.Reading.{last_or}

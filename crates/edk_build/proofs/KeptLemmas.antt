@@ -1,5 +1,5 @@
 -- From what was brought, written and stored to what a build has done that keeps its cache.
-use Rattle.std.proofs.Common.{◌≡◌, ◌⊎◌, inl, inr, refl, sym, ap, ◌∙◌, ℕ, ◌-◌, List, [], ◌∷◌, ◌++◌, append-nil, arith, Option, None, Some, Result, Ok, Err, subst, Bool, true}
+use Rattle.std.proofs.Common.{◌≡◌, ◌⊎◌, inl, inr, refl, sym, ap, ◌∙◌, ℕ, List, [], ◌∷◌, ◌++◌, append-nil, arith, Option, None, Some, Result, Ok, Err, subst, Bool, true}
 use Rattle.std.specs.Prelude.{IfOk, IsOk, OnOk, nat_le, ◌≤◌, ◌<◌}
 use Rattle.std.proofs.lemmas.Bool.{leb-true}
 use Rattle.std.specs.Option.{IfSome}

@@ -1,5 +1,5 @@
 -- Laws of what is kept.
-use Rattle.std.proofs.Common.{◌≡◌, inl, inr, refl, sym, ◌∙◌, ℕ, List, [], ◌∷◌, ◌++◌, length, Option, Some, None, Contains, subst, arith}
+use Rattle.std.proofs.Common.{◌≡◌, inl, inr, refl, sym, ◌∙◌, ℕ, List, [], ◌∷◌, length, Option, Some, None, Contains, subst, arith}
 use Rattle.std.specs.Option.{IfSome}
 use Rattle.build_base.specs.World.{World}
 use Rattle.build_rules.proofs.AdoptLemmas.{all_stay}
@@ -11,11 +11,11 @@ use Rattle.step_pack.specs.declared.key.Key.{Key}
 use Rattle.step_pack.specs.declared.key.Key.TheVariants as key
 use Rattle.step_pack.specs.declared.out.Out.{Out}
 use Rattle.edk_build.proofs.KeptLemmas.{empty_sound, of_text, stands_for}
-use Rattle.edk_build.specs.Building.{means, IsBuilt, IsStepCount}
+use Rattle.edk_build.specs.Building.{means, IsStepCount}
 use Rattle.edk_build.specs.Kept.{IsSoundKept, OfKept, StandsFor, StaysSound}
 use Rattle.edk_build.specs.KeptBuild.{HasEnded, HasStopped}
 use Rattle.edk_build.specs.KeptRuns.{AreRight, BuildRun, EndsRight, Follow, FromKept, IsEnd, IsRight, IsRun, RanNothing, StopsRight}
-use Rattle.edk_build.specs.Run.{plain, world_of}
+use Rattle.edk_build.specs.Run.{world_of}
 use Rattle.edk_build.specs.Statuses.{OnEnd, OnUnwritten, OnWriteFault}
 use Rattle.edk_build.specs.declared.status.Status.{Status}
 use Rattle.edk_build.specs.declared.status.Status.TheVariants.{Done, FileFault, Usage, ReadFault, WriteFault, WantOfMemory}

@@ -1,5 +1,5 @@
 -- What calls of a sink and a keeper did that didn't fail.
-use Rattle.std.proofs.Common.{◌≡◌, ℕ, List, [], ◌∷◌, Bool, false, true, Option, None, Some, Result, Ok, Err, subst}
+use Rattle.std.proofs.Common.{◌≡◌, ℕ, List, [], ◌∷◌, false, Option, None, Some, Result, Ok, Err, subst}
 use Rattle.std.specs.Result.{is_err}
 use Rattle.build_base.specs.Keeping.{KeeperCause, Stores}
 use Rattle.build_base.specs.Outside.{Cause, Emission, Emits, Grew}

@@ -1,7 +1,7 @@
 -- What the step of a FILE statement asks, once the flash description is known; the rule is this
 -- project's own. What its statements mean is told by the EDK II FDF specification.
 use Rattle.step_answers.specs.Volumes.{volume_step}
-use Rattle.std.specs.Prelude.{ℕ, ◌+◌, Bool, true, nat_lt, List, [], ◌∷◌, ◌++◌, Option, Some, None, if◌then◌else◌}
+use Rattle.std.specs.Prelude.{ℕ, Bool, true, nat_lt, List, [], ◌∷◌, ◌++◌, Option, Some, None}
 use Rattle.std.specs.List.{flat_map, list_all}
 use Rattle.step_engine.specs.declared.talk.Ask.{Ask}
 use Rattle.step_engine.specs.declared.talk.Ask.TheVariants as ask

@@ -1,5 +1,5 @@
--- What files, volumes and texts hold, by the answers of a step (UEFI PI specification, volume 3,
--- sections 2.2.4 and 3.2.5; EDK II FDF specification, FILE statements).
+-- The content of a section that a text gives (UEFI PI specification, volume 3, section 3.2.5; EDK II
+-- FDF specification, FILE statements).
 use Rattle.std.specs.Prelude.{ℕ, ◌==◌, List, [], ◌∷◌, ◌++◌, if◌then◌else◌}
 use Rattle.std.specs.List.{flat_map}
 use Rattle.byteorder.specs.Endian.{little_bytes}

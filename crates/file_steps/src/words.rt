@@ -1,4 +1,5 @@
-//! What files, volumes and texts hold, by the answers of a step.
+//! The content of a section that a text gives (UEFI PI specification, volume 3, section 3.2.5; EDK
+//! II FDF specification, FILE statements).
 ghost use Rattle.std.specs.Prelude.{◌≡◌, ◌++◌, ◌∷◌, [], IfOk, OnOk};
 ghost use Rattle.std.specs.List.{flat_map};
 ghost use Rattle.file_steps.specs.Words.{wide_text, words_bytes};

@@ -1,10 +1,10 @@
 -- What holds of the rows and the heads of every line.
-use Rattle.std.proofs.Common.{◌≡◌, ◌∙◌, ℕ, Bool, true, false, not, ◌==◌, if◌then◌else◌, List, [], ◌∷◌, ◌++◌, map, fold, Option, Some, None, Result, Ok, Err, refl, sym, ap, subst, inl, inr}
+use Rattle.std.proofs.Common.{◌≡◌, ℕ, Bool, true, false, not, ◌==◌, if◌then◌else◌, List, [], ◌∷◌, map, fold, Option, Some, None, Result, Ok, Err, refl, sym}
 use Rattle.std.specs.Prelude.{is_some, IsTrue, IfOk}
 use Rattle.std.specs.List.{All, list_all, flat_map}
 use Rattle.std.specs.Option.{IfSome, option_map}
-use Rattle.std.proofs.lemmas.Bool.{cases_Bool, and_parts, not-true}
-use Rattle.std.proofs.lemmas.List.Elements.{All-nil, All-cons, All-append, All-push, All-head, All-tail}
+use Rattle.std.proofs.lemmas.Bool.{and_parts, not-true}
+use Rattle.std.proofs.lemmas.List.Elements.{All-nil, All-cons, All-append, All-head, All-tail}
 use Rattle.build_base.specs.First.{unless}
 use Rattle.build_base.specs.Guid.{guid_of}
 use Rattle.build_base.specs.Path.{path_field}
@@ -16,7 +16,7 @@ use Rattle.meta_lexer.specs.Lookup.{lookup}
 use Rattle.meta_lexer.specs.Words.{same_word}
 use Rattle.meta_lexer.specs.declared.head.Head.{Head}
 use Rattle.doc_reading.specs.Gathering.{given_in, gathered, least_in, unless_faulty}
-use Rattle.doc_reading.specs.Grammar.{Grammar, Read, entered, gave, entry_of, outcome_of, heads_entered, rows_given, body_given, entry_read, body_read, form_read, more_read, read_of, scopes_above}
+use Rattle.doc_reading.specs.Grammar.{Read, entered, gave, heads_entered, body_given, entry_read, body_read, form_read, more_read, read_of, scopes_above}
 use Rattle.doc_reading.specs.Least.{least_of}
 use Rattle.doc_reading.specs.declared.form.LineForm.{LineForm}
 use Rattle.doc_reading.specs.declared.form.LineForm.TheVariants as form
@@ -26,7 +26,7 @@ use Rattle.doc_types.specs.declared.pcd.PcdName.{PcdName}
 use Rattle.doc_types.specs.declared.volume.Align.{Align}
 use Rattle.doc_types.specs.declared.volume.InfLine.{InfLine}
 use Rattle.doc_types.specs.declared.volume.SectionSource.TheVariants.{Template, Words, Refused}
-use Rattle.fdf_volumes.specs.Bodies.{path_row, words_row, guid_row, value_row, equals_row, named_row, kind_row, aligned_row, section_row, section_words, section_word, named_value, some_text, whole_row, words_in_quotes, maybe_align}
+use Rattle.fdf_volumes.specs.Bodies.{path_row, words_row, guid_row, value_row, equals_row, named_row, kind_row, aligned_row, section_row, section_words, section_word, named_value, whole_row, words_in_quotes, maybe_align}
 use Rattle.fdf_words.specs.DeviceLines as device
 use Rattle.fdf_lines.specs.Grammar.{flash_grammar, line_row, scope_row, rank_of, rows_of_flash}
 use Rattle.fdf_words.specs.Keys.{key_pair, is_set, device_word, volume_word}
@@ -56,7 +56,6 @@ use Rattle.fdf_words.specs.declared.rows.VolumeKey.TheVariants as volume_key
 use Rattle.fdf_lines.specs.declared.rule_line.RuleKind.{RuleKind}
 use Rattle.fdf_lines.specs.declared.rule_line.RuleKind.TheVariants as rule_kind_
 use Rattle.fdf_lines.specs.declared.rule_options.RuleOptions.{RuleOptions}
-use Rattle.fdf_lines.specs.declared.section.HeadMeaning.{HeadMeaning}
 use Rattle.fdf_lines.specs.declared.section.HeadMeaning.TheVariants as meaning
 use Rattle.fdf_lines.specs.declared.section.FlashSection.{FlashSection}
 use Rattle.fdf_lines.specs.declared.section.FlashSection.TheVariants as flash_section

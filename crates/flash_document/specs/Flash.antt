@@ -1,5 +1,5 @@
 -- A flash description's document, or its first fault (EDK II FDF specification).
-use Rattle.std.specs.Prelude.{List, map, Result}
+use Rattle.std.specs.Prelude.{map, Result}
 use Rattle.build_base.specs.First.{and_then}
 use Rattle.build_base.specs.declared.fault.Fault.{Fault}
 use Rattle.build_base.specs.declared.lines.Lines.{Lines}

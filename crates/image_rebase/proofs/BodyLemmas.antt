@@ -1,5 +1,5 @@
 -- A byte of a body, and of a file, that no move of its modules may change stays.
-use Rattle.std.proofs.Common.{◌≡◌, ℕ, zero, suc, ◌+◌, ◌-◌, ◌<◌, ◌≤◌, ◌⊎◌, inl, inr, ◌==◌, ◌&&◌, ◌||◌, Bool, true, false, if◌then◌else◌, nat_lt, nat_le, List, [], ◌∷◌, ◌++◌, length, get_or, take, drop, slice_set, Option, Some, None, Result, Ok, Err, refl, ap, sym, ◌∙◌, subst, arith, length-set, length-append, length-drop}
+use Rattle.std.proofs.Common.{◌≡◌, ℕ, zero, suc, ◌+◌, ◌-◌, ◌<◌, ◌≤◌, inl, inr, ◌==◌, ◌&&◌, ◌||◌, Bool, true, false, if◌then◌else◌, nat_le, List, [], ◌∷◌, ◌++◌, length, get_or, take, drop, slice_set, Option, Some, None, Result, Ok, Err, refl, ap, sym, ◌∙◌, subst, arith, length-set, length-append, length-drop}
 use Rattle.std.proofs.lemmas.List.{get_or-set_other, get_or-drop, get_or-take, get_or_append_left, get_or-append_right, length-take-le, take-append-drop}
 use Rattle.std.proofs.lemmas.Bool.Decides.{nat_tests}
 use Rattle.std.proofs.lemmas.Bool.{cases_lt, cases_eq}
@@ -7,17 +7,15 @@ use Rattle.std.specs.List.{list_any}
 use Rattle.std.specs.Option.{option_map}
 use Rattle.build_base.specs.First.{and_then, with_front}
 use Rattle.build_base.specs.declared.fault.Place.{Place}
-use Rattle.build_base.specs.declared.fault.Fault.{Fault}
 use Rattle.ffs_sections.specs.Sums.{zero_byte}
 use Rattle.ffs_sections.specs.Sections.{up4}
 use Rattle.ffs_sections.specs.File.{header_len}
 use Rattle.volume_reader.specs.declared.listed.ListedSection.{ListedSection}
-use Rattle.volume_reader.specs.Sections.{section_kind, section_size, content_at as content_start, is_extended, extended_size, short_size, has_size_form, is_section, listed_section, follows, sections_from, sections_of}
-use Rattle.volume_reader.proofs.SectionLemmas.{size_within}
+use Rattle.volume_reader.specs.Sections.{section_size, content_at as content_start, has_size_form, is_section, listed_section, follows, sections_from, sections_of}
 use Rattle.image_rebase.specs.Moves.{moved_content}
-use Rattle.image_rebase.specs.Files.{has_module, content_length, content_in, moved_from, has_checksum, resummed_head, with_body, file_head, file_body, with_sections, with_found, moved_sections, has_sections, moved_bytes}
+use Rattle.image_rebase.specs.Files.{has_module, content_length, content_in, moved_from, has_checksum, resummed_head, with_body, file_head, file_body, with_found, moved_sections, has_sections, moved_bytes}
 use Rattle.image_rebase.specs.Changes.{is_in, content_changes, section_changes, sections_change, file_changes}
-use Rattle.image_rebase.proofs.SameLemmas.{SameAt, same_self, same_then, either, through, same_content}
+use Rattle.image_rebase.proofs.SameLemmas.{SameAt, same_self, either, through, same_content}
 
 -- a place of a module's section, or else the end before it
 abbrev pub reached : Bool → ℕ → ℕ → ℕ

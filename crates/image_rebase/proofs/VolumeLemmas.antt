@@ -1,10 +1,10 @@
 -- A byte of a volume that no move of its modules may change stays.
-use Rattle.std.proofs.Common.{◌≡◌, ℕ, zero, suc, ◌+◌, ◌-◌, ◌<◌, ◌≤◌, inl, inr, ◌==◌, ◌&&◌, ◌||◌, Bool, true, false, not, cond, if◌then◌else◌, nat_lt, nat_le, List, [], ◌∷◌, ◌++◌, length, map, get_or, Option, Some, None, is_some, Result, Ok, Err, IfOk, ◌*◌, refl, ap, sym, ◌∙◌, subst, arith, append_assoc, append-nil, ◌%◌}
+use Rattle.std.proofs.Common.{◌≡◌, ℕ, zero, suc, ◌+◌, ◌-◌, ◌≤◌, ◌==◌, ◌&&◌, ◌||◌, Bool, true, false, not, cond, if◌then◌else◌, nat_lt, nat_le, List, [], ◌∷◌, ◌++◌, length, map, get_or, Option, Some, None, is_some, Result, Ok, Err, IfOk, refl, ap, sym, ◌∙◌, subst, arith, append_assoc, append-nil, ◌%◌}
 use Rattle.std.specs.List.{range_with_len}
 use Rattle.std.specs.Str.{bytes_eq}
 use Rattle.std.proofs.lemmas.Bool.Decides.{nat_tests}
 use Rattle.std.proofs.lemmas.List.{length-map}
-use Rattle.build_base.specs.First.{and_then, unless, with_front}
+use Rattle.build_base.specs.First.{unless, with_front}
 use Rattle.build_base.specs.Pieces.{Piece, covers, byte_of, image_of}
 use Rattle.build_base.specs.Runs.{free_byte}
 use Rattle.build_base.specs.declared.fault.Place.{Place}
@@ -21,11 +21,11 @@ use Rattle.fv_compose.specs.Files.{is_top, top_name, top_of, top_start, plain_fi
 use Rattle.fv_compose.specs.Turns.{next_end}
 use Rattle.fv_compose.specs.Volume.{taken_by, last_end, length_for, length_of, twice_fault, place_fault, with_length, volume_image, volume_of}
 use Rattle.fv_compose.specs.Places.{placed_at, placed_from, places_in, places_with, places_of}
-use Rattle.image_rebase.specs.Files.{moved_bytes, with_file_bytes, moved_file, moved_files, has_checksum, has_sections, file_head, file_body}
+use Rattle.image_rebase.specs.Files.{moved_bytes, with_file_bytes, moved_file, moved_files, has_checksum, has_sections, file_head}
 use Rattle.image_rebase.specs.Rebase.{base_of, moved_volume, rebased_bytes}
-use Rattle.image_rebase.specs.Changes.{is_in, sections_change, file_changes, files_change, volume_changes, Stays, StaysBut}
+use Rattle.image_rebase.specs.Changes.{is_in, file_changes, files_change, volume_changes, Stays, StaysBut}
 use Rattle.image_rebase.proofs.SameLemmas.{SameAt, either, through}
-use Rattle.image_rebase.proofs.BodyLemmas.{fronted, with_true, in_yes, same_file}
+use Rattle.image_rebase.proofs.BodyLemmas.{fronted, same_file}
 
 -- a file moved
 pub record FileKin (ffs3 : Bool) (file moved : FileImage) : Type 0 where

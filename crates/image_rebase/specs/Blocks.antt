@@ -1,6 +1,6 @@
 -- The base relocations of a module, by the PE/COFF format, section 5.6: blocks of entries, each for
 -- a page of 4096 bytes.
-use Rattle.std.specs.Prelude.{ℕ, zero, suc, ◌+◌, ◌-◌, ◌*◌, ◌%◌, ◌==◌, ◌||◌, Bool, not, nat_lt, if◌then◌else◌, List, [], ◌∷◌, length, take, drop, Result, Ok, Err}
+use Rattle.std.specs.Prelude.{ℕ, zero, suc, ◌+◌, ◌-◌, ◌*◌, ◌%◌, ◌==◌, ◌||◌, Bool, nat_lt, if◌then◌else◌, List, [], ◌∷◌, length, take, drop, Result, Ok, Err}
 use Rattle.byteorder.specs.Endian.{little_from}
 use Rattle.build_base.specs.First.{with_front}
 use Rattle.build_base.specs.declared.fault.Place.{Place}

@@ -1,6 +1,6 @@
 -- Which bytes of a volume a move of its modules may change: those of the words that base
 -- relocations name, of ImageBase, and the file checksums.
-use Rattle.std.specs.Prelude.{◌≡◌, ℕ, ◌+◌, ◌-◌, ◌==◌, ◌&&◌, ◌||◌, Bool, true, false, nat_le, nat_lt, if◌then◌else◌, List, [], ◌∷◌, length, get_or, Option, Some, None, Result, Ok, Err}
+use Rattle.std.specs.Prelude.{◌≡◌, ℕ, ◌+◌, ◌-◌, ◌==◌, ◌&&◌, ◌||◌, Bool, false, nat_le, nat_lt, if◌then◌else◌, List, [], ◌∷◌, length, get_or, Option, Some, None, Result, Ok, Err}
 use Rattle.std.specs.List.{list_any}
 use Rattle.build_base.specs.declared.fault.Place.{Place}
 use Rattle.build_base.specs.declared.fault.Fault.{Fault}
@@ -8,7 +8,6 @@ use Rattle.doc_types.specs.declared.image.FileImage.{FileImage}
 use Rattle.doc_types.specs.declared.volume_head.VolumeHead.{VolumeHead}
 use Rattle.ffs_sections.specs.File.{header_len}
 use Rattle.fv_compose.specs.Places.{places_of}
-use Rattle.fv_compose.specs.Volume.{volume_of}
 use Rattle.volume_reader.specs.declared.listed.ListedSection.{ListedSection}
 use Rattle.volume_reader.specs.Sections.{sections_of}
 use Rattle.image_rebase.specs.Module.{module_in}

@@ -3,8 +3,8 @@
 -- project's own rule.
 use Rattle.std.specs.Prelude.{ℕ, ◌+◌, ◌-◌, ◌*◌, ◌==◌, ◌||◌, Bool, true, not, nat_lt, if◌then◌else◌, List, length, slice_index, Option, Some, None, Result, Ok, Err}
 use Rattle.byteorder.specs.Endian.{little_from}
-use Rattle.te_images.specs.Standard.{E_LFANEW, IMAGE_SIZEOF_FILE_HEADER, IMAGE_SIZEOF_SECTION_HEADER}
-use Rattle.te_images.specs.Pe.{number_at, optional_header, is_pe32_plus}
+use Rattle.te_images.specs.Standard.{IMAGE_SIZEOF_SECTION_HEADER}
+use Rattle.te_images.specs.Pe.{optional_header, is_pe32_plus}
 use Rattle.te_images.specs.Te.{te_of}
 use Rattle.te_images.specs.declared.fault.PeFault.{PeFault}
 use Rattle.te_images.specs.declared.te.TeHead.{TeHead}

@@ -5,7 +5,7 @@ use Rattle.std.specs.Prelude.{ℕ, ◌+◌, ◌-◌, ◌*◌, ◌/◌, ◌%◌, 
 use Rattle.std.specs.List.{range_with_len, find}
 use Rattle.std.specs.Option.{option_map}
 use Rattle.byteorder.specs.Endian.{little_from}
-use Rattle.build_base.specs.First.{first_holding, first_of, or_else, or_fault, unless, and_then}
+use Rattle.build_base.specs.First.{first_holding, first_of, or_fault, and_then}
 use Rattle.build_base.specs.declared.fault.Place.{Place}
 use Rattle.build_base.specs.declared.fault.Fault.{Fault}
 use Rattle.ffs_sections.specs.Sections.{fault_with_size}

@@ -1,6 +1,6 @@
 -- A volume whose modules are moved to the addresses at which they lie when the volume lies at its
 -- base. The rule is this project's own.
-use Rattle.std.specs.Prelude.{◌≡◌, ℕ, Bool, true, is_some, unwrap_or, List, Result}
+use Rattle.std.specs.Prelude.{◌≡◌, ℕ, true, is_some, unwrap_or, List, Result}
 use Rattle.build_base.specs.First.{and_then}
 use Rattle.build_base.specs.declared.fault.Fault.{Fault}
 use Rattle.doc_types.specs.declared.image.FileImage.{FileImage}

@@ -17,7 +17,7 @@ use Rattle.doc_types.specs.declared.arch.Arch.TheVariants.{Common, Ia32, X64, Ar
 use Rattle.doc_types.specs.declared.pcd.PcdSet.{PcdSet}
 use Rattle.job_fields.specs.Fields.{PLATFORM, ARCHES, TARGET, TAG, SKU, DEFINES, PCDS, FLASH, IMAGES, REPORT, or_empty, image_lines, job_fields, field_of}
 use Rattle.job_fields.specs.HasWords.{EachPasses, HasWords, IsFile, IsFileIfGiven, IsNameIfGiven}
-use Rattle.job_fields.specs.Readings.{arch_in, arches_in, behind, built_arch, each_there, file_in, images_in, images_of, is_image_line, is_job, is_path_or_empty, name_in, set_by, set_in, set_named, set_text, sets_in, texts_in}
+use Rattle.job_fields.specs.Readings.{arch_in, arches_in, behind, built_arch, each_there, file_in, images_in, images_of, is_image_line, is_job, name_in, set_by, set_in, set_named, set_text, sets_in, texts_in}
 use Rattle.job_fields.specs.Values.{equals_at, is_arch, is_built, is_define, is_name, is_setting}
 use Rattle.job_fields.specs.declared.job.Images.{Images}
 use Rattle.job_fields.specs.declared.job.Job.{Job}
@@ -93,19 +93,14 @@ pub report_read : (job : Job) → HasWords job → file_in (field_of job REPORT)
 unfolding job_fields
 report_read job h = file_read job.files.report h.report
 
-path_or_empty : (file : Option (List ℕ)) → IsFileIfGiven file → is_path_or_empty (or_empty file) ≡ true
-path_or_empty None h = refl
-path_or_empty (Some text) h = by (length text == 0)
-  where
-    by : (b : Bool) → (if b then true else is_some (path_field text)) ≡ true
-    by true = refl
-    by false = h
+has_reading : (file : Option (List ℕ)) → IsFileIfGiven file → is_some (file_in (or_empty file)) ≡ true
+has_reading file h = ap is_some (file_read file h)
 
 pub job_read : (job : Job) → HasWords job → is_job (job_fields job) ≡ true
 unfolding job_fields
 job_read job h =
-    and_from (is_some (path_field job.files.platform)) (is_path_or_empty (or_empty job.files.flash) && is_path_or_empty (or_empty job.files.report)) h.platform
-    (and_from (is_path_or_empty (or_empty job.files.flash)) (is_path_or_empty (or_empty job.files.report)) (path_or_empty job.files.flash h.flash) (path_or_empty job.files.report h.report))
+    and_from (is_some (path_field job.files.platform)) (is_some (file_in (or_empty job.files.flash)) && is_some (file_in (or_empty job.files.report))) h.platform
+    (and_from (is_some (file_in (or_empty job.files.flash))) (is_some (file_in (or_empty job.files.report))) (has_reading job.files.flash h.flash) (has_reading job.files.report h.report))
 
 -- Images.
 

@@ -1,6 +1,6 @@
 -- What is read from the fields of a job (EDK II Build specification, options of `build`). The form
 -- of the fields is this project's own. What no words give has no reading.
-use Rattle.std.specs.Prelude.{ℕ, ◌+◌, ◌==◌, ◌&&◌, ◌||◌, nat_eq, Bool, true, List, [], ◌∷◌, ◌++◌, length, take, drop, map, codes, slice_index_or, Option, Some, None, if◌then◌else◌}
+use Rattle.std.specs.Prelude.{ℕ, ◌+◌, ◌==◌, ◌&&◌, ◌||◌, nat_eq, Bool, List, [], ◌∷◌, ◌++◌, length, take, drop, map, codes, slice_index_or, Option, Some, None, if◌then◌else◌}
 use Rattle.std.specs.List.{filter_map, list_all, position, slice_split, starts_with}
 use Rattle.std.specs.Option.{is_some, option_map}
 use Rattle.build_base.specs.Path.{path_field}
@@ -136,13 +136,10 @@ images_of lines = if list_all is_image_line lines
 unfoldable pub images_in : List ℕ → Option Images
 images_in text = images_of (texts_in text)
 
-abbrev pub is_path_or_empty : List ℕ → Bool
-is_path_or_empty text = if length text == 0 then true else is_some (path_field text)
-
--- the platform's field of a job names a file, and so do those of the flash description and of the
--- report where they aren't empty
+-- the platform's field of a job names a file, and those of the flash description and of the report
+-- have readings
 abbrev pub is_job : List (List ℕ) → Bool
 is_job fields =
     is_some (path_field (slice_index_or fields PLATFORM []))
-    && (is_path_or_empty (slice_index_or fields FLASH [])
-    && is_path_or_empty (slice_index_or fields REPORT []))
+    && (is_some (file_in (slice_index_or fields FLASH []))
+    && is_some (file_in (slice_index_or fields REPORT [])))

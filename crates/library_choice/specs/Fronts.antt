@@ -1,5 +1,5 @@
 -- How far a queue is passed that doesn't move when more INF files are known.
-use Rattle.std.specs.Prelude.{◌≡◌, ℕ, Bool, true, false, ◌&&◌, not, List, [], take, Option, Some, None}
+use Rattle.std.specs.Prelude.{◌≡◌, ℕ, Bool, true, false, ◌&&◌, not, List, [], take, Option, None}
 use Rattle.std.specs.List.{filter_map, All}
 use Rattle.doc_types.specs.declared.module.InfDoc.{InfDoc}
 use Rattle.library_choice.specs.declared.front.Front.{Front}

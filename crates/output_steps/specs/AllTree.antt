@@ -19,12 +19,10 @@ use Rattle.step_pack.specs.declared.key.Key.{Key}
 use Rattle.step_pack.specs.declared.key.Key.TheVariants as key
 use Rattle.step_pack.specs.declared.out.Out.{Out}
 use Rattle.step_pack.specs.declared.out.Out.TheVariants as out
-use Rattle.doc_types.specs.declared.volume.VolumePlan.{VolumePlan}
 use Rattle.step_answers.specs.Volumes.{fits_u16, volume_key}
 use Rattle.step_answers.specs.Settings.{built_modules}
 use Rattle.text_steps.specs.Asks.{build_module_asks}
 use Rattle.step_answers.specs.VpdLines.{has_vpd}
-use Rattle.document_steps.specs.Trees.{flash_named}
 use Rattle.step_answers.specs.Folders.{output_folder}
 use Rattle.output_steps.specs.Outputs.{outputs_of}
 use Rattle.output_steps.specs.Wanted.{wanted_of, is_marked}

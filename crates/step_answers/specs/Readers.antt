@@ -6,7 +6,7 @@ use Rattle.build_stages.specs.Writing.{given_part}
 use Rattle.build_base.specs.declared.fault.Fault.{Fault}
 use Rattle.doc_types.specs.declared.flash.FlashDoc.{FlashDoc}
 use Rattle.doc_types.specs.declared.platform.PlatformDoc.{PlatformDoc}
-use Rattle.build_stages.specs.Stages.{Stages, stage, impossible_answer}
+use Rattle.build_stages.specs.Stages.{Stages, impossible_answer}
 use Rattle.build_stages.specs.Gives.{Gives}
 use Rattle.build_stages.specs.Known.{Table, advance_at}
 use Rattle.build_stages.specs.declared.stop.Stop.{Stop}

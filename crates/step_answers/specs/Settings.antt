@@ -1,9 +1,8 @@
 -- The modules of a build, and what the words say of its PCDs (EDK II Build specification, options
--- -a,
--- -x and --pcd; EDK II DSC specification, SUPPORTED_ARCHITECTURES and [Components]).
+-- -a, -x and --pcd; EDK II DSC specification, SUPPORTED_ARCHITECTURES and [Components]).
 use Rattle.job_fields.specs.Fields.{ARCHES}
 use Rattle.job_fields.specs.Readings.{arches_in, name_in, sets_in, texts_in}
-use Rattle.std.specs.Prelude.{find, ℕ, ◌+◌, ◌==◌, Bool, false, List, [], ◌∷◌, ◌++◌, length, fold, Option, Some, None, Result, Ok, if◌then◌else◌}
+use Rattle.std.specs.Prelude.{find, ℕ, ◌==◌, Bool, false, List, [], ◌∷◌, ◌++◌, length, fold, Option, Some, None, Result, Ok, if◌then◌else◌}
 use Rattle.step_answers.specs.Readers.{or_impossible}
 use Rattle.std.specs.List.{flat_map, list_any}
 use Rattle.build_base.specs.declared.fault.Fault.{Fault}

@@ -26,10 +26,7 @@ step_by n (Some plan) = volume_key n plan
 abbrev pub volume_step : List VolumePlan → ℕ → Key
 volume_step volumes n = step_by n (slice_get volumes n)
 
--- a volume has at most so many items, and a flash description so many volumes
-abbrev pub most_items : ℕ
-most_items = 65535
-
+-- a volume has at most 65,535 items, and a flash description as many volumes
 abbrev pub fits_u16 : ℕ → Bool
 fits_u16 count = nat_lt count 65536
 

@@ -1,9 +1,9 @@
 -- The entries of a block map, one after another.
-use Rattle.std.proofs.Common.{◌≡◌, ℕ, ◌+◌, ◌-◌, ◌*◌, ◌/◌, ◌%◌, ◌<◌, ◌≤◌, ◌==◌, ◌&&◌, ◌++◌, ◌∷◌, [], Bool, true, false, not, refl, zero, suc, ap, sym, ◌∙◌, arith, eq-eqb, List}
+use Rattle.std.proofs.Common.{◌≡◌, ℕ, ◌+◌, ◌-◌, ◌/◌, ◌%◌, ◌<◌, ◌≤◌, ◌==◌, ◌&&◌, ◌++◌, ◌∷◌, [], Bool, true, false, not, refl, zero, suc, ap, sym, ◌∙◌, arith, List}
 use Rattle.std.proofs.lemmas.Bool.Decides.{nat_tests}
 use Rattle.std.proofs.lemmas.List.Sums.{sum_by-cons, sum_by_push}
 use Rattle.std.specs.List.{range_with_len, list_any, sum_by}
-use Rattle.volume_reader.specs.Head.{header_length, fv_length, block_entries, num_blocks, block_length, is_map_end, block_bytes, has_blocks}
+use Rattle.volume_reader.specs.Head.{header_length, fv_length, block_entries, num_blocks, is_map_end, block_bytes, has_blocks}
 
 -- what is to be found out of the entries from k on, where those before have so many bytes
 abbrev pub left : (ℕ → Bool) → (ℕ → ℕ) → ℕ → ℕ → ℕ → ℕ → Bool

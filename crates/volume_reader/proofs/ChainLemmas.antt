@@ -1,27 +1,24 @@
 -- The files of a volume that is written stand one behind the other, with pad files between them.
-use Rattle.std.proofs.Common.{◌≡◌, ℕ, ◌+◌, ◌-◌, ◌*◌, ◌/◌, ◌%◌, ◌^◌, ◌<◌, ◌≤◌, ◌⊎◌, ◌==◌, ◌&&◌, Bool, true, false, not, cond, if◌then◌else◌, List, [], ◌∷◌, ◌++◌, length, map, replicate, nat_lt, Option, Some, None, is_some, IfSome, refl, ap, sym, ◌∙◌, arith, length-append, append_assoc, append-nil, inl, inr, subst, All, eq-eqb}
-use Rattle.std.specs.List.{filter, find}
+use Rattle.std.proofs.Common.{◌≡◌, ℕ, ◌+◌, ◌-◌, ◌%◌, ◌^◌, ◌<◌, ◌≤◌, ◌==◌, ◌&&◌, Bool, true, false, not, cond, if◌then◌else◌, List, [], ◌∷◌, ◌++◌, length, replicate, Option, Some, None, is_some, IfSome, refl, ap, sym, ◌∙◌, arith, length-append, append_assoc, append-nil, inl, inr, subst, All, eq-eqb}
 use Rattle.std.specs.Option.{option_map}
 use Rattle.std.proofs.lemmas.Bool.{cases_eq, ne_eqb}
 use Rattle.std.proofs.lemmas.Bool.Decides.{nat_tests}
 use Rattle.std.proofs.lemmas.List.{length-replicate}
 use Rattle.std.proofs.lemmas.List.Elements.{All-head, All-tail}
-use Rattle.build_base.specs.First.{first_holding, or_else}
+use Rattle.build_base.specs.First.{or_else}
 use Rattle.build_base.specs.Pieces.{Piece, piece_end}
 use Rattle.build_base.specs.Runs.{free_byte}
 use Rattle.build_base.specs.declared.guid.Guid.{Guid}
-use Rattle.build_base.specs.declared.fault.Fault.{Fault}
 use Rattle.doc_types.specs.declared.image.FileImage.{FileImage}
 use Rattle.doc_types.specs.declared.volume_head.VolumeHead.{VolumeHead}
 use Rattle.ffs_sections.specs.File.{file_head, head_len, header_len}
-use Rattle.ffs_sections.specs.Alignment.{IsAlignment}
 use Rattle.ffs_sections.proofs.HeadLemmas.{length_head}
 use Rattle.fv_compose.specs.Place.{align_up, IsStart}
 use Rattle.fv_compose.specs.Pads.{is_large_pad, pad_bytes}
 use Rattle.fv_compose.specs.Header.{extended_bytes, extended_pieces, header_end}
 use Rattle.fv_compose.specs.Files.{is_top, top_of, plain_files, placed_pieces, files_pieces, file_start, file_end, end_of, top_start, top_pieces, pad_fault, pads_fault, top_pad_fault}
 use Rattle.fv_compose.specs.Volume.{holds, taken_by, start_fault, top_fault}
-use Rattle.fv_compose.proofs.PlaceLemmas.{up_after, start_is, known_alignment}
+use Rattle.fv_compose.proofs.PlaceLemmas.{start_is, known_alignment}
 use Rattle.fv_compose.proofs.HeaderLemmas.{extended_length}
 use Rattle.fv_compose.proofs.LengthLemmas.{holds_room}
 use Rattle.fv_compose.proofs.FileLemmas.{Spaced, is_head, top_spaced}

@@ -1,10 +1,9 @@
 -- Erased bytes, found from the back.
-use Rattle.std.proofs.Common.{◌≡◌, ℕ, ◌+◌, ◌-◌, ◌<◌, ◌≤◌, ◌==◌, ◌&&◌, Bool, true, false, List, ◌∷◌, length, get_or, drop, refl, ap, sym, ◌∙◌, arith, eq-eqb, ne_eqb, inl, inr, length-drop, nat_le, subst}
+use Rattle.std.proofs.Common.{◌≡◌, ℕ, ◌+◌, ◌-◌, ◌<◌, ◌≤◌, ◌==◌, true, false, List, length, get_or, drop, refl, ap, ◌∙◌, arith, eq-eqb, ne_eqb, inl, inr, length-drop, nat_le}
 use Rattle.std.proofs.lemmas.Bool.{cases_lt}
 use Rattle.std.proofs.lemmas.Bool.Decides.{nat_tests}
 use Rattle.std.proofs.lemmas.List.{drop_more, drop_all, get_or-drop}
 use Rattle.std.proofs.lemmas.List.Folds.{list_all_at}
-use Rattle.std.specs.List.{list_all}
 use Rattle.build_base.specs.Runs.{free_byte}
 use Rattle.volume_reader.specs.Volume.{are_erased}
 

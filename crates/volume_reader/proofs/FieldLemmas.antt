@@ -1,14 +1,12 @@
 -- Headers of files that are made, field by field.
-use Rattle.std.proofs.Common.{◌≡◌, ℕ, ◌+◌, ◌-◌, ◌*◌, ◌/◌, ◌%◌, ◌^◌, ◌<◌, ◌≤◌, ◌==◌, Bool, true, false, if◌then◌else◌, List, [], ◌∷◌, ◌++◌, length, map, take, drop, get_or, refl, ap, sym, ◌∙◌, arith, length-append, subst}
+use Rattle.std.proofs.Common.{◌≡◌, ℕ, ◌+◌, ◌/◌, ◌%◌, ◌^◌, ◌<◌, Bool, true, false, if◌then◌else◌, List, ◌∷◌, ◌++◌, length, map, take, get_or, refl, ap, sym, ◌∙◌, arith, subst}
 use Rattle.std.specs.List.{range_with_len}
-use Rattle.std.proofs.Math.Seq.{drop-append_seam}
 use Rattle.std.proofs.Math.Nat.{mod-eq_of_lt, div-one}
 use Rattle.byteorder.specs.Numbers.{little_from-bytes}
 use Rattle.build_base.proofs.Places.{places_of}
 use Rattle.ffs_sections.specs.declared.header.Head.{Head}
 use Rattle.ffs_sections.specs.Sums.{header_sum}
 use Rattle.ffs_sections.specs.File.{short_fields, long_fields, file_head, head_len, header_len}
-use Rattle.ffs_sections.proofs.HeadLemmas.{length_head, head_at_file}
 use Rattle.volume_reader.specs.Files.{file_name, header_check, file_check, file_type, file_attributes, file_state, stated_size}
 
 -- sixteen numbers by their places

@@ -1,5 +1,5 @@
 -- The body of a file.
-use Rattle.std.proofs.Common.{◌≡◌, ℕ, ◌+◌, ◌-◌, ◌≤◌, List, length, take, drop, arith, length-drop}
+use Rattle.std.proofs.Common.{ℕ, ◌+◌, ◌≤◌, List, length, take, arith, length-drop}
 use Rattle.std.proofs.lemmas.List.{length-take-le}
 use Rattle.ffs_sections.specs.File.{header_len}
 use Rattle.volume_reader.specs.Files.{stated_size, body_in, HasBody}

@@ -1,5 +1,5 @@
 -- Places that are multiples of 16, one after another.
-use Rattle.std.proofs.Common.{◌≡◌, ℕ, ◌+◌, ◌-◌, ◌%◌, ◌<◌, ◌≤◌, ◌==◌, ◌&&◌, Bool, true, false, Option, None, Some, List, length, drop, take, refl, arith, sym, length-drop}
+use Rattle.std.proofs.Common.{◌≡◌, ℕ, ◌-◌, ◌%◌, ◌<◌, ◌≤◌, ◌==◌, ◌&&◌, Bool, true, false, None, Some, List, length, drop, take, refl, arith, sym, length-drop}
 use Rattle.std.proofs.lemmas.List.{take_all}
 use Rattle.build_base.proofs.Least.{find_least, find_none}
 use Rattle.volume_reader.specs.Head.{is_head, volume_from}

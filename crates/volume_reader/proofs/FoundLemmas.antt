@@ -1,9 +1,8 @@
 -- Volumes of an image, one after another.
-use Rattle.std.proofs.Common.{◌≡◌, ℕ, ◌+◌, ◌-◌, ◌<◌, ◌≤◌, Bool, true, false, List, [], ◌∷◌, ◌++◌, length, drop, Option, Some, None, Result, Ok, Err, refl, zero, suc, ap, sym, ◌∙◌, arith, append-nil, length-append}
+use Rattle.std.proofs.Common.{◌≡◌, ℕ, ◌+◌, ◌-◌, ◌<◌, ◌≤◌, List, [], ◌∷◌, ◌++◌, length, Some, None, Ok, Err, refl, zero, suc, ap, sym, ◌∙◌, arith, append-nil, length-append}
 use Rattle.build_base.specs.First.{and_then, with_front}
 use Rattle.build_base.proofs.FirstLemmas.{front_front}
 use Rattle.volume_reader.specs.declared.listing.FoundVolume.{FoundVolume}
-use Rattle.volume_reader.specs.declared.listed.VolumeList.{VolumeList}
 use Rattle.volume_reader.specs.declared.listed.ReadRefusal.{ReadRefusal}
 use Rattle.volume_reader.specs.declared.listed.ReadRefusal.TheVariants.{BadFile, WantOfMemory}
 use Rattle.volume_reader.specs.Head.{volume_from}

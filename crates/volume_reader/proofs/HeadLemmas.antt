@@ -1,7 +1,7 @@
 -- What is known of a header.
-use Rattle.std.proofs.Common.{◌≡◌, ℕ, ◌≤◌, ◌&&◌, Bool, true, IsTrue, List, length, arith, rules}
+use Rattle.std.proofs.Common.{◌≡◌, ℕ, ◌≤◌, Bool, true, IsTrue, List, length, arith, rules}
 use Rattle.std.proofs.lemmas.Bool.Decides.{nat_tests}
-use Rattle.volume_reader.specs.Head.{has_names, has_lengths, has_blocks, has_sum, is_head, header_length, fv_length}
+use Rattle.volume_reader.specs.Head.{has_names, has_lengths, is_head, header_length, fv_length}
 
 is_true : (b : Bool) → IsTrue b → b ≡ true
 is_true b h = search rules

@@ -1,5 +1,5 @@
 -- Pad files, and the files of plans, as they are read.
-use Rattle.std.proofs.Common.{◌≡◌, ℕ, ◌+◌, ◌-◌, ◌*◌, ◌/◌, ◌%◌, ◌^◌, ◌<◌, ◌≤◌, ◌==◌, ◌&&◌, ◌||◌, Bool, true, false, not, cond, if◌then◌else◌, List, [], ◌∷◌, ◌++◌, length, get_or, replicate, nat_lt, unwrap_or, Option, Some, None, Result, Ok, Err, refl, ap, sym, ◌∙◌, arith, length-append, append_assoc, inl, inr, subst}
+use Rattle.std.proofs.Common.{◌≡◌, ℕ, ◌+◌, ◌-◌, ◌*◌, ◌/◌, ◌%◌, ◌^◌, ◌<◌, ◌≤◌, ◌==◌, ◌&&◌, Bool, true, false, not, if◌then◌else◌, List, ◌++◌, length, get_or, replicate, nat_lt, unwrap_or, Option, Some, None, Result, Ok, Err, refl, ap, sym, ◌∙◌, arith, length-append, append_assoc, subst}
 use Rattle.std.specs.Prelude.{position, nat_le}
 use Rattle.std.proofs.lemmas.Bool.Decides.{nat_tests}
 use Rattle.std.proofs.lemmas.List.{length-replicate, get_or_default}
@@ -8,20 +8,19 @@ use Rattle.byteorder.specs.Endian.{little_bytes}
 use Rattle.build_base.specs.First.{and_then}
 use Rattle.build_base.specs.Runs.{free_byte}
 use Rattle.build_base.specs.declared.fault.Fault.{Fault}
-use Rattle.doc_types.specs.Standard.{EFI_FV_FILETYPE_RAW, EFI_FV_FILETYPE_FFS_PAD}
+use Rattle.doc_types.specs.Standard.{EFI_FV_FILETYPE_FFS_PAD}
 use Rattle.doc_types.specs.declared.image.ImagePlan.{ImagePlan}
 use Rattle.doc_types.specs.declared.image.FileImage.{FileImage}
 use Rattle.doc_types.specs.declared.volume_head.VolumeHead.{VolumeHead}
 use Rattle.ffs_sections.specs.declared.header.Head.{Head}
 use Rattle.ffs_sections.specs.Sums.{zero_byte}
-use Rattle.ffs_sections.specs.Alignment.{is_section_alignment, alignments, IsAlignment, alignment_index, step_bits}
+use Rattle.ffs_sections.specs.Alignment.{is_section_alignment, alignments, IsAlignment, alignment_index}
 use Rattle.ffs_sections.specs.Sections.{fault_with_size}
 use Rattle.ffs_sections.specs.File.{file_head, head_len, header_len, state_of, body_of, body_align, plan_step, attributes_of, is_large_file, file_size, file_limit, plan_head, file_bytes, image_of, file_sized, file_of}
 use Rattle.ffs_sections.proofs.HeadLemmas.{length_head, head_at_file}
 use Rattle.fv_compose.specs.Pads.{is_large_pad, pad_header, pad_bytes}
 use Rattle.fv_compose.specs.Header.{extended_bytes}
-use Rattle.volume_reader.specs.declared.listed.Listed.{Listed}
-use Rattle.volume_reader.specs.Written.{Made, IsMade, body_sections, made_sections, made_row, pad_row}
+use Rattle.volume_reader.specs.Written.{Made, IsMade, made_sections, made_row, pad_row}
 use Rattle.volume_reader.proofs.FieldLemmas.{size_end}
 use Rattle.volume_reader.proofs.RowLemmas.{Fits, row_by, row_of}
 use Rattle.volume_reader.proofs.WalkLemmas.{IsRow}

@@ -1,18 +1,17 @@
 -- The header of a volume that is written, as it is read.
-use Rattle.std.proofs.Common.{◌≡◌, ℕ, zero, suc, ◌+◌, ◌-◌, ◌*◌, ◌/◌, ◌%◌, ◌^◌, ◌<◌, ◌≤◌, ◌==◌, ◌&&◌, ◌||◌, Bool, true, false, not, if◌then◌else◌, List, [], ◌∷◌, ◌++◌, length, take, drop, replicate, nat_le, codes, Option, refl, ap, sym, ◌∙◌, arith, length-append, append_assoc, eq-eqb, ne_eqb, subst}
+use Rattle.std.proofs.Common.{◌≡◌, ℕ, zero, suc, ◌+◌, ◌-◌, ◌*◌, ◌/◌, ◌%◌, ◌^◌, ◌<◌, ◌≤◌, ◌==◌, ◌||◌, Bool, true, false, if◌then◌else◌, List, [], ◌∷◌, ◌++◌, length, take, nat_le, codes, refl, ap, sym, ◌∙◌, arith, length-append, eq-eqb, ne_eqb}
 use Rattle.std.specs.Prelude.{bit_and}
 use Rattle.std.specs.Str.{bytes_eq}
-use Rattle.std.specs.List.{range_with_len, list_any, sum_by}
+use Rattle.std.specs.List.{range_with_len, sum_by}
 use Rattle.std.proofs.lemmas.Bool.Decides.{nat_tests}
 use Rattle.std.proofs.lemmas.Nat.Bits.{and_pow}
 use Rattle.std.proofs.Math.Nat.{mod-eq_of_lt, div-one, mod-eq-sub-div-mul, div-mul-le_self, div-le_self}
 use Rattle.std.proofs.Math.Seq.{take-append_seam}
-use Rattle.byteorder.specs.Endian.{little_bytes}
 use Rattle.byteorder.specs.Numbers.{little_from-bytes}
 use Rattle.doc_types.specs.declared.volume_head.VolumeHead.{VolumeHead}
 use Rattle.fv_compose.specs.Header.{words_sum, zero_word, file_system, head_start, head_front, head_back, extended_place, head_list, head_of}
 use Rattle.fv_compose.proofs.HeaderLemmas.{head_length}
-use Rattle.volume_reader.specs.Head.{file_system_guid, fv_length, signature, attributes, header_length, revision, block_entries, num_blocks, block_length, is_map_end, block_bytes, is_ffs3, erase_polarity, has_names, has_lengths, has_blocks, has_sum, is_head}
+use Rattle.volume_reader.specs.Head.{file_system_guid, fv_length, signature, attributes, header_length, revision, num_blocks, block_length, is_map_end, block_bytes, is_ffs3, erase_polarity, has_names, has_lengths, has_blocks, has_sum, is_head}
 
 -- a header by its fields
 abbrev pub fields : Bool → ℕ → ℕ → ℕ → ℕ → ℕ → ℕ → List ℕ

@@ -1,5 +1,5 @@
 -- Files that are made, as they are read.
-use Rattle.std.proofs.Common.{◌≡◌, ℕ, ◌+◌, ◌-◌, ◌*◌, ◌/◌, ◌%◌, ◌^◌, ◌<◌, ◌≤◌, ◌==◌, ◌&&◌, ◌||◌, Bool, true, false, not, if◌then◌else◌, List, [], ◌∷◌, ◌++◌, length, take, drop, get_or, nat_le, unwrap_or, refl, ap, sym, ◌∙◌, arith, length-append, append_assoc, eq-eqb}
+use Rattle.std.proofs.Common.{◌≡◌, ℕ, ◌+◌, ◌-◌, ◌/◌, ◌%◌, ◌<◌, ◌≤◌, ◌==◌, ◌&&◌, ◌||◌, Bool, true, false, not, if◌then◌else◌, List, [], ◌++◌, length, take, drop, get_or, unwrap_or, refl, ap, sym, ◌∙◌, arith, length-append, append_assoc, eq-eqb}
 use Rattle.std.proofs.lemmas.Bool.Decides.{nat_tests}
 use Rattle.std.proofs.lemmas.List.Folds.{list_all_at}
 use Rattle.std.proofs.Math.Seq.{drop-append_seam, take-append_seam}
@@ -10,7 +10,6 @@ use Rattle.ffs_sections.specs.Sums.{zero_byte, header_sum}
 use Rattle.ffs_sections.specs.File.{file_head, head_len, header_len, state_of}
 use Rattle.ffs_sections.proofs.HeadLemmas.{length_head, head_at_file}
 use Rattle.volume_reader.specs.declared.listed.Listed.{Listed}
-use Rattle.volume_reader.specs.declared.listed.ListedSection.{ListedSection}
 use Rattle.volume_reader.specs.Sections.{sections_of}
 use Rattle.volume_reader.specs.Files.{file_name, header_check, file_check, file_type, file_attributes, file_state, stated_size, body_in, has_header, has_state, has_size, has_check, is_file, file_sections, listed_file}
 use Rattle.volume_reader.specs.Volume.{are_erased}

@@ -1,10 +1,10 @@
 -- Sections of a body, one after another.
-use Rattle.std.proofs.Common.{◌≡◌, ℕ, ◌+◌, ◌-◌, ◌<◌, ◌≤◌, ◌==◌, ◌&&◌, Bool, true, false, List, [], ◌∷◌, ◌++◌, length, drop, Option, Some, None, refl, suc, ap, sym, ◌∙◌, arith, append_assoc, append-nil, length-append, length-drop, ne_eqb, eq-eqb, nat_le}
+use Rattle.std.proofs.Common.{◌≡◌, ℕ, ◌+◌, ◌-◌, ◌<◌, ◌≤◌, ◌==◌, Bool, true, false, List, [], ◌∷◌, ◌++◌, length, drop, Option, Some, None, refl, suc, ap, sym, ◌∙◌, arith, append_assoc, append-nil, length-append, length-drop, ne_eqb, eq-eqb, nat_le}
 use Rattle.std.proofs.lemmas.Bool.Decides.{nat_tests}
 use Rattle.std.specs.Option.{option_map}
 use Rattle.ffs_sections.specs.Sections.{up4}
 use Rattle.volume_reader.specs.declared.listed.ListedSection.{ListedSection}
-use Rattle.volume_reader.specs.Sections.{is_extended, section_size, content_at, has_size_form, is_section, HasFields, listed_section, follows, IsNext, sections_from, sections_of}
+use Rattle.volume_reader.specs.Sections.{is_extended, section_size, content_at, is_section, HasFields, listed_section, follows, IsNext, sections_from, sections_of}
 
 pub under_eight : (n : ℕ) → nat_le 8 n ≡ false → n < 8
 under_eight n h = grind (arith, nat_tests)

@@ -8,7 +8,6 @@ use Rattle.build_base.proofs.PieceLemmas.{Laid, Laid-one, Laid-none, Rest, rest_
 use Rattle.fv_compose.specs.Place.{align_up}
 use Rattle.fv_compose.proofs.PlaceLemmas.{up_after}
 use Rattle.volume_reader.specs.declared.listed.Listed.{Listed}
-use Rattle.volume_reader.specs.declared.volume.Held.{Held}
 use Rattle.volume_reader.specs.Files.{is_file, stated_size, listed_file}
 use Rattle.volume_reader.specs.Volume.{with_files, are_erased, held_from}
 

@@ -2,7 +2,6 @@
 -- sections 3.2.1 to 3.2.3).
 use Rattle.std.specs.Prelude.{◌≡◌, ℕ, ◌+◌, ◌-◌, ◌^◌, ◌<◌, ◌==◌, ◌||◌, Bool, not, if◌then◌else◌, List, [], ◌∷◌, ◌++◌, length, map, replicate, bit_and, All, Option, Some, None, IfSome, unwrap_or, Result, Ok, Err}
 use Rattle.std.specs.List.{filter, find}
-use Rattle.build_base.specs.Runs.{free_byte}
 use Rattle.build_base.specs.declared.guid.Guid.{Guid}
 use Rattle.build_base.specs.declared.fault.Fault.{Fault}
 use Rattle.doc_types.specs.Standard.{EFI_FV_FILETYPE_RAW, EFI_FV_FILETYPE_FFS_PAD}
@@ -12,7 +11,7 @@ use Rattle.doc_types.specs.declared.volume_head.VolumeHead.{VolumeHead}
 use Rattle.ffs_sections.specs.File.{file_of, body_of, header_len}
 use Rattle.fv_compose.specs.Place.{align_up}
 use Rattle.fv_compose.specs.Header.{header_end}
-use Rattle.fv_compose.specs.Files.{is_top, file_start, file_end, end_of, plain_files, top_start}
+use Rattle.fv_compose.specs.Files.{is_top, file_start, file_end, end_of, top_start}
 use Rattle.fv_compose.specs.Volume.{HasShape, volume_of}
 use Rattle.volume_reader.specs.declared.listed.Listed.{Listed}
 use Rattle.volume_reader.specs.declared.listed.ListedSection.{ListedSection}

@@ -1,5 +1,5 @@
--- What the steps of files, volumes and devices ask, once the flash description is known; the rule
--- is this project's own. What its statements mean is told by the EDK II FDF specification.
+-- What the steps of volumes and devices ask, once the flash description is known; the rule is this
+-- project's own. What its statements mean is told by the EDK II FDF specification.
 use Rattle.step_answers.specs.Volumes.{fits_u16, volume_step}
 use Rattle.std.specs.Prelude.{ℕ, ◌+◌, Bool, true, false, not, nat_eq, List, [], ◌∷◌, ◌++◌, Option, Some, None, if◌then◌else◌}
 use Rattle.std.specs.Cmp.Lexicographic.{pointwise}

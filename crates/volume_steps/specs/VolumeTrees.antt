@@ -1,5 +1,5 @@
--- What the steps of files, volumes and devices ask, stage by stage, and what comes of the answers;
--- the rule is this project's own.
+-- What the steps of volumes and devices ask, stage by stage, and what comes of the answers; the rule
+-- is this project's own.
 use Rattle.step_answers.specs.Volumes.{item_of_number, volume_at, fits_u16}
 use Rattle.std.specs.Prelude.{ℕ, Bool, true, false, List, [], ◌∷◌, length, codes, Option, Some, None, Result, Ok, slice_get}
 use Rattle.build_base.specs.First.{and_then}

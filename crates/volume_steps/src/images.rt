@@ -1,4 +1,4 @@
-//! The steps of files, volumes and devices.
+//! The steps of volumes and devices.
 ghost use Rattle.std.specs.Prelude.{◌<◌, true, false, Err, length};
 ghost use Rattle.build_stages.specs.Gives.{GivesIn};
 ghost use Rattle.step_answers.specs.Readers.{AdvancesTo};

@@ -1,7 +1,7 @@
 -- No two entries at their places have a byte in common.
-use Rattle.std.proofs.Common.{arith, append_assoc, ◌≡◌, ℕ, ◌+◌, ◌*◌, ◌<◌, ◌≤◌, not, Bool, true, false, ◌||◌, cond, List, [], ◌∷◌, ◌++◌, Option, Some, None, Result, Ok, Err, map, refl, sym, ap, subst, ◌∙◌}
+use Rattle.std.proofs.Common.{arith, append_assoc, ◌≡◌, ℕ, ◌+◌, not, Bool, true, false, ◌||◌, cond, List, [], ◌∷◌, ◌++◌, Option, Some, None, Result, Ok, Err, map, refl, sym, ap, subst, ◌∙◌}
 use Rattle.std.specs.Prelude.{filter, find, nat_le}
-use Rattle.std.specs.List.{AllByRecursion, AllPairs, list_any}
+use Rattle.std.specs.List.{AllByRecursion, list_any}
 use Rattle.std.specs.Option.{option_map}
 use Rattle.std.proofs.lemmas.Bool.Decides.{nat_tests}
 use Rattle.std.proofs.lemmas.List.{append-nil}
@@ -13,7 +13,7 @@ use Rattle.build_base.specs.First.{or_else, or_fault, unless}
 use Rattle.doc_types.specs.declared.vpd.Vpd.{Vpd}
 use Rattle.vpd_image.specs.Entries.{Entry}
 use Rattle.vpd_image.specs.Orders.{Apart, apart}
-use Rattle.vpd_image.specs.Places.{Placed, share, shares, end_of, size_of, align_of, written_entries, written_offset, placed_if, offset_by, is_starred, is_free, least_place, placed_before, placed_next, placed_from, placed, placed_by, all_ended, long_fault, overlap_of, overlap_with, overlap_fault, in_order, put_in_order}
+use Rattle.vpd_image.specs.Places.{Placed, share, shares, end_of, size_of, align_of, written_entries, written_offset, placed_if, offset_by, is_starred, least_place, placed_before, placed_next, placed_from, placed, placed_by, all_ended, long_fault, overlap_of, overlap_with, overlap_fault, in_order, put_in_order}
 use Rattle.vpd_image.specs.Vpd.{place_of, vpd_from, AreApart}
 use Rattle.vpd_image.proofs.OrderLemmas.{all_put}
 use Rattle.vpd_image.proofs.PlaceLemmas.{first_false, second_false, least_free, align_some}

@@ -1,18 +1,15 @@
 -- Tables of rows, from the last one on, and of the rows that lines leave.
-use Rattle.std.proofs.Common.{arith, ◌≡◌, ◌∙◌, ℕ, ◌+◌, ◌<◌, ◌≤◌, Bool, true, false, ◌&&◌, ◌||◌, cond, map, List, [], ◌∷◌, ◌++◌, length, drop, get_or, reverse, Option, Some, None, refl, sym, ap}
+use Rattle.std.proofs.Common.{arith, ◌≡◌, ◌∙◌, ℕ, ◌+◌, ◌<◌, Bool, true, false, cond, List, [], ◌∷◌, ◌++◌, length, drop, get_or, reverse, Option, Some, None, refl, sym, ap}
 use Rattle.std.specs.Prelude.{find}
-use Rattle.std.specs.Cmp.Lexicographic.{same_text}
 use Rattle.std.specs.Global.{Vec}
 use Rattle.std.specs.HashMap.{HashMap, get}
-use Rattle.std.specs.List.{list_any}
-use Rattle.std.specs.Str.{bytes_eq}
 use Rattle.std.proofs.lemmas.Option.{slice_get-get_or}
 use Rattle.std.proofs.lemmas.List.{drop_all, reverse-append}
 use Rattle.build_base.proofs.Steps.{head_drop}
 use Rattle.doc_types.specs.declared.arch.Arch.{Arch}
 use Rattle.doc_types.specs.declared.platform.PcdLine.{PcdLine}
 use Rattle.doc_types.specs.declared.values.PcdRow.{PcdRow}
-use Rattle.vpd_image.specs.Entries.{Entry, is_row_of, is_line_of, counts, line_label, row_left, with_row, entry_in, entries}
+use Rattle.vpd_image.specs.Entries.{Entry, is_row_of, counts, line_label, row_left, with_row, entry_in, entries}
 use Rattle.vpd_image.specs.Tables.{same_key, row_at, IsTableFrom, IsLeft}
 
 found_here : {X : Type 0} (p : X → Bool) (x : X) (xs rest : List X) (i : ℕ) (held : Option ℕ) (b : Bool) → p x ≡ b → row_at xs (Some i) ≡ Some x → row_at xs held ≡ find p rest

@@ -1,7 +1,7 @@
 -- Entries that are written one behind another make the image.
-use Rattle.std.proofs.Common.{arith, append_assoc, length-append, ◌≡◌, ℕ, ◌+◌, ◌-◌, ◌<◌, ◌≤◌, min, max, Bool, true, false, ◌&&◌, cond, List, [], ◌∷◌, ◌++◌, length, take, drop, map, get_or, replicate, refl, sym, ap, subst, ◌∙◌}
+use Rattle.std.proofs.Common.{arith, append_assoc, length-append, ◌≡◌, ℕ, ◌+◌, ◌-◌, ◌<◌, ◌≤◌, max, Bool, true, false, ◌&&◌, cond, List, [], ◌∷◌, ◌++◌, length, take, drop, map, get_or, replicate, refl, sym, ap, subst, ◌∙◌}
 use Rattle.std.specs.Prelude.{filter, nat_lt, nat_le, slice_index_or}
-use Rattle.std.specs.List.{AllByRecursion, range_with_len}
+use Rattle.std.specs.List.{AllByRecursion}
 use Rattle.std.proofs.Math.Seq.{drop-append_seam, take-append_seam}
 use Rattle.std.proofs.lemmas.Bool.Decides.{nat_tests}
 use Rattle.std.proofs.lemmas.List.{append-nil, drop_all, length-replicate, length-take}
@@ -14,7 +14,7 @@ use Rattle.vpd_image.specs.Tables.{placed_view}
 use Rattle.vpd_image.specs.Orders.{Apart, Rising, apart, has_bytes, pieces_in, laid_out}
 use Rattle.doc_types.specs.declared.vpd.Vpd.{Vpd}
 use Rattle.vpd_image.specs.Entries.{Entry}
-use Rattle.vpd_image.specs.Places.{Placed, share, end_of, size_of, padded, greatest_end, in_order, placed}
+use Rattle.vpd_image.specs.Places.{Placed, end_of, size_of, padded, greatest_end, in_order, placed}
 use Rattle.vpd_image.specs.Vpd.{entry_bytes, piece_of, image_with, place_of, read_at, vpd_from, AreReadOf}
 use Rattle.vpd_image.proofs.ApartLemmas.{apart_in_order}
 use Rattle.vpd_image.proofs.OrderLemmas.{rising_in_order}

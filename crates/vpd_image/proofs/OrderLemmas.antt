@@ -1,5 +1,5 @@
 -- Entries in the order of their offsets.
-use Rattle.std.proofs.Common.{arith, ◌≡◌, ℕ, zero, suc, ◌+◌, ◌<◌, ◌≤◌, not, Bool, true, false, ◌&&◌, cond, List, [], ◌∷◌, ◌++◌, length, map, get_or, refl, sym, ap, ◌∙◌}
+use Rattle.std.proofs.Common.{arith, ◌≡◌, ℕ, suc, ◌<◌, ◌≤◌, not, Bool, true, false, ◌&&◌, cond, List, [], ◌∷◌, length, map, get_or, refl, sym, ap, ◌∙◌}
 use Rattle.std.specs.Prelude.{filter, nat_eq, nat_lt, nat_le}
 use Rattle.std.specs.List.{AllByRecursion}
 use Rattle.std.specs.List.Sorted.{IsNonDecreasingBy, IsStableByKey, IsPermutation, ties}
@@ -8,7 +8,7 @@ use Rattle.std.proofs.lemmas.Bool.Decides.{nat_tests}
 use Rattle.std.proofs.lemmas.List.Sorted.{length_permutation}
 use Rattle.vpd_image.specs.declared.lines.EntryLine.{EntryLine}
 use Rattle.vpd_image.specs.declared.places.PlacedLine.{PlacedLine}
-use Rattle.vpd_image.specs.Orders.{Rising, Apart, apart}
+use Rattle.vpd_image.specs.Orders.{Rising}
 use Rattle.vpd_image.specs.Places.{Placed, in_order, put_in_order}
 use Rattle.vpd_image.specs.Tables.{placed_view}
 

@@ -23,7 +23,7 @@ use Rattle.vpd_image.specs.declared.free_map.FreeMap.{FreeMap}
 use Rattle.vpd_image.specs.Places.{Placed, share, shares, end_of, size_of, is_free, overlap_of, overlap_with, overlap_fault, end_fault, long_fault, is_starred, placed_before, placed_next, placed_from, all_ended, align_of, first_from, greatest_end, least_place}
 use Rattle.vpd_image.specs.Rooms.{Holds}
 use Rattle.vpd_image.specs.Tables.{entry_view, placed_view}
-use Rattle.vpd_image.proofs.ShareLemmas.{share_before, any_more}
+use Rattle.vpd_image.proofs.ShareLemmas.{any_more}
 use Rattle.vpd_image.proofs.RoomLemmas.{free_past}
 
 -- no bytes share none

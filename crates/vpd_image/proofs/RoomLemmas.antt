@@ -1,8 +1,8 @@
 -- What a room holds.
-use Rattle.std.proofs.Common.{arith, subst, ◌≡◌, ℕ, zero, suc, ◌+◌, ◌*◌, ◌<◌, ◌≤◌, max, not, Bool, true, false, ◌||◌, cond, List, [], ◌∷◌, ◌++◌, length, take, drop, get_or, refl, sym, ap, ◌∙◌, add-one}
+use Rattle.std.proofs.Common.{arith, subst, ◌≡◌, ℕ, zero, suc, ◌+◌, ◌*◌, ◌<◌, ◌≤◌, max, not, Bool, true, false, ◌||◌, cond, List, [], ◌∷◌, ◌++◌, length, take, drop, get_or, refl, sym, ap, ◌∙◌}
 use Rattle.std.specs.Prelude.{nat_lt, nat_le, slice_index_or}
 use Rattle.std.specs.Int.{div_ceil}
-use Rattle.std.specs.List.{AllByRecursion, AllWithin, All, AllAdjacentBelow, insert, list_any}
+use Rattle.std.specs.List.{AllByRecursion, AllWithin, insert, list_any}
 use Rattle.std.specs.List.Sorted.{IsNonDecreasingBy}
 use Rattle.std.proofs.Math.Nat.{mul-le-mul_left, mul-le-mul_right}
 use Rattle.std.proofs.lemmas.Bool.Decides.{nat_tests}
@@ -19,8 +19,8 @@ use Rattle.doc_types.specs.declared.values.PcdRow.{PcdRow}
 use Rattle.vpd_image.specs.declared.free_map.FreeMap.{FreeMap}
 use Rattle.vpd_image.specs.declared.free_map.TakenRange.{TakenRange}
 use Rattle.vpd_image.specs.Places.{Placed, share, shares, end_of, size_of, is_free, greatest_end, first_from, least_place, align_of, size_by}
-use Rattle.vpd_image.specs.Rooms.{meets, AreLaid, AreBelow, first_multiple, slot, low_of, least_size, room_limit, IsNext, IsRoom, Holds}
-use Rattle.vpd_image.proofs.ShareLemmas.{share_before, share_behind, share_some, share_longer, share_not, ended_none, behind_none, any_longer, any_more}
+use Rattle.vpd_image.specs.Rooms.{meets, AreLaid, AreBelow, first_multiple, slot, low_of, least_size, room_limit, IsNext, Holds}
+use Rattle.vpd_image.proofs.ShareLemmas.{share_before, share_behind, share_some, share_not, ended_none, behind_none, any_longer, any_more}
 
 -- the ends of stretches rise
 next_end : (at : ℕ) (ss : List TakenRange) → AreLaid at ss → (k : ℕ) (d : TakenRange) → k + 1 < length ss → (get_or ss k d).end ≤ (get_or ss (k + 1) d).end

@@ -1,10 +1,10 @@
 -- When two stretches of bytes have one in common.
-use Rattle.std.proofs.Common.{arith, ◌≡◌, ℕ, ◌+◌, ◌<◌, ◌≤◌, Bool, true, false, ◌||◌, List, [], ◌∷◌, ◌++◌, refl, sym, ap, ◌∙◌}
+use Rattle.std.proofs.Common.{arith, ◌≡◌, ℕ, ◌<◌, ◌≤◌, Bool, true, false, ◌||◌, List, [], ◌∷◌, ◌++◌, refl, sym, ap, ◌∙◌}
 use Rattle.std.specs.List.{AllByRecursion, list_any}
 use Rattle.std.proofs.lemmas.Bool.Decides.{nat_tests}
 use Rattle.std.proofs.lemmas.List.Folds.{list_any-append}
 use Rattle.vpd_image.specs.declared.free_map.TakenRange.{TakenRange}
-use Rattle.vpd_image.specs.Places.{Placed, share, shares, end_of, size_of}
+use Rattle.vpd_image.specs.Places.{Placed, share, shares, end_of}
 use Rattle.vpd_image.specs.Rooms.{meets, AreLaid}
 
 -- the other one ends before

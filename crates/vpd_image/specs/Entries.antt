@@ -1,7 +1,7 @@
 -- The entries of the image of vital product data (EDK II DSC specification, [PcdsDynamicVpd]
 -- sections): which lines of the platform give one, and of which row of values. The format of the
 -- image is this project's own.
-use Rattle.std.specs.Prelude.{ℕ, Bool, true, false, not, ◌&&◌, if◌then◌else◌, List, [], ◌∷◌, ◌++◌, find, Option, Some, None, codes}
+use Rattle.std.specs.Prelude.{ℕ, Bool, true, false, ◌&&◌, if◌then◌else◌, List, [], ◌∷◌, ◌++◌, find, Option, Some, None, codes}
 use Rattle.std.specs.List.{list_any}
 use Rattle.std.specs.Str.{bytes_eq}
 use Rattle.doc_types.specs.declared.arch.Arch.{Arch}

@@ -1,6 +1,6 @@
 -- What of the image is taken, as the code holds it: stretches in order, and for each type a number
 -- below which no multiple of its alignment is free.
-use Rattle.std.specs.Prelude.{◌≡◌, ℕ, ◌+◌, ◌*◌, ◌<◌, ◌≤◌, ◌^◌, max, nat_le, Bool, true, false, if◌then◌else◌, List, [], ◌∷◌, Result, slice_index_or}
+use Rattle.std.specs.Prelude.{◌≡◌, ℕ, ◌+◌, ◌*◌, ◌<◌, ◌≤◌, max, nat_le, Bool, true, false, if◌then◌else◌, List, [], ◌∷◌, Result, slice_index_or}
 use Rattle.std.specs.Int.{div_ceil}
 use Rattle.std.specs.List.{list_any}
 use Rattle.build_base.specs.declared.fault.Fault.{Fault}

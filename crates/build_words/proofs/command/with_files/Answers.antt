@@ -2,7 +2,7 @@ use Rattle.std.proofs.Common.{◌∙◌, ap, codes, false}
 use Rattle.clap.specs.Words.{App}
 use Rattle.clap.specs.Simple.{with_rule}
 use Rattle.clap.specs.declared.builder.action.ArgAction.TheVariants.{Set}
-use Rattle.build_words.specs.Command.{option_of, short_option}
+use Rattle.build_words.specs.Command.{option_of}
 use Rattle.build_words.proofs.command.with_files.Goals as goal
 
 pub returns : goal.returns

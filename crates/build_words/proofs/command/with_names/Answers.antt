@@ -1,4 +1,4 @@
-use Rattle.std.proofs.Common.{◌∙◌, ap, codes, true, false}
+use Rattle.std.proofs.Common.{◌∙◌, ap, codes, false}
 use Rattle.clap.specs.Words.{App}
 use Rattle.clap.specs.Simple.{with_rule}
 use Rattle.clap.specs.declared.builder.action.ArgAction.TheVariants.{Set}

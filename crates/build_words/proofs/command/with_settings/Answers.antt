@@ -1,8 +1,8 @@
-use Rattle.std.proofs.Common.{◌∙◌, ap, codes, false}
+use Rattle.std.proofs.Common.{◌∙◌, ap, codes}
 use Rattle.clap.specs.Words.{App}
 use Rattle.clap.specs.Simple.{with_rule}
 use Rattle.clap.specs.declared.builder.action.ArgAction.TheVariants.{Append}
-use Rattle.build_words.specs.Command.{long_option, option_of}
+use Rattle.build_words.specs.Command.{long_option}
 use Rattle.build_words.proofs.command.with_settings.Goals as goal
 
 pub returns : goal.returns

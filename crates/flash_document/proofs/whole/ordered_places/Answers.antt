@@ -1,4 +1,4 @@
-use Rattle.std.proofs.Common.{◌≡◌, ◌∙◌, ℕ, List, map, get_or, [], ap, subst}
+use Rattle.std.proofs.Common.{◌≡◌, ◌∙◌, map, get_or, [], ap, subst}
 use Rattle.std.specs.Prelude.{IfOk}
 use Rattle.flash_document.specs.Document.{ordered_names}
 use Rattle.flash_document.specs.Names.{Places}

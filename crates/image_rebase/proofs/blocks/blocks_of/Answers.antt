@@ -1,7 +1,6 @@
 use Rattle.std.proofs.Common.{◌≡◌, ◌∙◌, sym, ap, refl, length, false, true}
-use Rattle.ffs_sections.specs.Sections.{fault_with_size}
 use Rattle.image_rebase.specs.Blocks.{block_size, is_wrong_size, is_end}
-use Rattle.image_rebase.proofs.BlockLemmas.{Turned, blocks_turn, blocks_end, blocks_wrong}
+use Rattle.image_rebase.proofs.BlockLemmas.{blocks_turn, blocks_end, blocks_wrong}
 use Rattle.image_rebase.proofs.blocks.blocks_of.Goals as goal
 
 pub returns-then-is_wrong_size : goal.returns-then-is_wrong_size

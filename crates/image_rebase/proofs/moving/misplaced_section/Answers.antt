@@ -1,4 +1,4 @@
-use Rattle.std.proofs.Common.{ℕ, sym, ◌∙◌, arith}
+use Rattle.std.proofs.Common.{sym, ◌∙◌, arith}
 use Rattle.build_base.proofs.Least.{find_least, find_none}
 use Rattle.image_rebase.specs.Moves.{is_misplaced}
 use Rattle.image_rebase.proofs.moving.misplaced_section.Goals as goal

@@ -1,4 +1,4 @@
-use Rattle.std.proofs.Common.{◌≡◌, ◌∙◌, sym, arith, false}
+use Rattle.std.proofs.Common.{◌≡◌, ◌∙◌, sym, false}
 use Rattle.volume_reader.specs.Head.{is_map_end, block_bytes}
 use Rattle.volume_reader.proofs.BlockLemmas.{left_more}
 use Rattle.volume_reader.proofs.blocks.fill.Goals as goal

@@ -1,4 +1,3 @@
-use Rattle.std.proofs.Common.{arith}
 use Rattle.volume_reader.proofs.FoundLemmas.{found_turn, found_fails, found_end}
 use Rattle.volume_reader.proofs.listing.volumes.Goals as goal
 

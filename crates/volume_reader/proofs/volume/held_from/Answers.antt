@@ -1,6 +1,5 @@
 use Rattle.std.proofs.Common.{◌∙◌, sym, ap, arith, IsTrue, Ok}
 use Rattle.volume_reader.specs.Files.{is_file}
-use Rattle.volume_reader.specs.declared.volume.Held.{Held}
 use Rattle.volume_reader.proofs.HeldLemmas.{held_turn, held_wrong, held_end, busy, idle}
 use Rattle.volume_reader.proofs.volume.held_from.Goals as goal
 

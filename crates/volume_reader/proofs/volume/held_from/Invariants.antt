@@ -1,4 +1,4 @@
-use Rattle.std.proofs.Common.{◌≤◌, ◌-◌, ◌<◌, ◌+◌, ◌^◌, length}
+use Rattle.std.proofs.Common.{◌≤◌, ◌-◌, length}
 use Rattle.volume_reader.proofs.HeldLemmas.{SoFar}
 use Rattle.volume_reader.proofs.volume.held_from.Given as goal
 

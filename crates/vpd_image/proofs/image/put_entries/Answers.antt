@@ -1,7 +1,4 @@
-use Rattle.std.proofs.Common.{arith, ◌∙◌, ap, refl, [], map, drop}
-use Rattle.build_base.specs.Pieces.{put_pieces}
-use Rattle.vpd_image.specs.Orders.{pieces_in}
-use Rattle.vpd_image.specs.Tables.{placed_view}
+use Rattle.std.proofs.Common.{arith, ◌∙◌, refl}
 use Rattle.vpd_image.proofs.ImageLemmas.{put_next, put_none}
 use Rattle.vpd_image.proofs.image.put_entries.Goals as goal
 

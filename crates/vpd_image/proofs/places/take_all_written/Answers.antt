@@ -1,4 +1,4 @@
-use Rattle.std.proofs.Common.{sym, ap, ◌∙◌, map, drop, arith}
+use Rattle.std.proofs.Common.{sym, ◌∙◌, arith}
 use Rattle.build_base.proofs.AnswerLemmas.{finds_first, finds_rest}
 use Rattle.build_base.proofs.Steps.{map-passed}
 use Rattle.vpd_image.specs.Tables.{placed_view}

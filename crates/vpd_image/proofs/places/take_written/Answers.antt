@@ -1,4 +1,4 @@
-use Rattle.std.proofs.Common.{sym, refl, ◌∙◌, map, arith}
+use Rattle.std.proofs.Common.{sym, refl, ◌∙◌, map}
 use Rattle.vpd_image.specs.Tables.{placed_view}
 use Rattle.vpd_image.proofs.PlaceLemmas.{empty_alone, holds_empty, free_alone, taken_shared}
 use Rattle.vpd_image.proofs.places.take_written.Goals as goal

@@ -1,5 +1,4 @@
 use Rattle.std.proofs.Common.{arith, sym, ap, ◌∙◌, ◌+◌, map, refl, drop}
-use Rattle.std.proofs.lemmas.List.{append-nil}
 use Rattle.vpd_image.specs.Places.{long_fault, placed_from}
 use Rattle.vpd_image.specs.Tables.{entry_view, placed_view}
 use Rattle.vpd_image.proofs.PlaceLemmas.{next_left, none_left, refused_long, ended_whole, long_more, holds_nil, long_none}

@@ -1,4 +1,3 @@
-use Rattle.std.proofs.Common.{sym, ap, ◌∙◌}
 use Rattle.vpd_image.proofs.ApartLemmas.{apart_result}
 use Rattle.vpd_image.proofs.vpd.place_behind.Goals as goal
 

@@ -1,4 +1,4 @@
-use Rattle.std.proofs.Common.{◌≡◌, ◌<◌, arith}
+use Rattle.std.proofs.Common.{◌<◌, arith}
 use Rattle.vpd_image.specs.Places.{align_of}
 use Rattle.vpd_image.proofs.RoomLemmas.{least_found}
 use Rattle.vpd_image.proofs.free_map.FreeMap.least.Goals as goal
