@@ -4,10 +4,10 @@ use crate::small_rules::SmallRules;
 use build_base::memory_tree::MemoryTree;
 use build_base::open_gate::OpenGate;
 use build_base::{Book, Gate, Path, Rows, Text, WantOfMemory};
+use held_gate::HeldGate;
 use shared_value::Shared;
 use std::alloc::Global;
 use std::process::Abort;
-use std::sync::atomic::{AtomicU64, Ordering};
 use std::test::Fail;
 use std::thread::Threads;
 use step_engine::{
@@ -45,44 +45,6 @@ fn sorted_keys(alloc: Global, book: &Book<u32>) -> Result<Vec<u32>, Fail> {
     let mut keys = Vec::from_slice(alloc, book.ran())?;
     keys.sort()?;
     Ok(keys)
-}
-
-// Holds piece 0 of each wave of two or more until another piece of that wave has entered, or for so
-// many turns.
-#[derive(Drop)]
-struct HeldGate {
-    others: AtomicU64,
-    met: AtomicU64,
-    missed: AtomicU64,
-}
-
-impl HeldGate {
-    fn new() -> HeldGate {
-        HeldGate {
-            others: AtomicU64::new(0),
-            met: AtomicU64::new(0),
-            missed: AtomicU64::new(0),
-        }
-    }
-}
-
-impl Gate for HeldGate {
-    fn enter(&self, wave: u64, piece: u64, pieces: u64) {
-        if piece > 0 {
-            self.others.store(wave.saturating_add(1), Ordering::SeqCst);
-            return;
-        }
-        if pieces < 2 {
-            return;
-        }
-        for _turn in 0..100_000_000 {
-            if self.others.load(Ordering::SeqCst) > wave {
-                self.met.fetch_add(1, Ordering::SeqCst);
-                return;
-            }
-        }
-        self.missed.fetch_add(1, Ordering::SeqCst);
-    }
 }
 
 type Small = Brought<u32, Text>;
@@ -128,8 +90,8 @@ fn build_both<H: Threads + Sync + Abort>(
     let brought = build(rt, alloc, 2, cache, files, &mut book, &gate)?;
     // The turns of keys 0 and 1 go in two waves, where both run.
     let waves = if ran.contains(&0) { 2 } else { 0 };
-    assert_eq!(rt; gate.met.load(Ordering::SeqCst), waves);
-    assert_eq!(rt; gate.missed.load(Ordering::SeqCst), 0);
+    assert_eq!(rt; gate.met(), waves);
+    assert_eq!(rt; gate.missed(), 0);
     match &brought.result {
         Outcome::Good(text) => assert_eq!(rt; text.value().bytes(), wanted),
         Outcome::Bad(fault) => {

@@ -4,50 +4,12 @@ use build_base::memory_sink::{Kind, Room, Seen};
 use build_base::sure_keeper::SureKeeper;
 use build_base::{Book, Gate};
 use edk_build::{Status, run};
+use held_gate::HeldGate;
 use selftest_tree::selftest_files;
 use std::alloc::{AllocError, Global};
-use std::sync::atomic::{AtomicU64, Ordering};
 use std::test::Fail;
 use std::thread::Threads;
 use sure_objects::{SureSink, SureTree};
-
-// Holds piece 0 of each wave of two or more until another piece of that wave has entered, or for so
-// many turns.
-#[derive(Drop)]
-struct HeldGate {
-    others: AtomicU64,
-    met: AtomicU64,
-    missed: AtomicU64,
-}
-
-impl HeldGate {
-    fn new() -> HeldGate {
-        HeldGate {
-            others: AtomicU64::new(0),
-            met: AtomicU64::new(0),
-            missed: AtomicU64::new(0),
-        }
-    }
-}
-
-impl Gate for HeldGate {
-    fn enter(&self, wave: u64, piece: u64, pieces: u64) {
-        if piece > 0 {
-            self.others.store(wave.saturating_add(1), Ordering::SeqCst);
-            return;
-        }
-        if pieces < 2 {
-            return;
-        }
-        for _turn in 0..100_000_000 {
-            if self.others.load(Ordering::SeqCst) > wave {
-                self.met.fetch_add(1, Ordering::SeqCst);
-                return;
-            }
-        }
-        self.missed.fetch_add(1, Ordering::SeqCst);
-    }
-}
 
 fn words_of(alloc: Global) -> Result<Vec<String>, AllocError> {
     let mut words = Vec::new(alloc);
@@ -109,7 +71,7 @@ fn builds_all<H: Threads + Sync, G: Gate>(rt: &H, alloc: Global, gate: &G) -> Re
 fn the_pieces_of_a_wave_run_beside_each_other(rt: HostRuntime) -> Result<(), Fail> {
     let gate = HeldGate::new();
     assert!(rt; builds_all(&rt, rt.alloc(), &gate)?);
-    assert!(rt; gate.met.load(Ordering::SeqCst) > 0);
-    assert_eq!(rt; gate.missed.load(Ordering::SeqCst), 0);
+    assert!(rt; gate.met() > 0);
+    assert_eq!(rt; gate.missed(), 0);
     Ok(())
 }

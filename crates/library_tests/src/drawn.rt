@@ -1,27 +1,11 @@
 //! Waves at several numbers of workers, a piece that waits for all others, and a worker by itself.
+use crate::pieces::{next_of, numbers};
 use build_base::open_gate::OpenGate;
 use build_base::outside::Gate;
 use build_base::text::WantOfMemory;
 use drawn_waves::{PieceStart, draw_wave, piece_table, take_pieces};
-use std::alloc::{AllocError, Global};
 use std::sync::atomic::{AtomicU64, Ordering};
 use std::test::Fail;
-
-// The number after a piece's, or want of memory at one piece.
-fn next_of(piece: u64, wanting: u64) -> Result<u64, WantOfMemory> {
-    if piece == wanting {
-        return Err(WantOfMemory);
-    }
-    Ok(piece.saturating_add(1))
-}
-
-fn numbers(alloc: Global, upto: u64) -> Result<Vec<u64>, AllocError> {
-    let mut items = Vec::new(alloc);
-    for number in 0..upto {
-        items.push(number)?;
-    }
-    Ok(items)
-}
 
 // Holds piece 0 until four others have entered, or for so many turns.
 #[derive(Drop)]

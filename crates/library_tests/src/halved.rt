@@ -1,25 +1,9 @@
 //! Waves at several numbers of workers.
+use crate::pieces::{next_of, numbers};
 use build_base::open_gate::OpenGate;
 use build_base::text::WantOfMemory;
-use std::alloc::{AllocError, Global};
 use std::test::Fail;
 use wave_pool::run_wave;
-
-// The number after a piece's, or want of memory at one piece.
-fn next_of(piece: u64, wanting: u64) -> Result<u64, WantOfMemory> {
-    if piece == wanting {
-        return Err(WantOfMemory);
-    }
-    Ok(piece.saturating_add(1))
-}
-
-fn numbers(alloc: Global, upto: u64) -> Result<Vec<u64>, AllocError> {
-    let mut items = Vec::new(alloc);
-    for number in 0..upto {
-        items.push(number)?;
-    }
-    Ok(items)
-}
 
 #[test]
 fn results_stand_in_order(rt: HostRuntime) -> Result<(), Fail> {
