@@ -1,7 +1,9 @@
 //! What an expansion has taken so far, and what one line adds to it.
 ghost use Rattle.std.specs.Prelude.{◌≡◌, ◌+◌, ◌≤◌, ◌++◌, ◌∷◌, [], length, map, drop, fold, IfOk, IfErr, OnOk, Some, Ok, not};
 ghost use Rattle.build_base.specs.FaultText.{fault_of};
+ghost use Rattle.macro_expressions.specs.Macros.{replaced};
 ghost use Rattle.macro_expressions.specs.Scopes.{scope_of};
+ghost use Rattle.meta_lexer.specs.Lines.{without_blanks};
 ghost use Rattle.macro_conditions.specs.Directives.{macro_named, directive_rest, definition_of};
 ghost use Rattle.macro_conditions.specs.Expansion.{bad, settled, is_full, fault_at, holds, names, tested, defined, written, apply_directive, scope};
 ghost use Rattle.macro_conditions.specs.Work.{source_view, env_of, text_at, line_in, Halts, Agrees};
@@ -14,7 +16,7 @@ use build_base::{
     Fault, Macro, Path, Place, Refusal, Rows, Same, Taken, Text, WantOfMemory, refuse,
 };
 use macro_expressions::expression::{Value, detail, value_in};
-use macro_expressions::macros::{Scope, Undefined, replace};
+use macro_expressions::macros::{Scope, Undefined, is_plain, replace};
 use macro_expressions::table::{ListedMacros, MacroTable};
 use meta_lexer::line::trim;
 use meta_lexer::words::same_word;
@@ -265,6 +267,18 @@ fn define(
     Ok(())
 }
 
+// A line with its macros replaced, and without blanks at both ends.
+fn replaced_line(alloc: Global, scope: Scope<'_>, text: &[u8]) -> Result<Text, WantOfMemory>
+    ensures { IfOk result
+        (λ t. t ≡ without_blanks (replaced Undefined.Kept (scope_of scope.entry) text.now)) }
+{
+    if is_plain(text) {
+        return Text::of(alloc, trim(text));
+    }
+    let written = replace(alloc, Undefined::Kept, scope, text)?;
+    Text::of(alloc, trim(written.as_slice()))
+}
+
 fn take(
     alloc: Global,
     fixed: &ListedMacros<'_>,
@@ -276,8 +290,7 @@ fn take(
     ensures open_files { OnOk result (work.new.open_files.items ≡ work.old.open_files.items) }
     ensures cause { IfErr result (λ e. e ≡ Stopped.WantOfMemory) }
 {
-    let written = replace(alloc, Undefined::Kept, work.scope(fixed), line.text)?;
-    let text = Text::of(alloc, trim(written.as_slice()))?;
+    let text = replaced_line(alloc, work.scope(fixed), line.text)?;
     let at = place(alloc, line)?;
     work.rows.push(Taken { at, text })?;
     Ok(())

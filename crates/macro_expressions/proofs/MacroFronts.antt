@@ -1,7 +1,8 @@
 -- What the front of a text comes to.
-use Rattle.std.proofs.Common.{◌≡◌, Bool, true, false, ℕ, zero, suc, ◌+◌, ◌<◌, ◌≤◌, List, [], ◌∷◌, ◌++◌, length, take, drop, Option, Some, None, cond, append_assoc, refl, sym, ap, ◌∙◌, arith}
+use Rattle.std.proofs.Common.{◌≡◌, ◌==◌, not, add-one, Bool, true, false, ℕ, zero, suc, ◌+◌, ◌-◌, ◌<◌, ◌≤◌, List, [], ◌∷◌, ◌++◌, length, take, drop, Option, Some, None, cond, append_assoc, append-nil, refl, sym, ap, ◌∙◌, arith}
+use Rattle.std.specs.List.{position_or_len}
 use Rattle.std.specs.Option.{option_or}
-use Rattle.std.proofs.lemmas.List.{drop_all}
+use Rattle.std.proofs.lemmas.List.{drop_all, take_all}
 use Rattle.build_base.specs.declared.lines.Macro.{Macro}
 use Rattle.macro_expressions.specs.declared.macros.Undefined.{Undefined}
 use Rattle.macro_expressions.specs.Macros.{value_from, value_of, same_text, use_at, used, meaning, replaced_after, replaced}
@@ -24,10 +25,43 @@ front_use u ms (b ∷ bs) n l e =
     let three : n + 3 ≡ suc (n + 2) = omega arith in
     sym (front_by u ms b bs (Some n) e ∙ ap (λ ys. meaning u ms n (b ∷ bs) ++ ys) (after-drop u ms (n + 2) bs ∙ ap (λ k. replaced u ms (drop k (b ∷ bs))) (sym three)))
 
--- any other byte
-pub front_byte : (u : Undefined) (ms : List Macro) (xs : List ℕ) → 0 < length xs → use_at xs ≡ None → take 1 xs ++ replaced u ms (drop 1 xs) ≡ replaced u ms xs
-front_byte u ms [] l e = absurd (omega arith)
-front_byte u ms (b ∷ bs) l e = sym (front_by u ms b bs None e)
+no_use : (b : ℕ) (bs : List ℕ) → (b == 36) ≡ false → use_at (b ∷ bs) ≡ None
+unfolding use_at
+no_use b bs e = rw e refl
+
+-- all that stands before the next byte that may begin a use
+plain_run : (u : Undefined) (ms : List Macro) (xs : List ℕ) → take (position_or_len (λ b. b == 36) xs) xs ++ replaced u ms (drop (position_or_len (λ b. b == 36) xs) xs) ≡ replaced u ms xs
+plain_run u ms [] = refl
+plain_run u ms (b ∷ bs) =
+    let n : ℕ = position_or_len (λ b. b == 36) bs in
+    (elim (b == 36) as (λ t. (b == 36) ≡ t → take (cond (not t) (1 + n) 0) (b ∷ bs) ++ replaced u ms (drop (cond (not t) (1 + n) 0) (b ∷ bs)) ≡ replaced u ms (b ∷ bs)) [
+      | true ↦ λ e. refl
+      | false ↦ λ e.
+          let one : 1 + n ≡ suc n = omega arith in
+          ap (λ k. take k (b ∷ bs) ++ replaced u ms (drop k (b ∷ bs))) one
+          ∙ ap (λ (ys : List ℕ). b ∷ ys) (plain_run u ms bs) ∙ sym (front_by u ms b bs None (no_use b bs e))
+    ]) refl
+
+pub plain_whole : (u : Undefined) (ms : List Macro) (xs : List ℕ) → length xs ≤ position_or_len (λ b. b == 36) xs → replaced u ms xs ≡ xs
+unfolding replaced_after
+plain_whole u ms xs l =
+    let n : ℕ = position_or_len (λ b. b == 36) xs in
+    sym (plain_run u ms xs)
+    ∙ ap (λ (ys : List ℕ). ys ++ replaced u ms (drop n xs)) (take_all n xs l)
+    ∙ ap (λ (ys : List ℕ). xs ++ replaced u ms ys) (drop_all n xs l)
+    ∙ append-nil xs
+
+pub behind_first : (xs : List ℕ) → take (length xs - 1) (drop 1 xs) ≡ drop 1 xs
+behind_first [] = refl
+behind_first (b ∷ bs) = take_all (length (b ∷ bs) - 1) bs (omega arith)
+
+pub front_plain : (u : Undefined) (ms : List Macro) (xs : List ℕ) → 0 < length xs → use_at xs ≡ None
+    → take (position_or_len (λ b. b == 36) (drop 1 xs) + 1) xs ++ replaced u ms (drop (position_or_len (λ b. b == 36) (drop 1 xs) + 1) xs) ≡ replaced u ms xs
+front_plain u ms [] l e = absurd (omega arith)
+front_plain u ms (b ∷ bs) l e =
+    let n : ℕ = position_or_len (λ b. b == 36) bs in
+    ap (λ k. take k (b ∷ bs) ++ replaced u ms (drop k (b ∷ bs))) (add-one n)
+    ∙ ap (λ (ys : List ℕ). b ∷ ys) (plain_run u ms bs) ∙ sym (front_by u ms b bs None e)
 
 pub replaced-end : (u : Undefined) (ms : List Macro) (xs : List ℕ) (i : ℕ) → length xs ≤ i → replaced u ms (drop i xs) ≡ []
 unfolding replaced_after

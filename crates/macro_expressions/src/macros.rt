@@ -1,7 +1,9 @@
 //! Macros and their uses in a text.
-ghost use Rattle.std.specs.Prelude.{◌≡◌, ◌≤◌, ◌+◌, ◌-◌, ◌<◌, length, IfOk, IfSome, OnOk, ◌++◌, None, drop, List, ℕ};
+ghost use Rattle.std.specs.Prelude.{◌≡◌, ◌==◌, ◌≤◌, ◌+◌, ◌-◌, ◌<◌, true, length, IfOk, IfSome, OnOk, ◌++◌, None, drop, List, ℕ};
+ghost use Rattle.std.specs.List.{position_or_len};
 ghost use Rattle.std.specs.Option.{option_map};
 ghost use Rattle.macro_expressions.specs.Macros.{use_at, value_of, undefined, meaning, replaced, begins_at_workspace, without_workspace};
+ghost use Rattle.build_base.specs.declared.lines.Macro.{Macro};
 ghost use Rattle.macro_expressions.specs.Scopes.{scope_of};
 
 use crate::table::{ListedMacros, MacroTable};
@@ -84,7 +86,21 @@ fn write_use(
     }
 }
 
-// Writes what the front of the text comes to, and answers how many bytes that was.
+// How many bytes stand in front of the first `$`.
+fn plain_size(text: &[u8]) -> usize
+    ensures at { result ≡ position_or_len (λ b. b == 36) text.now }
+    ensures within { result ≤ length text.now }
+{
+    for (i, byte) in text.iter().enumerate() {
+        if *byte == b'$' {
+            return i;
+        }
+    }
+    text.len()
+}
+
+// Writes what the front of the text comes to, and answers how many bytes that was: a use of a
+// macro, or all that stands before the next byte that may begin one.
 fn write_front(
     out: &mut Vec<u8>,
     undefined: Undefined,
@@ -104,8 +120,9 @@ fn write_front(
             Ok(n + 3)
         }
         None => {
-            push_bytes(out, &rest[..1])?;
-            Ok(1)
+            let plain = plain_size(&rest[1..]) + 1;
+            push_bytes(out, &rest[..plain])?;
+            Ok(plain)
         }
     }
 }
@@ -125,6 +142,15 @@ pub fn replace(
         i += write_front(&mut out, undefined, scope, &text[i..])?;
     }
     Ok(out)
+}
+
+/// Whether no `$` stands in the text, so that it is what it comes to.
+#[tactic(auto, using(crate::proofs::MacroFronts::plain_whole))]
+pub fn is_plain(text: &[u8]) -> bool
+    ensures { result ≡ true → (u : Undefined) (ms : List Macro)
+        → replaced u ms text.now ≡ text.now }
+{
+    plain_size(text) >= text.len()
 }
 
 fn begins_at_workspace(field: &[u8]) -> bool
