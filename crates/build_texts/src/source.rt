@@ -1,7 +1,7 @@
 //! AutoGen.c of a module.
 ghost use Rattle.std.specs.Prelude.{◌≡◌, ◌++◌, OnOk, IfOk, map};
 ghost use Rattle.std.specs.List.{flat_map};
-ghost use Rattle.build_texts.specs.Code.{guid_line, call_line, calls, constructor_list, destructor_list, entries, entry_point_list, entry_points, function, function_head, include_line, source_text, title};
+ghost use Rattle.build_texts.specs.Code.{guid_line, call_line, calls, constructor_list, destructor_list, entries, entry_point_list, entry_points, function, function_head, include_line, source_text};
 ghost use Rattle.build_texts.specs.Named.{by_name};
 ghost use Rattle.build_texts.specs.Views.{entry_view, seen};
 

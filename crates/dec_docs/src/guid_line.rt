@@ -1,7 +1,6 @@
 //! The line of a GUID.
 ghost use Rattle.std.specs.Prelude.{◌≡◌, IfOk};
 ghost use Rattle.meta_lexer.specs.Words.{split_once};
-ghost use Rattle.meta_lexer.specs.GuidBraces.{guid_of_braces};
 ghost use Rattle.build_base.specs.Answer.{Answers, Checks};
 ghost use Rattle.doc_reading.specs.Gathering.{unless_faulty};
 ghost use Rattle.dec_docs.specs.GuidLines.{words_fault, pair_fault, named_guid, field_faults, field_row, guid_line_faults, guid_line_row};

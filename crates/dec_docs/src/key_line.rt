@@ -2,7 +2,7 @@
 ghost use Rattle.std.specs.Prelude.{◌≡◌};
 ghost use Rattle.build_base.specs.Answer.{Answers};
 ghost use Rattle.doc_reading.specs.Gathering.{unless_faulty};
-ghost use Rattle.dec_docs.specs.KeyLines.{key_named, key_faults, key_row, pair_faults, pair_row, key_line_faults, key_line_row};
+ghost use Rattle.dec_docs.specs.KeyLines.{key_named, key_faults, key_row, key_line_faults, key_line_row};
 
 use crate::rows::DecRow;
 use build_base::fault_codes::DEC_BAD_GUID;

@@ -1,10 +1,10 @@
 //! Conjunctions without repeats.
-ghost use Rattle.std.specs.Prelude.{◌≡◌, ◌∷◌, ◌++◌, [], not, fold, IfOk, OnOk};
+ghost use Rattle.std.specs.Prelude.{◌≡◌, [], not, fold, IfOk, OnOk};
 ghost use Rattle.std.specs.List.{list_any};
 ghost use Rattle.std.specs.Str.{bytes_eq};
 ghost use Rattle.depex_code.specs.Tree.{with_guid};
 ghost use Rattle.depex_code.specs.Kept.{guids_view};
-ghost use Rattle.depex_code.specs.SizedJoins.{and_guid, or_true, and_bytes};
+ghost use Rattle.depex_code.specs.SizedJoins.{and_guid, and_bytes};
 
 use crate::make::{put, put_guid};
 use crate::opcode::{AND, PUSH, TRUE};

@@ -1,9 +1,8 @@
 //! Joins the expressions of sections and of INF files.
-ghost use Rattle.std.specs.Prelude.{◌≡◌, ◌++◌, ◌∷◌, [], Some, None, IfOk, option_map, if◌then◌else◌};
-ghost use Rattle.build_base.specs.First.{and_then};
+ghost use Rattle.std.specs.Prelude.{◌≡◌, ◌++◌, ◌∷◌, [], None, IfOk, option_map};
 ghost use Rattle.build_base.specs.Answer.{AnswersAs, Checks};
 ghost use Rattle.depex_code.specs.Kept.{reach_view, form_view, piece_size};
-ghost use Rattle.depex_code.specs.Compiled.{limit_detail, no_leave};
+ghost use Rattle.depex_code.specs.Compiled.{limit_detail};
 ghost use Rattle.depex_code.specs.SizedJoins.{join_to_size, join_to_reach, around_reach, with_group_size, reach_fault, next_piece, next_size, parts_size, groups_size, front_bytes, simple_bytes, final_bytes};
 
 use crate::conjunction::conjunction;

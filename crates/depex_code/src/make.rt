@@ -1,5 +1,5 @@
 //! Makes pieces.
-ghost use Rattle.std.specs.Prelude.{◌≡◌, ◌+◌, ◌≤◌, ◌∷◌, ◌++◌, [], false, true, Some, None, IfOk, OnOk, option_map};
+ghost use Rattle.std.specs.Prelude.{◌≡◌, ◌+◌, ◌∷◌, ◌++◌, [], false, IfOk, OnOk, option_map};
 ghost use Rattle.depex_code.specs.Tree.{both_lists};
 ghost use Rattle.depex_code.specs.Sizes.{reach_of, join_reach, prefix_reach, fits, no_form, sized_piece, leaf_size, constant_size, name_size, edge_size, edge_code, join_code, prefix_bytes, prefix_form, join_guids, join_form, join_size, prefix_size};
 ghost use Rattle.depex_code.specs.Kept.{reach_view, guids_view, form_view, piece_size};

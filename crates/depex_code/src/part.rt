@@ -1,6 +1,6 @@
 //! The expression of one section.
 ghost use Rattle.std.specs.Prelude.{◌≡◌, ◌&&◌, Some, IfOk, option_map, codes};
-ghost use Rattle.build_base.specs.Answer.{Finds, AnswersAs};
+ghost use Rattle.build_base.specs.Answer.{AnswersAs};
 ghost use Rattle.depex_code.specs.Words.{token_of};
 ghost use Rattle.depex_code.specs.Terms.{step, ended};
 ghost use Rattle.depex_code.specs.Sizes.{sizes, size_of};

@@ -1,6 +1,6 @@
 //! Reads opcodes one by one.
-ghost use Rattle.std.specs.Prelude.{◌≡◌, ◌+◌, ◌≤◌, ◌<◌, ◌∷◌, [], List, ℕ, if◌then◌else◌, IfOk, OnOk, length, option_map, vec_len, slice_index};
-ghost use Rattle.depex_code.specs.Tree.{tree_of, neg, nest, opcodes};
+ghost use Rattle.std.specs.Prelude.{◌≡◌, ◌+◌, ◌≤◌, ◌<◌, ◌∷◌, if◌then◌else◌, IfOk, OnOk, length, option_map, slice_index};
+ghost use Rattle.depex_code.specs.Tree.{tree_of, neg, nest};
 ghost use Rattle.depex_code.specs.Postfix.{leaf, join_trees, join, negate, trees, trees_are, ready, stuck, Applied, Turned, Ran};
 
 use crate::held::Held;

@@ -1,5 +1,5 @@
 //! Reads terms one by one.
-ghost use Rattle.std.specs.Prelude.{◌≡◌, ◌∷◌, [], List, Bool, IfOk, OnOk, option_map};
+ghost use Rattle.std.specs.Prelude.{◌≡◌, ◌∷◌, IfOk, OnOk, option_map};
 ghost use Rattle.depex_code.specs.Terms.{settle, step, holding};
 ghost use Rattle.depex_code.specs.Sizes.{sizes};
 ghost use Rattle.depex_code.specs.Kept.{piece_size, wait_view, waits_of, is_base, Popped, Took, Closed, Steps, state_of};

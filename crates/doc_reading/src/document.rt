@@ -1,8 +1,6 @@
 //! Reading a document of any format.
-ghost use Rattle.std.specs.Prelude.{◌≡◌, ◌++◌, [], List, Option, OnOk, IfOk, Bool, None, Some, if◌then◌else◌};
+ghost use Rattle.std.specs.Prelude.{◌≡◌, ◌++◌, [], List, OnOk, IfOk, Some};
 ghost use Rattle.build_base.specs.Answer.{Answers, AnswersAs, Checks};
-ghost use Rattle.build_base.specs.declared.fault.Fault.{Fault as Found};
-ghost use Rattle.doc_reading.specs.declared.form.LineForm.{LineForm as Form};
 ghost use Rattle.doc_reading.specs.declared.form.LineForm.TheVariants as form;
 ghost use Rattle.doc_reading.specs.Grammar.{Read, heads_entered, rows_given, body_given, read_of, end_fault, first_fault, fault_as, form_read};
 ghost use Rattle.doc_reading.specs.Holding.{Held};

@@ -1,9 +1,6 @@
 //! The fields of a line that need a value.
-ghost use Rattle.std.specs.Prelude.{◌≡◌, Option};
 ghost use Rattle.meta_lexer.specs.Faults.{first_fault};
-ghost use Rattle.build_base.specs.declared.fault.Fault.{Fault as Found};
-ghost use Rattle.build_base.specs.Answer.{Answers, Checks, Finds};
-ghost use Rattle.doc_reading.specs.Least.{lesser};
+ghost use Rattle.build_base.specs.Answer.{Answers, Checks};
 ghost use Rattle.doc_reading.specs.ValueFields.{undefined_macro, open_quote, guid_value, text_value, number_value, path_value};
 
 use build_base::fault_codes::{BAD_EXPRESSION, BAD_PATH, OPEN_QUOTE, UNDEFINED_MACRO};

@@ -9,7 +9,7 @@ use Rattle.meta_lexer.specs.Words.{is_identifier, begins_with_digit}
 use Rattle.macro_expressions.specs.declared.macros.Undefined.{Undefined}
 use Rattle.macro_expressions.specs.declared.macros.Undefined.TheVariants.{Kept, Zero}
 use Rattle.macro_expressions.specs.Macros.{use_at, value_of, undefined, used, meaning, replaced_after, replaced}
-use Rattle.macro_expressions.proofs.MacroFronts.{front_use}
+use Rattle.macro_expressions.proofs.MacroFronts.{front_by, front_use}
 use Rattle.document_laws.specs.MacroUses.{Part, byte, named, before_rest, spelled, unknown, meant, AreParts, IsReplaced}
 use Rattle.document_laws.proofs.ListLemmas.{prefix_passed}
 
@@ -123,16 +123,12 @@ with_use u ms name rest e =
     sym (front_use u ms (before_rest name rest) (length name) (omega arith) (use_found name rest e))
     ∙ ap₂ (λ m r. m ++ replaced u ms r) (meaning_of u ms name rest) (behind name rest)
 
-byte_kept : (u : Undefined) (ms : List Macro) (b : ℕ) (bs : List ℕ) → use_at (b ∷ bs) ≡ None → replaced u ms (b ∷ bs) ≡ b ∷ replaced u ms bs
-unfolding replaced_after
-byte_kept u ms b bs e = ap (λ o. used u ms o (b ∷ bs) b (replaced_after u ms 0 bs) (λ n. replaced_after u ms (n + 2) bs)) e
-
 -- the walk is what the parts stand for
 parts_only : (u : Undefined) (ms : List Macro) (parts : List Part) → AreParts parts → replaced u ms (spelled parts) ≡ meant u ms parts
 unfolding replaced_after
 parts_only u ms [] h = refl
 parts_only u ms (byte b ∷ parts) h =
-    byte_kept u ms b (spelled parts) (plain (use_at (b ∷ spelled parts)) refl)
+    front_by u ms b (spelled parts) None (plain (use_at (b ∷ spelled parts)) refl)
     ∙ ap (λ r. b ∷ r) (parts_only u ms parts h.1)
   where
     plain : (o : Option ℕ) → use_at (b ∷ spelled parts) ≡ o → use_at (b ∷ spelled parts) ≡ None

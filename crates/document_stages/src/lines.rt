@@ -1,5 +1,5 @@
 //! The lines of a document from what is known of its files.
-ghost use Rattle.std.specs.Prelude.{◌≡◌, [], Ok, IfOk, IfSome, IsTrue, true};
+ghost use Rattle.std.specs.Prelude.{◌≡◌, [], Ok, IfOk, IfSome, true};
 ghost use Rattle.build_stages.specs.Gives.{GivesIn};
 ghost use Rattle.document_stages.specs.Documents.{got_in};
 ghost use Rattle.document_stages.specs.Learning.{gets, IsTold, AreTold, IsBegun, Learns, GivesLines};

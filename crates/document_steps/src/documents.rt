@@ -7,7 +7,7 @@ ghost use Rattle.dsc_platform.specs.Platform.{platform_of};
 ghost use Rattle.flash_document.specs.Flash.{flash_of};
 ghost use Rattle.inf_docs.specs.Modules.{module_of};
 ghost use Rattle.step_pack.specs.declared.out.Out.TheVariants as out;
-ghost use Rattle.step_answers.specs.Readers.{AdvancesTo, platform_in};
+ghost use Rattle.step_answers.specs.Readers.{AdvancesTo};
 ghost use Rattle.build_stages.specs.Gives.{GivesIn};
 
 use build_base::path::path_field;

@@ -5,7 +5,6 @@ ghost use Rattle.dsc_lines.specs.declared.rows.Part.{Part as Row};
 ghost use Rattle.dsc_lines.specs.declared.rows.Part.TheVariants.{Tagged};
 ghost use Rattle.build_base.specs.Answer.{Answers};
 ghost use Rattle.meta_lexer.specs.Words.{split_once};
-ghost use Rattle.doc_reading.specs.Least.{least_of};
 ghost use Rattle.doc_reading.specs.Gathering.{unless_faulty};
 ghost use Rattle.dsc_lines.specs.ComponentLines.{form_of, tag_named, inf_text, is_file_guid, out_of_place, begun_faults, made_begun, begun_part, define_faults, define_part, tagged_faults, tagged_part, found_faults, misplaced_faults, shut_faults, shut_part, untagged_faults, untagged_part, below_faults, below_part, standing_faults, standing_part, component_faults, component_part};
 

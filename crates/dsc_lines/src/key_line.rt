@@ -1,5 +1,5 @@
 //! The lines of [Defines].
-ghost use Rattle.std.specs.Prelude.{◌≡◌, IfOk};
+ghost use Rattle.std.specs.Prelude.{◌≡◌};
 ghost use Rattle.build_base.specs.Answer.{Answers};
 ghost use Rattle.doc_reading.specs.Gathering.{unless_faulty};
 ghost use Rattle.dsc_lines.specs.KeyLines.{key_named, guid_faults, guid_row, output_faults, output_row, key_faults, key_row, pair_faults, pair_row, key_line_faults, key_line_row};

@@ -1,9 +1,9 @@
 //! The lines of PCDs.
-ghost use Rattle.std.specs.Prelude.{◌≡◌, ◌++◌, IfOk, OnOk};
+ghost use Rattle.std.specs.Prelude.{◌≡◌, IfOk};
 ghost use Rattle.std.specs.Option.{option_map};
 ghost use Rattle.build_base.specs.Answer.{Answers, Checks};
 ghost use Rattle.doc_reading.specs.Gathering.{unless_faulty};
-ghost use Rattle.dsc_lines.specs.PcdLines.{small_of, number_field, number_fault, form_fault, fields_faults, made_pcd, fields_pcd, pcd_faults, pcd_of};
+ghost use Rattle.dsc_lines.specs.PcdLines.{number_fault, form_fault, fields_faults, made_pcd, fields_pcd, pcd_faults, pcd_of};
 
 use crate::pcd_form::{is_form, number_field, small_number};
 use crate::pcd_store::{datum_in, max_in, store_in, value_in};

@@ -1,5 +1,5 @@
 //! The lines of [SkuIds].
-ghost use Rattle.std.specs.Prelude.{◌≡◌, ◌||◌, List, ℕ, IfOk};
+ghost use Rattle.std.specs.Prelude.{◌≡◌, List, ℕ, IfOk};
 ghost use Rattle.std.specs.List.{list_all};
 ghost use Rattle.build_base.specs.Answer.{Answers, Checks};
 ghost use Rattle.doc_reading.specs.Gathering.{unless_faulty};

@@ -1,6 +1,6 @@
 //! The components of the lines.
 ghost use Rattle.std.specs.Prelude.{◌≡◌, ◌++◌, OnOk, IfOk};
-ghost use Rattle.std.specs.List.{flat_map, list_any};
+ghost use Rattle.std.specs.List.{flat_map};
 ghost use Rattle.doc_reading.specs.Reading.{last_or, last_of};
 ghost use Rattle.dsc_platform.specs.Cutting.{is_begun, begins, same_arch, library_for, pcd_for, guid_for, made_component, component_of, built};
 

@@ -1,9 +1,9 @@
 //! The format of a platform's description.
-ghost use Rattle.std.specs.Prelude.{◌≡◌, [], ◌∷◌, ◌++◌, ℕ, List, OnOk, IfOk};
+ghost use Rattle.std.specs.Prelude.{◌≡◌, [], ◌∷◌, ◌++◌, List, OnOk};
 ghost use Rattle.std.specs.List.{flat_map};
 ghost use Rattle.build_base.specs.Answer.{Checks};
 ghost use Rattle.dsc_lines.specs.declared.rows.Part.{Part as PartRow};
-ghost use Rattle.dsc_platform.specs.Cutting.{begins, built, BlocksHeld};
+ghost use Rattle.dsc_platform.specs.Cutting.{begins, BlocksHeld};
 ghost use Rattle.dsc_platform.specs.Holding.{Holds};
 ghost use Rattle.dsc_lines.specs.Standing.{last_mark, said_marks};
 ghost use Rattle.dsc_platform.specs.Platform.{open_fault};

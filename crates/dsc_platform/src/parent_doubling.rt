@@ -1,5 +1,5 @@
 //! Where walks by parents come to after many steps. A place to which none leads is on no circle.
-ghost use Rattle.std.specs.Prelude.{◌≡◌, map, OnOk, IfOk};
+ghost use Rattle.std.specs.Prelude.{◌≡◌, map, IfOk};
 ghost use Rattle.std.specs.List.{All};
 ghost use Rattle.dsc_platform.specs.FarPlaces.{behind, IsFar, IsMarked, with_mark, Unlooped};
 

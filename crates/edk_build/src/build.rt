@@ -1,5 +1,5 @@
 //! One build, from the cache that the last one left.
-ghost use Rattle.std.specs.Prelude.{◌≡◌, ◌-◌, true, length, IfOk, OnOk, OnErr};
+ghost use Rattle.std.specs.Prelude.{◌≡◌, true, IfOk, OnOk};
 ghost use Rattle.build_base.specs.Outside.{HasFailed};
 ghost use Rattle.build_base.specs.Spelling.{Spelled, SpelledCut};
 ghost use Rattle.build_base.specs.World.{World};

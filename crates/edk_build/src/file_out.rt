@@ -1,5 +1,5 @@
 //! Files that stand ready, and how they are written: it takes no memory.
-ghost use Rattle.std.specs.Prelude.{◌≡◌, ◌≤◌, ◌++◌, [], ◌∷◌, IfOk, map, length, List, ℕ, codes};
+ghost use Rattle.std.specs.Prelude.{◌≡◌, ◌≤◌, ◌++◌, [], IfOk, map, length, List, ℕ};
 ghost use Rattle.build_base.specs.Outside.{Cause};
 ghost use Rattle.build_base.specs.Spelling.{WritesFile, Writes};
 ghost use Rattle.edk_build.specs.FilePair.{output_of};

@@ -1,5 +1,5 @@
 //! A selftest: three builds of a workspace in memory, the third after an edit.
-ghost use Rattle.std.specs.Prelude.{◌≡◌, ◌∷◌, [], ℕ, Some, true, IfOk, IfErr, OnOk};
+ghost use Rattle.std.specs.Prelude.{◌≡◌, ◌∷◌, [], ℕ, Some, IfOk, IfErr, OnOk};
 ghost use Rattle.build_base.specs.Outside.{Files, HasFailed};
 ghost use Rattle.build_base.specs.Path.{path_field};
 ghost use Rattle.step_engine.specs.Entries.{AreSound};

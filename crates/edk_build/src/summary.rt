@@ -1,5 +1,5 @@
 //! The last line of a build.
-ghost use Rattle.std.specs.Prelude.{◌≡◌, ◌++◌, IfOk, OnOk, option_map, codes, decimal, [], if◌then◌else◌};
+ghost use Rattle.std.specs.Prelude.{◌≡◌, ◌++◌, IfOk, OnOk, codes, decimal};
 ghost use Rattle.edk_build.specs.Emitting.{summary, front_of, back_of, status_digit};
 
 use crate::label::Label;

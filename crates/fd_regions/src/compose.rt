@@ -1,8 +1,8 @@
 //! A device made from the content of its regions.
-ghost use Rattle.std.specs.Prelude.{◌≡◌, ◌≤◌, ◌<◌, ◌^◌, ◌+◌, ◌-◌, ◌++◌, length, replicate, codes, decimal, IfOk, OnOk, None, Some, slice_index_or, [], true};
+ghost use Rattle.std.specs.Prelude.{◌≡◌, ◌≤◌, ◌<◌, ◌^◌, ◌+◌, ◌-◌, ◌++◌, length, replicate, IfOk, OnOk, None, Some, slice_index_or, [], true};
 ghost use Rattle.std.specs.List.{sum_by};
 ghost use Rattle.build_base.specs.Answer.{AnswersAs, Checks};
-ghost use Rattle.build_base.specs.Runs.{runs_bytes, kept_bytes, are_blank, free_byte, Written};
+ghost use Rattle.build_base.specs.Runs.{runs_bytes, kept_bytes, are_blank};
 ghost use Rattle.fd_regions.specs.Device.{device_of, device_fault, device_image, comparison_text, region_fault};
 
 use crate::contents::Contents;

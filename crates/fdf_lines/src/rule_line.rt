@@ -9,8 +9,7 @@ ghost use Rattle.build_base.specs.FaultText.{fault_of};
 ghost use Rattle.doc_reading.specs.Gathering.{unless_faulty};
 ghost use Rattle.doc_reading.specs.Least.{least_of};
 ghost use Rattle.fdf_volumes.specs.Statements.{file_parts};
-ghost use Rattle.fdf_words.specs.Words.{word_of, after_word};
-ghost use Rattle.fdf_lines.specs.Rules.{begins_name, is_other, holds_other, rule_parts, other_macro, other_around, no_rule_faults, rule_kind, made_plan, is_extension, path_fault, path_source, path_faults, path_row, text_fault, text_faults, text_row, quoted_faults, quoted_row, stated_words, is_string, plain_faults, plain_row, worded_faults, worded_row, kind_faults, kind_row, inner_faults, inner_row, named_faults, named_row, is_file, outer_faults, outer_row, rule_faults, rule_row};
+ghost use Rattle.fdf_lines.specs.Rules.{begins_name, is_other, holds_other, rule_parts, other_macro, other_around, no_rule_faults, rule_kind, made_plan, is_extension, path_fault, path_source, path_faults, path_row, text_fault, text_faults, text_row, quoted_faults, quoted_row, stated_words, plain_faults, plain_row, worded_faults, worded_row, kind_faults, kind_row, inner_faults, inner_row, named_faults, named_row, outer_faults, outer_row, rule_faults, rule_row};
 ghost use Rattle.build_base.specs.FaultCodes.{COMPRESSED_REFUSED};
 
 use crate::rule_number::stated_number;

@@ -1,6 +1,5 @@
 //! What stands open below some lines.
 ghost use Rattle.std.specs.Prelude.{◌≡◌, fold};
-ghost use Rattle.std.specs.List.{list_any};
 ghost use Rattle.fdf_lines.specs.Standing.{last_mark, open_marks, waiting_marks, key_marks, pair_marks, unfiled_marks, is_rule, has_rule, is_volume, has_volume, marks_with, marks_begun};
 
 use fdf_words::marks::{Body, Marks, Open, Waiting};

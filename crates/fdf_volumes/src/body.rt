@@ -1,5 +1,5 @@
 //! The lines in the braces of a file.
-ghost use Rattle.std.specs.Prelude.{◌≡◌, ◌∷◌, [], not, ◌==◌, IfOk, Some, None};
+ghost use Rattle.std.specs.Prelude.{◌≡◌, ◌∷◌, [], not, ◌==◌, IfOk, Some};
 ghost use Rattle.std.specs.List.{list_all};
 ghost use Rattle.std.specs.Option.{option_map};
 ghost use Rattle.build_base.specs.Answer.{Answers, Finds};
@@ -10,9 +10,9 @@ ghost use Rattle.macro_expressions.specs.Macros.{without_workspace};
 ghost use Rattle.doc_reading.specs.Gathering.{unless_faulty};
 ghost use Rattle.doc_reading.specs.Least.{least_of};
 ghost use Rattle.doc_reading.specs.ValueFields.{undefined_macro};
-ghost use Rattle.fdf_words.specs.Words.{word_of, after_word, after_equals};
+ghost use Rattle.fdf_words.specs.Words.{word_of};
 ghost use Rattle.fdf_volumes.specs.declared.body.SectionWord.TheVariants.{Nested};
-ghost use Rattle.fdf_volumes.specs.Bodies.{section_word, maybe_align, words_in_quotes, made_section, path_faults, path_row, words_faults, words_row, guid_faults, guid_row, some_text, value_faults, value_row, equals_faults, equals_row, named_faults, named_row, named_value, kind_faults, kind_row, aligned_faults, aligned_row, section_faults, section_row, whole_faults, whole_row};
+ghost use Rattle.fdf_volumes.specs.Bodies.{section_word, maybe_align, words_in_quotes, made_section, path_faults, path_row, words_faults, words_row, guid_faults, guid_row, some_text, value_faults, value_row, equals_faults, equals_row, named_faults, named_row, named_value, kind_faults, kind_row, section_faults, section_row, whole_faults, whole_row};
 ghost use Rattle.build_base.specs.FaultCodes.{COMPRESSED_REFUSED};
 
 use crate::statement::macro_before;

@@ -6,7 +6,7 @@ ghost use Rattle.build_base.specs.Path.{path_field};
 ghost use Rattle.macro_expressions.specs.Macros.{without_workspace};
 ghost use Rattle.doc_reading.specs.Gathering.{unless_faulty};
 ghost use Rattle.std.specs.Prelude.{Some};
-ghost use Rattle.fdf_volumes.specs.InfLines.{inf_option, up_to_quote, quoted_front, with_rule, with_use, with_version, with_ui, with_inf, next_inf, inf_parts, inf_path_fault, template_fault, one_arch, use_fault, used_arch, inf_parts_faults, made_inf, inf_parts_line, inf_faults, inf_of};
+ghost use Rattle.fdf_volumes.specs.InfLines.{inf_option, up_to_quote, quoted_front, with_rule, with_use, with_version, with_ui, with_inf, next_inf, inf_parts, inf_path_fault, template_fault, one_arch, use_fault, used_arch, inf_parts_faults, made_inf, inf_faults, inf_of};
 
 use crate::statement::{check_full, macro_before, no_statement};
 use build_base::fault_codes::{BAD_INF_LINE, BAD_PATH};
@@ -16,13 +16,12 @@ use doc_reading::least_check::least_of_five;
 use doc_reading::values::require;
 use doc_types::arch::{Arch, arch_named};
 use doc_types::volume::InfLine;
-use fdf_words::keys::place_of;
 use fdf_words::number::bad_line;
 use fdf_words::words::{after_equals, begins_with, first_word};
 use macro_expressions::macros::without_workspace;
 use meta_lexer::line::trim;
 use meta_lexer::lookup;
-use meta_lexer::words::is_identifier;
+use meta_lexer::words::{is_identifier, place_of};
 use std::alloc::Global;
 
 /// A word that states an option of a module's statement.

@@ -4,7 +4,7 @@ ghost use Rattle.std.specs.Option.{option_map};
 ghost use Rattle.build_base.specs.Answer.{Answers, Checks, Finds};
 ghost use Rattle.doc_reading.specs.Gathering.{unless_faulty};
 ghost use Rattle.fdf_words.specs.Numbers.{bad_line};
-ghost use Rattle.fdf_volumes.specs.Statements.{macro_before, full_fault, file_type, file_front, front_parts, file_parts, guid_fault, parts_fault, head_with, named_file, parts_row, file_faults, file_row, alone, member_name, member_fault, named_member, member_of, member_faults, member_row, apriori_names, apriori_named, made_apriori, apriori_faults, apriori_row};
+ghost use Rattle.fdf_volumes.specs.Statements.{macro_before, full_fault, file_type, file_front, front_parts, file_parts, guid_fault, head_with, named_file, file_faults, file_row, alone, member_name, named_member, member_faults, member_row, apriori_names, apriori_named, made_apriori, apriori_faults, apriori_row};
 ghost use Rattle.build_base.specs.Guid.{guid_of};
 ghost use Rattle.doc_reading.specs.Least.{least_of};
 ghost use Rattle.doc_reading.specs.ValueFields.{undefined_macro};

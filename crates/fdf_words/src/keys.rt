@@ -1,7 +1,7 @@
 //! Keys of a line `KEY = VALUE`.
-ghost use Rattle.std.specs.Prelude.{◌≡◌, ◌≤◌, ◌==◌, length};
+ghost use Rattle.std.specs.Prelude.{◌≡◌};
 ghost use Rattle.std.specs.Option.{option_map};
-ghost use Rattle.std.specs.List.{position_or_len, list_all};
+ghost use Rattle.std.specs.List.{list_all};
 ghost use Rattle.meta_lexer.specs.Tokens.{is_word_byte};
 ghost use Rattle.fdf_words.specs.Keys.{is_key, key_and_value, key_pair, device_word, volume_word, is_set};
 
@@ -10,7 +10,7 @@ use crate::words::{begins_with, first_word};
 use meta_lexer::line::trim;
 use meta_lexer::lookup;
 use meta_lexer::token::is_word_byte;
-use meta_lexer::words::same_word;
+use meta_lexer::words::{place_of, same_word};
 
 /// What a key of a device states: a number, or what fills a region.
 #[derive(Clone, Copy, PartialEq, Eq)]
@@ -76,19 +76,6 @@ const VOLUME_WORDS: [(&[u8], VolumeWord); 23] = [
     (b"WRITE_LOCK_STATUS", VolumeWord::Attribute(0x8000)),
     (b"WEAK_ALIGNMENT", VolumeWord::Attribute(0x8000_0000)),
 ];
-
-/// Where the byte stands first, or the length.
-pub fn place_of(mark: u8, text: &[u8]) -> usize
-    ensures at { result ≡ position_or_len (λ b. b == mark) text.now }
-    ensures within { result ≤ length text.now }
-{
-    for (i, byte) in text.iter().enumerate() {
-        if *byte == mark {
-            return i;
-        }
-    }
-    text.len()
-}
 
 fn has_word_bytes(text: &[u8]) -> bool
     ensures { result ≡ list_all is_word_byte text.now }

@@ -5,7 +5,7 @@ ghost use Rattle.doc_reading.specs.Least.{least_of};
 ghost use Rattle.doc_reading.specs.Gathering.{unless_faulty};
 ghost use Rattle.doc_reading.specs.ValueFields.{undefined_macro};
 ghost use Rattle.build_base.specs.FaultText.{fault_of};
-ghost use Rattle.fdf_words.specs.Numbers.{bad_line, bad_value, later_macros, named_pcd, form_fault, limit_fault, order_fault, fields_faults, fields_number, number_faults, number_of_field};
+ghost use Rattle.fdf_words.specs.Numbers.{bad_line, later_macros, named_pcd, form_fault, limit_fault, order_fault, fields_faults, fields_number, number_faults, number_of_field};
 ghost use Rattle.build_base.specs.FaultCodes.{BAD_KEY};
 
 use build_base::fault_codes::{BAD_KEY, SIZE_TOO_LARGE};

@@ -1,5 +1,5 @@
 //! Alignments of sections and of files.
-ghost use Rattle.std.specs.Prelude.{◌≡◌, ℕ, ◌≤◌, ◌<◌, ◌^◌, ◌%◌, ◌↔◌, IsTrue, IfSome, Some, None, position, nat_le, slice_index};
+ghost use Rattle.std.specs.Prelude.{◌≡◌, ℕ, ◌≤◌, ◌<◌, ◌^◌, ◌%◌, ◌↔◌, IsTrue, IfSome, None, position, nat_le, slice_index};
 ghost use Rattle.build_base.specs.Least.{IsLeast};
 ghost use Rattle.ffs_sections.specs.Alignment.{IsPad, is_section_alignment, pad_of, alignments, is_alignment, IsAlignment, alignment_index, step_bits};
 

@@ -3,7 +3,7 @@ ghost use Rattle.std.specs.Prelude.{◌≡◌, ◌≤◌, ◌<◌, ◌+◌, ◌^
 ghost use Rattle.build_base.specs.First.{unless};
 ghost use Rattle.build_base.specs.Answer.{Answers, Grows, Checks};
 ghost use Rattle.doc_types.specs.Standard.{EFI_SECTION_FREEFORM_SUBTYPE_GUID};
-ghost use Rattle.ffs_sections.specs.Sections.{guid_bytes, is_large, content_at, section_limit, section_size, section_head, section_bytes, part_pad, pad_section, with_part, part_fault, with_parts, HaveGuids};
+ghost use Rattle.ffs_sections.specs.Sections.{guid_bytes, is_large, content_at, section_limit, section_head, section_bytes, part_pad, pad_section, with_part, part_fault, with_parts, HaveGuids};
 ghost use Rattle.ffs_sections.specs.Sizes.{part_end, parts_end};
 
 use crate::alignment::{is_section_alignment, pad};

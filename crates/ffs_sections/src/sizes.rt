@@ -2,7 +2,7 @@
 ghost use Rattle.std.specs.Prelude.{◌≡◌, ◌≤◌, ◌<◌, ◌^◌, IfOk};
 ghost use Rattle.build_base.specs.Answer.{Answers};
 ghost use Rattle.build_base.specs.First.{and_then};
-ghost use Rattle.ffs_sections.specs.File.{file_size, file_limit, is_large_file, head_len, size_fault};
+ghost use Rattle.ffs_sections.specs.File.{file_limit, is_large_file, head_len};
 ghost use Rattle.ffs_sections.specs.Sizes.{body_length, size_checked, file_length, IsFileLength};
 
 use crate::alignment::is_section_alignment;

@@ -1,5 +1,5 @@
 //! What the step of a FILE statement asks, once the flash description is known.
-ghost use Rattle.std.specs.Prelude.{◌≡◌, ◌++◌, ◌<◌, IfOk, OnOk};
+ghost use Rattle.std.specs.Prelude.{◌≡◌, ◌++◌, IfOk, OnOk};
 ghost use Rattle.step_answers.specs.Volumes.{volume_step};
 ghost use Rattle.file_steps.specs.Asks.{source_file, section_files, source_volume, section_volumes, file_asks, source_below, sections_below};
 

@@ -1,8 +1,6 @@
 //! The steps of files.
-ghost use Rattle.std.specs.Prelude.{◌<◌, Err};
 ghost use Rattle.build_stages.specs.Gives.{GivesIn};
 ghost use Rattle.step_answers.specs.Readers.{AdvancesTo};
-ghost use Rattle.step_answers.specs.Volumes.{item_of_number, volume_at};
 ghost use Rattle.file_steps.specs.FileTrees.{item_at, sections_stages, module_from, module_stages, apriori_stages, item_stages, file_from, file_stages};
 
 use crate::apriori::apriori_given;

@@ -1,6 +1,5 @@
 //! What a statement's module is, by the answers of a step.
 ghost use Rattle.build_stages.specs.Gives.{GivesIn};
-ghost use Rattle.step_answers.specs.Readers.{platform_in};
 ghost use Rattle.file_steps.specs.Modules.{folder_in, plan_described, plan_below, plan_given};
 
 use crate::plans::{ModulePlan, module_plan};

@@ -1,5 +1,5 @@
 //! The sections of a module's file, by the answers of its step.
-ghost use Rattle.std.specs.Prelude.{◌≡◌, ◌==◌, All, Some, IfOk};
+ghost use Rattle.std.specs.Prelude.{◌≡◌, All, IfOk};
 ghost use Rattle.build_base.specs.Answer.{Answers, Checks};
 ghost use Rattle.build_base.specs.First.{and_then};
 ghost use Rattle.build_stages.specs.Gives.{GivesIn};

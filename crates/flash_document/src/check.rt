@@ -1,13 +1,12 @@
 //! The checks over the whole of a flash description.
-ghost use Rattle.std.specs.Prelude.{◌≡◌, ◌-◌, ◌%◌, ◌++◌, ◌∷◌, [], ℕ, IfOk, OnOk, Some, is_some, List, slice_get, map};
-ghost use Rattle.std.specs.List.{flat_map};
+ghost use Rattle.std.specs.Prelude.{◌≡◌, ◌%◌, ◌++◌, ◌∷◌, [], ℕ, IfOk, OnOk, Some, is_some, List};
 ghost use Rattle.build_base.specs.Answer.{Checks, Finds};
 ghost use Rattle.build_base.specs.FaultText.{fault_of};
 ghost use Rattle.meta_lexer.specs.Faults.{first_fault};
 ghost use Rattle.flash_document.specs.declared.held.HeldRegion.{HeldRegion as Part};
 ghost use Rattle.flash_document.specs.Names.{place_of, Places};
 ghost use Rattle.flash_document.specs.Held.{Sizes};
-ghost use Rattle.flash_document.specs.Whole.{differing_size, first_size, block_of, size_of, unequal, check_is_stated, part_unstated, size_fault, held_first, part_too_large, all_held, unknown, content_unknown, body_unknown, row_unknown, line_unknown, names_of, device_blocks, check_equal_sizes, whole_blocks, volume_blocks, part_blocks, two_sizes, part_sizes, part_fault, loop_fault, part_key, named_twice, twin, is_again, above_with, twin_marks, first_marked, whole_fault};
+ghost use Rattle.flash_document.specs.Whole.{differing_size, first_size, block_of, size_of, unequal, check_is_stated, part_unstated, size_fault, held_first, part_too_large, unknown, row_unknown, line_unknown, device_blocks, check_equal_sizes, whole_blocks, volume_blocks, part_blocks, two_sizes, part_sizes, part_fault, part_key, named_twice, twin, is_again, above_with, twin_marks, first_marked};
 
 use crate::held::{HeldSizes, held_in};
 use crate::names::{add_name, place_in};

@@ -1,7 +1,7 @@
 //! A device as its section states it.
-ghost use Rattle.std.specs.Prelude.{◌≡◌, ◌++◌, ◌∷◌, [], IfOk, OnOk, IfSome, IfNone, Some, None, List};
+ghost use Rattle.std.specs.Prelude.{◌≡◌, ◌++◌, IfOk, OnOk, IfSome, IfNone, Some, None};
 ghost use Rattle.fdf_words.specs.declared.rows.Row.TheVariants as row;
-ghost use Rattle.flash_document.specs.Columns.{row_at, column};
+ghost use Rattle.flash_document.specs.Columns.{row_at};
 ghost use Rattle.flash_document.specs.Devices.{is_key, number_in, number_of, sum_counted, sum_with, block_pairs, first_size, total_of, content_in, region_at, regions_of, device_of};
 
 use crate::column::row_at;

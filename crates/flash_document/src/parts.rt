@@ -1,5 +1,5 @@
 //! What the sections of a flash description state.
-ghost use Rattle.std.specs.Prelude.{◌≡◌, ◌++◌, ◌∷◌, [], IfOk, OnOk, List};
+ghost use Rattle.std.specs.Prelude.{◌≡◌, ◌++◌, IfOk, OnOk};
 ghost use Rattle.flash_document.specs.Sets.{section_lines};
 ghost use Rattle.flash_document.specs.Parts.{stated_of, stated_from, stated_below, all_stated};
 

@@ -1,5 +1,5 @@
 //! The plans of devices and volumes, where volumes have numbers.
-ghost use Rattle.std.specs.Prelude.{◌≡◌, ◌++◌, ◌∷◌, [], ℕ, ◌<◌, List, IfOk, OnOk, Some, None, map, unwrap_or};
+ghost use Rattle.std.specs.Prelude.{◌≡◌, ◌++◌, ℕ, ◌<◌, List, IfOk, OnOk, map, unwrap_or};
 ghost use Rattle.std.specs.List.{flat_map};
 ghost use Rattle.flash_document.specs.declared.held.HeldRegion.{HeldRegion as Part};
 ghost use Rattle.doc_types.specs.declared.volume.SectionSource.TheVariants as source;

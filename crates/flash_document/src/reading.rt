@@ -1,5 +1,5 @@
 //! Reading a flash description.
-ghost use Rattle.std.specs.Prelude.{◌≡◌, IfOk};
+ghost use Rattle.std.specs.Prelude.{IfOk};
 ghost use Rattle.build_base.specs.Answer.{Answers};
 ghost use Rattle.fdf_lines.specs.Grammar.{rows_of_flash};
 ghost use Rattle.fdf_lines.specs.Limits.{WithinLimits};

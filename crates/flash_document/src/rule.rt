@@ -1,6 +1,5 @@
 //! A rule as its section states it.
-ghost use Rattle.std.specs.Prelude.{◌≡◌, ◌++◌, IfOk, OnOk, IfSome, IfNone, Some, None, List};
-ghost use Rattle.doc_types.specs.declared.volume.SectionPlan.{SectionPlan as PlannedSection};
+ghost use Rattle.std.specs.Prelude.{◌≡◌, ◌++◌, IfOk, OnOk, Some};
 ghost use Rattle.flash_document.specs.Columns.{row_at, in_row, column};
 ghost use Rattle.flash_document.specs.Volumes.{rule_sections, rule_head, plan_of, rule_with, rule_of_lines};
 

@@ -1,5 +1,5 @@
 //! The values that a flash description gives to PCDs.
-ghost use Rattle.std.specs.Prelude.{◌≡◌, ◌+◌, ◌++◌, ◌∷◌, [], IfOk, OnOk, IfSome, IfNone, Some, None, List, take, decimal};
+ghost use Rattle.std.specs.Prelude.{◌≡◌, ◌+◌, ◌++◌, [], IfOk, OnOk, IfSome, IfNone, Some, None};
 ghost use Rattle.std.specs.List.{position_or_len};
 ghost use Rattle.fdf_words.specs.declared.rows.Row.TheVariants as row;
 ghost use Rattle.flash_document.specs.Columns.{row_at};

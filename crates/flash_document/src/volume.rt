@@ -1,9 +1,9 @@
 //! A volume as its section states it.
-ghost use Rattle.std.specs.Prelude.{◌≡◌, ◌++◌, ◌∷◌, [], IfOk, OnOk, IfSome, IfNone, Some, None, List};
+ghost use Rattle.std.specs.Prelude.{◌≡◌, ◌++◌, IfOk, OnOk, IfSome, IfNone, Some, None};
 ghost use Rattle.flash_document.specs.Columns.{row_at};
 ghost use Rattle.fdf_words.specs.declared.rows.Row.TheVariants as row;
 ghost use Rattle.flash_document.specs.declared.stated.FdfStatement.TheVariants as item;
-ghost use Rattle.flash_document.specs.Volumes.{is_key, setting_of, settings_in, last_setting, numbers, switches, rebases, names, systems, is_on, flags_of, members_in, sections_in, whole_in, file_with, item_at, items_of, volume_of};
+ghost use Rattle.flash_document.specs.Volumes.{is_key, setting_of, last_setting, numbers, rebases, names, systems, is_on, flags_of, members_in, sections_in, whole_in, file_with, item_at, items_of, volume_of};
 
 use crate::column::row_at;
 use crate::stated::{FdfStatement, StatedFile, StatedVolume, head_copy, section_copy};

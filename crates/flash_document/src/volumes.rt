@@ -1,5 +1,5 @@
 //! The volumes of a flash description, their names and what they hold.
-ghost use Rattle.std.specs.Prelude.{◌≡◌, ◌++◌, ◌∷◌, [], ℕ, List, IfOk, OnOk, IfSome, IfNone, Some, None, map, get_or, slice_get};
+ghost use Rattle.std.specs.Prelude.{◌≡◌, ◌++◌, [], ℕ, List, IfOk, OnOk, IfSome, IfNone, Some, None, map, get_or, slice_get};
 ghost use Rattle.std.specs.List.{flat_map};
 ghost use Rattle.std.specs.Option.{option_map};
 ghost use Rattle.flash_document.specs.declared.held.HeldRegion.{HeldRegion as Part};

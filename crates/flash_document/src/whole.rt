@@ -1,11 +1,10 @@
 //! A flash description put together, and the checks over the whole.
-ghost use Rattle.std.specs.Prelude.{◌≡◌, ◌++◌, ◌∷◌, [], ℕ, List, IfOk, OnOk, IfSome, IfNone, Some, None, map, slice_get};
-ghost use Rattle.std.specs.Option.{option_map};
-ghost use Rattle.build_base.specs.Answer.{Answers, Checks, Finds};
-ghost use Rattle.flash_document.specs.Whole.{volumes_of, names_of, nests_of, all_held, loop_at, loop_named, loop_fault, twin_marks, whole_fault};
+ghost use Rattle.std.specs.Prelude.{◌≡◌, [], List, IfOk, Some, map};
+ghost use Rattle.build_base.specs.Answer.{Answers, Checks};
+ghost use Rattle.flash_document.specs.Whole.{volumes_of, names_of, nests_of, all_held, loop_fault, twin_marks, whole_fault};
 ghost use Rattle.volume_nesting.specs.Numbering.{first_loop};
 ghost use Rattle.std.specs.List.{flat_map};
-ghost use Rattle.flash_document.specs.Document.{numbered, ordered_names, part_device, volume_plans, document_of, flash_of_lines};
+ghost use Rattle.flash_document.specs.Document.{ordered_names, part_device, volume_plans, document_of, flash_of_lines};
 ghost use Rattle.flash_document.specs.Held.{Sizes};
 ghost use Rattle.flash_document.specs.Names.{Places};
 ghost use Rattle.flash_document.specs.declared.stated.FdfSection.{FdfSection as Part};

@@ -1,12 +1,12 @@
 //! The files of a volume in their places, and the pad files between them.
-ghost use Rattle.std.specs.Prelude.{◌≡◌, ◌≤◌, ◌<◌, ◌+◌, ◌^◌, ◌++◌, ◌*◌, ◌⊎◌, length, OnOk, IfOk, None, if◌then◌else◌, is_some, true, is_none, not, ◌&&◌, nat_lt};
+ghost use Rattle.std.specs.Prelude.{◌≡◌, ◌≤◌, ◌<◌, ◌+◌, ◌^◌, ◌*◌, ◌⊎◌, length, OnOk, None, is_some, true, not, ◌&&◌, nat_lt};
 ghost use Rattle.build_base.specs.Answer.{Checks};
 ghost use Rattle.build_base.specs.Pieces.{put_pieces};
-ghost use Rattle.build_base.specs.Runs.{free_byte, Written};
+ghost use Rattle.build_base.specs.Runs.{free_byte};
 ghost use Rattle.ffs_sections.specs.Alignment.{IsAlignment};
 ghost use Rattle.ffs_sections.specs.Standard.{FILE_LIMIT};
 ghost use Rattle.fv_compose.specs.Place.{align_up};
-ghost use Rattle.fv_compose.specs.Files.{is_top, top_of, plain_files, bytes_in, top_bytes, placed_pieces, file_end, files_pieces, end_of, top_pieces, pad_fault, pads_fault, top_pad_fault, AreAligned};
+ghost use Rattle.fv_compose.specs.Files.{is_top, top_of, plain_files, bytes_in, top_bytes, placed_pieces, files_pieces, end_of, top_pieces, pad_fault, pads_fault, top_pad_fault, AreAligned};
 ghost use Rattle.fv_compose.specs.Turns.{pointed, own_start, own_starts, own_pad_fault, own_pieces, own_bytes};
 ghost use Rattle.fv_compose.specs.Volume.{taken_by, holds};
 

@@ -1,11 +1,11 @@
 //! The image of a volume: header, files, pads and free space.
-ghost use Rattle.std.specs.Prelude.{◌≡◌, ◌≤◌, ◌%◌, ◌==◌, ◌+◌, ◌^◌, ◌↔◌, IsTrue, IfOk, IfSome, Some, None, is_some, true};
+ghost use Rattle.std.specs.Prelude.{◌≡◌, ◌≤◌, ◌%◌, ◌==◌, ◌^◌, ◌↔◌, IsTrue, IfOk, IfSome, Some, is_some, true};
 ghost use Rattle.std.specs.List.{list_all};
 ghost use Rattle.build_base.specs.Answer.{AnswersAs, Checks};
 ghost use Rattle.build_base.specs.Runs.{runs_bytes};
 ghost use Rattle.ffs_sections.specs.Alignment.{IsAlignment};
 ghost use Rattle.fv_compose.specs.Header.{header_end};
-ghost use Rattle.fv_compose.specs.Files.{plain_files, top_of, is_stated, AreAligned, AreRunsOf};
+ghost use Rattle.fv_compose.specs.Files.{top_of, is_stated, AreAligned, AreRunsOf};
 ghost use Rattle.fv_compose.specs.Turns.{pointed, own_starts, IsLaid};
 ghost use Rattle.fv_compose.specs.Volume.{last_end, taken_by, holds, volume_fault, twice_fault, start_fault, top_fault, place_fault, volume_image, with_length, length_of, volume_of, head_fits, HasShape, IsLength};
 

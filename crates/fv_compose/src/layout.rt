@@ -1,7 +1,7 @@
 //! Where the files of a volume stand.
 ghost use Rattle.std.specs.Prelude.{◌≡◌, ℕ, ◌≤◌, ◌<◌, ◌+◌, ◌^◌, IfOk};
 ghost use Rattle.ffs_sections.specs.Alignment.{IsAlignment};
-ghost use Rattle.fv_compose.specs.Files.{plain_files, end_of, AreAligned};
+ghost use Rattle.fv_compose.specs.Files.{AreAligned};
 ghost use Rattle.fv_compose.specs.Turns.{own_start, next_end, IsLaid};
 
 use crate::files::is_top;

@@ -1,7 +1,6 @@
 //! The length of a volume.
 ghost use Rattle.std.specs.Prelude.{◌≡◌, ◌≤◌, ◌<◌, ◌+◌, ◌^◌, IfOk, IfSome, Some, None, if◌then◌else◌};
 ghost use Rattle.build_base.specs.Least.{IsLeast};
-ghost use Rattle.fv_compose.specs.Place.{align_up};
 ghost use Rattle.fv_compose.specs.Volume.{holds, Fits, blocks_for, length_for, given_size, needed_of, full_fault, SizeFits, IsLength};
 
 use crate::place::{LEAST_PAD, align_up};

@@ -1,6 +1,6 @@
 //! Pad files.
 ghost use Rattle.std.specs.Prelude.{◌≡◌, ◌≤◌, ◌+◌, ◌++◌, length, OnOk, IfOk};
-ghost use Rattle.build_base.specs.Runs.{free_byte, Written};
+ghost use Rattle.build_base.specs.Runs.{free_byte};
 ghost use Rattle.ffs_sections.specs.File.{head_len};
 ghost use Rattle.fv_compose.specs.Pads.{is_large_pad, pad_header, pad_bytes};
 

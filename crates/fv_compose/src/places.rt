@@ -1,5 +1,5 @@
 //! The places of a volume's files, told without an image.
-ghost use Rattle.std.specs.Prelude.{◌≡◌, ◌≤◌, ◌+◌, ◌-◌, ◌^◌, IfOk, Some, is_some, length};
+ghost use Rattle.std.specs.Prelude.{◌≡◌, ◌≤◌, ◌^◌, IfOk, Some, is_some, length};
 ghost use Rattle.build_base.specs.Answer.{Answers};
 ghost use Rattle.fv_compose.specs.Header.{header_end};
 ghost use Rattle.fv_compose.specs.Files.{plain_files, top_of, end_of, AreAligned};

@@ -1,5 +1,5 @@
 //! The blocks of a module's base relocations, by the PE/COFF format, section 5.6.
-ghost use Rattle.std.specs.Prelude.{◌≡◌, ◌≤◌, ◌<◌, ◌+◌, ◌^◌, false, length};
+ghost use Rattle.std.specs.Prelude.{◌≡◌, ◌≤◌, ◌<◌, ◌^◌, false};
 ghost use Rattle.build_base.specs.Answer.{Answers};
 ghost use Rattle.image_rebase.specs.Blocks.{lies_past, directory_in, block_page, block_size, is_wrong_size, is_end, block_at, blocks_of, entry_bytes};
 ghost use Rattle.image_rebase.specs.Moves.{module_blocks};

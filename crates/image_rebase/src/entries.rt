@@ -1,10 +1,10 @@
 //! The entries of base relocations, by the PE/COFF format, section 5.6, and the words that they
 //! name.
-ghost use Rattle.std.specs.Prelude.{◌≡◌, ◌≤◌, ◌<◌, ◌+◌, ◌*◌, ◌⊎◌, ◌^◌, false, length, IfOk};
+ghost use Rattle.std.specs.Prelude.{◌≡◌, ◌≤◌, ◌<◌, ◌+◌, ◌*◌, ◌⊎◌, ◌^◌, false, IfOk};
 ghost use Rattle.build_base.specs.Answer.{Checks, Grows};
 ghost use Rattle.image_rebase.specs.Bytes.{with_number};
 ghost use Rattle.image_rebase.specs.Blocks.{words_of, entries_in};
-ghost use Rattle.image_rebase.specs.Moves.{width_of, is_type, type_fault, types_fault, blocks_fault, lies_outside, word_end, outside_fault, sum_at, moved_word, moved_by, moved_entries, moved_blocks};
+ghost use Rattle.image_rebase.specs.Moves.{width_of, is_type, type_fault, types_fault, blocks_fault, lies_outside, outside_fault, sum_at, moved_word, moved_by, moved_entries, moved_blocks};
 
 use crate::blocks::{Block, entry_bytes};
 use crate::bytes::{put, u32_at, u64_at};

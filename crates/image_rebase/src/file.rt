@@ -1,7 +1,7 @@
 //! A file whose modules are moved.
-ghost use Rattle.std.specs.Prelude.{◌≡◌, ◌≤◌, ◌<◌, ◌+◌, ◌^◌, IfOk, IsTrue, length};
+ghost use Rattle.std.specs.Prelude.{◌≡◌, ◌≤◌, ◌<◌, ◌^◌, IfOk, IsTrue, length};
 ghost use Rattle.build_base.specs.Answer.{Answers};
-ghost use Rattle.image_rebase.specs.Files.{has_checksum, resummed_head, with_body, file_head, file_body, with_sections, moved_sections, has_sections, moved_bytes, with_file_bytes, moved_file};
+ghost use Rattle.image_rebase.specs.Files.{has_checksum, resummed_head, with_body, file_head, file_body, with_sections, moved_sections, has_sections, moved_bytes, moved_file};
 
 use crate::bytes::{append, byte_at, copy_bytes, front, rest};
 use crate::sections::move_from;

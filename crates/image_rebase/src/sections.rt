@@ -1,5 +1,5 @@
 //! The sections of a body whose modules are moved.
-ghost use Rattle.std.specs.Prelude.{◌≡◌, ◌≤◌, ◌<◌, ◌+◌, ◌^◌};
+ghost use Rattle.std.specs.Prelude.{◌≡◌, ◌<◌, ◌+◌, ◌^◌};
 ghost use Rattle.build_base.specs.Answer.{Answers};
 ghost use Rattle.image_rebase.specs.Files.{has_module, content_length, content_in, moved_from};
 

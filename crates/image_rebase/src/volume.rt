@@ -1,5 +1,5 @@
 //! Volumes whose modules are moved.
-ghost use Rattle.std.specs.Prelude.{◌≡◌, ◌↔◌, IsTrue, IfOk, unwrap_or, true};
+ghost use Rattle.std.specs.Prelude.{◌≡◌, ◌↔◌, IsTrue, IfOk};
 ghost use Rattle.build_base.specs.Answer.{AnswersAs};
 ghost use Rattle.build_base.specs.Runs.{runs_bytes};
 ghost use Rattle.fv_compose.specs.Files.{AreAligned, AreRunsOf};

@@ -1,8 +1,7 @@
 //! The library class that a module serves.
 ghost use Rattle.std.specs.Prelude.{◌≡◌, ◌++◌, IfOk, OnOk};
-ghost use Rattle.build_base.specs.Answer.{Answers, Checks};
+ghost use Rattle.build_base.specs.Answer.{Checks};
 ghost use Rattle.meta_lexer.specs.Faults.{first_fault};
-ghost use Rattle.doc_reading.specs.Gathering.{unless_faulty};
 ghost use Rattle.doc_reading.specs.Least.{least_of};
 ghost use Rattle.doc_types.specs.ModuleTypes.{module_type_named};
 ghost use Rattle.inf_docs.specs.Classes.{bad_class, type_fault, class_name_fault, served_fault, class_form, class_faults, type_given, types_named, class_served};

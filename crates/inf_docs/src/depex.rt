@@ -1,5 +1,5 @@
 //! The terms of [Depex] sections, and the parts that they make.
-ghost use Rattle.std.specs.Prelude.{◌≡◌, ◌++◌, [], IfOk, OnOk, Option, Some, option_map};
+ghost use Rattle.std.specs.Prelude.{◌≡◌, ◌++◌, [], IfOk, OnOk, Some, option_map};
 ghost use Rattle.std.specs.List.{flat_map};
 ghost use Rattle.build_base.specs.Answer.{Answers};
 ghost use Rattle.doc_reading.specs.Gathering.{unless_faulty};

@@ -1,8 +1,8 @@
 //! The format of a module's description, and what its lines come to.
-ghost use Rattle.std.specs.Prelude.{◌≡◌, ◌∷◌, ◌++◌, [], List, OnOk};
+ghost use Rattle.std.specs.Prelude.{◌∷◌, ◌++◌, [], List, OnOk};
 ghost use Rattle.build_base.specs.Answer.{Answers};
 ghost use Rattle.doc_reading.specs.Gathering.{unless_faulty};
-ghost use Rattle.doc_reading.specs.Grammar.{Read, entered, gave};
+ghost use Rattle.doc_reading.specs.Grammar.{Read, gave};
 ghost use Rattle.inf_docs.specs.Rows.{line_faults, line_row};
 ghost use Rattle.inf_docs.specs.Reading.{Holds};
 ghost use Rattle.inf_docs.specs.declared.row.Row.{Row as Said};

@@ -1,12 +1,10 @@
 //! The PCD that a line asks for.
-ghost use Rattle.std.specs.Prelude.{◌≡◌, IfOk, option_map, map};
+ghost use Rattle.std.specs.Prelude.{◌≡◌, IfOk, option_map};
 ghost use Rattle.build_base.specs.Answer.{Answers, Checks};
 ghost use Rattle.doc_types.specs.Pcds.{pcd_name_of};
 ghost use Rattle.doc_reading.specs.Gathering.{unless_faulty};
 ghost use Rattle.meta_lexer.specs.Parts.{first_text};
 ghost use Rattle.inf_docs.specs.Pcds.{is_pcd_form, pcd_fault, asked_faults, pcd_faults, default_of, used_as, asked_pcd, pcd_used};
-ghost use Rattle.doc_reading.specs.Values.{require};
-ghost use Rattle.build_base.specs.FaultText.{fault_of};
 
 use build_base::fault_codes::BAD_PCD_NAME;
 use build_base::{Refusal, Same, Taken, Text, WantOfMemory, refuse};

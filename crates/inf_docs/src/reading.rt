@@ -2,7 +2,7 @@
 ghost use Rattle.std.specs.Prelude.{◌≡◌, ◌++◌, IfOk, [], unwrap_or};
 ghost use Rattle.build_base.specs.Answer.{Answers};
 ghost use Rattle.inf_docs.specs.Depex.{parts_in};
-ghost use Rattle.inf_docs.specs.Modules.{with_required, document_of, module_of};
+ghost use Rattle.inf_docs.specs.Modules.{document_of, module_of};
 
 use crate::depex::push_parts;
 use crate::module::ModuleFormat;

@@ -1,8 +1,7 @@
 //! What is read from the fields of a job.
-ghost use Rattle.std.specs.Prelude.{◌≡◌, ◌<◌, ◌==◌, ◌+◌, ◌++◌, [], length, take, drop, map, IfOk, OnOk, IfSome, Some};
+ghost use Rattle.std.specs.Prelude.{◌≡◌, ◌<◌, ◌==◌, ◌+◌, ◌++◌, length, take, drop, map, IfOk, OnOk, IfSome, Some};
 ghost use Rattle.std.specs.List.{position, slice_split};
 ghost use Rattle.std.specs.Option.{is_some, option_map};
-ghost use Rattle.build_base.specs.Path.{path_field};
 ghost use Rattle.job_fields.specs.Readings.{texts_in, name_in, file_in, listed, each_there, arch_in, arches_in, set_named, set_in, sets_in};
 
 use build_base::path::path_field;

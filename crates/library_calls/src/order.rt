@@ -1,6 +1,6 @@
 //! The order of calls.
 ghost use Rattle.std.specs.Prelude.{◌≡◌, ◌&&◌, false, map, slice_index_or, IfOk};
-ghost use Rattle.std.specs.List.{list_any, find, range_with_len};
+ghost use Rattle.std.specs.List.{find, range_with_len};
 ghost use Rattle.library_calls.specs.Calls.{before, is_looped};
 ghost use Rattle.library_calls.specs.Order.{call_order};
 ghost use Rattle.library_calls.specs.Waiting.{count_before, wait_of, waits_of, first_free, without};

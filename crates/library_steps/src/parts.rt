@@ -6,7 +6,6 @@ ghost use Rattle.std.specs.List.{filter_map};
 ghost use Rattle.build_stages.specs.Gives.{GivesIn};
 ghost use Rattle.build_stages.specs.Known.{shown};
 ghost use Rattle.pcd_resolve.specs.Listing.{packages_in};
-ghost use Rattle.step_answers.specs.Readers.{choice_in, inf_in};
 
 use build_base::path::path_field;
 use build_base::together::three;

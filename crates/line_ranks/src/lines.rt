@@ -1,6 +1,6 @@
 //! Which lines hold for a module.
 ghost use Rattle.std.specs.Prelude.{◌≡◌};
-ghost use Rattle.line_ranks.specs.Lines.{covers, same_type, type_covers, applies, is_common, section_rank, rank};
+ghost use Rattle.line_ranks.specs.Lines.{same_type, type_covers, applies, is_common, section_rank, rank};
 
 use crate::user::Consumer;
 use doc_types::arch::{Arch, covers};

@@ -1,6 +1,6 @@
 //! The stack of open conditionals.
 ghost use Rattle.std.specs.Prelude.{◌≡◌, ◌++◌, ◌∷◌, [], ℕ, List, None, Some, OnOk, IfErr};
-ghost use Rattle.macro_conditions.specs.declared.directive.Directive.TheVariants.{If, Elseif, Else, Endif};
+ghost use Rattle.macro_conditions.specs.declared.directive.Directive.TheVariants.{If};
 ghost use Rattle.macro_conditions.specs.LineMeaning.{at_end};
 ghost use Rattle.macro_conditions.specs.LineStack.{active, mode_by, outermost, open_frame, next_mode, turn_frame, shut, step_by};
 ghost use Rattle.macro_conditions.specs.Expansion.{Env, acts, unbalanced, bad};

@@ -1,7 +1,7 @@
 //! Directives and definitions, by the first word of a line.
-ghost use Rattle.std.specs.Prelude.{◌≡◌, ◌≤◌, ◌+◌, length, codes, slice_index, drop, Some};
+ghost use Rattle.std.specs.Prelude.{◌≡◌, drop};
 ghost use Rattle.std.specs.Option.{option_map};
-ghost use Rattle.macro_conditions.specs.Directives.{first_word, after_word, is_directive, directive_word, directive_rest, kind_by, kind_of, is_include, is_definition, named, definition_of, macro_named};
+ghost use Rattle.macro_conditions.specs.Directives.{first_word, after_word, is_directive, directive_word, directive_rest, kind_by, kind_of, is_include, is_definition, definition_of, macro_named};
 
 use macro_expressions::macros::use_at;
 use meta_lexer::line::trim;

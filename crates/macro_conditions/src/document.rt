@@ -2,7 +2,6 @@
 ghost use Rattle.std.specs.Prelude.{◌≡◌, OnOk, true};
 ghost use Rattle.macro_conditions.specs.Sources.{answer};
 ghost use Rattle.macro_conditions.specs.Expansion.{expansion};
-ghost use Rattle.macro_conditions.specs.Counting.{with_answer};
 ghost use Rattle.macro_conditions.specs.Work.{Expands};
 ghost use Rattle.macro_conditions.specs.Asked.{learnt};
 

@@ -1,9 +1,9 @@
 //! The lines that a document comes to: macros, conditionals and includes.
-ghost use Rattle.std.specs.Prelude.{◌≡◌, ℕ, List, [], ◌∷◌, ◌++◌, ◌<◌, ◌≤◌, ◌+◌, ◌-◌, ◌*◌, ◌/◌, ◌%◌, ◌^◌, Some, None, Ok, Err, IfOk, OnOk, map, length, get_or, slice_index, decimal, Result};
+ghost use Rattle.std.specs.Prelude.{◌≡◌, ℕ, List, [], ◌∷◌, ◌++◌, ◌<◌, ◌≤◌, ◌+◌, ◌-◌, Some, None, Ok, Err, IfOk, OnOk, map, length, get_or, slice_index, Result};
 ghost use Rattle.std.specs.List.{list_any};
 ghost use Rattle.build_base.specs.declared.lines.Lines.{Lines as Document};
 ghost use Rattle.build_base.specs.FaultText.{fault_of};
-ghost use Rattle.macro_expressions.specs.Macros.{same_text, without_workspace};
+ghost use Rattle.macro_expressions.specs.Macros.{same_text};
 ghost use Rattle.macro_conditions.specs.Directives.{kind_of};
 ghost use Rattle.macro_conditions.specs.declared.directive.Directive.TheVariants.{Act};
 ghost use Rattle.macro_conditions.specs.declared.work.LinePlace.{LinePlace as PlaceOfLine};
@@ -11,7 +11,7 @@ ghost use Rattle.macro_conditions.specs.Sources.{answer, places, located};
 ghost use Rattle.macro_conditions.specs.Expansion.{bad, need, settled, hex_digit, spot_detail, lines_read, place_of, include_field, include_path, included_file, is_open, too_long, inside, begun, document, expansion, Stop};
 ghost use Rattle.build_base.specs.declared.outside.Got.{Got as Gotten};
 ghost use Rattle.macro_conditions.specs.Worlds.{told, AgreesWith, HoldsIn};
-ghost use Rattle.macro_conditions.specs.Work.{source_view, text_line, line_in, frames_of, located_view, env_of, left_last, state_of, Halts, stop_in, Agrees, Expands};
+ghost use Rattle.macro_conditions.specs.Work.{source_view, text_line, line_in, frames_of, env_of, left_last, state_of, Halts, stop_in, Agrees, Expands};
 ghost use Rattle.macro_conditions.specs.OpenFiles.{IsInclude, Steps, Goes, lines_at, opened_of, opened, found_file, OpensFile, AtInclude, StopsAt, Turns, Tops, stack_of, names, files_of, within, Ends, root_file, Begins, IsLeft, IsPause, Comes, paired};
 
 use crate::conditional::{active, close, end, open, turn};

@@ -1,5 +1,5 @@
 //! What is known of files, and where an included file is found.
-ghost use Rattle.std.specs.Prelude.{◌≡◌, ◌+◌, ◌≤◌, ◌++◌, ◌∷◌, length, IfOk};
+ghost use Rattle.std.specs.Prelude.{◌≡◌, IfOk};
 ghost use Rattle.std.specs.Option.{option_map};
 ghost use Rattle.build_base.specs.Path.{folder_of};
 ghost use Rattle.macro_conditions.specs.Sources.{answer, in_folder, places, at_place, located};

@@ -1,5 +1,5 @@
 //! What an expansion has taken so far, and what one line adds to it.
-ghost use Rattle.std.specs.Prelude.{◌≡◌, ◌+◌, ◌≤◌, ◌++◌, ◌∷◌, [], length, map, drop, fold, IfOk, IfErr, OnOk, Some, Ok, not};
+ghost use Rattle.std.specs.Prelude.{◌≡◌, IfOk, IfErr, OnOk, Some, Ok};
 ghost use Rattle.build_base.specs.FaultText.{fault_of};
 ghost use Rattle.macro_expressions.specs.Macros.{replaced};
 ghost use Rattle.macro_expressions.specs.Scopes.{scope_of};
@@ -268,6 +268,7 @@ fn define(
 }
 
 // A line with its macros replaced, and without blanks at both ends.
+#[tactic(auto, using(macro_expressions::proofs::MacroFronts::plain_whole))]
 fn replaced_line(alloc: Global, scope: Scope<'_>, text: &[u8]) -> Result<Text, WantOfMemory>
     ensures { IfOk result
         (λ t. t ≡ without_blanks (replaced Undefined.Kept (scope_of scope.entry) text.now)) }

@@ -1,11 +1,12 @@
 -- What the front of a text comes to.
-use Rattle.std.proofs.Common.{◌≡◌, ◌==◌, not, add-one, Bool, true, false, ℕ, zero, suc, ◌+◌, ◌-◌, ◌<◌, ◌≤◌, List, [], ◌∷◌, ◌++◌, length, take, drop, Option, Some, None, cond, append_assoc, append-nil, refl, sym, ap, ◌∙◌, arith}
+use Rattle.std.proofs.Common.{◌≡◌, ◌==◌, not, add-one, Bool, true, false, ℕ, zero, suc, ◌+◌, ◌-◌, ◌<◌, ◌≤◌, List, [], ◌∷◌, ◌++◌, length, take, drop, Option, Some, None, cond, append_assoc, refl, sym, ap, ◌∙◌, arith}
 use Rattle.std.specs.List.{position_or_len}
 use Rattle.std.specs.Option.{option_or}
+use Rattle.std.proofs.lemmas.Bool.{and_parts, not-true}
 use Rattle.std.proofs.lemmas.List.{drop_all, take_all}
 use Rattle.build_base.specs.declared.lines.Macro.{Macro}
 use Rattle.macro_expressions.specs.declared.macros.Undefined.{Undefined}
-use Rattle.macro_expressions.specs.Macros.{value_from, value_of, same_text, use_at, used, meaning, replaced_after, replaced}
+use Rattle.macro_expressions.specs.Macros.{value_from, value_of, same_text, use_at, used, meaning, is_plain, replaced_after, replaced}
 
 after-drop : (u : Undefined) (ms : List Macro) (k : ℕ) (xs : List ℕ) → replaced_after u ms k xs ≡ replaced u ms (drop k xs)
 unfolding replaced_after
@@ -14,7 +15,7 @@ after-drop u ms (suc k) [] = refl
 after-drop u ms zero (b ∷ bs) = refl
 after-drop u ms (suc k) (b ∷ bs) = after-drop u ms k bs
 
-front_by : (u : Undefined) (ms : List Macro) (b : ℕ) (bs : List ℕ) (o : Option ℕ) → use_at (b ∷ bs) ≡ o → replaced u ms (b ∷ bs) ≡ used u ms o (b ∷ bs) b (replaced_after u ms 0 bs) (λ n. replaced_after u ms (n + 2) bs)
+pub front_by : (u : Undefined) (ms : List Macro) (b : ℕ) (bs : List ℕ) (o : Option ℕ) → use_at (b ∷ bs) ≡ o → replaced u ms (b ∷ bs) ≡ used u ms o (b ∷ bs) b (replaced_after u ms 0 bs) (λ n. replaced_after u ms (n + 2) bs)
 unfolding replaced_after
 front_by u ms b bs o e = ap (λ o. used u ms o (b ∷ bs) b (replaced_after u ms 0 bs) (λ n. replaced_after u ms (n + 2) bs)) e
 
@@ -42,14 +43,13 @@ plain_run u ms (b ∷ bs) =
           ∙ ap (λ (ys : List ℕ). b ∷ ys) (plain_run u ms bs) ∙ sym (front_by u ms b bs None (no_use b bs e))
     ]) refl
 
-pub plain_whole : (u : Undefined) (ms : List Macro) (xs : List ℕ) → length xs ≤ position_or_len (λ b. b == 36) xs → replaced u ms xs ≡ xs
+-- a text without a `$` is what it comes to
+pub plain_whole : (u : Undefined) (ms : List Macro) (xs : List ℕ) → is_plain xs ≡ true → replaced u ms xs ≡ xs
 unfolding replaced_after
-plain_whole u ms xs l =
-    let n : ℕ = position_or_len (λ b. b == 36) xs in
-    sym (plain_run u ms xs)
-    ∙ ap (λ (ys : List ℕ). ys ++ replaced u ms (drop n xs)) (take_all n xs l)
-    ∙ ap (λ (ys : List ℕ). xs ++ replaced u ms ys) (drop_all n xs l)
-    ∙ append-nil xs
+plain_whole u ms [] e = refl
+plain_whole u ms (b ∷ bs) e =
+    let here = and_parts (not (b == 36)) (is_plain bs) e in
+    front_by u ms b bs None (no_use b bs (not-true (b == 36) here.0)) ∙ ap (λ (ys : List ℕ). b ∷ ys) (plain_whole u ms bs here.1)
 
 pub behind_first : (xs : List ℕ) → take (length xs - 1) (drop 1 xs) ≡ drop 1 xs
 behind_first [] = refl

@@ -1,5 +1,6 @@
 -- Macros and their uses in a text.
-use Rattle.std.specs.Prelude.{◌≡◌, ℕ, zero, suc, ◌+◌, Bool, ◌&&◌, nat_lt, nat_le, nat_eq, ◌==◌, if◌then◌else◌, List, [], ◌∷◌, ◌++◌, length, take, drop, fold, slice_index, codes, Option, Some, None, unwrap_or}
+use Rattle.std.specs.Prelude.{◌≡◌, ℕ, zero, suc, ◌+◌, Bool, ◌&&◌, nat_lt, nat_le, nat_eq, ◌==◌, not, if◌then◌else◌, List, [], ◌∷◌, ◌++◌, length, take, drop, fold, slice_index, codes, Option, Some, None, unwrap_or}
+use Rattle.std.specs.List.{list_all}
 use Rattle.std.specs.Cmp.Lexicographic.{pointwise}
 use Rattle.build_base.specs.declared.lines.Macro.{Macro}
 use Rattle.meta_lexer.specs.Tokens.{word_size}
@@ -74,6 +75,10 @@ replaced_after u ms zero (b ∷ bs) =
 
 abbrev pub replaced : Undefined → List Macro → List ℕ → List ℕ
 replaced u ms xs = replaced_after u ms 0 xs
+
+-- no `$` stands in the text
+abbrev pub is_plain : List ℕ → Bool
+is_plain text = list_all (λ b. not (b == 36)) text
 
 abbrev pub begins_at_workspace : List ℕ → Bool
 begins_at_workspace field = nat_le 13 (length field)

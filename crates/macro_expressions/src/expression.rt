@@ -1,5 +1,5 @@
 //! Values of expressions.
-ghost use Rattle.std.specs.Prelude.{◌≡◌, ◌<◌, length, IfOk, IfSome, Some, None, map, slice_index, codes, [], ◌∷◌};
+ghost use Rattle.std.specs.Prelude.{◌≡◌, IfOk, Some, map, slice_index};
 ghost use Rattle.std.specs.Option.{option_map};
 ghost use Rattle.std.specs.List.{All};
 ghost use Rattle.build_base.specs.Answer.{Answers, Finds};
@@ -11,8 +11,7 @@ ghost use Rattle.macro_expressions.specs.Macros.{replaced};
 ghost use Rattle.macro_expressions.specs.Scopes.{scope_of};
 ghost use Rattle.macro_expressions.specs.Values.{view};
 ghost use Rattle.macro_expressions.specs.ExpressionTree.{term_view};
-ghost use Rattle.macro_expressions.specs.ExpressionMachine.{run, wanting};
-ghost use Rattle.macro_expressions.specs.Expressions.{numeral, keyword_named, word_symbol, one_mark, mark_before_equals, mark_twice, mark_symbol, symbol_of, symbol_at, symbols_of, answered, value_of_text, detail_of, evaluation, IsMeaningOf};
+ghost use Rattle.macro_expressions.specs.Expressions.{numeral, keyword_named, word_symbol, one_mark, mark_before_equals, mark_twice, mark_symbol, symbol_of, symbol_at, answered, value_of_text, detail_of, evaluation, IsMeaningOf};
 
 use crate::machine::run;
 use crate::macros::{Scope, Undefined, replace};

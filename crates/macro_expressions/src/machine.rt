@@ -1,6 +1,6 @@
 //! A machine that reads the terms of an expression one by one.
 
-ghost use Rattle.std.specs.Prelude.{◌≡◌, ◌≤◌, ◌<◌, ◌+◌, ◌-◌, ◌^◌, List, [], ◌∷◌, Some, None, if◌then◌else◌, map, vec_len, MatchResult, option_map, IfOk, IfSome, IfNone, OnOk, OnErr, ◌≢◌};
+ghost use Rattle.std.specs.Prelude.{◌≡◌, ◌+◌, ◌-◌, [], ◌∷◌, Some, None, if◌then◌else◌, map, option_map, IfOk};
 ghost use Rattle.macro_expressions.specs.Values.{view};
 ghost use Rattle.macro_expressions.specs.ExpressionTree.{term_view};
 ghost use Rattle.macro_expressions.specs.ExpressionMachine.{waits_of, wait_view, settle, reduce, rest, front_of, left_of, top_of, depth_of, wanting, deeper, holding, closed, step, ended, run};

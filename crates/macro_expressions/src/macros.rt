@@ -1,15 +1,13 @@
 //! Macros and their uses in a text.
-ghost use Rattle.std.specs.Prelude.{◌≡◌, ◌==◌, ◌≤◌, ◌+◌, ◌-◌, ◌<◌, true, length, IfOk, IfSome, OnOk, ◌++◌, None, drop, List, ℕ};
-ghost use Rattle.std.specs.List.{position_or_len};
+ghost use Rattle.std.specs.Prelude.{◌≡◌, ◌≤◌, ◌+◌, ◌<◌, length, IfOk, IfSome, OnOk, ◌++◌, None, drop};
 ghost use Rattle.std.specs.Option.{option_map};
-ghost use Rattle.macro_expressions.specs.Macros.{use_at, value_of, undefined, meaning, replaced, begins_at_workspace, without_workspace};
-ghost use Rattle.build_base.specs.declared.lines.Macro.{Macro};
+ghost use Rattle.macro_expressions.specs.Macros.{use_at, value_of, undefined, meaning, replaced, is_plain, begins_at_workspace, without_workspace};
 ghost use Rattle.macro_expressions.specs.Scopes.{scope_of};
 
 use crate::table::{ListedMacros, MacroTable};
 use build_base::WantOfMemory;
 use meta_lexer::token::word_size;
-use meta_lexer::words::is_identifier;
+use meta_lexer::words::{is_identifier, place_of};
 use std::alloc::Global;
 
 /// What stands in a text for the use of a macro that isn't defined: the use as written, or `0`.
@@ -86,19 +84,6 @@ fn write_use(
     }
 }
 
-// How many bytes stand in front of the first `$`.
-fn plain_size(text: &[u8]) -> usize
-    ensures at { result ≡ position_or_len (λ b. b == 36) text.now }
-    ensures within { result ≤ length text.now }
-{
-    for (i, byte) in text.iter().enumerate() {
-        if *byte == b'$' {
-            return i;
-        }
-    }
-    text.len()
-}
-
 // Writes what the front of the text comes to, and answers how many bytes that was: a use of a
 // macro, or all that stands before the next byte that may begin one.
 fn write_front(
@@ -120,7 +105,7 @@ fn write_front(
             Ok(n + 3)
         }
         None => {
-            let plain = plain_size(&rest[1..]) + 1;
+            let plain = place_of(b'$', &rest[1..]) + 1;
             push_bytes(out, &rest[..plain])?;
             Ok(plain)
         }
@@ -145,12 +130,10 @@ pub fn replace(
 }
 
 /// Whether no `$` stands in the text, so that it is what it comes to.
-#[tactic(auto, using(crate::proofs::MacroFronts::plain_whole))]
 pub fn is_plain(text: &[u8]) -> bool
-    ensures { result ≡ true → (u : Undefined) (ms : List Macro)
-        → replaced u ms text.now ≡ text.now }
+    ensures { result ≡ is_plain text.now }
 {
-    plain_size(text) >= text.len()
+    text.iter().all(|byte| *byte != b'$')
 }
 
 fn begins_at_workspace(field: &[u8]) -> bool

@@ -1,7 +1,7 @@
 //! Operands and terms of expressions, and what the operators make of operands.
 
 ghost use Rattle.std.specs.Prelude.{◌≡◌, ◌*◌, ◌/◌, ◌^◌, MatchOption};
-ghost use Rattle.macro_expressions.specs.Values.{view, number, faulty, apply, apply_prefix, kinds_fit, joined, on_numbers, on_texts};
+ghost use Rattle.macro_expressions.specs.Values.{view, number, faulty, apply, apply_prefix, kinds_fit, on_numbers, on_texts};
 ghost use Rattle.build_base.specs.FaultCodes.{VALUE_RANGE};
 
 use crate::operator::{BinaryOperator, PrefixOperator};

@@ -1,5 +1,5 @@
 //! Parts of a text between marks that stand outside quotes, parentheses and braces.
-ghost use Rattle.std.specs.Prelude.{◌≡◌, ℕ, ◌+◌, ◌-◌, ◌<◌, ◌≤◌, ◌^◌, ◌==◌, length, not, IfOk, OnOk, ◌++◌, ◌∷◌, []};
+ghost use Rattle.std.specs.Prelude.{◌≡◌, ◌+◌, ◌-◌, ◌<◌, ◌≤◌, ◌^◌, ◌==◌, length, not, IfOk, OnOk, ◌++◌, ◌∷◌, []};
 ghost use Rattle.std.specs.List.{suffix_len, All};
 ghost use Rattle.meta_lexer.specs.Faults.{ReadsAs};
 ghost use Rattle.meta_lexer.specs.Fields.{fields_of, parts_of, open_view, after, separates, ends_quoted, IsWithin};

@@ -1,5 +1,5 @@
 //! GUIDs as a DEC file has them: numbers in braces.
-ghost use Rattle.std.specs.Prelude.{◌≡◌, ◌<◌, ◌^◌, IfSome};
+ghost use Rattle.std.specs.Prelude.{◌≡◌, ◌<◌, IfSome};
 ghost use Rattle.std.specs.Option.{option_map};
 ghost use Rattle.meta_lexer.specs.GuidBraces.{number_below, first_below, in_braces, bytes_listed, guid_of_fields, guid_of_braces};
 

@@ -1,10 +1,10 @@
 //! Heads of sections, as `[name.qualifier.qualifier, name.qualifier]`.
-ghost use Rattle.std.specs.Prelude.{◌≡◌, ◌<◌, ◌≤◌, ◌==◌, IfOk, length, nat_lt, not, Some, None, if◌then◌else◌};
+ghost use Rattle.std.specs.Prelude.{◌≡◌, ◌==◌, IfOk, length, nat_lt, not, Some, None, if◌then◌else◌};
 ghost use Rattle.std.specs.Option.{option_map};
 ghost use Rattle.std.specs.List.{list_all};
 ghost use Rattle.meta_lexer.specs.Faults.{ReadsAs};
 ghost use Rattle.meta_lexer.specs.Fields.{bytes_at, IsWithin};
-ghost use Rattle.meta_lexer.specs.Heads.{inner, stands_between, is_quoted, without_quotes, part_at, head_of, heads_of, is_head, are_heads, begins_section, section_of};
+ghost use Rattle.meta_lexer.specs.Heads.{inner, stands_between, is_quoted, without_quotes, head_of, heads_of, is_head, begins_section, section_of};
 
 use crate::field::{Span, ends_quoted, split_unquoted};
 use crate::line::trim;

@@ -1,6 +1,6 @@
 //! The lines of a text.
 
-ghost use Rattle.std.specs.Prelude.{◌≡◌, ◌≢◌, ℕ, ◌+◌, ◌-◌, ◌*◌, ◌<◌, ◌≤◌, ◌^◌, List, [], ◌∷◌, length, take, drop, map, IsTrue, false, not, ◌↔◌, ◌⊎◌};
+ghost use Rattle.std.specs.Prelude.{◌≡◌, ℕ, ◌+◌, ◌-◌, ◌<◌, ◌≤◌, ◌^◌, ◌∷◌, length, take, map, IsTrue, false, not, ◌↔◌};
 ghost use Rattle.std.specs.List.{prefix_len, suffix_len, position_or_len};
 ghost use Rattle.meta_lexer.specs.Faults.{ReadsAs};
 ghost use Rattle.build_base.specs.First.{unless};

@@ -1,6 +1,6 @@
 //! Plain numbers.
 
-ghost use Rattle.std.specs.Prelude.{◌≡◌, ℕ, ◌+◌, ◌-◌, ◌*◌, ◌<◌, ◌≤◌, ◌^◌, SomeIff, List, [], ◌∷◌, length, take, drop};
+ghost use Rattle.std.specs.Prelude.{◌≡◌, ◌+◌, ◌*◌, ◌<◌, ◌^◌, SomeIff};
 ghost use Rattle.meta_lexer.specs.Numbers.{number_in, number_of};
 
 /// What the byte stands for as a digit; 16 where it is none.

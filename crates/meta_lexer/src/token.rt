@@ -1,6 +1,6 @@
 //! Tokens of a text: words, numerals, quoted texts and marks.
-ghost use Rattle.std.specs.Prelude.{◌≡◌, ℕ, List, ◌+◌, ◌-◌, ◌<◌, ◌≤◌, ◌^◌, ◌==◌, ◌++◌, min, length, drop, not, IfOk, OnOk};
-ghost use Rattle.std.specs.List.{list_all, prefix_len, position_or_len, All};
+ghost use Rattle.std.specs.Prelude.{◌≡◌, ℕ, List, ◌+◌, ◌<◌, ◌≤◌, ◌^◌, ◌==◌, ◌++◌, length, drop, IfOk, OnOk};
+ghost use Rattle.std.specs.List.{list_all, position_or_len, All};
 ghost use Rattle.meta_lexer.specs.Faults.{ReadsAs};
 ghost use Rattle.meta_lexer.specs.Numbers.{is_digit};
 ghost use Rattle.meta_lexer.specs.Tokens.{is_word_byte, are_digits, is_numeral, is_pair, word_size, quoted_size, mark_size, word_kind, front_of, front_view, tokens_after, tokens_of, quoted_of, token_span};

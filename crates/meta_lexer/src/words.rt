@@ -38,8 +38,8 @@ pub fn is_identifier(text: &[u8]) -> bool
     !text.is_empty() && text.len() <= 64 && has_word_bytes_alone(text) && !begins_with_digit(text)
 }
 
-// Where the mark stands first, or the length.
-fn place(mark: u8, text: &[u8]) -> usize
+/// Where the byte stands first, or the length.
+pub fn place_of(mark: u8, text: &[u8]) -> usize
     ensures at { result ≡ position_or_len (λ b. b == mark) text.now }
     ensures within { result ≤ length text.now }
 {
@@ -56,7 +56,7 @@ fn place(mark: u8, text: &[u8]) -> usize
 pub fn split_once(mark: u8, text: &[u8]) -> Option<(&[u8], &[u8])>
     ensures { option_map (λ p. (p.0.now, p.1.now)) result ≡ split_once mark text.now }
 {
-    let i = place(mark, text);
+    let i = place_of(mark, text);
     if i < text.len() {
         Some((trim(&text[..i]), trim(&text[i + 1..])))
     } else {

@@ -6,7 +6,6 @@ ghost use Rattle.build_base.specs.First.{with_front};
 ghost use Rattle.build_stages.specs.Writing.{given_part};
 ghost use Rattle.step_pack.specs.Keys.{key_cmp};
 ghost use Rattle.step_pack.specs.declared.key.Key.TheVariants as key;
-ghost use Rattle.step_answers.specs.Folders.{path_below};
 ghost use Rattle.output_steps.specs.Outputs.{image_output, image_where, volume_outputs, device_outputs, module_folder, file_output, c_output, h_output, code_outputs, depex_outputs, module_outputs, base_of_out, base_in, has_texts, texts_in, has_bytes, bytes_in, named_in, outputs_in, modules_outputs, vpd_outputs, report_output, outputs_of};
 ghost use Rattle.step_answers.specs.Volumes.{volume_key};
 

@@ -2,7 +2,7 @@
 ghost use Rattle.std.specs.Prelude.{◌≡◌, ◌++◌, ◌∷◌, [], map, filter, IfOk, OnOk, option_copied};
 ghost use Rattle.std.specs.Option.{option_map};
 ghost use Rattle.build_base.specs.Best.{best, over, counted};
-ghost use Rattle.pcd_ranks.specs.Assignments.{Parts, small, one_field, vpd_parts, parts_by, parts_stated, by_declaration, first_default, by_line, by_set, assignments, precedence, height_if, value_height, max_height, value_from, max_from};
+ghost use Rattle.pcd_ranks.specs.Assignments.{small, one_field, vpd_parts, parts_stated, by_declaration, first_default, by_line, by_set, assignments, precedence, value_height, max_height};
 ghost use Rattle.meta_lexer.specs.Numbers.{number_of};
 ghost use Rattle.pcd_ranks.specs.Listing.{applies};
 ghost use Rattle.pcd_ranks.specs.Views.{use_view, stated_view, given_view};

@@ -4,7 +4,6 @@ ghost use Rattle.std.specs.Option.{option_map};
 ghost use Rattle.std.specs.Str.{bytes_eq};
 ghost use Rattle.build_base.specs.Answer.{Answers, Checks};
 ghost use Rattle.meta_lexer.specs.Faults.{first_fault};
-ghost use Rattle.meta_lexer.specs.Numbers.{number_of};
 ghost use Rattle.std.specs.List.{All};
 ghost use Rattle.pcd_values.specs.Skus.{WalkEnds, value_within};
 ghost use Rattle.pcd_resolve.specs.PcdLines.{own_values, sku_row, AreSources, HasTables};

@@ -1,11 +1,11 @@
 //! The faults of a PCD that are no faults of its value.
-ghost use Rattle.std.specs.Prelude.{◌≡◌, ◌∷◌, [], ◌||◌, ◌&&◌, not, map, false, IfSome, Some, codes, option_copied};
+ghost use Rattle.std.specs.Prelude.{◌≡◌, ◌∷◌, [], map, false, IfSome, Some, option_copied};
 ghost use Rattle.std.specs.List.{flat_map, list_any};
 ghost use Rattle.build_base.specs.Answer.{Answers, Checks, Finds};
 ghost use Rattle.build_base.specs.FaultText.{fault_of};
 ghost use Rattle.build_base.specs.First.{first_of};
 ghost use Rattle.meta_lexer.specs.Faults.{first_fault};
-ghost use Rattle.pcd_resolve.specs.Kinds.{claims, claim_of, kind_given, declaration};
+ghost use Rattle.pcd_resolve.specs.Kinds.{claims, claim_of, kind_given};
 ghost use Rattle.pcd_resolve.specs.Faults.{not_declared, datum_text, datum_differs, is_other, is_against, asks_other, datum_conflict, dynamic_in_component, sku_on_fixed, kind_conflict, kind_asked, kind_faults, pcd_fault, checked_kind};
 ghost use Rattle.doc_types.specs.Pcds.{full_name};
 ghost use Rattle.pcd_ranks.specs.Views.{use_view, stated_view};

@@ -1,7 +1,7 @@
 //! The names of which a table has the lines. A table of all lines of a package, made anew for each
 //! module, would cost far more than the lines that the module asks for: so the names that are asked
 //! for are marked, and a line without a mark is passed by.
-ghost use Rattle.std.specs.Prelude.{◌≡◌, false, length, map, replicate, slice_get, OnOk, IfOk};
+ghost use Rattle.std.specs.Prelude.{◌≡◌, false, map, replicate, slice_get, OnOk, IfOk};
 ghost use Rattle.pcd_ranks.specs.Listing.{uses_of_module};
 ghost use Rattle.pcd_resolve.specs.NameFilter.{is_kept, mark_of, no_marks, with_mark, with_marks};
 ghost use Rattle.doc_types.specs.Pcds.{full_name};

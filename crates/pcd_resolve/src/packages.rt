@@ -2,10 +2,10 @@
 ghost use Rattle.std.specs.Prelude.{◌≡◌, ◌++◌, ◌∷◌, [], true, map, filter, fold, IfOk, OnOk};
 ghost use Rattle.std.specs.List.{flat_map, list_any};
 ghost use Rattle.std.specs.Str.{bytes_eq};
-ghost use Rattle.pcd_ranks.specs.Listing.{by_packages, declared_in, declared_for, is_from, of_package, package_lines, packages_in, packages_of, put_once};
+ghost use Rattle.pcd_ranks.specs.Listing.{by_packages, declared_in, declared_for, is_from, of_package, packages_in, packages_of, put_once};
 ghost use Rattle.pcd_resolve.specs.NameFilter.{is_kept};
 ghost use Rattle.pcd_ranks.specs.Names.{covers};
-ghost use Rattle.pcd_resolve.specs.Tables.{declared_name, IsTabled};
+ghost use Rattle.pcd_resolve.specs.Tables.{IsTabled};
 ghost use Rattle.pcd_ranks.specs.Views.{declared_view};
 
 use crate::groups::group;

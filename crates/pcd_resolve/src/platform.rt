@@ -1,5 +1,5 @@
 //! The values of a platform's dynamic PCDs.
-ghost use Rattle.std.specs.Prelude.{◌≡◌, ◌&&◌, ◌||◌, Some, map, filter, IfOk};
+ghost use Rattle.std.specs.Prelude.{◌≡◌, Some, map, filter, IfOk};
 ghost use Rattle.std.specs.List.{All, list_any};
 ghost use Rattle.build_base.specs.Answer.{Answers, Checks};
 ghost use Rattle.pcd_values.specs.Skus.{WalkEnds};

@@ -6,7 +6,7 @@ ghost use Rattle.pcd_ranks.specs.Listing.{stated_in, uses_of_module};
 ghost use Rattle.pcd_resolve.specs.NameFilter.{is_kept};
 ghost use Rattle.pcd_resolve.specs.ModuleLines.{HoldsModule};
 ghost use Rattle.pcd_resolve.specs.Rows.{all_rows, module_values, names_of, rows_in, sets_in};
-ghost use Rattle.pcd_resolve.specs.Tables.{AllKept, IsTabled, row_name, set_name, stated_name, use_name};
+ghost use Rattle.pcd_resolve.specs.Tables.{AllKept, IsTabled, set_name, stated_name, use_name};
 ghost use Rattle.pcd_ranks.specs.Views.{stated_view, use_view};
 
 use crate::groups::group;

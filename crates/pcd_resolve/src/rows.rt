@@ -1,9 +1,7 @@
 //! The rows of one PCD.
-ghost use Rattle.std.specs.Prelude.{◌≡◌, ◌≤◌, ◌∷◌, [], map, length, IfOk, Some, codes, option_copied};
+ghost use Rattle.std.specs.Prelude.{◌≡◌, ◌≤◌, ◌∷◌, [], map, length, IfOk, Some, option_copied};
 ghost use Rattle.std.specs.Option.{option_map};
 ghost use Rattle.build_base.specs.Answer.{Answers};
-ghost use Rattle.pcd_ranks.specs.Assignments.{Assignment, value_from};
-ghost use Rattle.pcd_resolve.specs.Kinds.{declaration};
 ghost use Rattle.pcd_resolve.specs.Rows.{stated_max, maximum, row, row_by, row_of, fixed_row, rows_by_kind, rows_of};
 ghost use Rattle.pcd_ranks.specs.Views.{given_view, stated_view, use_view};
 

@@ -4,7 +4,7 @@ ghost use Rattle.std.specs.List.{list_any};
 ghost use Rattle.std.specs.Str.{bytes_eq};
 ghost use Rattle.build_base.specs.Answer.{Checks};
 ghost use Rattle.meta_lexer.specs.Faults.{first_fault};
-ghost use Rattle.pcd_resolve.specs.Platform.{is_all, is_chosen, sku_unknown, wanted};
+ghost use Rattle.pcd_resolve.specs.Platform.{is_all, is_chosen, sku_unknown};
 
 use build_base::fault_codes::SKU_UNKNOWN;
 use build_base::{Refusal, Text, WantOfMemory, refuse};

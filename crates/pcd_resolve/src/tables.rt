@@ -1,8 +1,7 @@
 //! Tables of lines by the names of their PCDs, where these are marked.
-ghost use Rattle.std.specs.Prelude.{◌≡◌, ◌++◌, List, Some, None, map, IfOk, OnOk};
+ghost use Rattle.std.specs.Prelude.{◌++◌, List, Some, None, map, IfOk, OnOk};
 ghost use Rattle.std.specs.List.{flat_map};
 ghost use Rattle.std.specs.Option.{option_map};
-ghost use Rattle.doc_types.specs.declared.platform.Component.{Component as Home};
 ghost use Rattle.doc_types.specs.declared.pcd.PcdSet.{PcdSet as Set};
 ghost use Rattle.doc_types.specs.declared.values.PcdRow.{PcdRow as Row};
 ghost use Rattle.doc_types.specs.Pcds.{full_name};

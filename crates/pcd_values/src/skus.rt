@@ -1,7 +1,5 @@
 //! The value of a SKU.
-ghost use Rattle.std.specs.Prelude.{◌≡◌, ◌+◌, length, option_copied};
-ghost use Rattle.std.specs.Option.{option_map};
-ghost use Rattle.std.specs.Str.{bytes_eq};
+ghost use Rattle.std.specs.Prelude.{◌≡◌, option_copied};
 ghost use Rattle.doc_types.specs.SkuWalks.{stated_parent, parent};
 ghost use Rattle.pcd_values.specs.Skus.{own_value, value_within, WalkEnds, IsSkuValue};
 

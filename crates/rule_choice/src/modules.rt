@@ -1,8 +1,6 @@
 //! The architecture of a module in a volume.
-ghost use Rattle.std.specs.Prelude.{◌≡◌, ◌++◌, ◌∷◌, [], IfOk, OnOk, Some, not};
-ghost use Rattle.std.specs.List.{list_any, flat_map};
+ghost use Rattle.std.specs.Prelude.{◌≡◌, ◌++◌, IfOk, OnOk, Some};
 ghost use Rattle.build_base.specs.Answer.{Answers, Finds};
-ghost use Rattle.rule_choice.specs.Rules.{same_arch};
 ghost use Rattle.rule_choice.specs.Modules.{having_one, having, other_arch, no_component, is_among, only_arch, arch_among, inf_arch};
 
 use build_base::fault_codes::{ARCH_AMBIGUOUS, NOT_A_COMPONENT};

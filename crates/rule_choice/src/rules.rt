@@ -2,7 +2,7 @@
 ghost use Rattle.std.specs.Prelude.{◌≡◌, ◌++◌, IfOk, OnOk, codes};
 ghost use Rattle.std.specs.List.{position};
 ghost use Rattle.build_base.specs.Answer.{Answers};
-ghost use Rattle.rule_choice.specs.Rules.{arch_text, type_text, same_arch, is_for, rule_place, rule_name, rule_of};
+ghost use Rattle.rule_choice.specs.Rules.{arch_text, type_text, is_for, rule_place, rule_name, rule_of};
 
 use build_base::fault_codes::RULE_ABSENT;
 use build_base::{Refusal, Text, WantOfMemory, refuse};

@@ -1,6 +1,6 @@
 //! What the steps that were asked gave, by the answers of a stage.
 ghost use Rattle.step_answers.specs.Readers.{or_impossible, platform_of_out, platform_in, flash_of_out, flash_in, choice_of_out, choice_in, inf_of_out, inf_in, values_of_out, values_in};
-ghost use Rattle.std.specs.Prelude.{◌≡◌, IfOk, nat_eq, true, Ok};
+ghost use Rattle.std.specs.Prelude.{◌≡◌, IfOk, nat_eq, true};
 ghost use Rattle.step_pack.specs.declared.out.Out.TheVariants as out;
 ghost use Rattle.build_stages.specs.Gives.{GivesIn};
 ghost use Rattle.std.specs.Cmp.Lexicographic.{pointwise};

@@ -1,6 +1,6 @@
 //! The modules of a build, and what the words say of its PCDs.
-ghost use Rattle.step_answers.specs.Settings.{arches_built_in, named_arches, stated_guid, same_arch, has_arch, put_arch, each_once, built_arches, module_where, modules_for, modules_of, is_supported, arch_unsupported, skus_fault, named_skus, command_line_pcds, arches_built, built_modules, words_checked, setting_by, setting_of};
-ghost use Rattle.std.specs.Prelude.{◌≡◌, ◌<◌, ◌++◌, ◌+◌, IfOk, OnOk, Ok, None};
+ghost use Rattle.step_answers.specs.Settings.{arches_built_in, named_arches, stated_guid, has_arch, put_arch, each_once, built_arches, module_where, modules_for, modules_of, is_supported, arch_unsupported, skus_fault, named_skus, command_line_pcds, arches_built, built_modules, words_checked, setting_by, setting_of};
+ghost use Rattle.std.specs.Prelude.{◌≡◌, ◌++◌, ◌+◌, IfOk, OnOk, Ok};
 ghost use Rattle.build_base.specs.Answer.{Checks};
 ghost use Rattle.build_base.specs.First.{or_fault};
 ghost use Rattle.meta_lexer.specs.Faults.{first_fault};

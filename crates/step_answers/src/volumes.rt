@@ -1,5 +1,5 @@
 //! The volumes of a flash description by their numbers, and the steps that make them.
-ghost use Rattle.std.specs.Prelude.{◌≡◌, ◌<◌, Err};
+ghost use Rattle.std.specs.Prelude.{◌≡◌};
 ghost use Rattle.std.specs.Option.{option_copied};
 ghost use Rattle.step_answers.specs.Volumes.{is_based, volume_key, step_by, volume_step, fits_u16, item_of_number, volume_at};
 ghost use Rattle.build_stages.specs.Gives.{GivesIn};

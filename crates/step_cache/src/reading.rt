@@ -1,5 +1,5 @@
 //! A cache from its text.
-ghost use Rattle.std.specs.Prelude.{◌≡◌, ◌≤◌, ◌^◌, true, false, List, ℕ, length, nat_lt, take, drop, IfOk, MatchOption};
+ghost use Rattle.std.specs.Prelude.{◌≡◌, ◌≤◌, ◌^◌, true, false, List, length, nat_lt, take, drop, IfOk, MatchOption};
 ghost use Rattle.step_cache.specs.CacheText.{head_of, is_edition, IsNoText, IsNoTextOf, IsTextOf};
 ghost use Rattle.step_cache.specs.Checking.{are_used, ascend, IsCacheOf};
 ghost use Rattle.step_cache.specs.Decoding.{AreDecoded};

@@ -1,5 +1,5 @@
 //! The packed form of keys.
-ghost use Rattle.std.specs.Prelude.{◌≡◌, ◌∷◌, ◌++◌, [], IfOk, OnOk};
+ghost use Rattle.std.specs.Prelude.{◌≡◌, ◌++◌, IfOk, OnOk};
 ghost use Rattle.step_pack.specs.Packed.{packed_number, packed_path, packed_module, packed};
 
 use crate::key::Key;

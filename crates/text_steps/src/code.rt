@@ -3,7 +3,6 @@ ghost use Rattle.std.specs.Prelude.{◌≡◌, IfOk};
 ghost use Rattle.build_base.specs.Answer.{Answers};
 ghost use Rattle.build_stages.specs.Gives.{GivesIn};
 ghost use Rattle.build_texts.specs.Code.{code_texts};
-ghost use Rattle.step_answers.specs.Settings.{stated_guid};
 ghost use Rattle.text_steps.specs.Code.{own_guid, file_guid, code_ask, code_given};
 
 use build_base::together::two;

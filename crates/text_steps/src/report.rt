@@ -4,7 +4,6 @@ ghost use Rattle.build_stages.specs.Gives.{GivesIn};
 ghost use Rattle.step_answers.specs.Settings.{named_skus};
 ghost use Rattle.pcd_resolve.specs.Platform.{is_chosen, wanted};
 ghost use Rattle.text_steps.specs.Report.{report_modules, report_skus, heading_of, module_report, report_in, reports_in, report_ask, text_of, report_given};
-ghost use Rattle.step_answers.specs.Readers.{values_in};
 
 use build_base::together::{three, two};
 use build_base::{Rows, Same, Text, WantOfMemory};

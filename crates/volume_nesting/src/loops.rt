@@ -1,9 +1,8 @@
 //! Volumes that hold themselves, by any number of steps.
-ghost use Rattle.std.specs.Prelude.{◌≡◌, ◌∷◌, ◌++◌, [], ℕ, ◌+◌, ◌||◌, List, Some, None, true, false, IfOk, OnOk, get_or, length};
+ghost use Rattle.std.specs.Prelude.{◌≡◌, ◌∷◌, [], ℕ, ◌+◌, true, IfOk, OnOk};
 ghost use Rattle.std.specs.List.{flat_map};
 ghost use Rattle.std.specs.BTreeSet.{contains};
-ghost use Rattle.std.specs.Ordering.{nat_cmp};
-ghost use Rattle.volume_nesting.specs.Numbering.{has, nest_of, is_loop, first_loop};
+ghost use Rattle.volume_nesting.specs.Numbering.{nest_of, is_loop, first_loop};
 ghost use Rattle.volume_nesting.specs.Looping.{Saw, Reached, rank_at, falls, all_fall, stays, may_loop};
 
 use crate::numbering::{insert, nest_of};

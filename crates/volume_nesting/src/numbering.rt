@@ -1,7 +1,6 @@
 //! The numbers of volumes: a volume comes behind those that it holds.
-ghost use Rattle.std.specs.Prelude.{◌≡◌, ◌∷◌, ◌++◌, [], ℕ, ◌<◌, ◌≤◌, List, Some, None, true, false, cond, nat_eq, take, drop, get_or, length, unwrap_or, IfOk, OnOk, IfSome, IfNone};
+ghost use Rattle.std.specs.Prelude.{◌≡◌, ◌∷◌, ◌++◌, [], ℕ, ◌<◌, ◌≤◌, List, Some, None, true, false, cond, nat_eq, take, get_or, length, unwrap_or, IfOk, OnOk, IfSome, IfNone};
 ghost use Rattle.std.specs.HashMap.{get};
-ghost use Rattle.std.specs.List.{list_any};
 ghost use Rattle.std.specs.BTreeSet.{contains};
 ghost use Rattle.std.specs.Ordering.{nat_cmp};
 ghost use Rattle.volume_nesting.specs.Numbering.{has, nest_of, all_among, next_in, topological_order};

@@ -1,5 +1,5 @@
 //! The lines of a listing.
-ghost use Rattle.std.specs.Prelude.{◌≡◌, ◌<◌, true, ◌++◌, OnOk, if◌then◌else◌};
+ghost use Rattle.std.specs.Prelude.{◌≡◌, ◌<◌, true, ◌++◌, OnOk};
 ghost use Rattle.std.specs.Fmt.{digit_glyph};
 ghost use Rattle.volume_reader.specs.Lines.{hex, two_digits, guid_text, blanks, file_system_word, volume_line, pad_line, file_line, section_line, free_line};
 

@@ -1,5 +1,5 @@
 //! The sections of a file (UEFI PI specification, volume 3, section 3.2.4).
-ghost use Rattle.std.specs.Prelude.{◌≡◌, ◌≤◌, ◌<◌, ◌+◌, ◌^◌, ◌==◌, false, IsTrue, IfOk, drop, length};
+ghost use Rattle.std.specs.Prelude.{◌≡◌, ◌≤◌, ◌<◌, ◌+◌, ◌^◌, ◌==◌, false, IsTrue, IfOk, length};
 ghost use Rattle.std.specs.List.{list_all};
 ghost use Rattle.ffs_sections.specs.Sections.{up4};
 ghost use Rattle.volume_reader.specs.Sections.{short_size, section_kind, extended_size, is_extended, section_size, content_at, has_size_form, is_section, HasFields, IsNext, listed_section, follows, sections_of};

@@ -1,6 +1,6 @@
 //! What the steps of volumes and devices ask, once the flash description is known.
 ghost use Rattle.std.specs.Prelude.{◌≡◌, ◌++◌, ◌<◌, not, length, IfOk, OnOk};
-ghost use Rattle.step_answers.specs.Volumes.{volume_step, fits_u16};
+ghost use Rattle.step_answers.specs.Volumes.{volume_step};
 ghost use Rattle.volume_steps.specs.Asks.{is_apriori, numbers_where, file_order, item_asks, is_vpd, kind_asks, region_asks, kind_below, regions_below};
 
 use build_base::{Path, Rows, WantOfMemory};

@@ -1,8 +1,7 @@
 //! The steps of volumes and devices.
-ghost use Rattle.std.specs.Prelude.{◌<◌, true, false, Err, length};
+ghost use Rattle.std.specs.Prelude.{◌<◌, true, false, length};
 ghost use Rattle.build_stages.specs.Gives.{GivesIn};
 ghost use Rattle.step_answers.specs.Readers.{AdvancesTo};
-ghost use Rattle.step_answers.specs.Volumes.{item_of_number, volume_at};
 ghost use Rattle.volume_steps.specs.VolumeTrees.{device_at, image_by, plan_stages, volume_from, volume_stages, vpd_path, vpd_in, regions_stages, device_from, device_stages};
 
 use crate::asks::{item_asks, region_asks, regions_below};

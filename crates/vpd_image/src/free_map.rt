@@ -1,5 +1,5 @@
 //! What of the image is taken.
-ghost use Rattle.std.specs.Prelude.{◌≡◌, ◌<◌, ◌≤◌, ◌+◌, ◌*◌, ◌^◌, ◌++◌, ◌∷◌, [], List, true, not, length, take, drop, OnOk};
+ghost use Rattle.std.specs.Prelude.{◌≡◌, ◌<◌, ◌≤◌, ◌+◌, ◌*◌, ◌++◌, ◌∷◌, [], List, true, not, length, take, drop, OnOk};
 ghost use Rattle.std.specs.List.{AllByRecursion, insert, list_any};
 ghost use Rattle.vpd_image.specs.Places.{Placed, align_of, size_of, is_free, least_place};
 ghost use Rattle.vpd_image.specs.Rooms.{meets, AreLaid, AreBelow, room_limit, first_multiple, slot, least_size, IsNext, IsRoom, Holds};

@@ -1,5 +1,5 @@
 //! The bytes of the image, and the text that lists what stands in it.
-ghost use Rattle.std.specs.Prelude.{◌≡◌, ◌≤◌, ◌<◌, ◌^◌, ◌++◌, ◌∷◌, [], map, decimal, IfOk, OnOk};
+ghost use Rattle.std.specs.Prelude.{◌≡◌, ◌<◌, ◌^◌, ◌++◌, ◌∷◌, [], map, decimal, IfOk, OnOk};
 ghost use Rattle.std.specs.List.{flat_map};
 ghost use Rattle.build_base.specs.Pieces.{put_pieces};
 ghost use Rattle.std.specs.Int.{w32, to_le_bytes};

@@ -1,6 +1,6 @@
 //! The names by which the values of PCDs for SKUs are told.
 ghost use Rattle.std.specs.Prelude.{◌≡◌, ◌++◌, IfOk, OnOk};
-ghost use Rattle.vpd_image.specs.Entries.{or_default, sku_of, label, line_label, row_label};
+ghost use Rattle.vpd_image.specs.Entries.{sku_of, label, line_label, row_label};
 
 use build_base::WantOfMemory;
 use doc_types::pcd::PcdName;

@@ -1,11 +1,10 @@
 //! Where the entries stand.
-ghost use Rattle.std.specs.Prelude.{◌≡◌, ◌<◌, ◌≤◌, ◌+◌, ◌^◌, ◌++◌, ◌∷◌, [], List, Some, find, map, codes, decimal, min, max, IfOk, OnOk};
+ghost use Rattle.std.specs.Prelude.{◌≡◌, ◌<◌, ◌+◌, ◌^◌, ◌++◌, ◌∷◌, [], Some, find, map, codes, decimal, IfOk, OnOk};
 ghost use Rattle.std.specs.Option.{option_map};
-ghost use Rattle.build_base.specs.Answer.{AnswersAs, Checks, Finds};
+ghost use Rattle.build_base.specs.Answer.{Checks, Finds};
 ghost use Rattle.build_base.specs.FaultText.{fault_of};
-ghost use Rattle.build_base.specs.First.{unless};
-ghost use Rattle.vpd_image.specs.Places.{Placed, size_of, align_of, end_of, shares, share, placed_if, written_entries, least_place, placed_before, placed_next, placed_from, overlap_of, overlap_with, overlap_fault, end_fault, long_fault};
-ghost use Rattle.vpd_image.specs.Rooms.{IsRoom, Holds};
+ghost use Rattle.vpd_image.specs.Places.{end_of, shares, share, placed_if, written_entries, overlap_of, overlap_with, overlap_fault, end_fault, long_fault};
+ghost use Rattle.vpd_image.specs.Rooms.{Holds};
 ghost use Rattle.vpd_image.specs.Tables.{entry_view, placed_view};
 ghost use Rattle.build_base.specs.FaultCodes.{VPD_OVERLAP, VPD_TOO_LONG};
 

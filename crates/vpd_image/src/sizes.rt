@@ -1,5 +1,5 @@
 //! How many bytes entries have, and how they are aligned.
-ghost use Rattle.std.specs.Prelude.{◌≡◌, ◌<◌, ◌≤◌, ◌^◌};
+ghost use Rattle.std.specs.Prelude.{◌≡◌, ◌<◌, ◌≤◌};
 ghost use Rattle.vpd_image.specs.Places.{size_of, align_of, offset_in};
 ghost use Rattle.vpd_image.specs.Rooms.{least_size};
 

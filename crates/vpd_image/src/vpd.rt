@@ -4,7 +4,7 @@ ghost use Rattle.build_base.specs.Answer.{Answers, AnswersAs};
 ghost use Rattle.vpd_image.specs.Orders.{Apart};
 ghost use Rattle.vpd_image.specs.Places.{in_order, placed_by, written_entries};
 ghost use Rattle.vpd_image.specs.Tables.{entry_view, placed_view};
-ghost use Rattle.vpd_image.specs.Vpd.{entries_of, vpd_from, vpd_by, vpd_of, AreApart, AreRead, AreReadOf};
+ghost use Rattle.vpd_image.specs.Vpd.{vpd_from, vpd_by, vpd_of, AreApart, AreRead, AreReadOf};
 
 use crate::ask::VpdAsk;
 use crate::free_map::FreeMap;

@@ -1,5 +1,5 @@
 //! Laws of the image of vital product data, and of the rows that it is made of.
-ghost use Rattle.std.specs.Prelude.{◌≡◌, ℕ, List, All, Ok, map};
+ghost use Rattle.std.specs.Prelude.{◌≡◌, List, All, Ok, map};
 ghost use Rattle.doc_types.specs.declared.asks.ModuleAsk.{ModuleAsk};
 ghost use Rattle.doc_types.specs.declared.asks.PlatformAsk.{PlatformAsk};
 ghost use Rattle.doc_types.specs.declared.values.Values.{Values};

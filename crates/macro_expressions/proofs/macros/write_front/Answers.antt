@@ -10,6 +10,6 @@ returns-in_ok-write_use-in-Some-clause-text c = written_front c.args.undefined (
 
 pub returns-in_ok-push_bytes-in-None-clause-text : goal.returns-in_ok-push_bytes-in-None-clause-text
 returns-in_ok-push_bytes-in-None-clause-text c =
-    let n : ℕ = c.plain_size-plain.result in
+    let n : ℕ = c.place_of-plain.result in
     written_front c.args.undefined (scope_of c.args.scope) c.args.out.now.items c.push_bytes.new.out.items (take (n + 1) c.args.rest.now) c.args.rest.now (drop (n + 1) c.args.rest.now) c.in_ok-push_bytes-in-None.ensures
-    (rw (c.plain_size-plain.ensures.at ∙ ap (position_or_len (λ b. b == 36)) (behind_first c.args.rest.now)) (front_plain c.args.undefined (scope_of c.args.scope) c.args.rest.now c.requires (sym c.in-None.ensures.at)))
+    (rw (c.place_of-plain.ensures.at ∙ ap (position_or_len (λ b. b == 36)) (behind_first c.args.rest.now)) (front_plain c.args.undefined (scope_of c.args.scope) c.args.rest.now c.requires (sym c.in-None.ensures.at)))
