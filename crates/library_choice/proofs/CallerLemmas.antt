@@ -7,10 +7,10 @@ use Rattle.std.proofs.lemmas.List.Elements.{All-cons}
 use Rattle.doc_types.specs.declared.module.InfDoc.{InfDoc}
 use Rattle.library_calls.specs.declared.caller.WithCalls.{WithCalls}
 use Rattle.library_choice.specs.Choices.{has_call, caller_of, caller_in, callers}
-use Rattle.library_choice.specs.Closure.{known, same_path}
+use Rattle.library_choice.specs.Closure.{known, next, same_path}
 use Rattle.library_choice.specs.Found.{is_in}
 use Rattle.library_choice.specs.Lines.{Setting}
-use Rattle.library_choice.specs.Reaching.{IsWithin, IsWhole}
+use Rattle.library_choice.specs.Reaching.{IsWithin, IsWhole, AreFound}
 use Rattle.library_choice.proofs.PathLemmas.{path_same}
 use Rattle.library_choice.proofs.ReachLemmas.{or-left, or-right}
 
@@ -39,17 +39,24 @@ caller-known : (infs : List InfDoc) (path : List ℕ) (o : Option InfDoc) → kn
 caller-known infs path None k c e = absurd (cc)
 caller-known infs path (Some inf) k c e = caller-path inf (has_call inf) c e ∙ known-path infs path inf k
 
-all-kept : (P : WithCalls → Type 0) (o : Option WithCalls) (rest : List WithCalls) → ((c : WithCalls) → o ≡ Some c → P c) → All P rest → All P (cons_option o rest)
-all-kept P None rest f h = h
-all-kept P (Some c) rest f h = All-cons P c rest (f c refl) h
+all-kept : (found : List (List ℕ)) (o : Option WithCalls) (rest : List WithCalls) → ((c : WithCalls) → o ≡ Some c → is_in same_path found c.inf ≡ true) → AreFound found rest → AreFound found (cons_option o rest)
+all-kept found None rest f h = h
+all-kept found (Some c) rest f h = (f c refl, h)
 
-among : (infs : List InfDoc) (found xs : List (List ℕ)) → ((x : List ℕ) → is_in same_path xs x ≡ true → is_in same_path found x ≡ true) → All (λ (c : WithCalls). is_in same_path found c.inf ≡ true) (callers infs xs)
-among infs found [] f = λ k d h. absurd (omega arith)
+among : (infs : List InfDoc) (found xs : List (List ℕ)) → ((x : List ℕ) → is_in same_path xs x ≡ true → is_in same_path found x ≡ true) → AreFound found (callers infs xs)
+among infs found [] f = tt
 among infs found (x ∷ xs) f =
-    all-kept (λ (c : WithCalls). is_in same_path found c.inf ≡ true) (caller_in (known infs x)) (callers infs xs)
+    all-kept found (caller_in (known infs x)) (callers infs xs)
     (λ c e. subst (λ p. is_in same_path found p ≡ true) (sym (caller-known infs x (known infs x) refl c e)) (f x (or-left (same_path x x) (is_in same_path xs x) (path_same.itself x))))
     (among infs found xs (λ z h. f z (or-right (same_path x z) (is_in same_path xs z) h)))
 
-pub callers_within : (s : Setting) (found : List (List ℕ)) → IsWhole s found → All (λ (c : WithCalls). IsWithin s c.inf) (callers s.infs found)
-callers_within s found w = λ k d h.
-    record { found = found; closed = w.closed; few = w.few; there = among s.infs found found (λ x e. e) k d h }
+pub callers_found : (infs : List InfDoc) (found : List (List ℕ)) → AreFound found (callers infs found)
+callers_found infs found = among infs found found (λ x e. e)
+
+within_all : (s : Setting) (found : List (List ℕ)) → IsWhole s found → (cs : List WithCalls) → AreFound found cs → All (λ (c : WithCalls). IsWithin same_path (next s) c.inf) cs
+within_all s found w [] h = λ k d h. absurd (omega arith)
+within_all s found w (c ∷ cs) h =
+    All-cons (λ (c : WithCalls). IsWithin same_path (next s) c.inf) c cs (record { found = found; closed = w.closed; few = w.few; there = h.0 }) (within_all s found w cs h.1)
+
+pub callers_within : (s : Setting) (found : List (List ℕ)) → IsWhole s found → All (λ (c : WithCalls). IsWithin same_path (next s) c.inf) (callers s.infs found)
+callers_within s found w = within_all s found w (callers s.infs found) (callers_found s.infs found)

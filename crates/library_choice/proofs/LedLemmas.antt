@@ -1,14 +1,10 @@
 -- To what one leads.
-use Rattle.std.proofs.Common.{◌≡◌, ◌∙◌, ◌||◌, ℕ, Bool, true, false, cond, List, [], ◌∷◌, ◌++◌, map, refl, sym, ap, subst, arith}
+use Rattle.std.proofs.Common.{◌≡◌, ◌∙◌, ◌||◌, ℕ, Bool, true, false, cond, nat_eq, List, [], ◌∷◌, ◌++◌, map, refl, sym, ap, subst, arith}
 use Rattle.std.proofs.lemmas.List.Folds.{list_any-append}
-use Rattle.library_calls.specs.declared.caller.WithCalls.{WithCalls}
-use Rattle.library_choice.specs.Choices.{leads}
-use Rattle.library_choice.specs.Closure.{next, same_path}
 use Rattle.library_choice.specs.Found.{is_in, put, add, ends}
-use Rattle.library_choice.specs.Lines.{Setting}
-use Rattle.library_choice.specs.Reaching.{LedTo}
+use Rattle.library_choice.specs.Reaching.{LedTo, next_at, leads_at}
 use Rattle.library_choice.specs.Search.{Same}
-use Rattle.library_choice.proofs.PathLemmas.{path_same}
+use Rattle.library_choice.proofs.PathLemmas.{number_same}
 
 or-false : (a : Bool) → a || false ≡ a
 or-false true = refl
@@ -35,9 +31,9 @@ in-add eq s b (y ∷ ys) x =
     in-add eq s (put eq b y) ys x ∙ ap (λ v. v || is_in eq ys x) (in-put eq s b y x (is_in eq b y) refl) ∙ or-shift (is_in eq b x) (eq y x) (is_in eq ys x)
 
 -- a row of what was reached
-pub row-led : (s : Setting) (from : List ℕ) (found : List (List ℕ)) → LedTo s from found → (cs : List WithCalls) → map (λ (x : WithCalls). is_in same_path found x.inf) cs ≡ map (λ (x : WithCalls). leads s from x.inf) cs
-unfolding leads
-row-led s from found led [] = refl
-row-led s from found led (c ∷ cs) =
-    ap (λ v. v ∷ map (λ (x : WithCalls). is_in same_path found x.inf) cs) (ap (λ l. is_in same_path l c.inf) (sym (led 1025 (omega arith))) ∙ in-add same_path path_same [] (ends (next s) (next s from) 1025) c.inf)
-    ∙ ap (λ l. leads s from c.inf ∷ l) (row-led s from found led cs)
+pub row-led : (nexts : List (List ℕ)) (from : ℕ) (found : List ℕ) → LedTo nat_eq (next_at nexts) from found → (xs : List ℕ) → map (is_in nat_eq found) xs ≡ map (leads_at nexts from) xs
+unfolding leads_at
+row-led nexts from found led [] = refl
+row-led nexts from found led (x ∷ xs) =
+    ap (λ v. v ∷ map (is_in nat_eq found) xs) (ap (λ l. is_in nat_eq l x) (sym (led 1025 (omega arith))) ∙ in-add nat_eq number_same [] (ends (next_at nexts) (next_at nexts from) 1025) x)
+    ∙ ap (λ l. leads_at nexts from x ∷ l) (row-led nexts from found led xs)

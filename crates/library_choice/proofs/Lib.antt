@@ -11,6 +11,7 @@ pub mod MadeLemmas
 pub mod MoreLemmas
 pub mod NullLemmas
 pub mod PathLemmas
+pub mod PlaceLemmas
 pub mod ReachLemmas
 pub mod RoundLemmas
 pub mod SaturationLemmas

@@ -29,7 +29,7 @@ not-is false e = refl
 not-is true e = absurd (cc)
 
 -- walks of 1,025 steps are enough
-enough : (s : Setting) (y x : List ℕ) (n : ℕ) → IsWithin s y → 1025 ≤ n → is_in same_path (ends (next s) (next s y) n) x ≡ true → leads s y x ≡ true
+enough : (s : Setting) (y x : List ℕ) (n : ℕ) → IsWithin same_path (next s) y → 1025 ≤ n → is_in same_path (ends (next s) (next s y) n) x ≡ true → leads s y x ≡ true
 unfolding leads
 enough s y x n w h there =
     let few : (m : ℕ) → length (add same_path [] (ends (next s) (next s y) m)) ≤ 1024 = λ m. omega (arith, led-few same_path path_same (next s) w.found y w.closed w.there m, w.few) in
@@ -37,7 +37,7 @@ enough s y x n w h there =
     ∙ ap (λ l. is_in same_path l x) (sym (saturated same_path path_same (next s) (next s y) few n h))
     ∙ in-add same_path path_same [] (ends (next s) (next s y) n) x ∙ there
 
-leads-on : (s : Setting) (z y x : List ℕ) → IsWithin s z → leads s z y ≡ true → leads s y x ≡ true → leads s z x ≡ true
+leads-on : (s : Setting) (z y x : List ℕ) → IsWithin same_path (next s) z → leads s z y ≡ true → leads s y x ≡ true → leads s z x ≡ true
 unfolding leads
 leads-on s z y x w a b = enough s z x (1025 + 1025) w (omega arith) (onward same_path path_same (next s) (next s z) 1025 1025 y x a b)
 
@@ -96,7 +96,7 @@ tell s cs d x y x_in y_in other l =
     ap (λ v. not v && get_or (get_or (reach s cs) y []) x false) other
     ∙ ap (λ (r : List Bool). get_or r x false) (row-at s cs d y y_in) ∙ cell-at s cs d x (get_or cs y d) x_in ∙ l
 
-on-by : (s : Setting) (cs : List WithCalls) (d : WithCalls) → All (λ (c : WithCalls). IsWithin s c.inf) cs → (x y z : ℕ) → before (reach s cs) x y ≡ true → before (reach s cs) y z ≡ true → before (reach s cs) x z ≡ false → (v : Bool) → (x == z) ≡ v → x ≡ z
+on-by : (s : Setting) (cs : List WithCalls) (d : WithCalls) → All (λ (c : WithCalls). IsWithin same_path (next s) c.inf) cs → (x y z : ℕ) → before (reach s cs) x y ≡ true → before (reach s cs) y z ≡ true → before (reach s cs) x z ≡ false → (v : Bool) → (x == z) ≡ v → x ≡ z
 on-by s cs d all x y z a b c true e = eqb-true x z e
 on-by s cs d all x y z a b c false e =
     let p = told s cs d x y a in
@@ -156,7 +156,7 @@ itself : (s : Setting) (cs : List WithCalls) (x : ℕ) → before (reach s cs) x
 unfolding before
 itself s cs x = ap (λ v. not v && get_or (get_or (reach s cs) x []) x false) (eq-eqb x x refl)
 
-pub sortable : (s : Setting) (cs : List WithCalls) → All (λ (c : WithCalls). IsWithin s c.inf) cs → loop_fault (reach s cs) cs ≡ None → Sortable (before (reach s cs)) (places cs)
+pub sortable : (s : Setting) (cs : List WithCalls) → All (λ (c : WithCalls). IsWithin same_path (next s) c.inf) cs → loop_fault (reach s cs) cs ≡ None → Sortable (before (reach s cs)) (places cs)
 sortable s cs all h = record {
   itself = itself s cs;
   one_way = one-way s cs h;

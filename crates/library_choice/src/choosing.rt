@@ -1,5 +1,5 @@
 //! The choice for a module.
-ghost use Rattle.std.specs.Prelude.{◌≡◌, [], true, IfOk, OnOk, Some, codes};
+ghost use Rattle.std.specs.Prelude.{◌≡◌, [], true, OnOk, Some, codes};
 ghost use Rattle.std.specs.List.{filter_map};
 ghost use Rattle.build_base.specs.Answer.{Answers, Finds as Faulty};
 ghost use Rattle.build_base.specs.FaultText.{fault_of};
@@ -13,6 +13,7 @@ ghost use Rattle.library_choice.specs.Search.{Finds};
 ghost use Rattle.build_base.specs.FaultCodes.{TOO_MANY_INSTANCES};
 
 use crate::callers::callers;
+use crate::found::Found;
 use crate::front::{Fronts, instances_behind};
 use crate::reach::reach;
 use crate::search::InstanceSearch;
@@ -28,24 +29,25 @@ use shared_value::Shared;
 use std::alloc::Global;
 
 #[tactic(auto, unfolding(crate::specs::Choices::choice_of))]
-fn choice_of(alloc: Global, tables: &Tables<'_>, found: Rows<Path>) -> Result<Choice, Refusal>
-    requires whole { IsWhole tables.now found }
-    ensures { Answers result (choice_of tables.now found) }
+fn choice_of(alloc: Global, tables: &Tables<'_>, found: &Found) -> Result<Choice, Refusal>
+    requires whole { IsWhole tables.now found.now }
+    ensures { Answers result (choice_of tables.now found.now) }
 {
     let callers = callers(alloc, tables, found.items())?;
-    let rows = reach(alloc, tables, callers.items())?;
-    choice_by(alloc, found, callers.items(), rows.items())
+    let rows = reach(alloc, tables, found, callers.items())?;
+    let paths = found.paths(alloc)?;
+    choice_by(alloc, paths, callers.items(), rows.items())
 }
 
 fn checked_choice(
     alloc: Global,
     tables: &Tables<'_>,
     inf: &InfDoc,
-    found: Rows<Path>,
+    found: &Found,
 ) -> Result<Choice, Refusal>
-    requires whole { IsWhole tables.now found }
+    requires whole { IsWhole tables.now found.now }
     ensures { Answers result
-        (or_fault (classes_fault tables.now inf.now found) (choice_of tables.now found)) }
+        (or_fault (classes_fault tables.now inf.now found.now) (choice_of tables.now found.now)) }
 {
     check_all(alloc, tables, inf, found.items())?;
     choice_of(alloc, tables, found)
@@ -56,12 +58,12 @@ fn lawful_choice(
     alloc: Global,
     tables: &Tables<'_>,
     inf: &InfDoc,
-    found: Rows<Path>,
+    found: &Found,
 ) -> Result<Choice, Refusal>
     requires { Finds same_path (next tables.now)
-        (filter_map (instance_of tables.now) inf.now.classes) (nulls tables.now) (Some found) }
+        (filter_map (instance_of tables.now) inf.now.classes) (nulls tables.now) (Some found.now) }
     ensures value { Answers result
-        (or_fault (classes_fault tables.now inf.now found) (choice_of tables.now found)) }
+        (or_fault (classes_fault tables.now inf.now found.now) (choice_of tables.now found.now)) }
     ensures laws { OnOk result (IsLawful tables.now inf.now) }
 {
     let choice = checked_choice(alloc, tables, inf, found)?;
@@ -97,7 +99,7 @@ pub(crate) fn choice_of_found(
     ensures laws { OnOk result (IsLawful tables.now inf.now) }
 {
     match instances_behind(alloc, tables, fronts)? {
-        Some(found) => lawful_choice(alloc, tables, inf, found.paths(alloc)?),
+        Some(found) => lawful_choice(alloc, tables, inf, &found),
         None => Err(too_many(alloc, &user.inf)),
     }
 }

@@ -41,9 +41,9 @@ fn put_class(
     }
 }
 
-/// Puts the instances for the classes of an INF file.
+// Puts the instances for the classes of an INF file.
 #[tactic(auto, unfolding(crate::specs::Found::add))]
-pub(crate) fn put_classes(
+fn put_classes(
     alloc: Global,
     tables: &Tables<'_>,
     classes: &[Named],

@@ -3,6 +3,7 @@ ghost use Rattle.std.specs.Prelude.{◌≡◌, [], IfOk, OnOk, drop, length, sli
 ghost use Rattle.std.specs.Option.{option_copied};
 ghost use Rattle.library_choice.specs.Closure.{same_path};
 ghost use Rattle.library_choice.specs.Found.{is_in, put};
+ghost use Rattle.library_choice.specs.Reaching.{place_in};
 
 use build_base::{Path, Rows, Same, WantOfMemory};
 use indexmap::IndexSet;
@@ -83,6 +84,17 @@ impl Found {
         ensures { result ≡ is_in same_path self.now path.now }
     {
         self.paths.contains(path)
+    }
+
+    /// The place of a path. One that isn't there has the place behind the others.
+    #[tactic(auto, using(crate::proofs::PlaceLemmas::place_some, crate::proofs::PlaceLemmas::place_none))]
+    pub fn place_of(&self, path: &Path) -> usize
+        ensures { result ≡ place_in self.now path.now }
+    {
+        match self.paths.get_index_of(path) {
+            Some(place) => place,
+            None => self.len(),
+        }
     }
 
     /// Puts a path at the end, unless it is there.

@@ -1,9 +1,8 @@
 //! How far the instances of a module are found that more known INF files don't move.
 ghost use Rattle.std.specs.Prelude.{◌≡◌, ◌≤◌, ◌+◌, ◌∷◌, ◌++◌, ℕ, [], List, cond, length, drop, filter, nat_le, IfOk, OnOk};
-ghost use Rattle.std.specs.List.{filter_map};
 ghost use Rattle.doc_types.specs.declared.module.InfDoc.{InfDoc as InfModel};
-ghost use Rattle.library_choice.specs.Closure.{same_path, is_known, is_unknown, instance_of, next, nulls, wanted_by};
-ghost use Rattle.library_choice.specs.Found.{add, is_in};
+ghost use Rattle.library_choice.specs.Closure.{same_path, is_known, is_unknown, next, wanted_by};
+ghost use Rattle.library_choice.specs.Found.{add};
 ghost use Rattle.library_choice.specs.Fronts.{PassedKnown, IsFrontOf, LeadsClasses, LeadsNulls, AreFronts, FindsFor, BothEnd, is_apart};
 ghost use Rattle.library_choice.specs.Search.{Prefix};
 

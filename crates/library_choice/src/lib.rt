@@ -9,6 +9,7 @@ mod found;
 mod front;
 mod known_infs;
 mod laws;
+mod passed;
 mod reach;
 mod search;
 mod serving;

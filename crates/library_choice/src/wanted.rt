@@ -1,7 +1,7 @@
 //! Which INF files are wanted next.
 ghost use Rattle.std.specs.Prelude.{◌≡◌, true, IfOk};
 ghost use Rattle.std.specs.Option.{option_copied};
-ghost use Rattle.library_choice.specs.Closure.{known, is_known, libraries_of, own_lines, wanted};
+ghost use Rattle.library_choice.specs.Closure.{known, is_known, own_lines, wanted};
 ghost use Rattle.library_choice.specs.Rounds.{Falls};
 
 use crate::search::InstanceSearch;

@@ -1,25 +1,20 @@
-use Rattle.std.proofs.Common.{◌∙◌, ℕ, List, Option, Some, None, Result, sym, ap, subst}
+use Rattle.std.proofs.Common.{ℕ, List, Option, Some, None, Result, sym, subst}
 use Rattle.build_base.specs.Answer.{Answers}
-use Rattle.build_base.specs.First.{or_fault}
 use Rattle.build_base.specs.declared.fault.Fault.{Fault}
 use Rattle.doc_types.specs.declared.choice.Choice.{Choice}
-use Rattle.library_choice.specs.Choices.{classes_fault, choice_of}
 use Rattle.library_choice.specs.Fronts.{FindsFor}
 use Rattle.library_choice.proofs.MadeLemmas.{made_some, made_none, refused_is}
 use Rattle.library_choice.proofs.choosing.choice_of_found.Goals as goal
 
 pub lawful_choice-requires : goal.lawful_choice-requires
 lawful_choice-requires c =
-    let found : FindsFor c.args.tables.now c.args.inf.now (Some c.in-Some.found) = subst (λ (o : Option (List (List ℕ))). FindsFor c.args.tables.now c.args.inf.now o) c.in-Some.is (c.in_ok-found.ensures c.args.inf.now c.requires) in
-    subst (λ (l : List (List ℕ)). FindsFor c.args.tables.now c.args.inf.now (Some l)) (sym c.in_ok-paths-in-Some.ensures) found
+    subst (λ (o : Option (List (List ℕ))). FindsFor c.args.tables.now c.args.inf.now o) c.in-Some.is (c.in_ok-found.ensures c.args.inf.now c.requires)
 
-pub returns-in_ok-paths-in-Some-clause-value : goal.returns-in_ok-paths-in-Some-clause-value
-returns-in_ok-paths-in-Some-clause-value c =
-    let s = c.args.tables.now in
+pub returns-in-Some-clause-value : goal.returns-in-Some-clause-value
+returns-in-Some-clause-value c =
     let found : FindsFor c.args.tables.now c.args.inf.now (Some c.in-Some.found) = subst (λ (o : Option (List (List ℕ))). FindsFor c.args.tables.now c.args.inf.now o) c.in-Some.is (c.in_ok-found.ensures c.args.inf.now c.requires) in
     subst (λ (r : Result Choice Fault). Answers c.lawful_choice.result r)
-    (sym (made_some c.args.user.now s c.args.inf.now c.in-Some.found found
-    ∙ ap (λ (l : List (List ℕ)). or_fault (classes_fault c.args.tables.now c.args.inf.now l) (choice_of c.args.tables.now l)) (sym c.in_ok-paths-in-Some.ensures)))
+    (sym (made_some c.args.user.now c.args.tables.now c.args.inf.now c.in-Some.found found))
     c.lawful_choice.ensures.value
 
 pub returns-in-None-clause-value : goal.returns-in-None-clause-value

@@ -5,4 +5,4 @@ pub checked_choice-requires : goal.checked_choice-requires
 checked_choice-requires c = record { whole = record { closed = c.requires.2; few = c.requires.1 } }
 
 pub returns-clause-laws : goal.returns-clause-laws
-returns-clause-laws c = lawful c.args.tables.now c.args.inf.now c.args.found c.requires
+returns-clause-laws c = lawful c.args.tables.now c.args.inf.now c.args.found.now c.requires

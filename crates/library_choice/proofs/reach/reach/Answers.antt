@@ -1,11 +1,24 @@
-use Rattle.std.proofs.Common.{◌∙◌, ◌++◌, ◌∷◌, [], Bool, List, map, ap, sym}
-use Rattle.build_base.proofs.Steps.{map-passed}
-use Rattle.library_calls.specs.declared.caller.WithCalls.{WithCalls}
-use Rattle.library_choice.specs.Choices.{leads}
+use Rattle.std.proofs.Common.{◌≡◌, ◌∙◌, ℕ, List, nat_eq, ap₂, sym, subst}
+use Rattle.std.specs.List.{All}
+use Rattle.library_choice.specs.Reaching.{IsWithin, next_at, nexts_in, caller_places, reach_at}
+use Rattle.library_choice.proofs.PlaceLemmas.{places-within, reach-place}
 use Rattle.library_choice.proofs.reach.reach.Goals as goal
 
-pub loop-caller-preserved : goal.loop-caller-preserved
-loop-caller-preserved c =
-    c.in_ok-push.ensures.ok ∙ ap (λ (r : List Bool). c.loop-caller.rows ++ r ∷ []) c.in_ok-row_of.ensures
-    ∙ ap (λ (l : List (List Bool)). l ++ map (λ (x : WithCalls). leads c.args.tables.now c.caller-item.result.inf x.inf) c.args.callers.now ∷ []) c.loop-caller.invariant
-    ∙ sym (map-passed (λ (y : WithCalls). map (λ (x : WithCalls). leads c.args.tables.now y.inf x.inf) c.args.callers.now) c.args.callers.now c.loop-caller.caller-index c.caller-item.result c.loop-caller-test.true c.caller-item.is)
+pub reach_at-requires : goal.reach_at-requires
+reach_at-requires c =
+    let s = c.args.tables.now in
+    let nexts : c.items.result.now ≡ nexts_in c.args.tables.now c.args.found.now = c.items.ensures ∙ c.in_ok-nexts.ensures in
+    let places : c.items-2.result.now ≡ caller_places c.args.found.now c.args.callers.now = c.items-2.ensures ∙ c.in_ok-places.ensures in
+    record {
+      within =
+          subst (λ (n : List (List ℕ)). All (IsWithin nat_eq (next_at n)) c.items-2.result.now) (sym nexts)
+          (subst (λ (l : List ℕ). All (IsWithin nat_eq (next_at (nexts_in c.args.tables.now c.args.found.now))) l) (sym places)
+          (places-within s c.args.found.now c.requires.whole c.args.callers.now c.requires.found));
+    }
+
+pub returns : goal.returns
+returns c =
+    let nexts : c.items.result.now ≡ nexts_in c.args.tables.now c.args.found.now = c.items.ensures ∙ c.in_ok-nexts.ensures in
+    let places : c.items-2.result.now ≡ caller_places c.args.found.now c.args.callers.now = c.items-2.ensures ∙ c.in_ok-places.ensures in
+    c.in_ok-rows.ensures ∙ ap₂ (λ n l. reach_at n l l) nexts places
+    ∙ reach-place c.args.tables.now c.args.found.now c.args.callers.now c.requires.whole c.requires.found
