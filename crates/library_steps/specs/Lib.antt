@@ -1,5 +1,6 @@
 pub mod Asks
 pub mod Choices
+pub mod HeldInfs
 pub mod ModuleTrees
 pub mod Near
 pub mod Parts

@@ -3,6 +3,7 @@
 
 mod asks;
 mod choices;
+mod held_infs;
 pub mod modules;
 mod near;
 mod parts;

@@ -17,6 +17,7 @@ ghost use Rattle.step_pack.specs.declared.out.Out.TheVariants as out;
 
 use crate::asks::{choice_asks, dec_asks, inf_asks, linked_asks, package_asks};
 use crate::choices::own_inf;
+use crate::held_infs::held_infs;
 use crate::parts::{
     Described, Linked, described_from, described_in, infs_from, linked_from, linked_module,
     parts_from, parts_in,
@@ -63,7 +64,7 @@ fn with_infs<'a>(
 }
 
 // The search of a round, with the descriptions that it asks for behind those that are known.
-fn round<'a>(
+fn asking_round<'a>(
     alloc: Global,
     known: &Known<'_, Key, Out>,
     search: InstanceSearch<'a>,
@@ -79,6 +80,25 @@ fn round<'a>(
     let (given, permit) = answers_to(alloc, known, &asks, permit)?;
     let more = with_infs(alloc, search, &given, paths)?;
     Ok((more, permit))
+}
+
+// The same, where those that the talk has are taken as they are.
+fn round<'a>(
+    alloc: Global,
+    known: &Known<'_, Key, Out>,
+    search: InstanceSearch<'a>,
+    paths: &[Path],
+    permit: Permit,
+) -> Result<(InstanceSearch<'a>, Permit), Stop<Key>>
+    ensures value { Gives (λ x. x.0.infs) result
+        (advance_at key_cmp fits known.now (round_stages search.entry.infs paths.now)) }
+    ensures user { IfOk result (λ x. x.0.user ≡ search.entry.user) }
+    ensures platform { IfOk result (λ x. x.0.platform ≡ search.entry.platform) }
+{
+    match held_infs(alloc, known, paths)? {
+        Some(infs) => Ok((search.with_more(alloc, infs.items())?, permit)),
+        None => asking_round(alloc, known, search, paths, permit),
+    }
 }
 
 // The libraries of a module of which all descriptions are known that it wants.
